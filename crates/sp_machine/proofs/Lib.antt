@@ -1,0 +1,13 @@
+pub mod Plans
+pub mod Ready
+pub mod Going
+pub mod WordSteps
+pub mod ListSteps
+pub mod Histories
+pub mod TurnSteps
+pub mod RunSteps
+pub mod Totals
+pub mod Stale
+pub mod Finishes
+pub mod Everywhere
+pub mod Reports

@@ -1,0 +1,11 @@
+pub mod Programme
+pub mod Step
+pub mod Run
+pub mod Linear
+pub mod Theorems
+pub mod Cases
+pub mod ProgrammeView
+pub mod MachineView
+pub mod LogView
+pub mod ReportOf
+pub mod Closing

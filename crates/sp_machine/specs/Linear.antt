@@ -1,0 +1,35 @@
+-- What it is for a run to be linear.
+use Rattle.std.specs.Prelude.{◌≡◌, ℕ, ◌≤◌, List, map, All, IsPermutation}
+use Rattle.std.specs.List.Sorted.{IsStrictlyIncreasing}
+use Rattle.sp_word.specs.History.{Table, Event, Call as Asked, run, IsLegal}
+use Rattle.sp_word.specs.History.{Offer as OfferAsked, Read as ReadAsked}
+use Rattle.sp_machine.specs.declared.effect.Call.{Call}
+use Rattle.sp_machine.specs.declared.effect.Call.TheVariants.{Offer, Read}
+use Rattle.sp_machine.specs.declared.report.Finished.{Finished}
+use Rattle.sp_machine.specs.Programme.{IsNumber}
+
+abbrev pub asked : {P : ℕ} → Call P → Asked
+asked (Offer word found reply) = OfferAsked word found reply
+asked (Read found) = ReadAsked found
+
+-- a finished call as the event of a history
+abbrev pub event_of : {P : ℕ} → Finished P → Event
+event_of call = record { by = call.ended.actor; vertex = call.ended.vertex; call = asked call.ended.call }
+
+-- a finished call, and the step at which it acts
+pub record Point (P : ℕ) : Type 0 where
+  pub step : ℕ
+  pub call : Finished P
+
+abbrev pub history : {P : ℕ} → List (Point P) → List Event
+history points = map (λ point. event_of point.call) points
+
+-- Some history, legal from the opening words, consists of the finished calls, each once with its answer, and of
+-- nothing else; it has rising step numbers, each from its call's first to its last; and it ends in the final words.
+pub record IsLinear {P : ℕ} (n : ℕ) (opening : Table) (finished : List (Finished P)) (final : Table) : Type 0 where
+  pub points : List (Point P)
+  pub each_once : IsPermutation finished (map (λ point. point.call) points)
+  pub rising : IsStrictlyIncreasing (map (λ point. point.step) points)
+  pub within : All (λ point. (point.call.first ≤ point.step) × (point.step ≤ point.call.last)) points
+  pub legal : IsLegal opening (history points)
+  pub ends : (v : ℕ) → IsNumber n v → run opening (history points) v ≡ final v

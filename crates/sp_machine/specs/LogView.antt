@@ -1,0 +1,7 @@
+-- A log as the definition of a run has it.
+use Rattle.std.specs.Prelude.{ℕ}
+use Rattle.sp_machine.specs.Run as runs
+use Rattle.sp_machine.specs.declared.log.Log.{Log}
+
+abbrev pub log_of : {P : ℕ} → Log P → runs.Log P
+log_of log = record { steps = log.steps; begun = log.begun.items; calls = log.calls.items; relaxed = log.relaxed.items; wins = log.wins; losses = log.losses }

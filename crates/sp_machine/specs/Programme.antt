@@ -1,0 +1,52 @@
+-- A programme: the words at the start, and what each actor is to do.
+use Rattle.std.specs.Prelude.{◌≡◌, ℕ, ◌-◌, ◌≤◌, List, [], ◌∷◌, length, replicate, slice_index_or, slice_get, slice_set, All, Option, Some}
+use Rattle.sp_word.specs.Word.{Word, Unreached, IsPair}
+use Rattle.sp_machine.specs.declared.item.Item.{Item}
+use Rattle.sp_machine.specs.declared.item.Item.TheVariants.{Offer, Read, Relax}
+
+-- vertices and actors are numbered from 1
+abbrev pub IsNumber : ℕ → ℕ → Type 0
+IsNumber n v = (1 ≤ v) × (v ≤ n)
+
+-- the word of a vertex in a list of words
+abbrev pub word_at : List Word → ℕ → Word
+word_at words vertex = slice_index_or words (vertex - 1) Unreached
+
+-- the items of an actor; beyond the last row there are none
+abbrev pub row_of : {P : ℕ} → List (List (Item P)) → ℕ → List (Item P)
+row_of rows actor = slice_index_or rows (actor - 1) []
+
+-- Item k of an actor, counted from 0.
+abbrev pub item_of : {P : ℕ} → List (List (Item P)) → ℕ → ℕ → Option (Item P)
+item_of rows actor k = slice_get (row_of rows actor) k
+
+pub record Programme (P : ℕ) : Type 0 where
+  -- how many words and actors there are
+  pub words : ℕ
+  pub actors : ℕ
+  -- vertices that have a word at the start
+  pub named : List (ℕ × Word)
+  -- of each actor what it is to do, in order
+  pub rows : List (List (Item P))
+
+-- these words, and then those that are named
+abbrev pub named_words : List Word → List (ℕ × Word) → List Word
+named_words words [] = words
+named_words words (x ∷ more) = named_words (slice_set words (x.0 - 1) x.1) more
+
+-- the words at the start: those that are named, and unreached elsewhere
+abbrev pub opening_words : {P : ℕ} → Programme P → List Word
+opening_words p = named_words (replicate p.words Unreached) p.named
+
+-- it speaks of these vertices alone, and offers pairs
+abbrev pub IsItem : {P : ℕ} → ℕ → Item P → Type 0
+IsItem n (Offer v w) = IsNumber n v × IsPair w
+IsItem n (Read v) = IsNumber n v
+IsItem n (Relax u v l) = IsNumber n u × IsNumber n v × (1 ≤ l)
+
+pub record IsProgramme {P : ℕ} (p : Programme P) : Type 0 where
+  pub words : IsNumber 65536 p.words
+  pub actors : IsNumber 64 p.actors
+  pub named : All (λ x. IsNumber p.words x.0) p.named
+  pub rows : length p.rows ≤ p.actors
+  pub items : (actor k : ℕ) (item : Item P) → item_of p.rows actor k ≡ Some item → IsItem p.words item

@@ -1,0 +1,105 @@
+-- A run: the machine's steps, numbered from 1, and what they did.
+use Rattle.std.specs.Prelude.{◌≡◌, ℕ, ◌+◌, ◌-◌, List, [], ◌∷◌, ◌++◌, replicate, slice_index_or, slice_set, unwrap_or, All, Contains, Option, Some, None}
+use Rattle.sp_word.specs.Word.{Word, Pair}
+use Rattle.sp_machine.specs.declared.item.Item.{Item}
+use Rattle.sp_machine.specs.declared.item.Item.TheVariants.{Offer, Read, Relax}
+use Rattle.sp_machine.specs.declared.effect.Ended.{Ended}
+use Rattle.sp_machine.specs.declared.effect.Relaxation.{Relaxation}
+use Rattle.sp_machine.specs.declared.effect.Exchange.{Exchange}
+use Rattle.sp_machine.specs.declared.effect.Exchange.TheVariants.{Won, Lost}
+use Rattle.sp_machine.specs.declared.effect.Effect.{Effect}
+use Rattle.sp_machine.specs.declared.report.Finished.{Finished}
+use Rattle.sp_machine.specs.Programme.{Programme, word_at, opening_words}
+use Rattle.sp_machine.specs.Step.{Machine, fresh_actor, stepped}
+
+-- what is known of the steps so far
+pub record Log (P : ℕ) : Type 0 where
+  -- how many there were
+  pub steps : ℕ
+  -- of each actor the first step that it made since its last call ended, if it made one
+  pub begun : List (Option ℕ)
+  -- the calls that ended
+  pub calls : List (Finished P)
+  -- the relaxations that were finished
+  pub relaxed : List Relaxation
+  -- how many exchanges were won, and how many lost
+  pub wins : ℕ
+  pub losses : ℕ
+
+abbrev pub empty_log : {P : ℕ} → (actors : ℕ) → Log P
+empty_log actors = record { steps = 0; begun = replicate actors None; calls = []; relaxed = []; wins = 0; losses = 0 }
+
+-- the first step of the call that the actor's next step belongs to
+abbrev pub first_step : {P : ℕ} → Log P → ℕ → ℕ
+first_step log actor = unwrap_or (slice_index_or log.begun (actor - 1) None) (log.steps + 1)
+
+abbrev pub begun_after : {P : ℕ} → Option (Ended P) → (first : ℕ) → Option ℕ
+begun_after None first = Some first
+begun_after (Some ended) first = None
+
+abbrev pub with_call : {P : ℕ} → List (Finished P) → Option (Ended P) → (first last : ℕ) → List (Finished P)
+with_call calls None first last = calls
+with_call calls (Some ended) first last = calls ++ record { ended = ended; first = first; last = last } ∷ []
+
+abbrev pub with_relaxation : List Relaxation → Option Relaxation → List Relaxation
+with_relaxation relaxed None = relaxed
+with_relaxation relaxed (Some r) = relaxed ++ r ∷ []
+
+abbrev pub win : Option Exchange → ℕ
+win None = 0
+win (Some Won) = 1
+win (Some Lost) = 0
+
+abbrev pub loss : Option Exchange → ℕ
+loss None = 0
+loss (Some Won) = 0
+loss (Some Lost) = 1
+
+-- The next step is the actor's and does this.
+abbrev pub logged : {P : ℕ} → Log P → (actor : ℕ) → Effect P → Log P
+logged log actor effect = record {
+  steps = log.steps + 1;
+  begun = slice_set log.begun (actor - 1) (begun_after effect.ended (first_step log actor));
+  calls = with_call log.calls effect.ended (first_step log actor) (log.steps + 1);
+  relaxed = with_relaxation log.relaxed effect.relaxed;
+  wins = log.wins + win effect.exchange;
+  losses = log.losses + loss effect.exchange;
+}
+
+pub record Run (P : ℕ) : Type 0 where
+  pub machine : Machine P
+  pub log : Log P
+
+abbrev pub opening_machine : {P : ℕ} → Programme P → Machine P
+opening_machine p = record {
+  rows = p.rows;
+  words = opening_words p;
+  actors = replicate p.actors fresh_actor;
+  last = record { ended = None; relaxed = None; exchange = None };
+}
+
+abbrev pub opening_run : {P : ℕ} → Programme P → Run P
+opening_run p = record { machine = opening_machine p; log = empty_log p.actors }
+
+-- one step of an actor
+abbrev pub run_step : {P : ℕ} → Run P → ℕ → Run P
+run_step r actor = record { machine = stepped r.machine actor; log = logged r.log actor (stepped r.machine actor).last }
+
+abbrev pub run_from : {P : ℕ} → Run P → List ℕ → Run P
+run_from r [] = r
+run_from r (actor ∷ more) = run_from (run_step r actor) more
+
+-- the run of a programme with a list of actors, one step each
+abbrev pub run_of : {P : ℕ} → Programme P → List ℕ → Run P
+run_of p actors = run_from (opening_run p) actors
+
+-- Where an item is a relaxation whose tail is reached at the end, some finished relaxation of the same arc loaded
+-- the tail's final distance.
+abbrev pub IsItemClosed : {P : ℕ} → (words : List Word) → List Relaxation → Item P → Type 0
+IsItemClosed words relaxed (Offer v w) = Unit {0}
+IsItemClosed words relaxed (Read v) = Unit {0}
+IsItemClosed words relaxed (Relax u v l) = (d q : ℕ) → word_at words u ≡ Pair d q → Contains relaxed (record { tail = u; head = v; len = l; loaded = Some d })
+
+-- So it is with every item.
+abbrev pub IsClosed : {P : ℕ} → Programme P → (words : List Word) → List Relaxation → Type 0
+IsClosed p words relaxed = All (λ row. All (IsItemClosed words relaxed) row) p.rows

@@ -1,0 +1,14 @@
+//! What holds of every run, whatever the programme and the interleaving.
+ghost use Rattle.sp_machine.specs.Theorems.{EveryRunIsLinear, LossesAreBounded};
+
+/// Every run is linear: its finished calls, each taken at one step between its first and its last, are a
+/// legal history of a table of least offers, which ends in the machine's words.
+/// (Herlihy and Wing, "Linearizability", ACM TOPLAS 12 (1990), section 2.)
+pub fn every_run_is_linear()
+    ensures { EveryRunIsLinear }
+{}
+
+/// With K actors the lost exchanges of a run are at most K - 1 times the won ones.
+pub fn losses_are_bounded()
+    ensures { LossesAreBounded }
+{}

@@ -1,0 +1,25 @@
+//! The step machine: actors that lower the words of one table by single loads and exchanges, in any
+//! interleaving; and the theorem that every run of it is linear.
+#![tactic(auto)]
+
+mod actor;
+mod closing;
+mod effect;
+mod item;
+mod laws;
+mod log;
+mod machine;
+mod programme;
+mod report;
+mod running;
+mod turn;
+
+pub use actor::Actor;
+pub use effect::{Call, Effect, Ended, Exchange, Relaxation};
+pub use item::Item;
+pub use laws::{every_run_is_linear, losses_are_bounded};
+pub use machine::Machine;
+pub use programme::Programme;
+pub use report::{Finished, Report};
+pub use running::replay;
+pub use turn::{At, Turn};

@@ -1,0 +1,12 @@
+-- What a table of least offers replies.
+use Rattle.std.specs.Prelude.{if◌then◌else◌, nat_lt, ◌==◌, ◌&&◌}
+use Rattle.sp_word.specs.Word.{Word, Unreached, Pair}
+use Rattle.sp_word.specs.declared.reply.Reply.{Reply}
+use Rattle.sp_word.specs.declared.reply.Reply.TheVariants.{Shorter, SmallerPred, Kept}
+
+-- to an offer where a word was found: the distance becomes smaller, from unreached too; or the distances are
+-- equal and the predecessor becomes smaller; or the word is kept
+abbrev pub reply_to : (found offered : Word) → Reply
+reply_to found Unreached = Kept
+reply_to Unreached (Pair d p) = Shorter
+reply_to (Pair e q) (Pair d p) = if nat_lt d e then Shorter else if (d == e) && nat_lt p q then SmallerPred else Kept

@@ -1,0 +1,70 @@
+-- A word: unreached, or a distance and a predecessor.
+use Rattle.std.specs.Prelude.{◌≡◌, ℕ, ◌+◌, ◌-◌, ◌*◌, ◌/◌, ◌%◌, ◌^◌, ◌<◌, ◌≤◌, ◌⊎◌, ◌==◌, ◌||◌, ◌&&◌, Bool, true, false, if◌then◌else◌, nat_lt, Option, Some, None}
+
+pub data Word : Type 0 where
+  Unreached : Word
+  Pair : (dist pred : ℕ) → Word
+
+-- ## The order
+
+-- Pairs are ordered by distance, then by predecessor; unreached is greater than every pair.
+abbrev pub IsBelow : Word → Word → Type 0
+IsBelow Unreached b = ⊥
+IsBelow (Pair d p) Unreached = Unit {0}
+IsBelow (Pair d p) (Pair e q) = (d < e) ⊎ ((d ≡ e) × (p < q))
+
+-- the same as a test
+abbrev pub is_below : Word → Word → Bool
+is_below Unreached b = false
+is_below (Pair d p) Unreached = true
+is_below (Pair d p) (Pair e q) = nat_lt d e || ((d == e) && nat_lt p q)
+
+abbrev pub is_same : Word → Word → Bool
+is_same Unreached Unreached = true
+is_same Unreached (Pair d p) = false
+is_same (Pair d p) Unreached = false
+is_same (Pair d p) (Pair e q) = (d == e) && (p == q)
+
+-- the lesser of two words
+abbrev pub lesser : Word → Word → Word
+lesser a b = if is_below b a then b else a
+
+abbrev pub IsPair : Word → Type 0
+IsPair Unreached = ⊥
+IsPair (Pair d p) = Unit {0}
+
+abbrev pub dist_of : Word → Option ℕ
+dist_of Unreached = None
+dist_of (Pair d p) = Some d
+
+abbrev pub pred_of : Word → Option ℕ
+pred_of Unreached = None
+pred_of (Pair d p) = Some p
+
+-- ## The layout, with P bits for the predecessor
+
+abbrev pub is_layout : ℕ → Bool
+is_layout P = (P == 20) || (P == 24) || (P == 28) || (P == 32)
+
+abbrev pub max_dist : ℕ → ℕ
+max_dist P = 2 ^ (64 - P) - 2
+
+abbrev pub max_pred : ℕ → ℕ
+max_pred P = 2 ^ P - 2
+
+-- what a word of the layout may be
+abbrev pub Fits : ℕ → Word → Type 0
+Fits P Unreached = Unit {0}
+Fits P (Pair d p) = (d ≤ max_dist P) × (p ≤ max_pred P)
+
+-- the distance above the predecessor; all ones for unreached
+abbrev pub bits_of : ℕ → Word → ℕ
+bits_of P Unreached = 18446744073709551615
+bits_of P (Pair d p) = d * 2 ^ P + p
+
+abbrev pub word_of : ℕ → ℕ → Word
+word_of P bits = if bits == 18446744073709551615 then Unreached else Pair (bits / 2 ^ P) (bits % 2 ^ P)
+
+-- all ones, or neither half is all ones
+abbrev pub is_word : ℕ → ℕ → Bool
+is_word P bits = (bits == 18446744073709551615) || (nat_lt (bits / 2 ^ P) (2 ^ (64 - P) - 1) && nat_lt (bits % 2 ^ P) (2 ^ P - 1))

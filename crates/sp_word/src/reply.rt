@@ -1,0 +1,31 @@
+//! What a table of least offers replies.
+
+ghost use Rattle.std.specs.Prelude.{◌≡◌};
+ghost use Rattle.sp_word.specs.Word.{IsPair};
+ghost use Rattle.sp_word.specs.Reply.{reply_to};
+
+use crate::word::Word;
+
+/// What an offer did to the word of its vertex.
+#[derive(Clone, Copy, Debug, PartialEq, Eq)]
+pub enum Reply {
+    /// The distance became smaller, from unreached too.
+    Shorter,
+    /// The distance stayed, and the predecessor became smaller.
+    SmallerPred,
+    /// The word found was no larger than the offer.
+    Kept,
+}
+
+/// What a table of least offers replies to `offered` where it has `found`.
+pub fn decide<const P: u32>(found: Word<P>, offered: Word<P>) -> Reply
+    requires { IsPair offered }
+    ensures { result ≡ reply_to found.entry offered.entry }
+{
+    match (found.dist(), offered.dist()) {
+        (None, _) => Reply::Shorter,
+        (Some(old), Some(new)) if new < old => Reply::Shorter,
+        _ if offered < found => Reply::SmallerPred,
+        _ => Reply::Kept,
+    }
+}

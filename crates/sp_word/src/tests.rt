@@ -1,0 +1,100 @@
+use crate::{Reply, Word, decide};
+
+#[test]
+fn vectors_of_28_bits(rt: HostRuntime) {
+    assert_eq!(rt; Word::<28>::pack(0, 0).bits(), 0);
+    assert_eq!(rt; Word::<28>::pack(3, 1).bits(), 805_306_369);
+    assert_eq!(rt; Word::<28>::pack(3, 1).bits(), 0x0000_0000_3000_0001);
+    assert_eq!(rt; Word::<28>::pack(5, 2).bits(), 1_342_177_282);
+    assert_eq!(rt; Word::<28>::pack(5, 2).bits(), 0x0000_0000_5000_0002);
+    assert_eq!(rt;
+        Word::<28>::pack(68_719_476_734, 268_435_454).bits(),
+        18_446_744_073_441_116_158
+    );
+    assert_eq!(rt;
+        Word::<28>::pack(68_719_476_734, 268_435_454).bits(),
+        0xffff_ffff_efff_fffe
+    );
+    assert_eq!(rt; Word::<28>::unreached().bits(), 18_446_744_073_709_551_615);
+}
+
+#[test]
+fn vectors_of_other_layouts(rt: HostRuntime) {
+    assert_eq!(rt; Word::<20>::pack(5, 2).bits(), 0x0000_0000_0050_0002);
+    assert_eq!(rt; Word::<24>::pack(5, 2).bits(), 0x0000_0000_0500_0002);
+    assert_eq!(rt; Word::<32>::pack(5, 2).bits(), 0x0000_0005_0000_0002);
+    assert_eq!(rt;
+        Word::<32>::pack(4_294_967_294, 4_294_967_294).bits(),
+        0xffff_fffe_ffff_fffe
+    );
+    assert_eq!(rt; Word::<20>::unreached().bits(), u64::MAX);
+    assert_eq!(rt; Word::<24>::unreached().bits(), u64::MAX);
+    assert_eq!(rt; Word::<32>::unreached().bits(), u64::MAX);
+}
+
+#[test]
+fn ranges_of_the_layouts(rt: HostRuntime) {
+    assert_eq!(rt;
+        (Word::<20>::max_dist(), Word::<20>::max_pred()),
+        (17_592_186_044_414, 1_048_574)
+    );
+    assert_eq!(rt;
+        (Word::<24>::max_dist(), Word::<24>::max_pred()),
+        (1_099_511_627_774, 16_777_214)
+    );
+    assert_eq!(rt;
+        (Word::<28>::max_dist(), Word::<28>::max_pred()),
+        (68_719_476_734, 268_435_454)
+    );
+    assert_eq!(rt;
+        (Word::<32>::max_dist(), Word::<32>::max_pred()),
+        (4_294_967_294, 4_294_967_294)
+    );
+}
+
+#[test]
+fn bits_that_are_words(rt: HostRuntime) {
+    for bits in [0, 805_306_369, 0xffff_ffff_efff_fffe, u64::MAX] {
+        let word = Word::<28>::of_bits(bits);
+        assert_eq!(rt; word.map(|word| word.bits()), Some(bits));
+    }
+    // The lower 28 bits are all ones, then the upper 36.
+    for bits in [
+        0x0fff_ffff,
+        0x0000_0000_3fff_ffff,
+        0xffff_ffff_f000_0000,
+        0xffff_ffff_ffff_fffe,
+    ] {
+        assert_eq!(rt; Word::<28>::of_bits(bits), None);
+    }
+}
+
+#[test]
+fn a_word_in_parts(rt: HostRuntime) {
+    let word = Word::<28>::pack(5, 2);
+    assert_eq!(rt;
+        (word.dist(), word.pred(), word.is_unreached()),
+        (Some(5), Some(2), false)
+    );
+    let none = Word::<28>::unreached();
+    assert_eq!(rt;
+        (none.dist(), none.pred(), none.is_unreached()),
+        (None, None, true)
+    );
+    assert!(rt; word.is_below(none) && word < none && !none.is_below(word));
+    assert!(rt; word.is_same(Word::pack(5, 2)) && !word.is_same(none));
+}
+
+#[test]
+fn replies(rt: HostRuntime) {
+    let none = Word::<28>::unreached();
+    let held = Word::<28>::pack(5, 3);
+    assert_eq!(rt;
+        decide(none, Word::pack(68_719_476_734, 268_435_454)),
+        Reply::Shorter
+    );
+    assert_eq!(rt; decide(held, Word::pack(5, 2)), Reply::SmallerPred);
+    assert_eq!(rt; decide(held, Word::pack(5, 3)), Reply::Kept);
+    assert_eq!(rt; decide(held, Word::pack(6, 1)), Reply::Kept);
+    assert_eq!(rt; decide(held, Word::pack(4, 9)), Reply::Shorter);
+}
