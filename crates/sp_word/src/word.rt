@@ -127,7 +127,8 @@ impl<const P: u32> Word<P> {
 
     /// Whether this word is less than the other: by distance, then by predecessor, with unreached last.
     pub fn is_below(self, other: Word<P>) -> bool
-        ensures { result ≡ is_below self.entry other.entry }
+        ensures test { result ≡ is_below self.entry other.entry }
+        ensures order { IsTrue result ↔ IsBelow self.entry other.entry }
     {
         self.bits < other.bits
     }

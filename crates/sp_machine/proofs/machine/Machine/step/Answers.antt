@@ -24,4 +24,4 @@ invariant_of-self g c =
     let number : IsNumber (length (state_of c.self.inside).actors) c.args.actor = subst (λ (m : Machine g.row.P). IsNumber (length m.actors) c.args.actor) (sym c.self.view_is) c.requires in
     let there = is_at c.self.inside.programme.now (state_of c.self.inside) c.args.actor c.index.result.now c.item-item.result _ number c.index.ensures c.item-item.ensures.item c.item-item.ensures.within c.as_ref-item.ensures.value in
     let turned = c.turn_of-turn.ensures ∙ ap (λ place. turn (max_dist g.row.P) place c.index.result.now.held c.word_found-found.result) c.place_of-place.ensures in
-    goes_on c.self.inside.programme.now (state_of c.self.inside) c.args.actor c.index.result.now _ c.word_found-found.result c.turn_of-turn.result c.store_win.new.words.items c.after.result c.effect_of-last.result c.self.invariant number there turned (c.store_win.ensures ∙ ap (λ place. words_after c.self.inside.words.items place c.turn_of-turn.result) c.place_of-place.ensures) c.after.ensures
+    goes_on c.self.inside.programme.now (state_of c.self.inside) c.args.actor c.index.result.now _ c.word_found-found.result c.turn_of-turn.result c.store_win.new.words.items c.after.result _ c.self.invariant number there turned (c.store_win.ensures ∙ ap (λ place. words_after c.self.inside.words.items place c.turn_of-turn.result) c.place_of-place.ensures) c.after.ensures
