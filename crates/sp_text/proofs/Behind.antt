@@ -1,0 +1,294 @@
+-- A reader that is fed, one byte on.
+use Rattle.std.proofs.Common.{⊎_elim, ◌≡◌, ◌≢◌, ℕ, zero, suc, ◌+◌, ◌-◌, ◌^◌, ◌<◌, ◌≤◌, Bool, true, false, eqb, List, [], ◌∷◌, ◌++◌, length, take, drop, get_or, min, Option, Some, None, Result, Ok, Err, refl, sym, ap, subst, ◌∙◌, inl, inr, ◌⊎◌, append_assoc, arith, length-append}
+use Rattle.std.proofs.lemmas.List.{append-nil, take_all, take-append-le, length_push, drop_more, take-append-drop}
+use Rattle.std.proofs.lemmas.Bool.{lt-ltb, le-ltb, cases_eq, eq-eqb, eqb-true, false≢true}
+use Rattle.std.specs.List.{flat_map}
+use Rattle.sp_text.proofs.Meant.{text_is}
+use Rattle.sp_text.specs.declared.faults.Kind.{Kind}
+use Rattle.sp_text.specs.declared.faults.Kind.TheVariants.{LongLine, NoProblem, TooMany, TooFew, Memory, Read}
+use Rattle.sp_text.specs.declared.faults.DimacsError.{DimacsError}
+use Rattle.sp_text.specs.declared.feeding.Feeder.{Feeder}
+use Rattle.sp_text.specs.Lines.{cut, ended, rest, lines, last_line}
+use Rattle.sp_text.specs.Meaning.{HasNoLf}
+use Rattle.sp_text.specs.First.{Judge, or_at, line_fault, first_after, first_fault, rest_fault, early, failed, told, cut_short, strictly_told}
+use Rattle.sp_text.specs.Feeding.{IsBehind, Refused, Fed, IsClosed, Closed}
+use Rattle.sp_text.proofs.Cutting.{cut-append, front_byte, or_else_none, ended_at_lf, rest_at_lf, ended_at_run, rest_at_run, early_at_run, clean_parts, open_while, none_parts, rest_open, first_push, early_at_lf, early_at_other, fault_lasts}
+
+-- the fault of the line that is being read
+abbrev pub at_line : ℕ → Kind → DimacsError
+at_line ends kind = record { line = min (ends + 1) (2 ^ 64 - 1); kind = kind }
+
+-- There are no more lines than bytes.
+front_short : (is_lf : Bool) (line : List ℕ) (closed open_line : List (List ℕ) × List ℕ) (n : ℕ) → length closed.0 ≤ n → length open_line.0 ≤ n → length (front_byte is_lf line closed open_line).0 ≤ suc n
+front_short true line closed open_line n c o = omega arith
+front_short false line closed open_line n c o = omega arith
+
+ended_cut_short : (line text : List ℕ) → length (cut line text).0 ≤ length text
+ended_cut_short line [] = omega arith
+ended_cut_short line (b ∷ text) = front_short (eqb b 10) line (cut [] text) (cut (line ++ b ∷ []) text) (length text) (ended_cut_short [] text) (ended_cut_short (line ++ b ∷ []) text)
+
+pub ended_short : (text : List ℕ) → length (ended text) ≤ length text
+unfolding ended
+ended_short text = ended_cut_short [] text
+
+line_is : (text : List ℕ) (ends : ℕ) → length text ≤ 2 ^ 62 → ends ≡ length (ended text) → min (ends + 1) (2 ^ 64 - 1) ≡ length (ended text) + 1
+line_is text ends small is = omega (arith, ended_short text)
+
+same_error : (line other : ℕ) (kind : Kind) → other ≡ line → ◌≡◌ {A = Option DimacsError} (Some (record { line = line; kind = kind })) (Some (record { line = other; kind = kind }))
+same_error line other kind e = ap (λ (n : ℕ). Some (record { line = n; kind = kind })) (sym e)
+
+short_line : (judge : Judge) (before : List (List ℕ)) (line : List ℕ) → judge.closed before ≡ false → length line ≤ 1024 → line_fault judge before line ≡ judge.fault before line
+short_line judge before line goes short = rw (goes, le-ltb 1024 (length line) short) refl
+
+-- the fault of the line whose LF comes now
+pub early_lf : (judge : Judge) (text : List ℕ) → judge.closed (ended text) ≡ false → early judge text ≡ None → early judge (text ++ 10 ∷ []) ≡ or_at (length (ended text) + 1) (judge.fault (ended text) (rest text)) None
+early_lf judge text goes clean =
+    let parts = clean_parts judge text clean in
+    early_at_lf judge text ∙ rw (parts.0, short_line judge (ended text) (rest text) goes parts.1) refl
+
+pub lf_ok : {T : Type 0} (judge : Judge) (After : T → List (List ℕ) → Type 0) (text : List ℕ) (old : Feeder T) (taker : T) (room : List ℕ) (ends : ℕ) → length text ≤ 2 ^ 62
+    → judge.closed (ended text) ≡ false → IsBehind judge After text old → judge.fault (ended text) old.room ≡ None → After taker (ended text ++ old.room ∷ [])
+    → room ≡ [] → ends ≡ min (old.ends + 1) (2 ^ 64 - 1)
+    → IsBehind judge After (text ++ 10 ∷ []) (record { taker = taker; room = room; ends = ends; spent = old.spent })
+lf_ok judge After text old taker room ends small goes h none taken empty is =
+    let full : judge.fault (ended text) (rest text) ≡ None = rw (← h.room) none in
+    record {
+      going = h.going;
+      clean = early_lf judge text goes h.clean ∙ rw full refl;
+      room = empty ∙ sym (rest_at_lf text);
+      ends = is ∙ (line_is text old.ends small h.ends ∙ (sym (length_push (ended text) (rest text)) ∙ ap length (sym (ended_at_lf text))));
+      taken = rw (ended_at_lf text, ← h.room) taken;
+    }
+
+pub lf_err : {T : Type 0} (judge : Judge) (After : T → List (List ℕ) → Type 0) (text : List ℕ) (old : Feeder T) (kind : Kind) → length text ≤ 2 ^ 62
+    → judge.closed (ended text) ≡ false → IsBehind judge After text old → (judge.fault (ended text) old.room ≡ Some kind) ⊎ ((judge.fault (ended text) old.room ≡ None) × (kind ≡ Memory))
+    → Refused judge (text ++ 10 ∷ []) (at_line old.ends kind)
+lf_err judge After text old kind small goes h (inl is) =
+    let full : judge.fault (ended text) (rest text) ≡ Some kind = rw (← h.room) is in
+    inl (early_lf judge text goes h.clean ∙ (rw full (same_error (length (ended text) + 1) (min (old.ends + 1) (2 ^ 64 - 1)) kind (line_is text old.ends small h.ends))))
+lf_err judge After text old kind small goes h (inr memory) =
+    let full : judge.fault (ended text) (rest text) ≡ None = rw (← h.room) memory.0 in
+    let parts = clean_parts judge text h.clean in
+    let line : min (old.ends + 1) (2 ^ 64 - 1) ≡ length (ended (text ++ 10 ∷ [])) = line_is text old.ends small h.ends ∙ (sym (length_push (ended text) (rest text)) ∙ ap length (sym (ended_at_lf text))) in
+    inr (record {
+      kind = memory.1;
+      first = omega arith;
+      within = omega arith;
+      clean = rw (line, take_all (length (ended (text ++ 10 ∷ []))) (ended (text ++ 10 ∷ [])) (omega arith), ended_at_lf text)
+          (first_push judge (ended text) (rest text) parts.0 ∙ rw (short_line judge (ended text) (rest text) goes parts.1, full) refl);
+    })
+
+-- What came of a line that may go on.
+rest_fine : (judge : Judge) (before : List (List ℕ)) (r : List ℕ) → judge.closed before ≡ false → length r ≤ 1024 → rest_fault judge before r ≡ None
+rest_fine judge before [] goes short = refl
+rest_fine judge before (b ∷ r) goes short = rw (goes, le-ltb 1024 (length (b ∷ r)) short) refl
+
+rest_long : (judge : Judge) (before : List (List ℕ)) (r : List ℕ) → judge.closed before ≡ false → 1024 < length r → rest_fault judge before r ≡ Some LongLine
+rest_long judge before [] goes long = absurd (omega arith)
+rest_long judge before (b ∷ r) goes long = rw (goes, lt-ltb 1024 (length (b ∷ r)) long) refl
+
+pub run_ok : {T : Type 0} (judge : Judge) (After : T → List (List ℕ) → Type 0) (text run : List ℕ) (old : Feeder T) (room : List ℕ) → HasNoLf run
+    → judge.closed (ended text) ≡ false → IsBehind judge After text old → length old.room + length run ≤ 1024 → room ≡ old.room ++ run
+    → IsBehind judge After (text ++ run) (record { taker = old.taker; room = room; ends = old.ends; spent = old.spent })
+run_ok judge After text run old room none goes h short is =
+    let fits : length (rest text ++ run) ≤ 1024 = omega (arith, length-append (rest text) run, ap length h.room) in
+    record {
+      going = h.going;
+      clean = early_at_run judge text run none ∙ rw ((clean_parts judge text h.clean).0, rest_fine judge (ended text) (rest text ++ run) goes fits) refl;
+      room = is ∙ (rw (h.room, rest_at_run text run none) refl);
+      ends = h.ends ∙ ap length (sym (ended_at_run text run none));
+      taken = rw (ended_at_run text run none) h.taken;
+    }
+
+pub run_open : (judge : Judge) (text run : List ℕ) → HasNoLf run → judge.closed (ended text) ≡ false → judge.closed (ended (text ++ run)) ≡ false
+run_open judge text run none goes = rw (ended_at_run text run none) goes
+
+pub run_err : {T : Type 0} (judge : Judge) (After : T → List (List ℕ) → Type 0) (text run : List ℕ) (old : Feeder T) → length text ≤ 2 ^ 62 → HasNoLf run
+    → judge.closed (ended text) ≡ false → IsBehind judge After text old → 1024 < length old.room + length run
+    → Refused judge (text ++ run) (at_line old.ends LongLine)
+run_err judge After text run old small none goes h full =
+    let long : 1024 < length (rest text ++ run) = omega (arith, length-append (rest text) run, ap length h.room) in
+    inl (early_at_run judge text run none ∙ rw ((clean_parts judge text h.clean).0, rest_long judge (ended text) (rest text ++ run) goes long)
+    (same_error (length (ended text) + 1) (min (old.ends + 1) (2 ^ 64 - 1)) LongLine (line_is text old.ends small h.ends)))
+
+-- Behind a closed file any byte is one too many.
+pub closed_err : {T : Type 0} (judge : Judge) (After : T → List (List ℕ) → Type 0) (text : List ℕ) (b : ℕ) (old : Feeder T) → length text ≤ 2 ^ 62
+    → judge.closed (ended text) ≡ true → IsBehind judge After text old → Refused judge (text ++ b ∷ []) (at_line old.ends TooMany)
+closed_err judge After text b old small closed h = inl (⊎_elim
+    (λ (is : b ≡ 10). rw is (early_at_lf judge text ∙ rw ((clean_parts judge text h.clean).0, closed) (same_error (length (ended text) + 1) (min (old.ends + 1) (2 ^ 64 - 1)) TooMany (line_is text old.ends small h.ends))))
+    (λ (other : b ≢ 10). early_at_other judge text b other ∙ rw ((clean_parts judge text h.clean).0, closed) (same_error (length (ended text) + 1) (min (old.ends + 1) (2 ^ 64 - 1)) TooMany (line_is text old.ends small h.ends)))
+    (cases_eq b 10))
+
+-- A refusal stays, whatever comes.
+
+ended-append : (text more : List ℕ) → (later : List (List ℕ)) × (ended (text ++ more) ≡ ended text ++ later)
+unfolding ended
+ended-append text more = ((cut (cut [] text).1 more).0, ap (λ (c : List (List ℕ) × List ℕ). c.0) (cut-append [] text more))
+
+pub refusal_lasts : (judge : Judge) (text more : List ℕ) (e : DimacsError) → Refused judge text e → Refused judge (text ++ more) e
+refusal_lasts judge text more e (inl is) = inl (fault_lasts judge text more e is)
+refusal_lasts judge text more e (inr memory) =
+    let later = ended-append text more in
+    inr (record {
+      kind = memory.kind;
+      first = memory.first;
+      within = rw later.1 (omega (arith, length-append (ended text) later.0, memory.within));
+      clean = rw (later.1, take-append-le e.line (ended text) later.0 memory.within) memory.clean;
+    })
+
+-- Behind a closed file a run of bytes is too much.
+pub closed_run : {T : Type 0} (judge : Judge) (After : T → List (List ℕ) → Type 0) (text run : List ℕ) (old : Feeder T) → length text ≤ 2 ^ 62 → 0 < length run
+    → judge.closed (ended text) ≡ true → IsBehind judge After text old → Refused judge (text ++ run) (at_line old.ends TooMany)
+closed_run judge After text [] old small some closed h = absurd (omega arith)
+closed_run judge After text (b ∷ run) old small some closed h =
+    rw (← append_assoc text (b ∷ []) run) (refusal_lasts judge (text ++ b ∷ []) run (at_line old.ends TooMany) (closed_err judge After text b old small closed h))
+
+-- The place of an LF.
+pub no_lf_before : (bytes : List ℕ) (n : ℕ) → ((k : ℕ) → 0 ≤ k → k < n → eqb (get_or bytes k 0) 10 ≡ true → ⊥) → HasNoLf (take n bytes)
+no_lf_before [] zero none = tt
+no_lf_before [] (suc n) none = tt
+no_lf_before (b ∷ bytes) zero none = tt
+no_lf_before (b ∷ bytes) (suc n) none = ((λ is. none 0 (omega arith) (omega arith) (eq-eqb b 10 is)), no_lf_before bytes n (λ k low high. none (suc k) (omega arith) (omega arith)))
+
+pub no_lf : (bytes : List ℕ) → ((k : ℕ) → 0 ≤ k → k < length bytes → eqb (get_or bytes k 0) 10 ≡ true → ⊥) → HasNoLf bytes
+no_lf bytes none = subst HasNoLf (take_all (length bytes) bytes (omega arith)) (no_lf_before bytes (length bytes) none)
+
+pub lf_parts : (bytes : List ℕ) (n : ℕ) → n < length bytes → eqb (get_or bytes n 0) 10 ≡ true → bytes ≡ (take n bytes ++ 10 ∷ []) ++ drop 1 (drop n bytes)
+lf_parts bytes n within is =
+    let lf : get_or bytes n 0 ≡ 10 = eqb-true (get_or bytes n 0) 10 is in
+    sym (take-append-drop n bytes) ∙ (ap (λ (t : List ℕ). take n bytes ++ t) (drop_more bytes n 0 within ∙ rw (lf, drop_more bytes n 0 within) refl) ∙ sym (append_assoc (take n bytes) (10 ∷ []) (drop 1 (drop n bytes))))
+
+pub lf_whole : (text bytes line : List ℕ) (n : ℕ) → n < length bytes → eqb (get_or bytes n 0) 10 ≡ true → line ≡ take n bytes → (text ++ line ++ 10 ∷ []) ++ drop 1 (drop n bytes) ≡ text ++ bytes
+lf_whole text bytes line n within is line_is =
+    ap (λ (t : List ℕ). t ++ drop 1 (drop n bytes)) (append_assoc text line (10 ∷ []))
+    ∙ (append_assoc text (line ++ 10 ∷ []) (drop 1 (drop n bytes)) ∙ ap (λ (t : List ℕ). text ++ t) (rw line_is (sym (lf_parts bytes n within is))))
+
+pub same_room : {T : Type 0} (judge : Judge) (After : T → List (List ℕ) → Type 0) (text : List ℕ) (old : Feeder T) (room : List ℕ) → IsBehind judge After text old → room ≡ old.room
+    → IsBehind judge After text (record { taker = old.taker; room = room; ends = old.ends; spent = old.spent })
+same_room judge After text old room h is = record { going = h.going; clean = h.clean; room = is ∙ h.room; ends = h.ends; taken = h.taken }
+
+-- The end of a text.
+
+lines_whole : (text : List ℕ) → rest text ≡ [] → lines text ≡ ended text
+unfolding lines
+lines_whole text none = rw none (append-nil (ended text))
+
+last_open : (r : List ℕ) → 0 < length r → last_line r ≡ r ∷ []
+last_open [] some = absurd (omega arith)
+last_open (b ∷ r) some = refl
+
+lines_open : (text : List ℕ) → 0 < length (rest text) → lines text ≡ ended (text ++ 10 ∷ [])
+unfolding lines
+lines_open text some = ap (λ (l : List (List ℕ)). ended text ++ l) (last_open (rest text) some) ∙ sym (ended_at_lf text)
+
+pub closed_whole : {T : Type 0} (judge : Judge) (After : T → List (List ℕ) → Type 0) (text : List ℕ) (old : Feeder T) → IsBehind judge After text old → old.room ≡ [] → IsClosed judge After text old
+closed_whole judge After text old h empty =
+    let same : lines text ≡ ended text = lines_whole text (sym h.room ∙ empty) in
+    record {
+      going = h.going;
+      clean = rw same (clean_parts judge text h.clean).0;
+      room = empty;
+      ends = h.ends ∙ ap length (sym same);
+      taken = rw same h.taken;
+    }
+
+-- A text that ends with an LF has no fault but in its lines.
+early_whole : (judge : Judge) (text : List ℕ) → rest text ≡ [] → early judge text ≡ first_fault judge (ended text)
+unfolding early
+early_whole judge text none = rw none (or_else_none (first_fault judge (ended text)))
+
+told_first : (judge : Judge) (text : List ℕ) (e : DimacsError) → first_fault judge (lines text) ≡ Some e → told judge text ≡ Some e
+unfolding told
+told_first judge text e is = rw is refl
+
+pub closed_open : {T U : Type 0} (judge : Judge) (After : T → List (List ℕ) → Type 0) (text : List ℕ) (old new : Feeder T) (result : Result U DimacsError) → IsBehind judge After text old → 0 < length old.room
+    → Fed judge After (text ++ 10 ∷ []) result new → Closed judge After text result new
+closed_open judge After text old new (Ok u) h some fed =
+    let same : lines text ≡ ended (text ++ 10 ∷ []) = lines_open text (rw (← h.room) some) in
+    record {
+      going = fed.going;
+      clean = rw same (clean_parts judge (text ++ 10 ∷ []) fed.clean).0;
+      room = fed.room ∙ rest_at_lf text;
+      ends = fed.ends ∙ ap length (sym same);
+      taken = rw same fed.taken;
+    }
+closed_open judge After text old new (Err e) h some (spent, inl is) =
+    let same : lines text ≡ ended (text ++ 10 ∷ []) = lines_open text (rw (← h.room) some) in
+    (spent, inl (told_first judge text e (rw same (sym (early_whole judge (text ++ 10 ∷ []) (rest_at_lf text)) ∙ is))))
+closed_open judge After text old new (Err e) h some (spent, inr memory) =
+    let same : lines text ≡ ended (text ++ 10 ∷ []) = lines_open text (rw (← h.room) some) in
+    (spent, inr (rw same memory))
+
+pub failed_here : {T : Type 0} (judge : Judge) (After : T → List (List ℕ) → Type 0) (text : List ℕ) (old : Feeder T) → length text ≤ 2 ^ 62 → IsBehind judge After text old → failed judge text ≡ Some (at_line old.ends Read)
+unfolding failed
+failed_here judge After text old small h = rw h.clean (same_error (length (ended text) + 1) (min (old.ends + 1) (2 ^ 64 - 1)) Read (line_is text old.ends small h.ends))
+
+last_short : (r : List ℕ) → length (last_line r) ≤ 1
+last_short [] = omega arith
+last_short (b ∷ r) = omega arith
+
+lines_short : (text : List ℕ) → length (lines text) ≤ length text + 1
+unfolding lines
+lines_short text = omega (arith, length-append (ended text) (last_line (rest text)), ended_short text, last_short (rest text))
+
+pub told_none : {T : Type 0} (judge : Judge) (After : T → List (List ℕ) → Type 0) (text : List ℕ) (reader : Feeder T) → IsClosed judge After text reader → judge.missing (lines text) ≡ None → told judge text ≡ None
+unfolding told
+told_none judge After text reader h none = rw (h.clean, none) refl
+
+pub told_missing : {T : Type 0} (judge : Judge) (After : T → List (List ℕ) → Type 0) (text : List ℕ) (reader : Feeder T) (kind : Kind) → length text ≤ 2 ^ 62 → IsClosed judge After text reader
+    → judge.missing (lines text) ≡ Some kind → told judge text ≡ Some (at_line reader.ends kind)
+unfolding told
+told_missing judge After text reader kind small h is =
+    let line : min (reader.ends + 1) (2 ^ 64 - 1) ≡ length (lines text) + 1 = omega (arith, lines_short text, h.ends) in
+    rw (h.clean, is) (same_error (length (lines text) + 1) (min (reader.ends + 1) (2 ^ 64 - 1)) kind line)
+
+pub starts : {T : Type 0} (judge : Judge) (After : T → List (List ℕ) → Type 0) (taker : T) (room : List ℕ) (spent : Option DimacsError) → After taker [] → room ≡ [] → spent ≡ None
+    → IsBehind judge After [] (record { taker = taker; room = room; ends = 0; spent = spent })
+unfolding ended rest early first_after
+starts judge After taker room spent taken empty going = record { going = going; clean = refl; room = empty; ends = refl; taken = taken }
+
+pub open_behind : {T : Type 0} (judge : Judge) (After : T → List (List ℕ) → Type 0) (text : List ℕ) (old : Feeder T) → IsBehind judge After text old → 0 < length old.room → judge.closed (ended text) ≡ false
+open_behind judge After text old h some = open_while judge text h.clean (rw (← h.room) some)
+
+-- The end of a file that closes itself.
+
+closed_rest : (judge : Judge) (before : List (List ℕ)) (r : List ℕ) → rest_fault judge before r ≡ None → judge.closed before ≡ true → r ≡ []
+closed_rest judge before [] h closed = refl
+closed_rest judge before (b ∷ r) h closed = absurd (false≢true (sym (rest_open judge before (b ∷ r) h (omega arith)) ∙ closed))
+
+pub nothing_left : (judge : Judge) (text : List ℕ) → early judge text ≡ None → judge.closed (ended text) ≡ true → rest text ≡ []
+unfolding early
+nothing_left judge text clean closed = closed_rest judge (ended text) (rest text) (none_parts (first_fault judge (ended text)) (length (ended text) + 1) (rest_fault judge (ended text) (rest text)) clean).1 closed
+
+some_text : (all : List (List ℕ)) (r : List ℕ) (b : ℕ) (text : List ℕ) → b ∷ text ≡ flat_map (λ line. line ++ 10 ∷ []) all ++ r → (length all ≡ 0) × (r ≡ []) → ⊥
+some_text [] r b text whole (none, empty) = let e : b ∷ text ≡ [] = whole ∙ empty in cc
+some_text (x ∷ all) r b text whole (none, empty) = absurd (omega arith)
+
+pub short_kind : (judge : Judge) (text : List ℕ) → judge.closed (ended text) ≡ false → (length (ended text) ≡ 0) × (rest text ≡ []) → cut_short judge text ≡ Some NoProblem
+short_kind judge [] closed none = refl
+short_kind judge (b ∷ text) closed none = absurd (some_text (ended (b ∷ text)) (rest (b ∷ text)) b text (text_is (b ∷ text)).whole none)
+
+pub some_kind : (judge : Judge) (text : List ℕ) → judge.closed (ended text) ≡ false → ((length (ended text) ≡ 0) × (rest text ≡ []) → ⊥) → cut_short judge text ≡ Some TooFew
+unfolding ended rest
+some_kind judge [] closed some = absurd (some (refl, refl))
+some_kind judge (b ∷ text) closed some = rw closed refl
+
+pub told_short : {T : Type 0} (judge : Judge) (After : T → List (List ℕ) → Type 0) (text : List ℕ) (old : Feeder T) (kind : Kind) → length text ≤ 2 ^ 62 → IsBehind judge After text old → cut_short judge text ≡ Some kind
+    → strictly_told judge text ≡ Some (at_line old.ends kind)
+unfolding strictly_told
+told_short judge After text old kind small h is = rw (h.clean, is) (same_error (length (ended text) + 1) (min (old.ends + 1) (2 ^ 64 - 1)) kind (line_is text old.ends small h.ends))
+
+closed_kind : (judge : Judge) (text : List ℕ) → judge.closed (ended text) ≡ true → judge.closed [] ≡ false → cut_short judge text ≡ None
+unfolding ended
+closed_kind judge [] closed empty = absurd (false≢true (sym empty ∙ closed))
+closed_kind judge (b ∷ text) closed empty = rw closed refl
+
+pub told_closed : {T : Type 0} (judge : Judge) (After : T → List (List ℕ) → Type 0) (text : List ℕ) (old : Feeder T) → IsBehind judge After text old → judge.closed (ended text) ≡ true → judge.closed [] ≡ false → judge.missing (ended text) ≡ None
+    → strictly_told judge text ≡ None
+unfolding strictly_told
+told_closed judge After text old h closed empty none = rw (h.clean, closed_kind judge text closed empty, none) refl
+
+pub told_lacking : {T : Type 0} (judge : Judge) (After : T → List (List ℕ) → Type 0) (text : List ℕ) (old : Feeder T) (kind : Kind) → length text ≤ 2 ^ 62 → IsBehind judge After text old → judge.closed (ended text) ≡ true → judge.closed [] ≡ false
+    → judge.missing (ended text) ≡ Some kind → strictly_told judge text ≡ Some (at_line old.ends kind)
+unfolding strictly_told
+told_lacking judge After text old kind small h closed empty is = rw (h.clean, closed_kind judge text closed empty, is) (same_error (length (ended text) + 1) (min (old.ends + 1) (2 ^ 64 - 1)) kind (line_is text old.ends small h.ends))

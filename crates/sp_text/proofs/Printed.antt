@@ -1,0 +1,120 @@
+-- A text that is sent to a writer, step by step.
+use Rattle.std.proofs.Common.{◌≡◌, ℕ, Bool, true, false, zero, suc, ◌+◌, ◌-◌, ◌^◌, ◌<◌, ◌≤◌, List, [], ◌++◌, length, take, drop, min, Option, sym, ap, ◌∙◌, append_assoc, take-append-drop, length-append, arith}
+use Rattle.std.proofs.lemmas.List.{append-nil}
+use Rattle.std.proofs.lemmas.Bool.{false≢true}
+use Rattle.std.proofs.KnownBytes.{Appends-nil, Appends-trans}
+use Rattle.std.specs.Io.KnownBytes.{Appends}
+use Rattle.sp_text.specs.declared.printing.Printer.{Printer}
+use Rattle.sp_text.specs.Devices.{IsBegun}
+use Rattle.sp_text.specs.Printing.{IsSent, IsSending}
+
+pub split_on : (bytes front rest after : List ℕ) (n : ℕ) → bytes ≡ front ++ rest → after ≡ drop n rest → bytes ≡ (front ++ take n rest) ++ after
+split_on bytes front rest after n whole is =
+    whole ∙ (ap (λ (t : List ℕ). front ++ t) (sym (take-append-drop n rest) ∙ ap (λ (t : List ℕ). take n rest ++ t) (sym is)) ∙ sym (append_assoc front (take n rest) after))
+
+-- A beginning of a text is one of a longer text.
+pub begun_more : (text more : List ℕ) (old new : Option (List ℕ)) → IsBegun text old new → IsBegun (text ++ more) old new
+begun_more text more old new h = record {
+  part = h.part;
+  more = h.more ++ more;
+  parts = ap (λ (t : List ℕ). t ++ more) h.parts ∙ append_assoc h.part h.more more;
+  wrote = h.wrote;
+}
+
+-- Behind a text that was written, a beginning of the next one.
+pub begun_behind : (text front bytes : List ℕ) (old mid new : Option (List ℕ)) → text ≡ front ++ bytes → Appends old mid front → IsBegun bytes mid new → IsBegun text old new
+begun_behind text front bytes old mid new whole wrote h = record {
+  part = front ++ h.part;
+  more = h.more;
+  parts = whole ∙ (ap (λ (t : List ℕ). front ++ t) h.parts ∙ sym (append_assoc front h.part h.more));
+  wrote = Appends-trans old mid new front h.part wrote h.wrote;
+}
+
+pub sends_ok : {W : Type 0} (written : W → Option (List ℕ)) (passed : W → ℕ) (has_failed : W → Bool) (text : List ℕ) (start out : W) (printer : Printer) → printer.failed ≡ false → IsSent written passed text start out printer → IsSending written passed has_failed text start out printer
+sends_ok written passed has_failed text start out printer going sent = record {
+  going = λ _. sent;
+  begun = λ failed. absurd (false≢true (sym going ∙ failed));
+  failed = λ failed. absurd (false≢true (sym going ∙ failed));
+}
+
+pub sends_failed : {W : Type 0} (written : W → Option (List ℕ)) (passed : W → ℕ) (has_failed : W → Bool) (text : List ℕ) (start out : W) (printer : Printer) → printer.failed ≡ true → IsBegun text (written start) (written out) → has_failed out ≡ true
+    → IsSending written passed has_failed text start out printer
+sends_failed written passed has_failed text start out printer failed begun fails = record {
+  going = λ going. absurd (false≢true (sym going ∙ failed));
+  begun = λ _. begun;
+  failed = λ _. fails;
+}
+
+-- Nothing was sent yet.
+none_sent : {W : Type 0} (written : W → Option (List ℕ)) (passed : W → ℕ) (out : W) (printer : Printer) → printer.block ≡ [] → printer.count ≡ 0 → IsSent written passed [] out out printer
+none_sent written passed out printer empty none = record {
+  done = [];
+  parts = sym empty;
+  wrote = Appends-nil (written out);
+  went = omega arith;
+  counted = none;
+  small = omega arith;
+}
+
+pub unsent : {W : Type 0} (written : W → Option (List ℕ)) (passed : W → ℕ) (has_failed : W → Bool) (out : W) (printer : Printer) → printer.block ≡ [] → printer.count ≡ 0 → printer.failed ≡ false → IsSending written passed has_failed [] out out printer
+unsent written passed has_failed out printer empty none going = sends_ok written passed has_failed [] out out printer going (none_sent written passed out printer empty none)
+
+block_pushed : {W : Type 0} (written : W → Option (List ℕ)) (passed : W → ℕ) (front bytes : List ℕ) (start out : W) (printer : Printer) (block : List ℕ) → IsSent written passed front start out printer → block ≡ printer.block ++ bytes
+    → IsSent written passed (front ++ bytes) start out (record { block = block; count = printer.count; failed = printer.failed })
+block_pushed written passed front bytes start out printer block h is = record {
+  done = h.done;
+  parts = ap (λ (t : List ℕ). t ++ bytes) h.parts ∙ (append_assoc h.done printer.block bytes ∙ ap (λ (t : List ℕ). h.done ++ t) (sym is));
+  wrote = h.wrote;
+  went = h.went;
+  counted = h.counted;
+  small = h.small;
+}
+
+-- What is pushed is sent.
+pub pushed : {W : Type 0} (written : W → Option (List ℕ)) (passed : W → ℕ) (has_failed : W → Bool) (front bytes : List ℕ) (start out : W) (printer : Printer) (block : List ℕ) → IsSending written passed has_failed front start out printer → block ≡ printer.block ++ bytes
+    → IsSending written passed has_failed (front ++ bytes) start out (record { block = block; count = printer.count; failed = printer.failed })
+pushed written passed has_failed front bytes start out printer block h is = record {
+  going = λ going. block_pushed written passed front bytes start out printer block (h.going going) is;
+  begun = λ failed. begun_more front bytes (written start) (written out) (h.begun failed);
+  failed = h.failed;
+}
+
+sum_small : (n d s q : ℕ) → (0 < n → q ≤ 2 ^ 62) → q ≡ s + d + n → d ≤ 2 ^ 62 → d + n ≤ 2 ^ 62
+sum_small zero d s q limit is small = omega arith
+sum_small (suc n) d s q limit is small = omega (arith, limit (omega arith))
+
+-- Bytes are written behind a text all of which was written.
+pub written_on : {W : Type 0} (written : W → Option (List ℕ)) (passed : W → ℕ) (front bytes : List ℕ) (start out new : W) (printer : Printer) (count : ℕ) → IsSent written passed front start out printer → printer.block ≡ []
+    → Appends (written out) (written new) bytes → passed new ≡ passed out + length bytes → (0 < length bytes → passed new ≤ 2 ^ 62) → count ≡ min (printer.count + length bytes) (2 ^ 64 - 1)
+    → IsSent written passed (front ++ bytes) start new (record { block = printer.block; count = count; failed = printer.failed })
+written_on written passed front bytes start out new printer count h empty wrote went limit is =
+    let whole : front ≡ h.done = h.parts ∙ rw empty (append-nil h.done) in
+    let short = sum_small (length bytes) (length h.done) (passed start) (passed new) limit (omega (arith, went, h.went)) h.small in
+    record {
+      done = h.done ++ bytes;
+      parts = ap (λ (t : List ℕ). t ++ bytes) whole ∙ rw empty (sym (append-nil (h.done ++ bytes)));
+      wrote = Appends-trans (written start) (written out) (written new) h.done bytes h.wrote wrote;
+      went = omega (arith, h.went, length-append h.done bytes);
+      counted = omega (arith, h.counted, short, length-append h.done bytes);
+      small = omega (arith, short, length-append h.done bytes);
+    }
+
+-- What waits is written.
+pub flushed : {W : Type 0} (written : W → Option (List ℕ)) (passed : W → ℕ) (front bytes : List ℕ) (start out new : W) (printer : Printer) (block : List ℕ) (count : ℕ) → IsSent written passed front start out printer → bytes ≡ printer.block
+    → Appends (written out) (written new) bytes → passed new ≡ passed out + length bytes → (0 < length bytes → passed new ≤ 2 ^ 62) → block ≡ [] → count ≡ min (printer.count + length bytes) (2 ^ 64 - 1)
+    → IsSent written passed front start new (record { block = block; count = count; failed = printer.failed })
+flushed written passed front bytes start out new printer block count h waits wrote went limit empty is = record {
+  done = h.done ++ bytes;
+  parts = h.parts ∙ rw (← waits, empty) (sym (append-nil (h.done ++ bytes)));
+  wrote = Appends-trans (written start) (written out) (written new) h.done bytes h.wrote wrote;
+  went = omega (arith, h.went, length-append h.done bytes);
+  counted = omega (arith, h.counted, sum_small (length bytes) (length h.done) (passed start) (passed new) limit (omega (arith, went, h.went)) h.small, length-append h.done bytes);
+  small = omega (arith, sum_small (length bytes) (length h.done) (passed start) (passed new) limit (omega (arith, went, h.went)) h.small, length-append h.done bytes);
+}
+
+-- Where nothing waits, all was written.
+pub all_written : {W : Type 0} (written : W → Option (List ℕ)) (passed : W → ℕ) (front : List ℕ) (start out : W) (printer : Printer) → IsSent written passed front start out printer → printer.block ≡ []
+    → Appends (written start) (written out) front × (printer.count ≡ length front)
+all_written written passed front start out printer h empty =
+    let whole : front ≡ h.done = h.parts ∙ rw empty (append-nil h.done) in
+    (rw whole h.wrote, h.counted ∙ ap length (sym whole))

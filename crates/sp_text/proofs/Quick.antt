@@ -1,0 +1,31 @@
+-- A field that a quick number is.
+use Rattle.std.proofs.Common.{◌≡◌, ℕ, zero, suc, ◌<◌, ◌≤◌, true, false, List, [], ◌∷◌, length, take, drop, get_or, refl, sym, subst, arith}
+use Rattle.std.proofs.lemmas.Bool.{false≢true}
+use Rattle.std.proofs.lemmas.List.{take_all, get_or-take, length-take-le}
+use Rattle.std.specs.List.{list_all}
+use Rattle.std.specs.Char.{is_ascii_digit}
+use Rattle.sp_text.specs.Lines.{is_blank, parted, value}
+use Rattle.sp_text.specs.Numeral.{ranged, numeral, starts_number, IsQuick}
+use Rattle.sp_text.proofs.Digits.{is_number_parts, digits_no_blanks}
+use Rattle.sp_text.proofs.Parting.{later_field}
+
+numeral_is : (field : List ℕ) (n least most : ℕ) → starts_number field ≡ true → list_all is_ascii_digit field ≡ true → n ≡ value field → ranged n least most ≡ numeral field least most
+numeral_is field n least most some digits number = rw (is_number_parts field, some, digits, number) refl
+
+pub quick_ranged : (start : List ℕ) (n end least most : ℕ) (field : List ℕ) → IsQuick start n end → field ≡ take end start → starts_number field ≡ true → ranged n least most ≡ numeral field least most
+quick_ranged start n end least most field quick is some = numeral_is field n least most some (rw is quick.digits) (rw is quick.number)
+
+pub quick_is : (field : List ℕ) (n end least most : ℕ) → IsQuick field n end → end ≡ length field → starts_number field ≡ true → ranged n least most ≡ numeral field least most
+quick_is field n end least most quick whole some = quick_ranged field n end least most field quick (sym (take_all end field (omega arith))) some
+
+taken_others : (start : List ℕ) (end : ℕ) → end ≤ length start → list_all is_ascii_digit (take end start) ≡ true → (k : ℕ) → k < end → is_blank (get_or start k 0) ≡ false
+taken_others start end within digits k below =
+    subst (λ (b : ℕ). is_blank b ≡ false) (get_or-take end start k 0 below) (digits_no_blanks (take end start) k digits (omega (arith, length-take-le end start within)))
+
+some_end : (start : List ℕ) (end : ℕ) → starts_number (take end start) ≡ true → 0 < end
+some_end start zero some = absurd (false≢true some)
+some_end start (suc end) some = omega arith
+
+pub quick_field : (start : List ℕ) (n end : ℕ) (field rest : List ℕ) → IsQuick start n end → field ≡ take end start → rest ≡ drop end start → starts_number field ≡ true → parted [] start ≡ field ∷ parted [] rest
+quick_field start n end field rest quick field_is rest_is some =
+    rw (field_is, rest_is) (later_field start end quick.within (taken_others start end quick.within quick.digits) quick.behind (some_end start end (rw field_is at some)))

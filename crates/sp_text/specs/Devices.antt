@@ -1,0 +1,10 @@
+-- What a writer took.
+use Rattle.std.specs.Prelude.{◌≡◌, ℕ, List, ◌++◌, Option}
+use Rattle.std.specs.Io.KnownBytes.{Appends}
+
+-- A beginning of the text was written behind what stood there.
+pub record IsBegun (text : List ℕ) (old new : Option (List ℕ)) : Type 0 where
+  pub part : List ℕ
+  pub more : List ℕ
+  pub parts : text ≡ part ++ more
+  pub wrote : Appends old new part

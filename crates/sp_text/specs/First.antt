@@ -1,0 +1,69 @@
+-- The first fault of a text, whatever its line forms are.
+use Rattle.std.specs.Prelude.{◌≢◌, ℕ, ◌+◌, Bool, List, [], ◌∷◌, ◌++◌, length, nat_lt, if◌then◌else◌, Option, Some, None}
+use Rattle.sp_text.specs.declared.faults.Kind.{Kind}
+use Rattle.sp_text.specs.declared.faults.Kind.TheVariants.{LongLine, NoProblem, TooMany, TooFew, Read}
+use Rattle.sp_text.specs.declared.faults.DimacsError.{DimacsError}
+use Rattle.sp_text.specs.Lines.{ended, rest, lines}
+
+-- A file's rules: whether nothing may stand behind some lines, the fault of a line by the lines before it,
+-- which have none, and what is missing where the lines end.
+pub record Judge : Type 0 where
+  pub closed : List (List ℕ) → Bool
+  pub fault : List (List ℕ) → List ℕ → Option Kind
+  pub missing : List (List ℕ) → Option Kind
+
+-- No line has the fault of a device.
+pub record IsSilent (judge : Judge) : Type 0 where
+  pub fault : (before : List (List ℕ)) (line : List ℕ) → judge.fault before line ≢ Some Read
+  pub missing : (all : List (List ℕ)) → judge.missing all ≢ Some Read
+
+abbrev pub or_at : ℕ → Option Kind → Option DimacsError → Option DimacsError
+or_at line None later = later
+or_at line (Some kind) later = Some (record { line = line; kind = kind })
+
+abbrev pub or_else : Option DimacsError → Option DimacsError → Option DimacsError
+or_else None later = later
+or_else (Some e) later = Some e
+
+abbrev pub or_kind : Option Kind → Option Kind → Option Kind
+or_kind None later = later
+or_kind (Some kind) later = Some kind
+
+-- What a line shows by its bytes alone: it should not be there, or there are too many.
+abbrev pub size_fault : Judge → List (List ℕ) → List ℕ → Option Kind
+size_fault judge before line = if judge.closed before then Some TooMany else (if nat_lt 1024 (length line) then Some LongLine else None)
+
+abbrev pub line_fault : Judge → List (List ℕ) → List ℕ → Option Kind
+line_fault judge before line = or_kind (size_fault judge before line) (judge.fault before line)
+
+-- The first of these lines, which stand after `before`, that has a fault.
+unfoldable pub first_after : Judge → List (List ℕ) → List (List ℕ) → Option DimacsError
+first_after judge before [] = None
+first_after judge before (line ∷ more) = or_at (length before + 1) (line_fault judge before line) (first_after judge (before ++ line ∷ []) more)
+
+abbrev pub first_fault : Judge → List (List ℕ) → Option DimacsError
+first_fault judge all = first_after judge [] all
+
+-- The text has ended: a line has a fault, or something is missing at the line after the last.
+unfoldable pub told : Judge → List ℕ → Option DimacsError
+told judge text = or_else (first_fault judge (lines text)) (or_at (length (lines text) + 1) (judge.missing (lines text)) None)
+
+-- The text may go on: a line whose LF came has a fault, or what came of the next one shows it.
+abbrev pub rest_fault : Judge → List (List ℕ) → List ℕ → Option Kind
+rest_fault judge before [] = None
+rest_fault judge before (b ∷ bytes) = size_fault judge before (b ∷ bytes)
+
+unfoldable pub early : Judge → List ℕ → Option DimacsError
+early judge text = or_else (first_fault judge (ended text)) (or_at (length (ended text) + 1) (rest_fault judge (ended text) (rest text)) None)
+
+-- The device failed after this text: a fault that came earlier, or Read at the line that was being read.
+unfoldable pub failed : Judge → List ℕ → Option DimacsError
+failed judge text = or_else (early judge text) (or_at (length (ended text) + 1) (Some Read) None)
+
+-- The text has ended, where a line needs its LF and the last line closes the file.
+abbrev pub cut_short : Judge → List ℕ → Option Kind
+cut_short judge [] = Some NoProblem
+cut_short judge (b ∷ text) = if judge.closed (ended (b ∷ text)) then None else Some TooFew
+
+unfoldable pub strictly_told : Judge → List ℕ → Option DimacsError
+strictly_told judge text = or_else (early judge text) (or_at (length (ended text) + 1) (or_kind (cut_short judge text) (judge.missing (ended text))) None)

@@ -1,0 +1,54 @@
+-- The line forms of the files.
+use Rattle.std.specs.Prelude.{◌≡◌, ◌+◌, ◌<◌, ◌≤◌, ◌⊎◌, ℕ, Bool, List, [], ◌∷◌, length, slice_index_or, map, if◌then◌else◌}
+use Rattle.sp_text.specs.declared.layouts.Top.{Top}
+use Rattle.sp_text.specs.declared.layouts.Field.{Field}
+use Rattle.sp_text.specs.declared.layouts.Form.{Form}
+use Rattle.sp_text.specs.declared.layouts.Layout.{Layout}
+use Rattle.sp_text.specs.Lines.{parted}
+
+-- Its words, and then a number for each field. Lines of forms of one group are counted together, up to
+-- the limit. Where a form is fresh, its first number stands in no earlier line of the form.
+pub record LineForm : Type 0 where
+  pub words : List (List ℕ)
+  pub fields : List Field
+  pub fresh : Bool
+  pub group : ℕ
+  pub limit : Top
+
+-- The problem line, and the other lines. As many lines of group 0 have to stand as `needed` says.
+pub record Format : Type 0 where
+  pub problem : LineForm
+  pub items : List LineForm
+  pub needed : Top
+
+-- what the program's data say
+abbrev pub form_of : Form → LineForm
+form_of f = record { words = parted [] f.words.now; fields = f.fields.now; fresh = f.fresh; group = f.group; limit = f.limit }
+
+abbrev pub format_of : Layout → Format
+format_of l = record { problem = form_of l.problem; items = map form_of l.items.now; needed = l.needed }
+
+abbrev pub field : ℕ → ℕ → Top → Field
+field letter least most = record { letter = letter; least = least; most = most }
+
+-- The places of the fresh forms, from `k` on.
+abbrev pub fresh_after : ℕ → List LineForm → List ℕ
+fresh_after k [] = []
+fresh_after k (form ∷ forms) = if form.fresh then k ∷ fresh_after (k + 1) forms else fresh_after (k + 1) forms
+
+abbrev pub IsOneOf : ℕ → List ℕ → Type 0
+IsOneOf n [] = ⊥
+IsOneOf n (k ∷ ks) = (n ≡ k) ⊎ IsOneOf n ks
+
+-- The form at this place is fresh.
+abbrev pub IsFreshPlace : Format → ℕ → Type 0
+IsFreshPlace format place = IsOneOf place (fresh_after 0 format.items)
+
+-- The engine has room for its lines: at most four numbers, and three groups.
+pub record IsSmallForm (f : Form) : Type 0 where
+  pub numbers : length f.fields.now ≤ 4
+  pub group : f.group < 3
+
+pub record IsSmall (l : Layout) : Type 0 where
+  pub problem : IsSmallForm l.problem
+  pub items : (k : ℕ) (d : Form) → k < length l.items.now → IsSmallForm (slice_index_or l.items.now k d)

@@ -1,0 +1,16 @@
+pub mod Lines
+pub mod Numeral
+pub mod Formats
+pub mod First
+pub mod Text
+pub mod Feeding
+pub mod Matching
+pub mod Keeping
+pub mod Collecting
+pub mod Devices
+pub mod Printing
+pub mod Whole
+pub mod Meaning
+pub mod Accepted
+pub mod Silence
+pub mod Samples

@@ -1,0 +1,47 @@
+-- What a line was found to be.
+use Rattle.std.specs.Prelude.{◌≡◌, ℕ, List, [], ◌∷◌, ◌++◌, slice_get, slice_index, Option, Some, None}
+use Rattle.sp_text.specs.declared.layouts.Ranges.{Ranges}
+use Rattle.sp_text.specs.declared.layouts.Field.{Field}
+use Rattle.sp_text.specs.declared.matching.Numbers.{Numbers}
+use Rattle.sp_text.specs.declared.matching.Numbers.TheVariants as lists
+use Rattle.sp_text.specs.declared.matching.Spelled.{Spelled}
+use Rattle.sp_text.specs.declared.matching.Spelled.TheVariants.{No, Out, Within}
+use Rattle.sp_text.specs.declared.reading.Found.{Found}
+use Rattle.sp_text.specs.declared.reading.Found.TheVariants as founds
+use Rattle.sp_text.specs.Formats.{Format, form_of, IsSmallForm}
+use Rattle.sp_text.specs.Text.{Reading, Comment, Bad, IsProblem, IsItem, Item, first_out, first_letter}
+
+-- Of numbers of which the one with this letter is out of its range, these stand in front of it.
+abbrev pub IsFront : List Field → List ℕ → ℕ → List ℕ → Type 0
+IsFront ds ns letter [] = first_letter ds ≡ Some letter
+IsFront ds ns letter (n ∷ part) = slice_index ns 0 ≡ n
+
+-- `found` are the numbers that fields spell, if they do.
+abbrev pub Spells : Ranges → List ℕ → List Field → Option (List ℕ) → List ℕ → List ℕ → Spelled → Type 0
+Spells ranges ps ds found old new No = found ≡ None
+Spells ranges ps ds found old new (Out letter) = (ns part : List ℕ) × (found ≡ Some ns) × (first_out ranges ps ds ns ≡ Some letter) × (new ≡ old ++ part) × IsFront ds ns letter part
+Spells ranges ps ds found old new Within = (ns : List ℕ) × (found ≡ Some ns) × (first_out ranges ps ds ns ≡ None) × (new ≡ old ++ ns)
+
+abbrev pub Are : Ranges → List ℕ → List Field → List ℕ → Numbers → Type 0
+Are ranges ps ds ns (lists.Out letter values) = (first_out ranges ps ds ns ≡ Some letter) × IsFront ds ns letter values
+Are ranges ps ds ns (lists.Within values) = (first_out ranges ps ds ns ≡ None) × (values ≡ ns)
+
+-- the numbers that were read
+abbrev pub front_of : Numbers → List ℕ
+front_of (lists.Out letter values) = values
+front_of (lists.Within values) = values
+
+-- the letter of the first one that is out of its range
+abbrev pub letter_of : Numbers → Option ℕ
+letter_of (lists.Out letter values) = Some letter
+letter_of (lists.Within values) = None
+
+abbrev pub Matched : Ranges → List ℕ → List Field → Option (List ℕ) → Option Numbers → Type 0
+Matched ranges ps ds found None = found ≡ None
+Matched ranges ps ds found (Some numbers) = (ns : List ℕ) × (found ≡ Some ns) × Are ranges ps ds ns numbers
+
+abbrev pub IsFound : Format → Ranges → List ℕ → Reading → Found → Type 0
+IsFound format ranges ps reading founds.Comment = reading ≡ Comment
+IsFound format ranges ps reading founds.Bad = reading ≡ Bad
+IsFound format ranges ps reading (founds.Problem numbers) = (ns : List ℕ) × (reading ≡ IsProblem ns) × Are ranges [] format.problem.fields ns numbers
+IsFound format ranges ps reading (founds.Item place form numbers) = (item : Item) × (reading ≡ IsItem item) × (item.kind ≡ place) × (slice_get format.items place ≡ Some item.form) × (item.form ≡ form_of form.now) × IsSmallForm form.now × Are ranges ps item.form.fields item.numbers numbers

@@ -1,0 +1,22 @@
+-- What the definitions mean, in words of their own.
+use Rattle.std.specs.Prelude.{◌≡◌, ◌≢◌, ℕ, ◌+◌, ◌<◌, List, [], ◌∷◌, ◌++◌, length, take, get_or, Some, None}
+use Rattle.std.specs.List.{flat_map, AllByRecursion}
+use Rattle.sp_text.specs.declared.faults.DimacsError.{DimacsError}
+use Rattle.sp_text.specs.First.{Judge, line_fault}
+
+-- This is the first of the lines that has a fault, by the lines before it, and its fault.
+pub record IsFirstFault (rules : Judge) (all : List (List ℕ)) (e : DimacsError) : Type 0 where
+  pub place : ℕ
+  pub within : place < length all
+  pub line : e.line ≡ place + 1
+  pub fault : line_fault rules (take place all) (get_or all place []) ≡ Some e.kind
+  pub none_before : (j : ℕ) → j < place → line_fault rules (take j all) (get_or all j []) ≡ None
+
+-- A text is its lines, each with its LF, and then a rest; there is no other LF.
+abbrev pub HasNoLf : List ℕ → Type 0
+HasNoLf bytes = AllByRecursion (λ b. b ≢ 10) bytes
+
+pub record IsCut (text : List ℕ) (all : List (List ℕ)) (more : List ℕ) : Type 0 where
+  pub whole : text ≡ flat_map (λ line. line ++ 10 ∷ []) all ++ more
+  pub lines : AllByRecursion HasNoLf all
+  pub rest : HasNoLf more

@@ -1,0 +1,26 @@
+-- What a field is, as a number within a range.
+use Rattle.std.specs.Prelude.{◌≡◌, ◌<◌, ◌≤◌, length, take, slice_index, ℕ, Bool, true, false, ◌&&◌, not, List, [], ◌∷◌, nat_le, ◌==◌, if◌then◌else◌}
+use Rattle.sp_text.specs.declared.numbers.Numeral.{Numeral}
+use Rattle.sp_text.specs.declared.numbers.Numeral.TheVariants.{Bad, Out, Value}
+use Rattle.std.specs.List.{list_all}
+use Rattle.std.specs.Char.{is_ascii_digit}
+use Rattle.sp_text.specs.Lines.{is_blank, is_number, value}
+
+abbrev pub ranged : ℕ → ℕ → ℕ → Numeral
+ranged n least most = if nat_le least n && nat_le n most then Value n else Out
+
+abbrev pub numeral : List ℕ → ℕ → ℕ → Numeral
+numeral field least most = if is_number field then ranged (value field) least most else Bad
+
+-- There is a byte, and no zero leads others.
+abbrev pub starts_number : List ℕ → Bool
+starts_number [] = false
+starts_number (d ∷ []) = true
+starts_number (d ∷ e ∷ more) = not (d == 48)
+
+-- Digits at the front spell a small number, and a blank or nothing stands behind them.
+pub record IsQuick (text : List ℕ) (n end : ℕ) : Type 0 where
+  pub within : end ≤ length text
+  pub digits : list_all is_ascii_digit (take end text) ≡ true
+  pub number : n ≡ value (take end text)
+  pub behind : end < length text → is_blank (slice_index text end) ≡ true

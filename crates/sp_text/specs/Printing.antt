@@ -1,0 +1,25 @@
+-- A text that is sent to a writer in blocks.
+use Rattle.std.specs.Prelude.{◌≡◌, ◌+◌, ◌≤◌, ◌^◌, ℕ, Bool, true, false, List, ◌++◌, length, Option, Result, Ok, Err}
+use Rattle.std.specs.Io.KnownBytes.{Appends}
+use Rattle.sp_text.specs.declared.printing.Printer.{Printer}
+use Rattle.sp_text.specs.Devices.{IsBegun}
+
+-- Since `start` this text was sent: some of it was written, and the rest waits.
+pub record IsSent {W : Type 0} (written : W → Option (List ℕ)) (passed : W → ℕ) (text : List ℕ) (start out : W) (printer : Printer) : Type 0 where
+  pub done : List ℕ
+  pub parts : text ≡ done ++ printer.block
+  pub wrote : Appends (written start) (written out) done
+  pub went : passed out ≡ passed start + length done
+  pub counted : printer.count ≡ length done
+  pub small : length done ≤ 2 ^ 62
+
+-- The same, unless the writer has failed: then a beginning of the text stands.
+pub record IsSending {W : Type 0} (written : W → Option (List ℕ)) (passed : W → ℕ) (has_failed : W → Bool) (text : List ℕ) (start out : W) (printer : Printer) : Type 0 where
+  pub going : printer.failed ≡ false → IsSent written passed text start out printer
+  pub begun : printer.failed ≡ true → IsBegun text (written start) (written out)
+  pub failed : printer.failed ≡ true → has_failed out ≡ true
+
+-- The text was written, of so many bytes; or the writer has failed, and a beginning of the text stands.
+abbrev pub Finished : {W F : Type 0} → (W → Option (List ℕ)) → (W → Bool) → List ℕ → W → Result ℕ F → W → Type 0
+Finished written has_failed text start (Ok count) out = Appends (written start) (written out) text × (count ≡ length text)
+Finished written has_failed text start (Err e) out = IsBegun text (written start) (written out) × (has_failed out ≡ true)

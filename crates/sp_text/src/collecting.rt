@@ -1,0 +1,189 @@
+//! The lines of a layout, taken one after the other.
+ghost use Rattle.std.specs.Prelude.{◌≡◌, ℕ, ◌<◌, List, [], ◌∷◌, ◌++◌, length, slice_get, OnOk, Option, Some, None, true};
+ghost use Rattle.sp_text.specs.declared.layouts.Ranges.{Ranges};
+ghost use Rattle.sp_text.specs.Formats.{Format, format_of, IsSmall, IsSmallForm, IsFreshPlace, form_of};
+ghost use Rattle.sp_text.specs.Text.{Item, judge, first_out, first_letter, is_named, named_at, problem_fault, placed_fault};
+ghost use Rattle.sp_text.specs.Keeping.{CanKeep};
+ghost use Rattle.sp_text.specs.Collecting.{IsAfter, SpelledBy, Holds, Answers, ItemIs};
+ghost use Rattle.sp_text.specs.Matching.{Are};
+ghost use Rattle.sp_text.specs.Silence.{judge_silent};
+
+use crate::faults::Kind;
+use crate::feeding::LineTaker;
+use crate::layouts::{Field, Form, Layout, Ranges};
+use crate::matching::{Numbers, greatest};
+use crate::reading::{Found, read_line};
+use crate::rooms::Values;
+use std::alloc::AllocError;
+
+/// What becomes of the items of a file.
+pub trait Keep {
+    /// What a text spells.
+    type Value;
+
+    /// The line forms of the file.
+    ghost format: { Format };
+
+    /// The limits of the words that the file is read for.
+    ghost ranges: { Ranges };
+
+    /// These items were kept.
+    ghost Kept: { Self → List Item → Type 0 };
+
+    /// The numbers of the problem line and the items spell this value.
+    ghost Spelled: { List ℕ → List Item → Self.Value → Type 0 };
+
+    /// The line forms of the file.
+    fn layout(&self) -> Layout
+        ensures format { format_of result ≡ format }
+        ensures small { IsSmall result };
+
+    /// The limits of the words that the file is read for.
+    fn ranges(&self) -> Ranges
+        ensures { result ≡ ranges };
+
+    /// Keeps an item whose numbers are in range. Where memory is refused, nothing is promised of the items.
+    fn keep(&mut self, place: usize, values: &Values) -> Result<(), AllocError>
+        requires { CanKeep format ranges place values.now }
+        ensures { (before : List Item) (item : Item) → Kept self.old before → item.kind ≡ place → item.numbers ≡ values.now → OnOk result (Kept self.new (before ++ item ∷ [])) };
+
+    /// Whether an item of this fresh form with this first number was kept.
+    fn is_named(&self, place: usize, first: u64) -> bool
+        requires { IsFreshPlace format place }
+        ensures { (before : List Item) → Kept self.now before → result ≡ is_named place first before };
+
+    /// The value of the items, behind a problem line whose numbers are in range; then it begins again.
+    fn give(&mut self, problem: &Values) -> Self::Value
+        requires { first_out ranges [] format.problem.fields problem.now ≡ None }
+        ensures { (all : List Item) → Kept self.old all → (Spelled problem.now all result) × Kept self.new [] };
+}
+
+/// Takes the lines of a file, and keeps the items.
+#[derive(Drop)]
+pub struct Collector<K: Keep> {
+    keep: K,
+    problem: Option<Values>,
+    counts: [u64; 3],
+    ghost in_range: { (ps : List ℕ) → problem ≡ Some ps → first_out K.ranges [] K.format.problem.fields ps ≡ None },
+}
+
+fn first_letter(fields: &[Field]) -> Option<u8>
+    ensures { result ≡ first_letter fields.now }
+{
+    match fields {
+        [] => None,
+        [field, ..] => Some(field.letter),
+    }
+}
+
+// The letter of the first field, where the form is fresh and its number was named before.
+fn named_letter<K: Keep>(keep: &K, place: usize, form: &Form, first: u64) -> Option<u8>
+    requires { form.now.fresh ≡ true → IsFreshPlace K.format place }
+    ensures { (before : List Item) → K.Kept keep.now before → result ≡ named_at (form_of form.now) place first before }
+{
+    if form.fresh && keep.is_named(place, first) {
+        return first_letter(form.fields);
+    }
+    None
+}
+
+impl<K: Keep> Collector<K> {
+    /// Takes the lines of a text from the first on.
+    pub fn new(keep: K) -> Self
+        requires { K.Kept keep [] }
+        ensures { ⟦<Collector<K> as LineTaker>⟧.After result [] }
+    {
+        Collector {
+            keep,
+            problem: None,
+            counts: [0; 3],
+        }
+    }
+
+    fn take_problem(&mut self, numbers: Numbers) -> Result<(), Kind>
+        requires { (ns : List ℕ) × Are K.ranges [] K.format.problem.fields ns numbers }
+        ensures { (problem : Option (List ℕ)) (items : List Item) (ns : List ℕ) → Holds K.Kept problem items self.old.keep self.old.problem self.old.counts
+            → Are K.ranges [] K.format.problem.fields ns numbers
+            → Answers K.Kept (problem_fault K.format K.ranges problem ns) (Some ns) items result self.new.keep self.new.problem self.new.counts }
+    {
+        if self.problem.is_some() {
+            return Err(Kind::SecondProblem);
+        }
+        match numbers {
+            Numbers::Out(letter, _) => Err(Kind::OutOfRange(letter)),
+            Numbers::Within(values) => {
+                self.problem = Some(values);
+                Ok(())
+            }
+        }
+    }
+
+    fn take_item(&mut self, place: usize, form: &Form, numbers: Numbers) -> Result<(), Kind>
+        requires small { IsSmallForm form.now }
+        requires item { (item : Item) × (slice_get K.format.items place ≡ Some item.form) × (item.form ≡ form_of form.now) × ItemIs K.ranges self.old.problem item numbers }
+        ensures { (problem : Option (List ℕ)) (items : List Item) (item : Item) → Holds K.Kept problem items self.old.keep self.old.problem self.old.counts
+            → item.kind ≡ place → slice_get K.format.items place ≡ Some item.form → item.form ≡ form_of form.now → ItemIs K.ranges problem item numbers
+            → Answers K.Kept (placed_fault K.ranges problem items item) problem (items ++ item ∷ []) result self.new.keep self.new.problem self.new.counts }
+    {
+        let Some(problem) = &self.problem else {
+            return Err(Kind::NoProblem);
+        };
+        if let Some(letter) = named_letter(&self.keep, place, form, numbers.first()) {
+            return Err(Kind::OutOfRange(letter));
+        }
+        let values = match numbers {
+            Numbers::Out(letter, _) => return Err(Kind::OutOfRange(letter)),
+            Numbers::Within(values) => values,
+        };
+        let group = form.group;
+        let count = self.counts[group];
+        if greatest(form.limit, &self.keep.ranges(), problem) <= count {
+            return Err(Kind::TooMany);
+        }
+        if self.keep.keep(place, &values).is_err() {
+            return Err(Kind::Memory);
+        }
+        self.counts[group] = count + 1;
+        Ok(())
+    }
+}
+
+impl<K: Keep> LineTaker for Collector<K> {
+    type Value = K::Value;
+
+    ghost rules = { judge K.format K.ranges };
+
+    ghost After = { λ c lines. IsAfter K.format K.Kept lines c.keep c.problem c.counts };
+
+    ghost Spelled = { λ lines value. SpelledBy K.format K.Spelled lines value };
+
+    fn is_closed(&self) -> bool {
+        false
+    }
+
+    fn take_line(&mut self, line: &[u8]) -> Result<(), Kind> {
+        let none = Values::new();
+        let problem = self.problem.as_ref().unwrap_or(&none);
+        match read_line(&self.keep.layout(), &self.keep.ranges(), problem, line) {
+            Found::Comment => Ok(()),
+            Found::Bad => Err(Kind::BadLine),
+            Found::Problem(numbers) => self.take_problem(numbers),
+            Found::Item(place, form, numbers) => self.take_item(place, form, numbers),
+        }
+    }
+
+    fn end(&mut self) -> Result<K::Value, Kind> {
+        let Some(problem) = &self.problem else {
+            return Err(Kind::NoProblem);
+        };
+        if self.counts[0] < greatest(self.keep.layout().needed, &self.keep.ranges(), problem) {
+            return Err(Kind::TooFew);
+        }
+        let value = self.keep.give(problem);
+        self.problem = None;
+        self.counts = [0; 3];
+        Ok(value)
+    }
+
+    ghost silent = { judge_silent K.format K.ranges };
+}

@@ -1,0 +1,78 @@
+//! Readers and writers as contracts see them.
+ghost use Rattle.std.specs.Prelude.{◌≡◌, ◌+◌, ◌<◌, ◌≤◌, ◌^◌, ℕ, Bool, true, false, List, length, take, Option, OnOk, OnErr, IfOk};
+ghost use Rattle.std.specs.Io.KnownBytes.{Consumes, Appends, Keeps, IsAtEnd};
+ghost use Rattle.sp_text.specs.Devices.{IsBegun};
+
+use crate::faults::WriteFault;
+
+/// The device failed.
+#[derive(Clone, Copy, Debug, PartialEq, Eq)]
+pub struct Failed;
+
+/// Where bytes come from. A device that has failed fails at every later call.
+pub trait Read {
+    /// The bytes that are left, where they are known.
+    ghost left: { Self → Option (List ℕ) };
+
+    /// How many bytes it has passed.
+    ghost passed: { Self → ℕ };
+
+    /// Whether it has failed.
+    ghost has_failed: { Self → Bool };
+
+    /// Puts some bytes into the front of the buffer, none only at the end.
+    fn read(&mut self, buf: &mut [u8]) -> Result<usize, Failed>
+        requires { 0 < length buf.old }
+        ensures within { IfOk result (λ n. n ≤ length buf.new) }
+        ensures bytes { IfOk result (λ n. Consumes (left self.old) (left self.new) (take n buf.new)) }
+        ensures end { IfOk result (λ n. n ≡ 0 → IsAtEnd (left self.new)) }
+        ensures passed { IfOk result (λ n. passed self.new ≡ passed self.old + n) }
+        ensures limit { OnOk result (passed self.new ≤ 2 ^ 62) }
+        ensures going { OnOk result ((has_failed self.old ≡ false) × (has_failed self.new ≡ false)) }
+        ensures kept { OnErr result (Keeps (left self.old) (left self.new) × (passed self.new ≡ passed self.old)) }
+        ensures failed { OnErr result (has_failed self.new ≡ true) };
+}
+
+/// Where bytes go. A device that has failed fails at every later call.
+pub trait Write {
+    /// The bytes that it has taken, where they are known.
+    ghost written: { Self → Option (List ℕ) };
+
+    /// How many bytes it has passed on.
+    ghost passed: { Self → ℕ };
+
+    /// Whether it has failed.
+    ghost has_failed: { Self → Bool };
+
+    /// Takes a beginning of the bytes, at least one where there is one.
+    fn write(&mut self, bytes: &[u8]) -> Result<usize, Failed>
+        ensures within { IfOk result (λ n. n ≤ length bytes.now) }
+        ensures some { IfOk result (λ n. 0 < length bytes.now → 0 < n) }
+        ensures bytes { IfOk result (λ n. Appends (written self.old) (written self.new) (take n bytes.now)) }
+        ensures passed { IfOk result (λ n. passed self.new ≡ passed self.old + n) }
+        ensures limit { OnOk result (passed self.new ≤ 2 ^ 62) }
+        ensures going { OnOk result ((has_failed self.old ≡ false) × (has_failed self.new ≡ false)) }
+        ensures kept { OnErr result (Keeps (written self.old) (written self.new) × (passed self.new ≡ passed self.old)) }
+        ensures failed { OnErr result (has_failed self.new ≡ true) };
+}
+
+/// Writes all the bytes, or a beginning of them where the device fails.
+pub fn write_all<W: Write>(out: &mut W, bytes: &[u8]) -> Result<(), WriteFault>
+    ensures written { OnOk result (Appends (W.written out.old) (W.written out.new) bytes.now) }
+    ensures passed { OnOk result (W.passed out.new ≡ W.passed out.old + length bytes.now) }
+    ensures limit { OnOk result (0 < length bytes.now → W.passed out.new ≤ 2 ^ 62) }
+    ensures begun { OnErr result (IsBegun bytes.now (W.written out.old) (W.written out.new)) }
+    ensures failed { OnErr result (W.has_failed out.new ≡ true) }
+{
+    let mut rest = bytes;
+    while !rest.is_empty() {
+        match out.write(rest) {
+            Ok(n) => {
+                let (_, after) = rest.split_at(n);
+                rest = after;
+            }
+            Err(_) => return Err(WriteFault),
+        }
+    }
+    Ok(())
+}

@@ -1,0 +1,228 @@
+//! A reader that is fed a text in pieces, whatever its line forms are.
+ghost use Rattle.std.specs.Prelude.{◌≡◌, ◌+◌, ◌-◌, ◌^◌, ◌<◌, ◌≤◌, ◌++◌, ◌∷◌, [], ℕ, List, length, min, Ok, Err, Some, None, false, MatchBool, IfOk, IfErr};
+ghost use Rattle.sp_text.specs.declared.faults.DimacsError.{DimacsError};
+ghost use Rattle.sp_text.specs.Lines.{ended};
+ghost use Rattle.sp_text.specs.Meaning.{HasNoLf};
+ghost use Rattle.sp_text.specs.First.{Judge, IsSilent, failed};
+ghost use Rattle.sp_text.specs.Feeding.{Takes, Ends, IsBehind, Fed, Refused, Closed, Finished, StrictlyFinished};
+
+use crate::faults::{DimacsError, Kind};
+use crate::rooms::Room;
+use memchr::memchr;
+use std::mem;
+
+// As many bytes as a line may have before its LF.
+const LONGEST: usize = 1024;
+
+/// Takes the lines of a text, one after the other, while none has a fault.
+pub trait LineTaker {
+    /// What a text spells.
+    type Value;
+
+    /// The rules of the file.
+    ghost rules: { Judge };
+
+    /// The state after these lines, none of which has a fault.
+    ghost After: { Self → List (List ℕ) → Type 0 };
+
+    /// The lines spell this value.
+    ghost Spelled: { List (List ℕ) → Self.Value → Type 0 };
+
+    /// Whether nothing may stand behind the lines so far.
+    fn is_closed(&self) -> bool
+        ensures { (before : List (List ℕ)) → After self.now before → result ≡ rules.closed before };
+
+    /// Takes the next line, or tells its fault. After a fault nothing is promised of the state.
+    fn take_line(&mut self, line: &[u8]) -> Result<(), Kind>
+        ensures { (before : List (List ℕ)) → After self.old before → Takes rules After before line.now result self.new };
+
+    /// The lines have ended. Where nothing is missing, it gives the value and begins again.
+    fn end(&mut self) -> Result<Self::Value, Kind>
+        ensures { (all : List (List ℕ)) → After self.old all → Ends rules After Spelled all result self.new };
+
+    /// No line has the fault of a device.
+    ghost silent: { IsSilent rules };
+}
+
+/// A reader that is fed a text in pieces, and gives what the text spells, or its first fault. After a
+/// fault it answers the same fault for ever.
+#[derive(Drop)]
+pub struct Feeder<T> {
+    taker: T,
+    room: Room,
+    ends: u64,
+    spent: Option<DimacsError>,
+}
+
+impl<T: LineTaker> Feeder<T> {
+    /// A reader behind no text.
+    pub fn new(taker: T) -> Self
+        requires { T.After taker [] }
+        ensures { IsBehind T.rules T.After [] result }
+    {
+        Feeder {
+            taker,
+            room: Room::new(),
+            ends: 0,
+            spent: None,
+        }
+    }
+
+    // The line being read has this fault.
+    fn refuse(&mut self, kind: Kind) -> DimacsError
+        ensures line { result ≡ record { line = min (self.old.ends + 1) (2 ^ 64 - 1); kind = kind } }
+        ensures spent { self.new.spent ≡ Some result }
+    {
+        let error = DimacsError {
+            line: self.ends.saturating_add(1),
+            kind,
+        };
+        self.spent = Some(error);
+        error
+    }
+
+    // The line that is being read ends, and has these bytes.
+    fn end_line(&mut self, line: &[u8]) -> Result<(), DimacsError>
+        ensures { (text : List ℕ) → length text ≤ 2 ^ 62 → T.rules.closed (ended text) ≡ false → IsBehind T.rules T.After text (record self.old { room = line.now }) → Fed T.rules T.After (text ++ 10 ∷ []) result self.new }
+    {
+        match self.taker.take_line(line) {
+            Ok(()) => {
+                self.room.clear();
+                self.ends = self.ends.saturating_add(1);
+                Ok(())
+            }
+            Err(kind) => Err(self.refuse(kind)),
+        }
+    }
+
+    // Takes bytes without an LF.
+    fn take_open(&mut self, bytes: &[u8]) -> Result<(), DimacsError>
+        ensures { (text : List ℕ) → length (text ++ bytes.now) ≤ 2 ^ 62 → T.rules.closed (ended text) ≡ false → HasNoLf bytes.now → IsBehind T.rules T.After text self.old → Fed T.rules T.After (text ++ bytes.now) result self.new }
+    {
+        if self.room.room_left() < bytes.len() {
+            return Err(self.refuse(Kind::LongLine));
+        }
+        self.room.push(bytes);
+        Ok(())
+    }
+
+    // Takes bytes without an LF, and then an LF.
+    fn take_rest(&mut self, bytes: &[u8]) -> Result<(), DimacsError>
+        ensures { (text : List ℕ) → length (text ++ bytes.now) ≤ 2 ^ 62 → T.rules.closed (ended text) ≡ false → HasNoLf bytes.now → IsBehind T.rules T.After text self.old → Fed T.rules T.After (text ++ bytes.now ++ 10 ∷ []) result self.new }
+    {
+        if !self.room.is_empty() {
+            self.take_open(bytes)?;
+            let room = mem::replace(&mut self.room, Room::new());
+            return self.end_line(room.line());
+        }
+        if bytes.len() > LONGEST {
+            return Err(self.refuse(Kind::LongLine));
+        }
+        self.end_line(bytes)
+    }
+
+    // Takes the bytes up to the next LF with it, or all of them, and answers what stands behind.
+    fn take_run<'a>(&mut self, bytes: &'a [u8]) -> Result<&'a [u8], DimacsError>
+        requires { 0 < length bytes.now }
+        ensures taken { IfOk result (λ more. (front : List ℕ) × (bytes.now ≡ front ++ more.now) × (0 < length front) × ((text : List ℕ) → length (text ++ bytes.now) ≤ 2 ^ 62 → IsBehind T.rules T.After text self.old → IsBehind T.rules T.After (text ++ front) self.new)) }
+        ensures refused { IfErr result (λ e. (text : List ℕ) → length (text ++ bytes.now) ≤ 2 ^ 62 → IsBehind T.rules T.After text self.old → (self.new.spent ≡ Some e) × Refused T.rules (text ++ bytes.now) e) }
+    {
+        if self.taker.is_closed() {
+            return Err(self.refuse(Kind::TooMany));
+        }
+        let Some(end) = memchr(b'\n', bytes) else {
+            self.take_open(bytes)?;
+            return Ok(&[]);
+        };
+        let (line, after) = bytes.split_at(end);
+        self.take_rest(line)?;
+        let (_, more) = after.split_at(1);
+        Ok(more)
+    }
+
+    /// Takes the next piece of the text. After a refusal it answers the same again.
+    pub fn feed(&mut self, piece: &[u8]) -> Result<(), DimacsError>
+        ensures again { (e : DimacsError) → self.old.spent ≡ Some e → (result ≡ Err e) × (self.new ≡ self.old) }
+        ensures fed { (text : List ℕ) → length (text ++ piece.now) ≤ 2 ^ 62 → IsBehind T.rules T.After text self.old → Fed T.rules T.After (text ++ piece.now) result self.new }
+    {
+        if let Some(error) = self.spent {
+            return Err(error);
+        }
+        let mut rest = piece;
+        while !rest.is_empty() {
+            rest = self.take_run(rest)?;
+        }
+        Ok(())
+    }
+
+    // Takes the last line, if it lacks its LF.
+    fn close_line(&mut self) -> Result<(), DimacsError>
+        ensures { (text : List ℕ) → length text ≤ 2 ^ 62 → IsBehind T.rules T.After text self.old → Closed T.rules T.After text result self.new }
+    {
+        if self.room.is_empty() {
+            return Ok(());
+        }
+        let room = mem::replace(&mut self.room, Room::new());
+        self.end_line(room.line())
+    }
+
+    /// The text has ended. A reader that gives its value is a new one then.
+    pub fn finish(&mut self) -> Result<T::Value, DimacsError>
+        ensures again { (e : DimacsError) → self.old.spent ≡ Some e → (result ≡ Err e) × (self.new ≡ self.old) }
+        ensures finished { (text : List ℕ) → length text ≤ 2 ^ 62 → IsBehind T.rules T.After text self.old → Finished T.rules T.After T.Spelled text result self.new }
+    {
+        if let Some(error) = self.spent {
+            return Err(error);
+        }
+        self.close_line()?;
+        match self.taker.end() {
+            Ok(value) => {
+                self.ends = 0;
+                Ok(value)
+            }
+            Err(kind) => Err(self.refuse(kind)),
+        }
+    }
+
+    // Whether no byte has come.
+    fn is_untouched(&self) -> bool
+        ensures { MatchBool result ((self.now.ends ≡ 0) × (self.now.room ≡ [])) ((self.now.ends ≡ 0) × (self.now.room ≡ []) → ⊥) }
+    {
+        self.ends == 0 && self.room.is_empty()
+    }
+
+    /// The text of a file that closes itself has ended. A reader that gives its value is a new one then.
+    pub fn finish_closed(&mut self) -> Result<T::Value, DimacsError>
+        requires { T.rules.closed [] ≡ false }
+        ensures again { (e : DimacsError) → self.old.spent ≡ Some e → (result ≡ Err e) × (self.new ≡ self.old) }
+        ensures finished { (text : List ℕ) → length text ≤ 2 ^ 62 → IsBehind T.rules T.After text self.old → StrictlyFinished T.rules T.After T.Spelled text result self.new }
+    {
+        if let Some(error) = self.spent {
+            return Err(error);
+        }
+        if !self.taker.is_closed() {
+            if self.is_untouched() {
+                return Err(self.refuse(Kind::NoProblem));
+            }
+            return Err(self.refuse(Kind::TooFew));
+        }
+        match self.taker.end() {
+            Ok(value) => {
+                self.ends = 0;
+                Ok(value)
+            }
+            Err(kind) => Err(self.refuse(kind)),
+        }
+    }
+
+    /// The device failed: the fault that was met before, or Read at the line being read.
+    pub fn fail(&mut self) -> DimacsError
+        ensures again { (e : DimacsError) → self.old.spent ≡ Some e → (result ≡ e) × (self.new ≡ self.old) }
+        ensures failed { (text : List ℕ) → length text ≤ 2 ^ 62 → IsBehind T.rules T.After text self.old → (failed T.rules text ≡ Some result) × (self.new.spent ≡ Some result) }
+    {
+        match self.spent {
+            Some(error) => error,
+            None => self.refuse(Kind::Read),
+        }
+    }
+}

@@ -1,0 +1,66 @@
+//! The fields of a line.
+ghost use Rattle.std.specs.Prelude.{◌≡◌, ℕ, ◌<◌, ◌≤◌, Bool, true, not, List, [], ◌∷◌, length, slice_index, MatchOption};
+ghost use Rattle.sp_text.specs.Lines.{is_blank, without_cr, parted, StartsOtherwise};
+
+/// Whether the byte is a blank.
+#[inline(always)]
+pub fn parts_fields(byte: u8) -> bool
+    ensures { result ≡ is_blank byte }
+{
+    byte == b' ' || byte == b'\t'
+}
+
+// How many bytes at the front are blanks, or how many are none.
+#[inline(always)]
+fn run(text: &[u8], blanks: bool) -> usize
+    ensures within { result ≤ length text.now }
+    ensures before { (k : ℕ) → k < result → is_blank (slice_index text.now k) ≡ blanks }
+    ensures end { result < length text.now → is_blank (slice_index text.now result) ≡ not blanks }
+{
+    for (i, byte) in text.iter().enumerate() {
+        if parts_fields(*byte) != blanks {
+            return i;
+        }
+    }
+    text.len()
+}
+
+/// A line without the CR at its end.
+pub fn drop_cr(line: &[u8]) -> &[u8]
+    ensures { result.now ≡ without_cr line.now }
+{
+    match line {
+        [front @ .., b'\r'] => front,
+        _ => line,
+    }
+}
+
+/// The text without the blanks at its front.
+pub fn skip_blanks(text: &[u8]) -> &[u8]
+    ensures { parted [] result.now ≡ parted [] text.now }
+{
+    let (_, rest) = text.split_at(run(text, true));
+    rest
+}
+
+/// The first field, and what stands after it.
+pub fn next_field(text: &[u8]) -> Option<(&[u8], &[u8])>
+    ensures { MatchOption result (parted [] text.now ≡ []) (λ x. (parted [] text.now ≡ x.0.now ∷ parted [] x.1.now) × (length x.1.now < length text.now)) }
+{
+    let (_, rest) = text.split_at(run(text, true));
+    if rest.is_empty() {
+        return None;
+    }
+    let (field, after) = rest.split_at(run(rest, false));
+    Some((field, after))
+}
+
+/// Whether the first field begins with another byte than this one, as far as the first byte shows it.
+pub fn starts_otherwise(text: &[u8], byte: u8) -> bool
+    ensures { result ≡ true → StartsOtherwise text.now byte }
+{
+    match text {
+        [first, ..] => *first != byte && !parts_fields(*first),
+        [] => false,
+    }
+}

@@ -1,0 +1,151 @@
+//! A line against the forms of a file.
+ghost use Rattle.std.specs.Prelude.{◌≡◌, ◌+◌, ◌≤◌, ℕ, List, [], ◌∷◌, length, slice_index, true, None, MatchOption};
+ghost use Rattle.sp_text.specs.Lines.{parted};
+ghost use Rattle.sp_text.specs.declared.layouts.Field.{Field};
+ghost use Rattle.sp_text.specs.Formats.{form_of};
+ghost use Rattle.sp_text.specs.Numeral.{numeral};
+ghost use Rattle.sp_text.specs.Text.{top, numbers, behind_words, of_form};
+ghost use Rattle.sp_text.specs.Matching.{Spells, Matched};
+
+use crate::fields::{next_field, skip_blanks, starts_otherwise};
+use crate::layouts::{Field, Form, Ranges, Top};
+use crate::numbers::{Numeral, number, quick_number, ranged, starts_number};
+use crate::rooms::Values;
+
+/// The numbers of a line that has a form.
+#[derive(Drop)]
+pub enum Numbers {
+    /// The letter of the first one that is out of its range, and the numbers before it.
+    Out(u8, Values),
+    /// All of them.
+    Within(Values),
+}
+
+// What the fields of a line are, as numbers.
+#[derive(Clone, Copy)]
+enum Spelled {
+    No,
+    Out(u8),
+    Within,
+}
+
+/// The greatest value of a field, where the problem line had these numbers.
+pub fn greatest(most: Top, ranges: &Ranges, problem: &Values) -> u64
+    ensures { result ≡ top ranges.now problem.now most }
+{
+    match most {
+        Top::Number(n) => n,
+        Top::Vertex => ranges.vertex,
+        Top::Dist => ranges.dist,
+        Top::Problem(place) => problem.get(place),
+    }
+}
+
+impl Numbers {
+    ghost use Rattle.sp_text.specs.Matching.{front_of};
+
+    /// The first number that was read, or 0.
+    pub fn first(&self) -> u64
+        ensures { result ≡ slice_index (front_of self.now) 0 }
+    {
+        match self {
+            Numbers::Out(_, values) | Numbers::Within(values) => values.get(0),
+        }
+    }
+}
+
+// The first field as a number, and what stands after it.
+fn next_numeral(text: &[u8], least: u64, most: u64) -> Option<(Numeral, &[u8])>
+    ensures { MatchOption result (parted [] text.now ≡ []) (λ x. (field : List ℕ) × (parted [] text.now ≡ field ∷ parted [] x.1.now) × (x.0 ≡ numeral field least most)) }
+{
+    let start = skip_blanks(text);
+    if let Some((value, end)) = quick_number(start) {
+        let (field, rest) = start.split_at(end);
+        if starts_number(field) {
+            return Some((ranged(value, least, most), rest));
+        }
+    }
+    let (field, rest) = next_field(start)?;
+    Some((number(field, least, most), rest))
+}
+
+// Puts the numbers of the line behind the values, one for each field, and nothing else on the line.
+fn take_numbers(
+    fields: &[Field],
+    ranges: &Ranges,
+    problem: &Values,
+    text: &[u8],
+    values: &mut Values,
+) -> Spelled
+    requires { length values.old + length fields.now ≤ 4 }
+    ensures { Spells ranges.now problem.now fields.now (numbers fields.now (parted [] text.now)) values.old values.new result }
+{
+    let [field, more @ ..] = fields else {
+        return if next_field(text).is_none() {
+            Spelled::Within
+        } else {
+            Spelled::No
+        };
+    };
+    let most = greatest(field.most, ranges, problem);
+    let Some((numeral, rest)) = next_numeral(text, field.least, most) else {
+        return Spelled::No;
+    };
+    match numeral {
+        Numeral::Bad => Spelled::No,
+        Numeral::Out => match take_numbers(more, ranges, problem, rest, &mut Values::new()) {
+            Spelled::No => Spelled::No,
+            _ => Spelled::Out(field.letter),
+        },
+        Numeral::Value(n) => {
+            values.push(n);
+            take_numbers(more, ranges, problem, rest, values)
+        }
+    }
+}
+
+// What stands behind the words, if the line begins with them.
+fn after_words<'a>(words: &[u8], text: &'a [u8]) -> Option<&'a [u8]>
+    ensures { (ds : List Field) → MatchOption result (behind_words (parted [] words.now) ds (parted [] text.now) ≡ None)
+        (λ rest. behind_words (parted [] words.now) ds (parted [] text.now) ≡ numbers ds (parted [] rest.now)) }
+{
+    let mut words = words;
+    let mut rest = text;
+    while let Some((word, more_words)) = next_field(words) {
+        let (field, more) = next_field(rest)?;
+        if word != field {
+            return None;
+        }
+        words = more_words;
+        rest = more;
+    }
+    Some(rest)
+}
+
+// Whether the first bytes show that the line does not begin with the words.
+fn begins_otherwise(words: &[u8], text: &[u8]) -> bool
+    ensures { result ≡ true → (ds : List Field) → behind_words (parted [] words.now) ds (parted [] text.now) ≡ None }
+{
+    match words {
+        [first, ..] => starts_otherwise(words, b' ') && starts_otherwise(text, *first),
+        [] => false,
+    }
+}
+
+/// The numbers of a line of this form, where the problem line had these.
+#[tactic(auto, unfolding(crate::specs::Text::of_form))]
+pub fn match_form(form: &Form, ranges: &Ranges, problem: &Values, text: &[u8]) -> Option<Numbers>
+    requires { length form.now.fields.now ≤ 4 }
+    ensures { Matched ranges.now problem.now form.now.fields.now (of_form (form_of form.now) (parted [] text.now)) result }
+{
+    if begins_otherwise(form.words, text) {
+        return None;
+    }
+    let rest = after_words(form.words, text)?;
+    let mut values = Values::new();
+    match take_numbers(form.fields, ranges, problem, rest, &mut values) {
+        Spelled::No => None,
+        Spelled::Out(letter) => Some(Numbers::Out(letter, values)),
+        Spelled::Within => Some(Numbers::Within(values)),
+    }
+}

@@ -1,0 +1,148 @@
+//! Devices over memory.
+ghost use Rattle.std.specs.Prelude.{◌≡◌, ◌+◌, ◌<◌, ◌≤◌, ◌^◌, [], false, Some, length, vec_len};
+
+use crate::devices::{Failed, Read, Write};
+use std::alloc::Global;
+
+/// A reader that passes some bytes, and then ends or fails.
+#[derive(Drop)]
+pub struct UpTo<'a> {
+    bytes: &'a [u8],
+    most: usize,
+    passed: u64,
+    fails: bool,
+    failed: bool,
+    ghost short: { passed + length bytes.now ≤ 2 ^ 62 },
+    ghost some: { 0 < most },
+}
+
+impl<'a> UpTo<'a> {
+    /// Passes the bytes, and then ends.
+    pub fn whole(bytes: &'a [u8]) -> Self
+        requires { length bytes.now ≤ 2 ^ 62 }
+        ensures left { ⟦<UpTo<'a> as Read>⟧.left result ≡ Some bytes.now }
+        ensures passed { ⟦<UpTo<'a> as Read>⟧.passed result ≡ 0 }
+        ensures going { ⟦<UpTo<'a> as Read>⟧.has_failed result ≡ false }
+    {
+        UpTo {
+            bytes,
+            most: usize::MAX,
+            passed: 0,
+            fails: false,
+            failed: false,
+        }
+    }
+
+    /// Passes the bytes, and then fails.
+    pub fn failing(bytes: &'a [u8]) -> Self
+        requires { length bytes.now ≤ 2 ^ 62 }
+        ensures left { ⟦<UpTo<'a> as Read>⟧.left result ≡ Some bytes.now }
+        ensures passed { ⟦<UpTo<'a> as Read>⟧.passed result ≡ 0 }
+        ensures going { ⟦<UpTo<'a> as Read>⟧.has_failed result ≡ false }
+    {
+        UpTo {
+            bytes,
+            most: usize::MAX,
+            passed: 0,
+            fails: true,
+            failed: false,
+        }
+    }
+
+    /// Passes the bytes, at most so many a call, and then ends.
+    pub fn in_pieces(bytes: &'a [u8], most: usize) -> Self
+        requires short { length bytes.now ≤ 2 ^ 62 }
+        requires some { 0 < most }
+        ensures left { ⟦<UpTo<'a> as Read>⟧.left result ≡ Some bytes.now }
+        ensures passed { ⟦<UpTo<'a> as Read>⟧.passed result ≡ 0 }
+        ensures going { ⟦<UpTo<'a> as Read>⟧.has_failed result ≡ false }
+    {
+        UpTo {
+            bytes,
+            most,
+            passed: 0,
+            fails: false,
+            failed: false,
+        }
+    }
+}
+
+impl Read for UpTo<'_> {
+    ghost left = { λ d. Some d.bytes.now };
+
+    ghost passed = { λ d. d.passed };
+
+    ghost has_failed = { λ d. d.failed };
+
+    fn read(&mut self, buf: &mut [u8]) -> Result<usize, Failed> {
+        if self.failed || self.fails && self.bytes.is_empty() {
+            self.failed = true;
+            return Err(Failed);
+        }
+        let n = self.bytes.len().min(buf.len()).min(self.most);
+        let (front, rest) = self.bytes.split_at(n);
+        buf[..n].copy_from_slice(front);
+        self.bytes = rest;
+        self.passed += n as u64;
+        Ok(n)
+    }
+}
+
+/// A writer that takes some bytes in all, and then fails. It fails too where memory is refused.
+#[derive(Drop)]
+pub struct UpToWriter {
+    taken: Vec<u8>,
+    room: usize,
+    most: usize,
+    failed: bool,
+    ghost short: { vec_len taken + room ≤ 2 ^ 62 },
+    ghost some: { 0 < most },
+}
+
+impl UpToWriter {
+    /// Takes so many bytes in all, at most `most` a call.
+    pub fn new(alloc: Global, room: usize, most: usize) -> Self
+        requires short { room ≤ 2 ^ 62 }
+        requires some { 0 < most }
+        ensures written { ⟦<UpToWriter as Write>⟧.written result ≡ Some [] }
+        ensures passed { ⟦<UpToWriter as Write>⟧.passed result ≡ 0 }
+        ensures going { ⟦<UpToWriter as Write>⟧.has_failed result ≡ false }
+    {
+        UpToWriter {
+            taken: Vec::new(alloc),
+            room,
+            most,
+            failed: false,
+        }
+    }
+
+    /// What it has taken.
+    pub fn taken(&self) -> &[u8]
+        ensures { ⟦<UpToWriter as Write>⟧.written self.now ≡ Some result.now }
+    {
+        &self.taken
+    }
+}
+
+impl Write for UpToWriter {
+    ghost written = { λ w. Some w.taken.items };
+
+    ghost passed = { λ w. vec_len w.taken };
+
+    ghost has_failed = { λ w. w.failed };
+
+    fn write(&mut self, bytes: &[u8]) -> Result<usize, Failed> {
+        let n = bytes.len().min(self.room).min(self.most);
+        if self.failed || n == 0 && !bytes.is_empty() {
+            self.failed = true;
+            return Err(Failed);
+        }
+        let (front, _) = bytes.split_at(n);
+        if self.taken.extend_from_slice(front).is_err() {
+            self.failed = true;
+            return Err(Failed);
+        }
+        self.room -= n;
+        Ok(n)
+    }
+}

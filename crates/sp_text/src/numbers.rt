@@ -1,0 +1,116 @@
+//! Numbers of any number of digits.
+ghost use Rattle.std.specs.Prelude.{◌≡◌, ◌≤◌, ◌^◌, true, IfSome, MatchOption};
+ghost use Rattle.std.specs.List.{list_all};
+ghost use Rattle.std.specs.Char.{is_ascii_digit};
+ghost use Rattle.sp_text.specs.Lines.{value, is_number};
+ghost use Rattle.sp_text.specs.Numeral.{numeral, ranged, starts_number, IsQuick};
+
+use crate::fields::parts_fields;
+
+/// What a field is as a number within a range.
+#[derive(Clone, Copy, Debug, PartialEq, Eq)]
+pub enum Numeral {
+    /// No number is spelled.
+    Bad,
+    /// A number that is out of the range.
+    Out,
+    Value(u64),
+}
+
+// A value up to this has room for one more digit.
+const ROOMY: u64 = 1_844_674_407_370_955_160;
+
+// The number that the digits spell, if it fits.
+fn value_of(digits: &[u8]) -> Option<u64>
+    ensures { MatchOption result (2 ^ 64 ≤ value digits.now) (λ v. v ≡ value digits.now) }
+{
+    let mut value: u64 = 0;
+    for digit in digits {
+        let ten_fold = value.checked_mul(10)?;
+        value = ten_fold.checked_add(digit.saturating_sub(b'0') as u64)?;
+    }
+    Some(value)
+}
+
+fn all_digits(bytes: &[u8]) -> bool
+    ensures { result ≡ list_all is_ascii_digit bytes.now }
+{
+    bytes.iter().all(|b| b.is_ascii_digit())
+}
+
+#[tactic(auto, unfolding(crate::specs::Lines::is_number))]
+fn spells_number(field: &[u8]) -> bool
+    ensures { result ≡ is_number field.now }
+{
+    match field {
+        [] => false,
+        [digit] => digit.is_ascii_digit(),
+        [first, ..] => *first != b'0' && all_digits(field),
+    }
+}
+
+// The number of a field that may be long.
+fn long_number(field: &[u8], least: u64, most: u64) -> Numeral
+    ensures { result ≡ numeral field.now least most }
+{
+    if !spells_number(field) {
+        return Numeral::Bad;
+    }
+    match value_of(field) {
+        Some(value) => ranged(value, least, most),
+        None => Numeral::Out,
+    }
+}
+
+/// The number, if it is from `least` to `most`.
+pub fn ranged(value: u64, least: u64, most: u64) -> Numeral
+    ensures { result ≡ ranged value least most }
+{
+    if least <= value && value <= most {
+        Numeral::Value(value)
+    } else {
+        Numeral::Out
+    }
+}
+
+/// The number that the digits at the front spell and where they end, if a blank or nothing stands there,
+/// and the number is not large.
+pub fn quick_number(text: &[u8]) -> Option<(u64, usize)>
+    ensures { IfSome result (λ x. IsQuick text.now x.0 x.1) }
+{
+    let mut value: u64 = 0;
+    for (end, byte) in text.iter().enumerate() {
+        if parts_fields(*byte) {
+            return Some((value, end));
+        }
+        if !byte.is_ascii_digit() || value > ROOMY {
+            return None;
+        }
+        value = 10 * value + (*byte - b'0') as u64;
+    }
+    Some((value, text.len()))
+}
+
+/// Whether there is a byte, and no zero leads others.
+pub fn starts_number(field: &[u8]) -> bool
+    ensures { result ≡ starts_number field.now }
+{
+    match field {
+        [] => false,
+        [_] => true,
+        [first, ..] => *first != b'0',
+    }
+}
+
+/// The number that a field spells, if it is from `least` to `most`.
+pub fn number(field: &[u8], least: u64, most: u64) -> Numeral
+    ensures { result ≡ numeral field.now least most }
+{
+    if !starts_number(field) {
+        return Numeral::Bad;
+    }
+    match quick_number(field) {
+        Some((value, end)) if end == field.len() => ranged(value, least, most),
+        _ => long_number(field, least, most),
+    }
+}

@@ -1,0 +1,116 @@
+//! A text that is written in blocks.
+ghost use Rattle.std.specs.Prelude.{◌≡◌, ◌+◌, ◌≤◌, ℕ, List, [], ◌++◌, length, decimal, false};
+ghost use Rattle.sp_text.specs.Printing.{IsSending, Finished};
+
+use crate::block::Block;
+use crate::devices::{Write, write_all};
+use crate::faults::WriteFault;
+use itoa::Buffer;
+
+// As many bytes as a block holds.
+const ROOM: usize = 8192;
+
+/// Sends a text to a device by blocks, and counts the bytes. A failure is told at the end.
+#[derive(Drop)]
+pub struct Printer {
+    /// What waits. Where there is room, what is pushed here is sent too.
+    pub block: Block,
+    /// How many bytes were written.
+    pub count: u64,
+    /// Whether the device has failed.
+    pub failed: bool,
+}
+
+impl Printer {
+    /// Nothing has been sent.
+    pub fn new() -> Self
+        ensures block { result.block ≡ [] }
+        ensures count { result.count ≡ 0 }
+        ensures going { result.failed ≡ false }
+    {
+        Printer {
+            block: Block::new(),
+            count: 0,
+            failed: false,
+        }
+    }
+}
+
+// Writes what waits.
+fn flush<W: Write>(out: &mut W, printer: &mut Printer)
+    ensures block { printer.new.block ≡ [] }
+    ensures sends { (front : List ℕ) (start : W) → IsSending W.written W.passed W.has_failed front start out.old printer.old → IsSending W.written W.passed W.has_failed front start out.new printer.new }
+{
+    if printer.failed {
+        printer.block.clear();
+        return;
+    }
+    match write_all(out, printer.block.bytes()) {
+        Ok(()) => {
+            let len = ROOM - printer.block.room_left();
+            printer.block.clear();
+            printer.count = printer.count.saturating_add(len as u64);
+        }
+        Err(_) => {
+            printer.block.clear();
+            printer.failed = true;
+        }
+    }
+}
+
+// Writes bytes while nothing waits.
+fn write_on<W: Write>(out: &mut W, printer: &mut Printer, bytes: &[u8])
+    requires { printer.old.block ≡ [] }
+    ensures { (front : List ℕ) (start : W) → IsSending W.written W.passed W.has_failed front start out.old printer.old → IsSending W.written W.passed W.has_failed (front ++ bytes.now) start out.new printer.new }
+{
+    if printer.failed {
+        return;
+    }
+    match write_all(out, bytes) {
+        Ok(()) => printer.count = printer.count.saturating_add(bytes.len() as u64),
+        Err(_) => printer.failed = true,
+    }
+}
+
+/// Makes room for so many bytes in the block.
+pub fn make_room<W: Write>(out: &mut W, printer: &mut Printer, room: usize)
+    requires { room ≤ 8192 }
+    ensures room { length printer.new.block + room ≤ 8192 }
+    ensures sends { (front : List ℕ) (start : W) → IsSending W.written W.passed W.has_failed front start out.old printer.old → IsSending W.written W.passed W.has_failed front start out.new printer.new }
+{
+    if printer.block.room_left() < room {
+        flush(out, printer);
+    }
+}
+
+/// Sends these bytes too.
+pub fn print_text<W: Write>(out: &mut W, printer: &mut Printer, bytes: &[u8])
+    ensures { (front : List ℕ) (start : W) → IsSending W.written W.passed W.has_failed front start out.old printer.old → IsSending W.written W.passed W.has_failed (front ++ bytes.now) start out.new printer.new }
+{
+    if bytes.len() <= ROOM {
+        make_room(out, printer, bytes.len());
+        printer.block.push(bytes);
+    } else {
+        flush(out, printer);
+        write_on(out, printer, bytes);
+    }
+}
+
+/// Sends a number in decimal.
+pub fn print_number<W: Write>(out: &mut W, printer: &mut Printer, n: u64)
+    ensures { (front : List ℕ) (start : W) → IsSending W.written W.passed W.has_failed front start out.old printer.old → IsSending W.written W.passed W.has_failed (front ++ decimal n) start out.new printer.new }
+{
+    let mut buffer = Buffer::new();
+    print_text(out, printer, buffer.format(n).as_bytes());
+}
+
+/// Writes what waits, and tells how many bytes were written.
+pub fn finish<W: Write>(out: &mut W, mut printer: Printer) -> Result<u64, WriteFault>
+    ensures { (front : List ℕ) (start : W) → IsSending W.written W.passed W.has_failed front start out.old printer → Finished W.written W.has_failed front start result out.new }
+{
+    flush(out, &mut printer);
+    if printer.failed {
+        return Err(WriteFault);
+    }
+    Ok(printer.count)
+}

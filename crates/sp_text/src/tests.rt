@@ -1,0 +1,5 @@
+mod answers;
+mod devices;
+mod pieces;
+mod printed;
+mod samples;

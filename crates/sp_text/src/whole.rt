@@ -1,0 +1,45 @@
+//! A whole text from a device.
+ghost use Rattle.std.specs.Prelude.{◌≡◌, ℕ, List, [], true, Some, IfOk, IfErr};
+ghost use Rattle.sp_text.specs.Whole.{AllRead, IsSpelled, ReadOn};
+ghost use Rattle.sp_text.specs.Feeding.{IsBehind};
+
+use crate::devices::Read;
+use crate::faults::{DimacsError, Kind};
+use crate::feeding::{Feeder, LineTaker};
+
+// As many bytes as are read at a time.
+const PIECE: usize = 16_384;
+
+// Reads to the end, and feeds what comes.
+fn read_on<R: Read, T: LineTaker + Drop>(
+    reader: &mut R,
+    mut feeder: Feeder<T>,
+) -> Result<T::Value, DimacsError>
+    requires fresh { R.passed reader.old ≡ 0 }
+    requires new { IsBehind T.rules T.After [] feeder }
+    ensures { ReadOn T.rules T.Spelled (R.left reader.old) (R.left reader.new) (R.has_failed reader.new) result }
+{
+    let mut buffer = [0u8; PIECE];
+    loop {
+        match reader.read(&mut buffer) {
+            Ok(0) => return feeder.finish(),
+            Ok(n) => feeder.feed(&buffer[..n])?,
+            Err(_) => return Err(feeder.fail()),
+        }
+    }
+}
+
+/// The value that the bytes of a reader spell, or their first fault. Memory may be told in place of a
+/// later fault.
+pub fn read_text<R: Read, T: LineTaker + Drop>(
+    reader: &mut R,
+    feeder: Feeder<T>,
+) -> Result<T::Value, DimacsError>
+    requires fresh { R.passed reader.old ≡ 0 }
+    requires new { IsBehind T.rules T.After [] feeder }
+    ensures exact { (text : List ℕ) → R.left reader.old ≡ Some text → AllRead T.rules T.Spelled text (R.left reader.new) (R.has_failed reader.new) result }
+    ensures found { IfOk result (IsSpelled T.rules T.Spelled) }
+    ensures read { IfErr result (λ e. e.kind ≡ Kind.Read → R.has_failed reader.new ≡ true) }
+{
+    read_on(reader, feeder)
+}
