@@ -1,0 +1,29 @@
+-- Exit statuses, and which faults have which.
+use Rattle.std.specs.Prelude.{ℕ}
+use Rattle.sp_cli.specs.declared.faults.Status.{Status}
+use Rattle.sp_cli.specs.declared.faults.Status.TheVariants as status
+use Rattle.sp_cli.specs.declared.faults.Fault.{Fault}
+use Rattle.sp_cli.specs.declared.faults.Fault.TheVariants as fault
+use Rattle.sp_text.specs.declared.faults.Kind.{Kind}
+use Rattle.sp_text.specs.declared.faults.Kind.TheVariants as kind
+
+-- the number that the process ends with
+abbrev pub code_of : Status → ℕ
+code_of status.Done = 0
+code_of status.Usage = 1
+code_of status.Refused = 2
+code_of status.Memory = 5
+code_of status.Failed = 6
+
+-- a text is refused, but for a growth or a read that failed
+abbrev pub status_of_kind : Kind → Status
+status_of_kind kind.Memory = status.Memory
+status_of_kind kind.Read = status.Failed
+status_of_kind _ = status.Refused
+
+abbrev pub status_of : Fault → Status
+status_of (fault.Usage error) = status.Usage
+status_of (fault.CannotOpen file) = status.Failed
+status_of (fault.Input file error) = status_of_kind error.kind
+status_of fault.Memory = status.Memory
+status_of fault.WriteFailed = status.Failed

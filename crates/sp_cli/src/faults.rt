@@ -1,0 +1,103 @@
+//! What keeps a command from being done: its line on standard error, and its exit status.
+ghost use Rattle.std.specs.Prelude.{◌≡◌, ◌≤◌};
+ghost use Rattle.sp_cli.specs.Faults.{code_of, status_of};
+ghost use Rattle.sp_cli.specs.declared.faults.Fault.TheVariants.{Memory, WriteFailed};
+
+use sp_text::{DimacsError, Kind, WriteFault};
+use std::alloc::AllocError;
+use std::fmt;
+use thiserror::Error;
+
+/// How a run of the program ended. Its number is the exit status.
+#[derive(Clone, Copy, Debug, PartialEq, Eq)]
+pub enum Status {
+    /// All was done.
+    Done = 0,
+    /// The words are no order.
+    Usage = 1,
+    /// An input was refused.
+    Refused = 2,
+    /// Memory was refused.
+    Memory = 5,
+    /// A file could not be opened or read, or the output could not be written.
+    Failed = 6,
+}
+
+impl Status {
+    /// The exit status.
+    pub fn code(self) -> u8
+        ensures exact { result ≡ code_of self }
+        ensures range { result ≤ 6 }
+    {
+        self as u8
+    }
+}
+
+/// What a file is to a command.
+#[derive(Clone, Copy, Debug, PartialEq, Eq)]
+pub enum FileKind {
+    Replay,
+}
+
+impl fmt::Display for FileKind {
+    fn fmt<W: fmt::Write>(&self, f: &mut fmt::Formatter<W>) -> fmt::Result {
+        f.write_str(match self {
+            FileKind::Replay => "replay",
+        })
+    }
+}
+
+/// Why a command was not done. It displays as what stands on standard error, with the ends of lines.
+#[derive(Debug, Drop, Error)]
+pub enum Fault {
+    /// The words are no order.
+    #[error(transparent)]
+    Usage(clap::Error),
+    /// A file could not be opened.
+    #[error("spt: {0}: cannot open\n")]
+    CannotOpen(FileKind),
+    /// A file's text has a fault, its device failed, or its values found no memory.
+    #[error("spt: {file}: {error}\n")]
+    Input { file: FileKind, error: DimacsError },
+    /// Memory was refused.
+    #[error("spt: memory\n")]
+    Memory,
+    /// Standard output failed.
+    #[error("spt: write failed\n")]
+    WriteFailed,
+}
+
+impl Fault {
+    /// The exit status.
+    pub fn status(&self) -> Status
+        ensures exact { result ≡ status_of self.now }
+        ensures fails { 1 ≤ code_of result }
+    {
+        match self {
+            Fault::Usage(_) => Status::Usage,
+            Fault::CannotOpen(_) | Fault::WriteFailed => Status::Failed,
+            Fault::Input { error, .. } => match error.kind {
+                Kind::Memory => Status::Memory,
+                Kind::Read => Status::Failed,
+                _ => Status::Refused,
+            },
+            Fault::Memory => Status::Memory,
+        }
+    }
+}
+
+impl From<AllocError> for Fault {
+    ghost from_gives = { λ _ fault. fault ≡ Memory };
+
+    fn from(_error: AllocError) -> Fault {
+        Fault::Memory
+    }
+}
+
+impl From<WriteFault> for Fault {
+    ghost from_gives = { λ _ fault. fault ≡ WriteFailed };
+
+    fn from(_error: WriteFault) -> Fault {
+        Fault::WriteFailed
+    }
+}

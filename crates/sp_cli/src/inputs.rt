@@ -1,0 +1,14 @@
+//! Where the files of a command line come from.
+ghost use Rattle.std.specs.Prelude.{◌≡◌, IfSome};
+
+use sp_text::Read;
+
+/// The files that a command line names.
+pub trait Inputs {
+    /// An opened file.
+    type File: Read + Drop;
+
+    /// Opens a file at its beginning, or answers `None` where it cannot be opened.
+    fn open_input(&self, path: &str) -> Option<Self::File>
+        ensures { IfSome result (λ file. Self.File.passed file ≡ 0) };
+}

@@ -1,0 +1,90 @@
+//! Runs of the program over memory.
+ghost use Rattle.std.specs.Prelude.{◌≡◌, ◌≤◌, ◌^◌, IfSome};
+
+mod faults;
+mod help;
+mod replay;
+mod usage;
+
+use crate::{Inputs, run_command};
+use sp_text::{Read, UpTo, UpToWriter};
+use std::alloc::Global;
+use std::process::Abort;
+use std::str::from_utf8;
+
+// More bytes than any text here has.
+const AMPLE: usize = 1 << 24;
+
+// A file over memory.
+#[derive(Clone, Copy)]
+enum Stored<'a> {
+    // It has these bytes.
+    Whole(&'a [u8]),
+    // It gives these bytes, and then its device fails.
+    Failing(&'a [u8]),
+}
+
+// Files over memory, by name.
+#[derive(Clone, Copy)]
+struct Shelf<'a> {
+    files: &'a [(&'a str, Stored<'a>)],
+}
+
+impl<'a> Inputs for Shelf<'a> {
+    type File = UpTo<'a>;
+
+    fn open_input(&self, path: &str) -> Option<UpTo<'a>> {
+        for (name, stored) in self.files {
+            if *name == path {
+                return reader(*stored);
+            }
+        }
+        None
+    }
+}
+
+fn reader<'a>(stored: Stored<'a>) -> Option<UpTo<'a>>
+    ensures { IfSome result (λ file. ⟦<UpTo<'a> as Read>⟧.passed file ≡ 0) }
+{
+    match stored {
+        Stored::Whole(bytes) if bytes.len() <= AMPLE => Some(UpTo::whole(bytes)),
+        Stored::Failing(bytes) if bytes.len() <= AMPLE => Some(UpTo::failing(bytes)),
+        _ => None,
+    }
+}
+
+// What a run of the program gave.
+#[derive(Drop)]
+struct Ended {
+    status: u8,
+    out: UpToWriter,
+    err: UpToWriter,
+}
+
+// Runs the program with streams that take so many bytes in all.
+fn run_into(
+    alloc: Global,
+    out_room: usize,
+    err_room: usize,
+    words: &[&str],
+    files: &[(&str, Stored<'_>)],
+) -> Ended
+    requires out { out_room ≤ 2 ^ 62 }
+    requires err { err_room ≤ 2 ^ 62 }
+{
+    let mut out = UpToWriter::new(alloc, out_room, AMPLE);
+    let mut err = UpToWriter::new(alloc, err_room, AMPLE);
+    let status = run_command(alloc, words, &Shelf { files }, &mut out, &mut err);
+    Ended { status, out, err }
+}
+
+fn run(alloc: Global, words: &[&str], files: &[(&str, Stored<'_>)]) -> Ended {
+    run_into(alloc, AMPLE, AMPLE, words, files)
+}
+
+// Asserts the status, and what stands on standard output and on standard error.
+fn expect(rt: &impl Abort, ended: Ended, status: u8, out: &str, err: &str) {
+    assert_eq!(rt; from_utf8(ended.err.taken()), Ok(err));
+    assert_eq!(rt; from_utf8(ended.out.taken()), Ok(out));
+    assert_eq!(rt; ended.status, status);
+}

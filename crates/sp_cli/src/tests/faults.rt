@@ -1,0 +1,65 @@
+//! The lines of faults, and their statuses.
+use super::AMPLE;
+use crate::faults::{Fault, FileKind};
+use crate::text::print;
+use crate::words::answer_to;
+use sp_text::{DimacsError, Kind, UpToWriter, WriteFault};
+use std::alloc::{AllocError, Global};
+use std::process::Abort;
+use std::str::from_utf8;
+
+fn expect(rt: &impl Abort, alloc: Global, fault: Fault, status: u8, line: &str) {
+    let mut err = UpToWriter::new(alloc, AMPLE, AMPLE);
+    let _ = print(&mut err, &fault);
+    assert_eq!(rt; from_utf8(err.taken()), Ok(line));
+    assert_eq!(rt; fault.status().code(), status);
+}
+
+#[test]
+fn kinds(rt: HostRuntime) {
+    let cases = [
+        (Kind::LongLine, 2, "spt: replay: line 7: 1 LongLine\n"),
+        (Kind::BadLine, 2, "spt: replay: line 7: 2 BadLine\n"),
+        (Kind::NoProblem, 2, "spt: replay: line 7: 3 NoProblem\n"),
+        (
+            Kind::SecondProblem,
+            2,
+            "spt: replay: line 7: 4 SecondProblem\n",
+        ),
+        (
+            Kind::OutOfRange(b'V'),
+            2,
+            "spt: replay: line 7: 5 OutOfRange V\n",
+        ),
+        (Kind::TooMany, 2, "spt: replay: line 7: 6 TooMany\n"),
+        (Kind::TooFew, 2, "spt: replay: line 7: 7 TooFew\n"),
+        (Kind::Memory, 5, "spt: replay: line 7: 8 Memory\n"),
+        (Kind::Read, 6, "spt: replay: line 7: 9 Read\n"),
+    ];
+    for (kind, status, line) in cases {
+        let fault = Fault::Input {
+            file: FileKind::Replay,
+            error: DimacsError { line: 7, kind },
+        };
+        expect(&rt, rt.alloc(), fault, status, line);
+    }
+}
+
+#[test]
+fn memory(rt: HostRuntime) {
+    expect(&rt, rt.alloc(), Fault::from(AllocError), 5, "spt: memory\n");
+}
+
+#[test]
+fn memory_for_the_words(rt: HostRuntime) {
+    match answer_to(clap::Error::from(AllocError)) {
+        Ok(_) => panic!(rt; "no order stands there"),
+        Err(fault) => expect(&rt, rt.alloc(), fault, 5, "spt: memory\n"),
+    }
+}
+
+#[test]
+fn write_failed(rt: HostRuntime) {
+    let fault = Fault::from(WriteFault);
+    expect(&rt, rt.alloc(), fault, 6, "spt: write failed\n");
+}

@@ -1,0 +1,5 @@
+pub mod Sent
+pub mod RowSteps
+pub mod Bounds
+pub mod KeepSteps
+pub mod Legal

@@ -1,0 +1,18 @@
+-- What a keeper has of the lines so far.
+use Rattle.std.specs.Prelude.{ℕ, List, map, nat_eq}
+use Rattle.std.specs.HashSet.{contains}
+use Rattle.sp_text.specs.Text.{Item as Line}
+use Rattle.sp_machine.specs.Programme.{Programme}
+use Rattle.sp_replay.specs.declared.keeper.Keeper.{Keeper}
+use Rattle.sp_replay.specs.declared.keeper.ReplayParts.{ReplayParts}
+use Rattle.sp_replay.specs.Replay.{AreKept, IsReplay}
+
+abbrev pub Keeps : {P : ℕ} → Keeper P → List Line → Type 0
+Keeps k lines = AreKept lines (contains nat_eq k.known) k.named.items (map (λ row. row.items) k.rows.items) k.steps.items
+
+-- the parts as a programme
+abbrev pub plan_of : {P : ℕ} → ReplayParts P → Programme P
+plan_of parts = record { words = parts.words; actors = parts.actors; named = parts.named.items; rows = map (λ row. row.items) parts.rows.items }
+
+abbrev pub Says : {P : ℕ} → List ℕ → List Line → ReplayParts P → Type 0
+Says problem lines parts = IsReplay problem lines (plan_of parts) parts.steps.items

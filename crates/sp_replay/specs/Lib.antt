@@ -1,0 +1,6 @@
+pub mod ReplayFormat
+pub mod Replay
+pub mod Keeping
+pub mod ReplayFile
+pub mod ReportText
+pub mod Sending

@@ -1,0 +1,68 @@
+-- The line forms of replay files.
+use Rattle.std.specs.Prelude.{ℕ, true, false, List, [], ◌∷◌, codes}
+use Rattle.sp_text.specs.declared.layouts.Top.TheVariants.{Number, Dist, Vertex, Problem}
+use Rattle.sp_text.specs.declared.layouts.Ranges.{Ranges}
+use Rattle.sp_text.specs.declared.layouts.Field.{Field}
+use Rattle.sp_text.specs.Formats.{LineForm, Format, field}
+use Rattle.sp_word.specs.Word.{max_dist, max_pred}
+
+-- the limits of words with P bits for a predecessor
+abbrev pub ranges_of : ℕ → Ranges
+ranges_of P = record { vertex = max_pred P; dist = max_dist P }
+
+-- V, from 1 to N
+abbrev pub vertex : Field
+vertex = field 86 1 (Problem 0)
+
+-- A, from 1 to K
+abbrev pub actor : Field
+actor = field 65 1 (Problem 1)
+
+-- D and P
+abbrev pub dist : Field
+dist = field 68 0 Dist
+
+abbrev pub pred : Field
+pred = field 80 0 Vertex
+
+-- `p WORD N K`
+abbrev pub actors_line : List ℕ → LineForm
+actors_line word = record {
+  words = codes "p" ∷ word ∷ [];
+  fields = field 78 1 (Number 65536) ∷ field 75 1 (Number 64) ∷ [];
+  fresh = false;
+  group = 0;
+  limit = Number 1;
+}
+
+-- `i V D P`, with another V in each line
+abbrev pub start_line : LineForm
+start_line = record { words = codes "i" ∷ []; fields = vertex ∷ dist ∷ pred ∷ []; fresh = true; group = 1; limit = Problem 0 }
+
+-- an item: its word, and its fields
+abbrev pub item_line : List ℕ → List Field → LineForm
+item_line word fields = record { words = word ∷ []; fields = fields; fresh = false; group = 0; limit = Number 1048576 }
+
+-- `o A V D P`
+abbrev pub offer_line : LineForm
+offer_line = item_line (codes "o") (actor ∷ vertex ∷ dist ∷ pred ∷ [])
+
+-- `r A V`
+abbrev pub read_line : LineForm
+read_line = item_line (codes "r") (actor ∷ vertex ∷ [])
+
+-- `a A U V L`
+abbrev pub relax_line : LineForm
+relax_line = item_line (codes "a") (actor ∷ field 85 1 (Problem 0) ∷ vertex ∷ field 76 1 (Number 4294967295) ∷ [])
+
+-- `s A`
+abbrev pub step_line : LineForm
+step_line = record { words = codes "s" ∷ []; fields = actor ∷ []; fresh = false; group = 2; limit = Number 16777216 }
+
+-- `p rep N K`, and the other lines in any order
+abbrev pub replay : Format
+replay = record {
+  problem = actors_line (codes "rep");
+  items = start_line ∷ offer_line ∷ read_line ∷ relax_line ∷ step_line ∷ [];
+  needed = Number 0;
+}

@@ -1,0 +1,142 @@
+//! The lines of a replay file, as they come.
+ghost use Rattle.std.specs.Prelude.{◌≡◌, ℕ, ◌+◌, ◌≤◌, ◌∷◌, [], ◌++◌, List, slice_index, map, OnOk, IfOk, true};
+ghost use Rattle.sp_word.specs.Word.{Pair, is_layout};
+ghost use Rattle.sp_text.specs.Keeping.{CanKeep};
+ghost use Rattle.sp_text.specs.Text.{Item as Line};
+ghost use Rattle.sp_replay.specs.ReplayFormat.{replay, ranges_of};
+
+use crate::layout::{OFFER, READ, RELAX, START, STEP, limits, replay_layout};
+use crate::rows::push_item;
+use sp_machine::Item;
+use sp_text::{Keep, Layout, Ranges, Values};
+use sp_word::Word;
+use std::alloc::{AllocError, Global};
+use std::collections::HashSet;
+use std::mem;
+
+/// What the lines so far say.
+#[derive(Drop)]
+pub struct Keeper<const P: u32> {
+    alloc: Global,
+    /// The vertices that have a word at the start.
+    known: HashSet<u64>,
+    named: Vec<(u32, Word<P>)>,
+    rows: Vec<Vec<Item<P>>>,
+    steps: Vec<u32>,
+    ghost layout: { is_layout P ≡ true },
+}
+
+/// What a replay file says.
+#[derive(Drop)]
+pub struct ReplayParts<const P: u32> {
+    pub words: u32,
+    pub actors: u32,
+    pub named: Vec<(u32, Word<P>)>,
+    pub rows: Vec<Vec<Item<P>>>,
+    pub steps: Vec<u32>,
+}
+
+fn word_at<const P: u32>(values: &Values, place: usize) -> Word<P>
+    requires layout { is_layout P ≡ true }
+    requires dist { slice_index values.now place ≤ (ranges_of P).dist }
+    requires pred { slice_index values.now (place + 1) ≤ (ranges_of P).vertex }
+    requires small { place ≤ 2 }
+    ensures { result ≡ Pair (slice_index values.now place) (slice_index values.now (place + 1)) }
+{
+    Word::pack(values.get(place), values.get(place + 1) as u32)
+}
+
+impl<const P: u32> Keeper<P> {
+    ghost use Rattle.sp_replay.specs.Keeping.{Keeps};
+
+    /// Before the first line.
+    pub fn new(alloc: Global) -> Keeper<P>
+        requires { is_layout P ≡ true }
+        ensures { Keeps result [] }
+    {
+        Keeper {
+            alloc,
+            known: HashSet::new(alloc),
+            named: Vec::new(alloc),
+            rows: Vec::new(alloc),
+            steps: Vec::new(alloc),
+        }
+    }
+}
+
+impl<const P: u32> Keep for Keeper<P> {
+    ghost use Rattle.std.specs.Prelude.{◌≡◌, ℕ, List};
+    ghost use Rattle.sp_replay.specs.ReplayFormat.{replay, ranges_of};
+    ghost use Rattle.sp_replay.specs.Keeping.{Keeps, Says};
+
+    type Value = ReplayParts<P>;
+
+    ghost format = { replay };
+
+    ghost ranges = { ranges_of P };
+
+    ghost Kept = { λ k lines. Keeps k lines };
+
+    ghost Spelled = { λ problem lines parts. Says problem lines parts };
+
+    fn layout(&self) -> Layout {
+        replay_layout()
+    }
+
+    fn ranges(&self) -> Ranges {
+        limits::<P>()
+    }
+
+    fn keep(&mut self, place: usize, values: &Values) -> Result<(), AllocError> {
+        match place {
+            START => {
+                self.known.insert(values.get(0))?;
+                self.named.push((values.get(0) as u32, word_at(values, 1)))?;
+                Ok(())
+            }
+            OFFER => {
+                let item = Item::Offer {
+                    vertex: values.get(1) as u32,
+                    word: word_at(values, 2),
+                };
+                push_item(self.alloc, &mut self.rows, values.get(0), item)
+            }
+            READ => {
+                let item = Item::Read {
+                    vertex: values.get(1) as u32,
+                };
+                push_item(self.alloc, &mut self.rows, values.get(0), item)
+            }
+            RELAX => {
+                let item = Item::Relax {
+                    tail: values.get(1) as u32,
+                    head: values.get(2) as u32,
+                    len: values.get(3) as u32,
+                };
+                push_item(self.alloc, &mut self.rows, values.get(0), item)
+            }
+            STEP => {
+                self.steps.push(values.get(0) as u32)?;
+                Ok(())
+            }
+            _ => Ok(()),
+        }
+    }
+
+    fn is_named(&self, _place: usize, first: u64) -> bool {
+        self.known.contains(&first)
+    }
+
+    fn give(&mut self, problem: &Values) -> ReplayParts<P> {
+        let mut rows = mem::replace(&mut self.rows, Vec::new(self.alloc));
+        rows.truncate(problem.get(1) as usize);
+        self.known.clear();
+        ReplayParts {
+            words: problem.get(0) as u32,
+            actors: problem.get(1) as u32,
+            named: mem::replace(&mut self.named, Vec::new(self.alloc)),
+            rows,
+            steps: mem::replace(&mut self.steps, Vec::new(self.alloc)),
+        }
+    }
+}

@@ -1,0 +1,143 @@
+//! The line forms of replay files, as data.
+ghost use Rattle.std.specs.Prelude.{◌≡◌, true};
+ghost use Rattle.sp_text.specs.Formats.{format_of, IsSmall};
+ghost use Rattle.sp_word.specs.Word.{is_layout};
+ghost use Rattle.sp_replay.specs.ReplayFormat.{replay, ranges_of};
+
+use sp_text::{Field, Form, Layout, Ranges, Top};
+use sp_word::Word;
+
+// The places of the forms.
+pub const START: usize = 0;
+
+pub const OFFER: usize = 1;
+
+pub const READ: usize = 2;
+
+pub const RELAX: usize = 3;
+
+pub const STEP: usize = 4;
+
+const ACTOR: Field = Field {
+    letter: b'A',
+    least: 1,
+    most: Top::Problem(1),
+};
+
+const VERTEX: Field = Field {
+    letter: b'V',
+    least: 1,
+    most: Top::Problem(0),
+};
+
+const DIST: Field = Field {
+    letter: b'D',
+    least: 0,
+    most: Top::Dist,
+};
+
+const PRED: Field = Field {
+    letter: b'P',
+    least: 0,
+    most: Top::Vertex,
+};
+
+const TAIL: Field = Field {
+    letter: b'U',
+    least: 1,
+    most: Top::Problem(0),
+};
+
+const LEN: Field = Field {
+    letter: b'L',
+    least: 1,
+    most: Top::Number(4_294_967_295),
+};
+
+// How many items and steps may stand.
+const ITEMS: Top = Top::Number(1_048_576);
+
+const STEPS: Top = Top::Number(16_777_216);
+
+const WORDS: Field = Field {
+    letter: b'N',
+    least: 1,
+    most: Top::Number(65_536),
+};
+
+const ACTORS: Field = Field {
+    letter: b'K',
+    least: 1,
+    most: Top::Number(64),
+};
+
+const START_LINE: Form = Form {
+    words: b"i",
+    fields: &[VERTEX, DIST, PRED],
+    fresh: true,
+    group: 1,
+    limit: Top::Problem(0),
+};
+
+const OFFER_LINE: Form = Form {
+    words: b"o",
+    fields: &[ACTOR, VERTEX, DIST, PRED],
+    fresh: false,
+    group: 0,
+    limit: ITEMS,
+};
+
+const READ_LINE: Form = Form {
+    words: b"r",
+    fields: &[ACTOR, VERTEX],
+    fresh: false,
+    group: 0,
+    limit: ITEMS,
+};
+
+const RELAX_LINE: Form = Form {
+    words: b"a",
+    fields: &[ACTOR, TAIL, VERTEX, LEN],
+    fresh: false,
+    group: 0,
+    limit: ITEMS,
+};
+
+const STEP_LINE: Form = Form {
+    words: b"s",
+    fields: &[ACTOR],
+    fresh: false,
+    group: 2,
+    limit: STEPS,
+};
+
+const REPLAY: Layout = Layout {
+    problem: Form {
+        words: b"p rep",
+        fields: &[WORDS, ACTORS],
+        fresh: false,
+        group: 0,
+        limit: Top::Number(1),
+    },
+    items: &[START_LINE, OFFER_LINE, READ_LINE, RELAX_LINE, STEP_LINE],
+    needed: Top::Number(0),
+};
+
+/// The line forms of replay files.
+pub fn replay_layout() -> Layout
+    ensures format { format_of result ≡ replay }
+    ensures small { IsSmall result }
+{
+    REPLAY
+}
+
+/// The limits of words with `P` bits for a predecessor.
+pub fn limits<const P: u32>() -> Ranges
+    requires { is_layout P ≡ true }
+    ensures { result ≡ ranges_of P }
+{
+    Ranges {
+        vertex: Word::<P>::max_pred() as u64,
+        dist: Word::<P>::max_dist(),
+    }
+}

@@ -1,0 +1,16 @@
+//! The files of the step machine: replay files are read, and the report of a run is written.
+#![tactic(auto)]
+
+mod keeper;
+mod layout;
+mod lines;
+mod replays;
+mod reports;
+mod rows;
+
+pub use replays::{ReplayFile, read_replay};
+pub use reports::write_report;
+pub use sp_machine::{Call, Ended, Finished, Item, Machine, Programme, Report, replay};
+
+#[cfg(test)]
+mod tests;

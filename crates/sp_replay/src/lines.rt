@@ -1,0 +1,106 @@
+//! The lines of a report, pushed to a block.
+ghost use Rattle.std.specs.Prelude.{◌≡◌, ◌+◌, ◌≤◌, ◌++◌, length};
+ghost use Rattle.sp_replay.specs.ReportText.{number_text, word_text, reply_text, asked_text, call_text, reached_text, totals_text, closed_text};
+
+use sp_machine::{Call, Finished};
+use sp_text::Block;
+use sp_word::{Reply, Word};
+
+fn push_number(block: &mut Block, n: u64)
+    requires { length block.old + 21 ≤ 8192 }
+    ensures text { block.new ≡ block.old ++ number_text n }
+    ensures short { length block.new ≤ length block.old + 21 }
+{
+    block.push(b" ");
+    block.push_number(n);
+}
+
+fn push_word<const P: u32>(block: &mut Block, word: Word<P>)
+    requires { length block.old + 42 ≤ 8192 }
+    ensures text { block.new ≡ block.old ++ word_text word.entry }
+    ensures short { length block.new ≤ length block.old + 42 }
+{
+    match (word.dist(), word.pred()) {
+        (Some(dist), Some(pred)) => {
+            push_number(block, dist);
+            push_number(block, pred as u64);
+        }
+        _ => block.push(b" none"),
+    }
+}
+
+fn push_reply(block: &mut Block, reply: Reply)
+    requires { length block.old + 8 ≤ 8192 }
+    ensures text { block.new ≡ block.old ++ reply_text reply }
+    ensures short { length block.new ≤ length block.old + 8 }
+{
+    match reply {
+        Reply::Shorter => block.push(b" shorter"),
+        Reply::SmallerPred => block.push(b" smaller"),
+        Reply::Kept => block.push(b" kept"),
+    }
+}
+
+fn push_asked<const P: u32>(block: &mut Block, actor: u32, vertex: u32, call: Call<P>)
+    requires { length block.old + 93 ≤ 8192 }
+    ensures text { block.new ≡ block.old ++ asked_text actor vertex call.entry }
+    ensures short { length block.new ≤ length block.old + 93 }
+{
+    match call {
+        Call::Offer { word, reply, .. } => {
+            block.push(b"o");
+            push_number(block, actor as u64);
+            push_number(block, vertex as u64);
+            push_word(block, word);
+            push_reply(block, reply);
+        }
+        Call::Read { found } => {
+            block.push(b"r");
+            push_number(block, actor as u64);
+            push_number(block, vertex as u64);
+            push_word(block, found);
+        }
+    }
+}
+
+/// The line of a finished call, of at most 136 bytes.
+pub fn push_call<const P: u32>(block: &mut Block, call: &Finished<P>)
+    requires { length block.old + 136 ≤ 8192 }
+    ensures { block.new ≡ block.old ++ call_text call.now }
+{
+    push_asked(block, call.ended.actor, call.ended.vertex, call.ended.call);
+    push_number(block, call.first);
+    push_number(block, call.last);
+    block.push(b"\n");
+}
+
+/// The line of a reached vertex, of at most 65 bytes.
+pub fn push_reached<const P: u32>(block: &mut Block, vertex: u64, word: Word<P>)
+    requires { length block.old + 65 ≤ 8192 }
+    ensures { block.new ≡ block.old ++ reached_text vertex word.entry }
+{
+    let (Some(dist), Some(pred)) = (word.dist(), word.pred()) else {
+        return;
+    };
+    block.push(b"w");
+    push_number(block, vertex);
+    push_number(block, dist);
+    push_number(block, pred as u64);
+    block.push(b"\n");
+}
+
+/// The line of the totals, and whether the run is closed, of at most 55 bytes.
+pub fn push_end(block: &mut Block, wins: u64, losses: u64, closed: bool)
+    requires { length block.old + 55 ≤ 8192 }
+    ensures { block.new ≡ block.old ++ (totals_text wins losses ++ closed_text closed) }
+{
+    block.push(b"t");
+    push_number(block, wins);
+    push_number(block, losses);
+    block.push(b"\n");
+    block.push(if closed {
+        b"closed yes\n"
+    } else {
+        b"closed no\n"
+    });
+}

@@ -1,0 +1,67 @@
+//! The report of a run, written to a device.
+ghost use Rattle.std.specs.Prelude.{◌++◌};
+ghost use Rattle.std.specs.List.{flat_map};
+ghost use Rattle.sp_text.specs.Printing.{Finished as Written};
+ghost use Rattle.sp_replay.specs.ReportText.{call_text, reached_text, reached_from, totals_text, closed_text, report_text};
+ghost use Rattle.sp_replay.specs.Sending.{Sends};
+
+use crate::lines::{push_call, push_end, push_reached};
+use sp_machine::{Finished, Report};
+use sp_text::{Printer, Write, WriteFault, finish, make_room};
+use sp_word::Word;
+
+fn send_call<const P: u32, W: Write>(out: &mut W, printer: &mut Printer, call: &Finished<P>)
+    ensures { Sends W.written W.passed W.has_failed (call_text call.now) out.old printer.old out.new printer.new }
+{
+    make_room(out, printer, 136);
+    push_call(&mut printer.block, call);
+}
+
+fn send_calls<const P: u32, W: Write>(out: &mut W, printer: &mut Printer, calls: &[Finished<P>])
+    ensures { Sends W.written W.passed W.has_failed (flat_map call_text calls.now) out.old printer.old out.new printer.new }
+{
+    for call in calls {
+        send_call(out, printer, call);
+    }
+}
+
+fn send_reached<const P: u32, W: Write>(
+    out: &mut W,
+    printer: &mut Printer,
+    vertex: u64,
+    word: Word<P>,
+)
+    ensures { Sends W.written W.passed W.has_failed (reached_text vertex word.entry) out.old printer.old out.new printer.new }
+{
+    make_room(out, printer, 65);
+    push_reached(&mut printer.block, vertex, word);
+}
+
+fn send_words<const P: u32, W: Write>(out: &mut W, printer: &mut Printer, words: &[Word<P>])
+    ensures { Sends W.written W.passed W.has_failed (reached_from 1 words.now) out.old printer.old out.new printer.new }
+{
+    for (place, word) in words.iter().enumerate() {
+        send_reached(out, printer, (place + 1) as u64, *word);
+    }
+}
+
+fn send_end<W: Write>(out: &mut W, printer: &mut Printer, wins: u64, losses: u64, closed: bool)
+    ensures { Sends W.written W.passed W.has_failed (totals_text wins losses ++ closed_text closed) out.old printer.old out.new printer.new }
+{
+    make_room(out, printer, 55);
+    push_end(&mut printer.block, wins, losses, closed);
+}
+
+/// Writes the lines of a report, and tells their number of bytes. It takes no memory.
+pub fn write_report<const P: u32, W: Write>(
+    report: &Report<P>,
+    out: &mut W,
+) -> Result<u64, WriteFault>
+    ensures { Written W.written W.has_failed (report_text report.now) out.old result out.new }
+{
+    let mut printer = Printer::new();
+    send_calls(out, &mut printer, &report.calls);
+    send_words(out, &mut printer, &report.words);
+    send_end(out, &mut printer, report.wins, report.losses, report.closed);
+    finish(out, printer)
+}

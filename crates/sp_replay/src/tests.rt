@@ -1,0 +1,5 @@
+mod read;
+mod refused;
+mod runs;
+mod samples;
+mod written;

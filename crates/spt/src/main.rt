@@ -1,0 +1,50 @@
+//! The program `spt`: its commands, over the files and the streams of the system.
+#![tactic(auto)]
+
+use sp_cli::{Inputs, run_command};
+use sp_text::{OfRead, OfWrite, Write};
+use std::process::ExitCode;
+use std::rt::{Env, Files};
+use std::{env, fs, io};
+
+/// The files of the system.
+#[derive(Clone, Copy)]
+struct Disk<'a, R> {
+    rt: &'a R,
+}
+
+impl<R: Files> Inputs for Disk<'_, R> {
+    type File = OfRead<R::File>;
+
+    fn open_input(&self, path: &str) -> Option<OfRead<R::File>> {
+        Some(OfRead::new(fs::open(self.rt, path).ok()?))
+    }
+}
+
+/// Runs the command that the program's arguments order, and answers the exit status.
+fn run<R: AllocGlobal + Env + Files, W: Write, E: Write>(
+    rt: &R,
+    out: &mut W,
+    err: &mut E,
+) -> io::Result<u8> {
+    let alloc = rt.alloc();
+    let arguments: Vec<String> = env::args(rt)?.collect(alloc)?;
+    let words: Vec<&str> = arguments.iter().map(|word| word.as_str()).collect(alloc)?;
+    Ok(run_command(alloc, &words, &Disk { rt }, out, err))
+}
+
+fn main(rt: HostRuntime) -> ExitCode {
+    let mut out = OfWrite::new(rt.stdout());
+    let mut err = OfWrite::new(rt.stderr());
+    match run(&rt, &mut out, &mut err) {
+        Ok(status) => ExitCode::from(status),
+        Err(error) if error.kind() == io::ErrorKind::OutOfMemory => {
+            let _ = eprintln!(rt; "spt: memory");
+            ExitCode::from(5)
+        }
+        Err(_) => {
+            let _ = eprintln!(rt; "spt: an argument is not UTF-8");
+            ExitCode::from(1)
+        }
+    }
+}
