@@ -129,6 +129,7 @@ impl<const P: u32> Keep for Keeper<P> {
 
     fn give(&mut self, problem: &Values) -> ReplayParts<P> {
         let mut rows = mem::replace(&mut self.rows, Vec::new(self.alloc));
+        // No row stands beyond those of the actors.
         rows.truncate(problem.get(1) as usize);
         self.known.clear();
         ReplayParts {

@@ -6,6 +6,15 @@ use sp_machine::{Call, Finished};
 use sp_text::Block;
 use sp_word::{Reply, Word};
 
+/// As many bytes as the line of a finished call has at most.
+pub const CALL_ROOM: usize = 136;
+
+/// As many bytes as the line of a reached vertex has at most.
+pub const REACHED_ROOM: usize = 65;
+
+/// As many bytes as the last two lines have at most.
+pub const END_ROOM: usize = 55;
+
 fn push_number(block: &mut Block, n: u64)
     requires { length block.old + 21 ≤ 8192 }
     ensures text { block.new ≡ block.old ++ number_text n }
@@ -63,9 +72,9 @@ fn push_asked<const P: u32>(block: &mut Block, actor: u32, vertex: u32, call: Ca
     }
 }
 
-/// The line of a finished call, of at most 136 bytes.
+/// The line of a finished call.
 pub fn push_call<const P: u32>(block: &mut Block, call: &Finished<P>)
-    requires { length block.old + 136 ≤ 8192 }
+    requires { length block.old + CALL_ROOM ≤ 8192 }
     ensures { block.new ≡ block.old ++ call_text call.now }
 {
     push_asked(block, call.ended.actor, call.ended.vertex, call.ended.call);
@@ -74,9 +83,9 @@ pub fn push_call<const P: u32>(block: &mut Block, call: &Finished<P>)
     block.push(b"\n");
 }
 
-/// The line of a reached vertex, of at most 65 bytes.
+/// The line of a vertex, if it is reached.
 pub fn push_reached<const P: u32>(block: &mut Block, vertex: u64, word: Word<P>)
-    requires { length block.old + 65 ≤ 8192 }
+    requires { length block.old + REACHED_ROOM ≤ 8192 }
     ensures { block.new ≡ block.old ++ reached_text vertex word.entry }
 {
     let (Some(dist), Some(pred)) = (word.dist(), word.pred()) else {
@@ -89,9 +98,9 @@ pub fn push_reached<const P: u32>(block: &mut Block, vertex: u64, word: Word<P>)
     block.push(b"\n");
 }
 
-/// The line of the totals, and whether the run is closed, of at most 55 bytes.
+/// The line of the totals, and whether the run is closed.
 pub fn push_end(block: &mut Block, wins: u64, losses: u64, closed: bool)
-    requires { length block.old + 55 ≤ 8192 }
+    requires { length block.old + END_ROOM ≤ 8192 }
     ensures { block.new ≡ block.old ++ (totals_text wins losses ++ closed_text closed) }
 {
     block.push(b"t");

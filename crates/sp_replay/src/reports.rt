@@ -5,7 +5,7 @@ ghost use Rattle.sp_text.specs.Printing.{Finished as Written};
 ghost use Rattle.sp_replay.specs.ReportText.{call_text, reached_text, reached_from, totals_text, closed_text, report_text};
 ghost use Rattle.sp_replay.specs.Sending.{Sends};
 
-use crate::lines::{push_call, push_end, push_reached};
+use crate::lines::{CALL_ROOM, END_ROOM, REACHED_ROOM, push_call, push_end, push_reached};
 use sp_machine::{Finished, Report};
 use sp_text::{Printer, Write, WriteFault, finish, make_room};
 use sp_word::Word;
@@ -13,7 +13,7 @@ use sp_word::Word;
 fn send_call<const P: u32, W: Write>(out: &mut W, printer: &mut Printer, call: &Finished<P>)
     ensures { Sends W.written W.passed W.has_failed (call_text call.now) out.old printer.old out.new printer.new }
 {
-    make_room(out, printer, 136);
+    make_room(out, printer, CALL_ROOM);
     push_call(&mut printer.block, call);
 }
 
@@ -33,7 +33,7 @@ fn send_reached<const P: u32, W: Write>(
 )
     ensures { Sends W.written W.passed W.has_failed (reached_text vertex word.entry) out.old printer.old out.new printer.new }
 {
-    make_room(out, printer, 65);
+    make_room(out, printer, REACHED_ROOM);
     push_reached(&mut printer.block, vertex, word);
 }
 
@@ -48,11 +48,13 @@ fn send_words<const P: u32, W: Write>(out: &mut W, printer: &mut Printer, words:
 fn send_end<W: Write>(out: &mut W, printer: &mut Printer, wins: u64, losses: u64, closed: bool)
     ensures { Sends W.written W.passed W.has_failed (totals_text wins losses ++ closed_text closed) out.old printer.old out.new printer.new }
 {
-    make_room(out, printer, 55);
+    make_room(out, printer, END_ROOM);
     push_end(&mut printer.block, wins, losses, closed);
 }
 
-/// Writes the lines of a report, and tells their number of bytes. It takes no memory.
+/// Writes the lines of a report, and tells their number of bytes.
+///
+/// It takes no memory. Where the writer fails, a beginning of the lines stands.
 pub fn write_report<const P: u32, W: Write>(
     report: &Report<P>,
     out: &mut W,

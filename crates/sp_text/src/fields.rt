@@ -4,7 +4,7 @@ ghost use Rattle.sp_text.specs.Lines.{is_blank, without_cr, parted, StartsOtherw
 
 /// Whether the byte is a blank.
 #[inline(always)]
-pub fn parts_fields(byte: u8) -> bool
+pub(crate) fn parts_fields(byte: u8) -> bool
     ensures { result ≡ is_blank byte }
 {
     byte == b' ' || byte == b'\t'
@@ -26,7 +26,7 @@ fn run(text: &[u8], blanks: bool) -> usize
 }
 
 /// A line without the CR at its end.
-pub fn drop_cr(line: &[u8]) -> &[u8]
+pub(crate) fn drop_cr(line: &[u8]) -> &[u8]
     ensures { result.now ≡ without_cr line.now }
 {
     match line {
@@ -36,7 +36,7 @@ pub fn drop_cr(line: &[u8]) -> &[u8]
 }
 
 /// The text without the blanks at its front.
-pub fn skip_blanks(text: &[u8]) -> &[u8]
+pub(crate) fn skip_blanks(text: &[u8]) -> &[u8]
     ensures { parted [] result.now ≡ parted [] text.now }
 {
     let (_, rest) = text.split_at(run(text, true));
@@ -44,7 +44,7 @@ pub fn skip_blanks(text: &[u8]) -> &[u8]
 }
 
 /// The first field, and what stands after it.
-pub fn next_field(text: &[u8]) -> Option<(&[u8], &[u8])>
+pub(crate) fn next_field(text: &[u8]) -> Option<(&[u8], &[u8])>
     ensures { MatchOption result (parted [] text.now ≡ []) (λ x. (parted [] text.now ≡ x.0.now ∷ parted [] x.1.now) × (length x.1.now < length text.now)) }
 {
     let (_, rest) = text.split_at(run(text, true));
@@ -56,7 +56,7 @@ pub fn next_field(text: &[u8]) -> Option<(&[u8], &[u8])>
 }
 
 /// Whether the first field begins with another byte than this one, as far as the first byte shows it.
-pub fn starts_otherwise(text: &[u8], byte: u8) -> bool
+pub(crate) fn starts_otherwise(text: &[u8], byte: u8) -> bool
     ensures { result ≡ true → StartsOtherwise text.now byte }
 {
     match text {

@@ -23,16 +23,13 @@ pub use collecting::{Collector, Keep};
 pub use devices::{Failed, Read, Write, write_all};
 pub use faults::{DimacsError, Kind, WriteFault};
 pub use feeding::{Feeder, LineTaker};
-pub use fields::{drop_cr, next_field};
 pub use laws::{
     accepted_text_is_in_range, early_fault_is_first, first_fault_is_least, text_is_its_lines,
 };
 pub use layouts::{Field, Form, Layout, Ranges, Top};
-pub use matching::{Numbers, match_form};
 pub use memory::{UpTo, UpToWriter};
 pub use numbers::{Numeral, number};
 pub use printing::{Printer, finish, make_room, print_number, print_text};
-pub use reading::{Found, read_line};
 pub use rooms::{Room, Values};
 pub use streams::{OfRead, OfWrite};
 pub use whole::read_text;

@@ -30,7 +30,7 @@ enum Spelled {
 }
 
 /// The greatest value of a field, where the problem line had these numbers.
-pub fn greatest(most: Top, ranges: &Ranges, problem: &Values) -> u64
+pub(crate) fn greatest(most: Top, ranges: &Ranges, problem: &Values) -> u64
     ensures { result ≡ top ranges.now problem.now most }
 {
     match most {
@@ -45,7 +45,7 @@ impl Numbers {
     ghost use Rattle.sp_text.specs.Matching.{front_of};
 
     /// The first number that was read, or 0.
-    pub fn first(&self) -> u64
+    pub(crate) fn first(&self) -> u64
         ensures { result ≡ slice_index (front_of self.now) 0 }
     {
         match self {
@@ -134,7 +134,12 @@ fn begins_otherwise(words: &[u8], text: &[u8]) -> bool
 
 /// The numbers of a line of this form, where the problem line had these.
 #[tactic(auto, unfolding(crate::specs::Text::of_form))]
-pub fn match_form(form: &Form, ranges: &Ranges, problem: &Values, text: &[u8]) -> Option<Numbers>
+pub(crate) fn match_form(
+    form: &Form,
+    ranges: &Ranges,
+    problem: &Values,
+    text: &[u8],
+) -> Option<Numbers>
     requires { length form.now.fields.now ≤ 4 }
     ensures { Matched ranges.now problem.now form.now.fields.now (of_form (form_of form.now) (parted [] text.now)) result }
 {

@@ -63,7 +63,7 @@ fn long_number(field: &[u8], least: u64, most: u64) -> Numeral
 }
 
 /// The number, if it is from `least` to `most`.
-pub fn ranged(value: u64, least: u64, most: u64) -> Numeral
+pub(crate) fn ranged(value: u64, least: u64, most: u64) -> Numeral
     ensures { result ≡ ranged value least most }
 {
     if least <= value && value <= most {
@@ -75,7 +75,7 @@ pub fn ranged(value: u64, least: u64, most: u64) -> Numeral
 
 /// The number that the digits at the front spell and where they end, if a blank or nothing stands there,
 /// and the number is not large.
-pub fn quick_number(text: &[u8]) -> Option<(u64, usize)>
+pub(crate) fn quick_number(text: &[u8]) -> Option<(u64, usize)>
     ensures { IfSome result (λ x. IsQuick text.now x.0 x.1) }
 {
     let mut value: u64 = 0;
@@ -92,7 +92,7 @@ pub fn quick_number(text: &[u8]) -> Option<(u64, usize)>
 }
 
 /// Whether there is a byte, and no zero leads others.
-pub fn starts_number(field: &[u8]) -> bool
+pub(crate) fn starts_number(field: &[u8]) -> bool
     ensures { result ≡ starts_number field.now }
 {
     match field {

@@ -34,7 +34,7 @@ fn is_remark(text: &[u8]) -> bool
 
 /// What a line is, where the problem line had these numbers.
 #[tactic(auto, unfolding(crate::specs::Text::reading, crate::specs::Text::reading_of, crate::specs::Lines::fields))]
-pub fn read_line(layout: &Layout, ranges: &Ranges, problem: &Values, line: &[u8]) -> Found
+pub(crate) fn read_line(layout: &Layout, ranges: &Ranges, problem: &Values, line: &[u8]) -> Found
     requires { IsSmall layout.now }
     ensures { IsFound (format_of layout.now) ranges.now problem.now (reading (format_of layout.now) line.now) result }
 {
