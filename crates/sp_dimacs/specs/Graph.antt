@@ -1,0 +1,41 @@
+-- The graph that a text spells.
+use Rattle.std.specs.Prelude.{◌≡◌, ◌≤◌, ℕ, Bool, List, map, length, slice_index, All, Option, Result}
+use Rattle.sp_word.specs.Word.{max_pred}
+use Rattle.sp_text.specs.declared.faults.DimacsError.{DimacsError}
+use Rattle.sp_text.specs.Text.{Item, Spells, judge}
+use Rattle.sp_text.specs.Collecting.{SpelledBy}
+use Rattle.sp_text.specs.Whole.{AllRead}
+use Rattle.sp_dimacs.specs.Formats.{gr, ranges_of}
+use Rattle.sp_dimacs.specs.declared.graphs.Arc.{Arc}
+use Rattle.sp_dimacs.specs.declared.graphs.GrFile.{GrFile}
+
+-- the arc of a line `a U V W`
+abbrev pub arc_of : Item → Arc
+arc_of item = record { tail = slice_index item.numbers 0; head = slice_index item.numbers 1; len = slice_index item.numbers 2 }
+
+-- The first number of the problem line, and the arcs in the order of their lines.
+abbrev pub IsGraph : List ℕ → List Item → GrFile → Type 0
+IsGraph problem items file = (file.n ≡ slice_index problem 0) × (file.arcs.items ≡ map arc_of items)
+
+-- The text has no fault, and spells this graph.
+abbrev pub SpellsGraph : ℕ → List ℕ → GrFile → Type 0
+SpellsGraph P text file = (problem : List ℕ) × (items : List Item) × Spells gr (ranges_of P) text problem items × IsGraph problem items file
+
+-- The answer to the whole text of a device, of which a part is perhaps left.
+abbrev pub GraphRead : ℕ → List ℕ → Option (List ℕ) → Bool → Result GrFile DimacsError → Type 0
+GraphRead P text left has_failed result = AllRead (judge gr (ranges_of P)) (SpelledBy gr IsGraph) text left has_failed result
+
+-- The arc leads from one of n vertices to another, and has a length.
+pub record IsArcWithin (n : ℕ) (arc : Arc) : Type 0 where
+  pub tail_least : 1 ≤ arc.tail
+  pub tail_most : arc.tail ≤ n
+  pub head_least : 1 ≤ arc.head
+  pub head_most : arc.head ≤ n
+  pub len_least : 1 ≤ arc.len
+
+-- There is a vertex, there are no more than a word of the layout can name, and the arcs are within them.
+pub record IsNetwork (P : ℕ) (file : GrFile) : Type 0 where
+  pub least : 1 ≤ file.n
+  pub most : file.n ≤ max_pred P
+  pub short : length file.arcs.items ≤ 1073741824
+  pub arcs : All (IsArcWithin file.n) file.arcs.items

@@ -1,0 +1,35 @@
+-- The sources that a text spells.
+use Rattle.std.specs.Prelude.{◌≡◌, ◌≤◌, ℕ, Bool, List, map, length, slice_index, All, Option, Result}
+use Rattle.sp_word.specs.Word.{max_pred}
+use Rattle.sp_text.specs.declared.faults.DimacsError.{DimacsError}
+use Rattle.sp_text.specs.Text.{Item, Spells, judge}
+use Rattle.sp_text.specs.Collecting.{SpelledBy}
+use Rattle.sp_text.specs.Whole.{AllRead}
+use Rattle.sp_dimacs.specs.Formats.{ss, ranges_of}
+use Rattle.sp_dimacs.specs.declared.sources.SsFile.{SsFile}
+
+-- the source of a line `s V`
+abbrev pub source_of : Item → ℕ
+source_of item = slice_index item.numbers 0
+
+-- The sources, in the order of their lines.
+abbrev pub AreSources : List ℕ → List Item → SsFile → Type 0
+AreSources problem items file = file.sources.items ≡ map source_of items
+
+-- The text has no fault, and spells these sources.
+abbrev pub SpellsSources : ℕ → List ℕ → SsFile → Type 0
+SpellsSources P text file = (problem : List ℕ) × (items : List Item) × Spells ss (ranges_of P) text problem items × AreSources problem items file
+
+-- The answer to the whole text of a device, of which a part is perhaps left.
+abbrev pub SourcesRead : ℕ → List ℕ → Option (List ℕ) → Bool → Result SsFile DimacsError → Type 0
+SourcesRead P text left has_failed result = AllRead (judge ss (ranges_of P)) (SpelledBy ss AreSources) text left has_failed result
+
+-- A word of the layout can name the vertex.
+pub record IsVertex (P : ℕ) (vertex : ℕ) : Type 0 where
+  pub least : 1 ≤ vertex
+  pub most : vertex ≤ max_pred P
+
+-- There are no more sources than may be, and a word of the layout can name each.
+pub record AreSourcesWithin (P : ℕ) (file : SsFile) : Type 0 where
+  pub short : length file.sources.items ≤ 1048576
+  pub sources : All (IsVertex P) file.sources.items

@@ -1,0 +1,153 @@
+//! The line forms of the files, as data.
+ghost use Rattle.std.specs.Prelude.{◌≡◌, true};
+ghost use Rattle.sp_text.specs.Formats.{format_of};
+ghost use Rattle.sp_word.specs.Word.{is_layout};
+ghost use Rattle.sp_dimacs.specs.Formats.{gr, ss, pairs, ranges_of};
+
+use sp_text::{Field, Form, Layout, Ranges, Top};
+use sp_word::Word;
+
+const MOST_ARCS: u64 = 1_073_741_824;
+
+const LONGEST_ARC: u64 = 4_294_967_295;
+
+const MOST_SOURCES: u64 = 1_048_576;
+
+// The one line that says how many lines of another form stand.
+const PROBLEM_LIMIT: Top = Top::Number(1);
+
+const GR: Layout = Layout {
+    problem: Form {
+        words: b"p sp",
+        fields: &[
+            Field {
+                letter: b'N',
+                least: 1,
+                most: Top::Vertex,
+            },
+            Field {
+                letter: b'M',
+                least: 0,
+                most: Top::Number(MOST_ARCS),
+            },
+        ],
+        fresh: false,
+        group: 0,
+        limit: PROBLEM_LIMIT,
+    },
+    items: &[Form {
+        words: b"a",
+        fields: &[
+            Field {
+                letter: b'U',
+                least: 1,
+                most: Top::Problem(0),
+            },
+            Field {
+                letter: b'V',
+                least: 1,
+                most: Top::Problem(0),
+            },
+            Field {
+                letter: b'W',
+                least: 1,
+                most: Top::Number(LONGEST_ARC),
+            },
+        ],
+        fresh: false,
+        group: 0,
+        limit: Top::Problem(1),
+    }],
+    needed: Top::Problem(1),
+};
+
+const SS: Layout = Layout {
+    problem: Form {
+        words: b"p aux sp ss",
+        fields: &[Field {
+            letter: b'K',
+            least: 0,
+            most: Top::Number(MOST_SOURCES),
+        }],
+        fresh: false,
+        group: 0,
+        limit: PROBLEM_LIMIT,
+    },
+    items: &[Form {
+        words: b"s",
+        fields: &[Field {
+            letter: b'V',
+            least: 1,
+            most: Top::Vertex,
+        }],
+        fresh: false,
+        group: 0,
+        limit: Top::Problem(0),
+    }],
+    needed: Top::Problem(0),
+};
+
+const PAIRS: Layout = Layout {
+    problem: Form {
+        words: b"p pairs",
+        fields: &[Field {
+            letter: b'K',
+            least: 0,
+            most: Top::Number(MOST_SOURCES),
+        }],
+        fresh: false,
+        group: 0,
+        limit: PROBLEM_LIMIT,
+    },
+    items: &[Form {
+        words: b"q",
+        fields: &[
+            Field {
+                letter: b'S',
+                least: 1,
+                most: Top::Vertex,
+            },
+            Field {
+                letter: b'T',
+                least: 1,
+                most: Top::Vertex,
+            },
+        ],
+        fresh: false,
+        group: 0,
+        limit: Top::Problem(0),
+    }],
+    needed: Top::Problem(0),
+};
+
+/// The line forms of a `.gr` file.
+pub fn gr_layout() -> Layout
+    ensures { format_of result ≡ gr }
+{
+    GR
+}
+
+/// The line forms of an `.ss` file.
+pub fn ss_layout() -> Layout
+    ensures { format_of result ≡ ss }
+{
+    SS
+}
+
+/// The line forms of a pairs file.
+pub fn pairs_layout() -> Layout
+    ensures { format_of result ≡ pairs }
+{
+    PAIRS
+}
+
+/// The limits that a word of `P` bits of predecessor sets.
+pub fn ranges_of<const P: u32>() -> Ranges
+    requires { is_layout P ≡ true }
+    ensures { result ≡ ranges_of P }
+{
+    Ranges {
+        vertex: Word::<P>::max_pred() as u64,
+        dist: Word::<P>::max_dist(),
+    }
+}

@@ -1,0 +1,122 @@
+//! `.gr` files: a graph.
+ghost use Rattle.std.specs.Prelude.{◌≡◌, ◌<◌, ◌^◌, ℕ, List, [], map, true, false, Some, IfOk, IfErr};
+ghost use Rattle.sp_word.specs.Word.{is_layout, max_pred};
+ghost use Rattle.sp_text.specs.Text.{judge};
+ghost use Rattle.sp_dimacs.specs.Formats.{gr, ranges_of};
+ghost use Rattle.sp_dimacs.specs.Reading.{IsBehindText};
+ghost use Rattle.sp_dimacs.specs.Graph.{arc_of, IsGraph, SpellsGraph, GraphRead, IsNetwork};
+
+use crate::formats::{gr_layout, ranges_of};
+use crate::readers::TextReader;
+use sp_text::{
+    Collector, DimacsError, Keep, Kind, Layout, LineTaker, Ranges, Read, Values, read_text,
+};
+use std::alloc::{AllocError, Global};
+use std::mem;
+
+/// An arc of a graph.
+#[derive(Clone, Copy, Debug, PartialEq, Eq)]
+pub struct Arc {
+    pub tail: u32,
+    pub head: u32,
+    pub len: u32,
+}
+
+/// What a `.gr` file spells: the number of vertices, and the arcs in the order of their lines.
+#[derive(Drop)]
+pub struct GrFile {
+    pub n: u32,
+    pub arcs: Vec<Arc>,
+}
+
+/// The arcs so far.
+#[derive(Drop)]
+pub struct Arcs<const P: u32> {
+    alloc: Global,
+    arcs: Vec<Arc>,
+    ghost layout: { is_layout P ≡ true },
+    ghost short: { max_pred P < 2 ^ 32 },
+}
+
+impl<const P: u32> Arcs<P> {
+    fn new(alloc: Global) -> Self
+        requires { is_layout P ≡ true }
+        ensures { result.arcs.items ≡ [] }
+    {
+        Arcs {
+            alloc,
+            arcs: Vec::new(alloc),
+        }
+    }
+}
+
+impl<const P: u32> Keep for Arcs<P> {
+    type Value = GrFile;
+
+    ghost format = { gr };
+
+    ghost ranges = { ranges_of P };
+
+    ghost Kept = { λ k items. k.arcs.items ≡ map arc_of items };
+
+    ghost Spelled = { λ problem items file. IsGraph problem items file };
+
+    fn layout(&self) -> Layout {
+        gr_layout()
+    }
+
+    fn ranges(&self) -> Ranges {
+        ranges_of::<P>()
+    }
+
+    fn keep(&mut self, _place: usize, values: &Values) -> Result<(), AllocError> {
+        let arc = Arc {
+            tail: values.get(0) as u32,
+            head: values.get(1) as u32,
+            len: values.get(2) as u32,
+        };
+        self.arcs.push(arc)?;
+        Ok(())
+    }
+
+    // No form is fresh.
+    fn is_named(&self, _place: usize, _first: u64) -> bool
+        ensures { result ≡ false }
+    {
+        false
+    }
+
+    fn give(&mut self, problem: &Values) -> GrFile {
+        GrFile {
+            n: problem.get(0) as u32,
+            arcs: mem::replace(&mut self.arcs, Vec::new(self.alloc)),
+        }
+    }
+}
+
+/// A reader of a `.gr` text that comes in pieces, for words of `P` bits of predecessor.
+pub type GrReader<const P: u32> = TextReader<Collector<Arcs<P>>>;
+
+impl<const P: u32> TextReader<Collector<Arcs<P>>> {
+    /// A reader behind no text.
+    pub fn new(alloc: Global) -> Self
+        requires { is_layout P ≡ true }
+        ensures { IsBehindText (judge gr (ranges_of P)) ⟦<Collector<Arcs<P>> as LineTaker>⟧.After [] result }
+    {
+        TextReader::of_taker(Collector::new(Arcs::new(alloc)))
+    }
+}
+
+/// The graph that the bytes of a device spell, or their first fault. Memory may be told in place of a later
+/// fault.
+#[tactic(auto, using(crate::proofs::Limits::graph_read))]
+pub fn read_gr<const P: u32, R: Read>(alloc: Global, reader: &mut R) -> Result<GrFile, DimacsError>
+    requires layout { is_layout P ≡ true }
+    requires fresh { R.passed reader.old ≡ 0 }
+    ensures exact { (text : List ℕ) → R.left reader.old ≡ Some text → GraphRead P text (R.left reader.new) (R.has_failed reader.new) result }
+    ensures found { IfOk result (λ file. (text : List ℕ) × SpellsGraph P text file) }
+    ensures graph { IfOk result (IsNetwork P) }
+    ensures read { IfErr result (λ e. e.kind ≡ Kind.Read → R.has_failed reader.new ≡ true) }
+{
+    read_text(reader, GrReader::<P>::new(alloc).into_feeder())
+}

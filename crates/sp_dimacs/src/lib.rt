@@ -1,0 +1,23 @@
+//! The texts of a graph, of a list of sources and of a list of pairs: what they spell, their first fault,
+//! and readers that are fed them in pieces.
+#![tactic(auto)]
+
+mod formats;
+mod graphs;
+mod laws;
+mod pairs;
+mod readers;
+mod sources;
+
+pub use graphs::{Arc, GrFile, GrReader, read_gr};
+pub use laws::{spelled_graph_is_within, spelled_pairs_are_within, spelled_sources_are_within};
+pub use pairs::{PairsFile, PairsReader, read_pairs};
+pub use readers::TextReader;
+pub use sources::{SsFile, SsReader, read_ss};
+pub use sp_text::{
+    DimacsError, Failed, Kind, Numeral, OfRead, OfWrite, Read, UpTo, UpToWriter, Write, WriteFault,
+    number, write_all,
+};
+
+#[cfg(test)]
+mod tests;

@@ -1,0 +1,111 @@
+//! Files of pairs: a source and a target each.
+ghost use Rattle.std.specs.Prelude.{◌≡◌, ◌<◌, ◌^◌, ℕ, List, [], map, true, false, Some, IfOk, IfErr};
+ghost use Rattle.sp_word.specs.Word.{is_layout, max_pred};
+ghost use Rattle.sp_text.specs.Text.{judge};
+ghost use Rattle.sp_dimacs.specs.Formats.{pairs, ranges_of};
+ghost use Rattle.sp_dimacs.specs.Reading.{IsBehindText};
+ghost use Rattle.sp_dimacs.specs.Pairs.{pair_of, ArePairs, SpellsPairs, PairsRead, ArePairsWithin};
+
+use crate::formats::{pairs_layout, ranges_of};
+use crate::readers::TextReader;
+use sp_text::{
+    Collector, DimacsError, Keep, Kind, Layout, LineTaker, Ranges, Read, Values, read_text,
+};
+use std::alloc::{AllocError, Global};
+use std::mem;
+
+/// What a file of pairs spells: a source and a target each, in the order of their lines.
+#[derive(Drop)]
+pub struct PairsFile {
+    pub pairs: Vec<(u32, u32)>,
+}
+
+/// The pairs so far.
+#[derive(Drop)]
+pub struct Pairs<const P: u32> {
+    alloc: Global,
+    pairs: Vec<(u32, u32)>,
+    ghost layout: { is_layout P ≡ true },
+    ghost short: { max_pred P < 2 ^ 32 },
+}
+
+impl<const P: u32> Pairs<P> {
+    fn new(alloc: Global) -> Self
+        requires { is_layout P ≡ true }
+        ensures { result.pairs.items ≡ [] }
+    {
+        Pairs {
+            alloc,
+            pairs: Vec::new(alloc),
+        }
+    }
+}
+
+impl<const P: u32> Keep for Pairs<P> {
+    type Value = PairsFile;
+
+    ghost format = { pairs };
+
+    ghost ranges = { ranges_of P };
+
+    ghost Kept = { λ k items. k.pairs.items ≡ map pair_of items };
+
+    ghost Spelled = { λ problem items file. ArePairs problem items file };
+
+    fn layout(&self) -> Layout {
+        pairs_layout()
+    }
+
+    fn ranges(&self) -> Ranges {
+        ranges_of::<P>()
+    }
+
+    fn keep(&mut self, _place: usize, values: &Values) -> Result<(), AllocError> {
+        self.pairs
+            .push((values.get(0) as u32, values.get(1) as u32))?;
+        Ok(())
+    }
+
+    // No form is fresh.
+    fn is_named(&self, _place: usize, _first: u64) -> bool
+        ensures { result ≡ false }
+    {
+        false
+    }
+
+    fn give(&mut self, _problem: &Values) -> PairsFile {
+        PairsFile {
+            pairs: mem::replace(&mut self.pairs, Vec::new(self.alloc)),
+        }
+    }
+}
+
+/// A reader of a pairs text that comes in pieces, for words of `P` bits of predecessor.
+pub type PairsReader<const P: u32> = TextReader<Collector<Pairs<P>>>;
+
+impl<const P: u32> TextReader<Collector<Pairs<P>>> {
+    /// A reader behind no text.
+    pub fn new(alloc: Global) -> Self
+        requires { is_layout P ≡ true }
+        ensures { IsBehindText (judge pairs (ranges_of P)) ⟦<Collector<Pairs<P>> as LineTaker>⟧.After [] result }
+    {
+        TextReader::of_taker(Collector::new(Pairs::new(alloc)))
+    }
+}
+
+/// The pairs that the bytes of a device spell, or their first fault. Memory may be told in place of a later
+/// fault.
+#[tactic(auto, using(crate::proofs::Limits::pairs_read))]
+pub fn read_pairs<const P: u32, R: Read>(
+    alloc: Global,
+    reader: &mut R,
+) -> Result<PairsFile, DimacsError>
+    requires layout { is_layout P ≡ true }
+    requires fresh { R.passed reader.old ≡ 0 }
+    ensures exact { (text : List ℕ) → R.left reader.old ≡ Some text → PairsRead P text (R.left reader.new) (R.has_failed reader.new) result }
+    ensures found { IfOk result (λ file. (text : List ℕ) × SpellsPairs P text file) }
+    ensures pairs { IfOk result (ArePairsWithin P) }
+    ensures read { IfErr result (λ e. e.kind ≡ Kind.Read → R.has_failed reader.new ≡ true) }
+{
+    read_text(reader, PairsReader::<P>::new(alloc).into_feeder())
+}

@@ -1,0 +1,6 @@
+mod blanks;
+mod faults;
+mod layouts;
+mod lists;
+mod pieces;
+mod samples;

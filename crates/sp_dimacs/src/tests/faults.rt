@@ -1,0 +1,131 @@
+use super::samples::{DIAMOND, DIAMOND_ARCS, arcs, told};
+use crate::{DimacsError, Kind, UpTo, read_gr};
+use std::test::Fail;
+
+#[test]
+fn no_problem_line(rt: HostRuntime) -> Result<(), Fail> {
+    let alloc = rt.alloc();
+    let none = told(1, Kind::NoProblem);
+    assert_eq!(rt; arcs::<28>(alloc, b"a 1 2 3\n"), none);
+    assert_eq!(rt; arcs::<28>(alloc, b"a 1 2 3\np sp 3 1\n"), none);
+    assert_eq!(rt; arcs::<28>(alloc, b""), none);
+    assert_eq!(rt; arcs::<28>(alloc, b"c\n\n"), told(3, Kind::NoProblem));
+    assert_eq!(rt;
+        arcs::<28>(alloc, b"p sp 1 0\np sp 1 0\n"),
+        told(2, Kind::SecondProblem)
+    );
+    Ok(())
+}
+
+#[test]
+fn ranges(rt: HostRuntime) -> Result<(), Fail> {
+    let alloc = rt.alloc();
+    assert_eq!(rt;
+        arcs::<28>(alloc, b"p sp 2 1\na 1 3 1\n"),
+        told(2, Kind::OutOfRange(b'V'))
+    );
+    assert_eq!(rt;
+        arcs::<28>(alloc, b"p sp 2 1\na 0 3 1\n"),
+        told(2, Kind::OutOfRange(b'U'))
+    );
+    assert_eq!(rt;
+        arcs::<28>(alloc, b"p sp 2 1\na 1 2 0\n"),
+        told(2, Kind::OutOfRange(b'W'))
+    );
+    assert_eq!(rt;
+        arcs::<28>(alloc, b"p sp 2 1\na 1 2 4294967296\n"),
+        told(2, Kind::OutOfRange(b'W'))
+    );
+    assert_eq!(rt; arcs::<28>(alloc, b"p sp 2 1\na 1 2 4294967295\n"), Ok(1));
+    assert_eq!(rt;
+        arcs::<28>(alloc, b"p sp 2 1\na 1 2 03\n"),
+        told(2, Kind::BadLine)
+    );
+    assert_eq!(rt;
+        arcs::<28>(alloc, b"p sp 268435455 0\n"),
+        told(1, Kind::OutOfRange(b'N'))
+    );
+    assert_eq!(rt;
+        arcs::<28>(alloc, b"p sp 0 0\n"),
+        told(1, Kind::OutOfRange(b'N'))
+    );
+    assert_eq!(rt;
+        arcs::<28>(alloc, b"p sp 1 1073741825\n"),
+        told(1, Kind::OutOfRange(b'M'))
+    );
+    Ok(())
+}
+
+#[test]
+fn too_few(rt: HostRuntime) -> Result<(), Fail> {
+    let alloc = rt.alloc();
+    assert_eq!(rt;
+        arcs::<28>(alloc, b"p sp 2 2\na 1 2 5"),
+        told(3, Kind::TooFew)
+    );
+    assert_eq!(rt; arcs::<28>(alloc, b"p sp 2 1\na 1 2 5"), Ok(1));
+    assert_eq!(rt; arcs::<28>(alloc, b"p sp 2 1\r\na 1 2 5"), Ok(1));
+    assert_eq!(rt; arcs::<28>(alloc, b"p sp 2 1\na\t1 2 5"), Ok(1));
+    assert_eq!(rt; arcs::<28>(alloc, b"p sp 2 1\na 1 2 5  "), Ok(1));
+    assert_eq!(rt; arcs::<28>(alloc, b"\np sp 2 1\n\n\na 1 2 5\n\n"), Ok(1));
+    assert_eq!(rt;
+        arcs::<28>(alloc, b"p sp 2 1\na 1 2 5\na 1 2 5\n"),
+        told(3, Kind::TooMany)
+    );
+    assert_eq!(rt;
+        arcs::<28>(alloc, b"p sp 268435454 1073741824\n"),
+        told(2, Kind::TooFew)
+    );
+    Ok(())
+}
+
+#[test]
+fn ended_after_each_byte(rt: HostRuntime) -> Result<(), Fail> {
+    let alloc = rt.alloc();
+    assert_eq!(rt; DIAMOND.len(), 49);
+    assert_eq!(rt; arcs::<28>(alloc, &DIAMOND[..0]), told(1, Kind::NoProblem));
+    assert_eq!(rt; arcs::<28>(alloc, &DIAMOND[..7]), told(1, Kind::BadLine));
+    assert_eq!(rt; arcs::<28>(alloc, &DIAMOND[..8]), told(2, Kind::TooFew));
+    assert_eq!(rt; arcs::<28>(alloc, &DIAMOND[..9]), told(2, Kind::TooFew));
+    assert_eq!(rt; arcs::<28>(alloc, &DIAMOND[..41]), told(6, Kind::TooFew));
+    assert_eq!(rt; arcs::<28>(alloc, &DIAMOND[..46]), told(6, Kind::BadLine));
+    assert_eq!(rt; arcs::<28>(alloc, &DIAMOND[..47]), told(6, Kind::BadLine));
+    assert_eq!(rt; arcs::<28>(alloc, &DIAMOND[..48]), Ok(5));
+    assert_eq!(rt; arcs::<28>(alloc, DIAMOND), Ok(5));
+    Ok(())
+}
+
+#[test]
+fn failing_reader(rt: HostRuntime) -> Result<(), Fail> {
+    let alloc = rt.alloc();
+    let read = |line: u64| DimacsError {
+        line,
+        kind: Kind::Read,
+    };
+    let second = read_gr::<28, _>(alloc, &mut UpTo::failing(b"p sp 1 0\n"));
+    assert_eq!(rt; second.err(), Some(read(2)));
+    let early = read_gr::<28, _>(alloc, &mut UpTo::failing(b"a 1 2 3\n"));
+    assert_eq!(rt; early.err(), told(1, Kind::NoProblem).err());
+    let mut line = 1;
+    for (k, byte) in DIAMOND.iter().enumerate() {
+        let file = read_gr::<28, _>(alloc, &mut UpTo::failing(&DIAMOND[..k]));
+        assert_eq!(rt; file.err(), Some(read(line)));
+        if *byte == b'\n' && line < 99 {
+            line += 1;
+        }
+    }
+    let last = read_gr::<28, _>(alloc, &mut UpTo::failing(DIAMOND));
+    assert_eq!(rt; last.err(), Some(read(7)));
+    Ok(())
+}
+
+#[test]
+fn diamond(rt: HostRuntime) -> Result<(), Fail> {
+    let alloc = rt.alloc();
+    for most in 1..50 {
+        let file = read_gr::<28, _>(alloc, &mut UpTo::in_pieces(DIAMOND, most))?;
+        assert_eq!(rt; file.n, 4);
+        assert_eq!(rt; file.arcs.as_slice(), DIAMOND_ARCS.as_slice());
+    }
+    Ok(())
+}

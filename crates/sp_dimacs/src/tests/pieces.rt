@@ -1,0 +1,163 @@
+ghost use Rattle.std.specs.Prelude.{◌<◌};
+
+use super::samples::{DIAMOND, DIAMOND_ARCS, fed, told};
+use crate::{DimacsError, GrReader, Kind};
+use std::alloc::Global;
+use std::test::Fail;
+
+#[test]
+fn cut_anywhere(rt: HostRuntime) -> Result<(), Fail> {
+    let alloc = rt.alloc();
+    let mut reader = GrReader::<28>::new(alloc);
+    for k in 0..50 {
+        reader.feed(&DIAMOND[..k])?;
+        reader.feed(&DIAMOND[k..])?;
+        let file = reader.finish()?;
+        assert_eq!(rt; file.n, 4);
+        assert_eq!(rt; file.arcs.as_slice(), DIAMOND_ARCS.as_slice());
+    }
+    for size in 1..50 {
+        for piece in DIAMOND.chunks(size) {
+            reader.feed(piece)?;
+        }
+        let file = reader.finish()?;
+        assert_eq!(rt; file.arcs.as_slice(), DIAMOND_ARCS.as_slice());
+    }
+    Ok(())
+}
+
+#[test]
+fn an_arc_in_two_pieces(rt: HostRuntime) -> Result<(), Fail> {
+    let alloc = rt.alloc();
+    let mut reader = GrReader::<28>::new(alloc);
+    reader.feed(b"p sp 2 1\na 1")?;
+    reader.feed(b" 2 5")?;
+    let file = reader.finish()?;
+    assert_eq!(rt; file.n, 2);
+    assert_eq!(rt; file.arcs.len(), 1);
+    let arc = file.arcs[0];
+    assert_eq!(rt; (arc.tail, arc.head, arc.len), (1, 2, 5));
+    reader.feed(b"p sp 1 0\n")?;
+    let again = reader.finish()?;
+    assert_eq!(rt; (again.n, again.arcs.len()), (1, 0));
+    Ok(())
+}
+
+#[test]
+fn refused_once_and_for_all(rt: HostRuntime) -> Result<(), Fail> {
+    let alloc = rt.alloc();
+    let long = DimacsError {
+        line: 1,
+        kind: Kind::LongLine,
+    };
+    let mut reader = GrReader::<28>::new(alloc);
+    assert_eq!(rt; reader.feed(&[b'c'; 1025]), Err(long));
+    assert_eq!(rt; reader.feed(b"\n"), Err(long));
+    assert_eq!(rt; reader.finish().err(), Some(long));
+    assert_eq!(rt; reader.fail(), long);
+    let read = DimacsError {
+        line: 2,
+        kind: Kind::Read,
+    };
+    let mut cut = GrReader::<28>::new(alloc);
+    assert_eq!(rt; cut.feed(b"p sp 1 0\n"), Ok(()));
+    assert_eq!(rt; cut.fail(), read);
+    assert_eq!(rt; cut.feed(b""), Err(read));
+    assert_eq!(rt; cut.finish().err(), Some(read));
+    Ok(())
+}
+
+// The number of arcs of a start, a byte so many times, and an end, in pieces of this many bytes.
+fn grown(
+    alloc: Global,
+    start: &[u8],
+    byte: u8,
+    times: usize,
+    end: &[u8],
+    size: usize,
+) -> Result<usize, DimacsError>
+    requires { 0 < size }
+{
+    let mut reader = GrReader::<28>::new(alloc);
+    reader.feed(start)?;
+    let bytes = [byte; 1100];
+    for piece in bytes[..times.min(1100)].chunks(size) {
+        reader.feed(piece)?;
+    }
+    reader.feed(end)?;
+    let file = reader.finish()?;
+    Ok(file.arcs.len())
+}
+
+#[test]
+fn long_comment(rt: HostRuntime) -> Result<(), Fail> {
+    let alloc = rt.alloc();
+    let long = told(2, Kind::LongLine);
+    for size in 1..4 {
+        assert_eq!(rt;
+            grown(alloc, b"p sp 1 0\nc ", b'x', 1022, b"\n", size),
+            Ok(0)
+        );
+        assert_eq!(rt; grown(alloc, b"p sp 1 0\nc ", b'x', 1022, b"", size), Ok(0));
+        assert_eq!(rt;
+            grown(alloc, b"p sp 1 0\nc ", b'x', 1023, b"\n", size),
+            long
+        );
+        assert_eq!(rt; grown(alloc, b"p sp 1 0\nc ", b'x', 1023, b"", size), long);
+    }
+    assert_eq!(rt;
+        grown(alloc, b"p sp 1 0\n", b'c', 1024, b"\n", 1100),
+        told(2, Kind::BadLine)
+    );
+    assert_eq!(rt;
+        grown(alloc, b"p sp 1 0\nc ", b'x', 1022, b"\r\n", 1100),
+        long
+    );
+    assert_eq!(rt;
+        grown(alloc, b"p sp 1 0\nc ", b'x', 1022, b"\n", 1100),
+        Ok(0)
+    );
+    assert_eq!(rt;
+        grown(alloc, b"p sp 1 0\nc ", b'x', 1023, b"\n", 1100),
+        long
+    );
+    Ok(())
+}
+
+#[test]
+fn many_digits(rt: HostRuntime) -> Result<(), Fail> {
+    let alloc = rt.alloc();
+    let out = told(2, Kind::OutOfRange(b'W'));
+    let long = told(2, Kind::LongLine);
+    assert_eq!(rt;
+        grown(alloc, b"p sp 2 1\na 1 2 ", b'9', 1018, b"\n", 1),
+        out
+    );
+    assert_eq!(rt;
+        grown(alloc, b"p sp 2 1\na 1 2 ", b'9', 1019, b"\n", 1),
+        long
+    );
+    assert_eq!(rt;
+        grown(alloc, b"p sp 2 1\na 1 2 ", b'9', 1018, b"", 1100),
+        out
+    );
+    assert_eq!(rt;
+        grown(alloc, b"p sp 2 1\na 1 2 ", b'9', 1019, b"", 1100),
+        long
+    );
+    Ok(())
+}
+
+#[test]
+fn fed_from_a_text(rt: HostRuntime) -> Result<(), Fail> {
+    let alloc = rt.alloc();
+    for size in 1..3 {
+        assert_eq!(rt; fed(alloc, b"p sp 2 1\na 1 2 5", size), Ok(1));
+        assert_eq!(rt; fed(alloc, b"a 1 2 3\n", size), told(1, Kind::NoProblem));
+        assert_eq!(rt;
+            fed(alloc, b"p sp 2 2\na 1 2 5", size),
+            told(3, Kind::TooFew)
+        );
+    }
+    Ok(())
+}
