@@ -1,0 +1,7 @@
+//! Directed graphs with positive arc lengths: walks, least lengths, shortest-path trees, vertices that are too far,
+//! and the theorems about tables of words that every engine and every checker of trees stands on.
+#![tactic(auto)]
+
+mod arc;
+
+pub use arc::Arc;
