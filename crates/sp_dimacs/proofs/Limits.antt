@@ -22,7 +22,8 @@ use Rattle.sp_dimacs.specs.Formats.{gr, ss, pairs, arc_line, source_line, pair_l
 use Rattle.sp_dimacs.specs.declared.graphs.GrFile.{GrFile}
 use Rattle.sp_dimacs.specs.declared.sources.SsFile.{SsFile}
 use Rattle.sp_dimacs.specs.declared.pairs.PairsFile.{PairsFile}
-use Rattle.sp_dimacs.specs.Graph.{arc_of, IsGraph, IsArcWithin, IsNetwork}
+use Rattle.sp_dimacs.specs.Graph.{arc_of, IsGraph, IsNetwork}
+use Rattle.sp_paths.specs.Paths.{IsArc}
 use Rattle.sp_dimacs.specs.Sources.{source_of, AreSources, IsVertex, AreSourcesWithin}
 use Rattle.sp_dimacs.specs.Pairs.{pair_of, ArePairs, IsPairWithin, ArePairsWithin}
 
@@ -83,7 +84,7 @@ gr_numbers P (n ∷ m ∷ []) full h =
     (first.0, first.1, second.1)
 gr_numbers P (n ∷ m ∷ k ∷ ps) full h = absurd (omega arith)
 
-arc_numbers : (P : ℕ) (ps ns : List ℕ) → length ns ≡ 3 → first_out (ranges_of P) ps arc_line.fields ns ≡ None → IsArcWithin (slice_index ps 0) (record { tail = slice_index ns 0; head = slice_index ns 1; len = slice_index ns 2 })
+arc_numbers : (P : ℕ) (ps ns : List ℕ) → length ns ≡ 3 → first_out (ranges_of P) ps arc_line.fields ns ≡ None → IsArc (slice_index ps 0) (record { tail = slice_index ns 0; head = slice_index ns 1; len = slice_index ns 2 })
 arc_numbers P ps [] full h = absurd (omega arith)
 arc_numbers P ps (u ∷ []) full h = absurd (omega arith)
 arc_numbers P ps (u ∷ v ∷ []) full h = absurd (omega arith)
@@ -91,10 +92,10 @@ arc_numbers P ps (u ∷ v ∷ w ∷ []) full h =
     let tail = first_in (ranges_of P) ps (field 85 1 (Problem 0)) (field 86 1 (Problem 0) ∷ field 87 1 (Number 4294967295) ∷ []) u (v ∷ w ∷ []) h in
     let head = first_in (ranges_of P) ps (field 86 1 (Problem 0)) (field 87 1 (Number 4294967295) ∷ []) v (w ∷ []) tail.2 in
     let len = first_in (ranges_of P) ps (field 87 1 (Number 4294967295)) [] w [] head.2 in
-    record { tail_least = tail.0; tail_most = tail.1; head_least = head.0; head_most = head.1; len_least = len.0 }
+    ((tail.0, tail.1), (head.0, head.1), len.0)
 arc_numbers P ps (u ∷ v ∷ w ∷ x ∷ ns) full h = absurd (omega arith)
 
-arc_allowed : (P : ℕ) (ps : List ℕ) (item : Item) → IsAllowed gr (ranges_of P) ps item → IsArcWithin (slice_index ps 0) (arc_of item)
+arc_allowed : (P : ℕ) (ps : List ℕ) (item : Item) → IsAllowed gr (ranges_of P) ps item → IsArc (slice_index ps 0) (arc_of item)
 arc_allowed P ps item h =
     let is : item.form ≡ arc_line = has_form gr arc_line (ranges_of P) ps item refl h in
     arc_numbers P ps item.numbers (rw is at h.full) (rw is at h.in_range)
@@ -103,7 +104,7 @@ network : (P : ℕ) (ps : List ℕ) (items : List Item) (file : GrFile) → IsAc
 network P ps items file h is =
     let numbers = gr_numbers P ps h.full h.in_range in
     let few = short_list gr arc_line (ranges_of P) ps items refl refl h in
-    let within : All (IsArcWithin (slice_index ps 0)) (map arc_of items) = All-map (IsArcWithin (slice_index ps 0)) arc_of items (All-weaker (IsAllowed gr (ranges_of P) ps) (λ (item : Item). IsArcWithin (slice_index ps 0) (arc_of item)) (arc_allowed P ps) items h.allowed) in
+    let within : All (IsArc (slice_index ps 0)) (map arc_of items) = All-map (IsArc (slice_index ps 0)) arc_of items (All-weaker (IsAllowed gr (ranges_of P) ps) (λ (item : Item). IsArc (slice_index ps 0) (arc_of item)) (arc_allowed P ps) items h.allowed) in
     record {
       least = rw is.0 numbers.0;
       most = rw is.0 numbers.1;

@@ -6,7 +6,8 @@ use Rattle.sp_text.specs.Text.{Item, Spells, judge}
 use Rattle.sp_text.specs.Collecting.{SpelledBy}
 use Rattle.sp_text.specs.Whole.{AllRead}
 use Rattle.sp_dimacs.specs.Formats.{gr, ranges_of}
-use Rattle.sp_dimacs.specs.declared.graphs.Arc.{Arc}
+use Rattle.sp_paths.specs.declared.arc.Arc.{Arc}
+use Rattle.sp_paths.specs.Paths.{Graph, IsArc}
 use Rattle.sp_dimacs.specs.declared.graphs.GrFile.{GrFile}
 
 -- the arc of a line `a U V W`
@@ -25,17 +26,13 @@ SpellsGraph P text file = (problem : List ℕ) × (items : List Item) × Spells 
 abbrev pub GraphRead : ℕ → List ℕ → Option (List ℕ) → Bool → Result GrFile DimacsError → Type 0
 GraphRead P text left has_failed result = AllRead (judge gr (ranges_of P)) (SpelledBy gr IsGraph) text left has_failed result
 
--- The arc leads from one of n vertices to another, and has a length.
-pub record IsArcWithin (n : ℕ) (arc : Arc) : Type 0 where
-  pub tail_least : 1 ≤ arc.tail
-  pub tail_most : arc.tail ≤ n
-  pub head_least : 1 ≤ arc.head
-  pub head_most : arc.head ≤ n
-  pub len_least : 1 ≤ arc.len
+-- the graph of a file
+abbrev pub graph_of : GrFile → Graph
+graph_of file = record { n = file.n; arcs = file.arcs.items }
 
 -- There is a vertex, there are no more than a word of the layout can name, and the arcs are within them.
 pub record IsNetwork (P : ℕ) (file : GrFile) : Type 0 where
   pub least : 1 ≤ file.n
   pub most : file.n ≤ max_pred P
   pub short : length file.arcs.items ≤ 1073741824
-  pub arcs : All (IsArcWithin file.n) file.arcs.items
+  pub arcs : All (IsArc file.n) file.arcs.items

@@ -8,19 +8,12 @@ ghost use Rattle.sp_dimacs.specs.Graph.{arc_of, IsGraph, SpellsGraph, GraphRead,
 
 use crate::formats::{gr_layout, ranges_of};
 use crate::readers::TextReader;
+use sp_paths::Arc;
 use sp_text::{
     Collector, DimacsError, Keep, Kind, Layout, LineTaker, Ranges, Read, Values, read_text,
 };
 use std::alloc::{AllocError, Global};
 use std::mem;
-
-/// An arc of a graph.
-#[derive(Clone, Copy, Debug, PartialEq, Eq)]
-pub struct Arc {
-    pub tail: u32,
-    pub head: u32,
-    pub len: u32,
-}
 
 /// What a `.gr` file spells: the number of vertices, and the arcs in the order of their lines.
 #[derive(Drop)]

@@ -9,11 +9,12 @@ mod pairs;
 mod readers;
 mod sources;
 
-pub use graphs::{Arc, GrFile, GrReader, read_gr};
+pub use graphs::{GrFile, GrReader, read_gr};
 pub use laws::{spelled_graph_is_within, spelled_pairs_are_within, spelled_sources_are_within};
 pub use pairs::{PairsFile, PairsReader, read_pairs};
 pub use readers::TextReader;
 pub use sources::{SsFile, SsReader, read_ss};
+pub use sp_paths::Arc;
 pub use sp_text::{
     DimacsError, Failed, Kind, Numeral, OfRead, OfWrite, Read, UpTo, UpToWriter, Write, WriteFault,
     number, write_all,
