@@ -53,7 +53,7 @@ none_sent written passed out printer empty none = record {
   wrote = Appends-nil (written out);
   went = omega arith;
   counted = none;
-  small = omega arith;
+  small = λ (some : 0 < 0). absurd (omega (arith, some));
 }
 
 pub unsent : {W : Type 0} (written : W → Option (List ℕ)) (passed : W → ℕ) (has_failed : W → Bool) (out : W) (printer : Printer) → printer.block ≡ [] → printer.count ≡ 0 → printer.failed ≡ false → IsSending written passed has_failed [] out out printer
@@ -79,9 +79,15 @@ pushed written passed has_failed front bytes start out printer block h is = reco
   failed = h.failed;
 }
 
-sum_small : (n d s q : ℕ) → (0 < n → q ≤ 2 ^ 62) → q ≡ s + d + n → d ≤ 2 ^ 62 → d + n ≤ 2 ^ 62
-sum_small zero d s q limit is small = omega arith
-sum_small (suc n) d s q limit is small = omega (arith, limit (omega arith))
+-- The device has passed no more than it may, behind d bytes and n more.
+still_small : (n d p q : ℕ) → (0 < n → q ≤ 2 ^ 62) → q ≡ p + n → (0 < d → p ≤ 2 ^ 62) → 0 < d + n → q ≤ 2 ^ 62
+still_small zero d p q limit is small some = omega (arith, is, small (omega (arith, some)))
+still_small (suc n) d p q limit is small some = limit (omega arith)
+
+sum_small : (n d s p q : ℕ) → (0 < n → q ≤ 2 ^ 62) → q ≡ p + n → p ≡ s + d → (0 < d → p ≤ 2 ^ 62) → d + n ≤ 2 ^ 62
+sum_small zero zero s p q limit is from small = omega arith
+sum_small zero (suc d) s p q limit is from small = omega (arith, from, small (omega arith))
+sum_small (suc n) d s p q limit is from small = omega (arith, is, from, limit (omega arith))
 
 -- Bytes are written behind a text all of which was written.
 pub written_on : {W : Type 0} (written : W → Option (List ℕ)) (passed : W → ℕ) (front bytes : List ℕ) (start out new : W) (printer : Printer) (count : ℕ) → IsSent written passed front start out printer → printer.block ≡ []
@@ -89,14 +95,14 @@ pub written_on : {W : Type 0} (written : W → Option (List ℕ)) (passed : W �
     → IsSent written passed (front ++ bytes) start new (record { block = printer.block; count = count; failed = printer.failed })
 written_on written passed front bytes start out new printer count h empty wrote went limit is =
     let whole : front ≡ h.done = h.parts ∙ rw empty (append-nil h.done) in
-    let short = sum_small (length bytes) (length h.done) (passed start) (passed new) limit (omega (arith, went, h.went)) h.small in
+    let short = sum_small (length bytes) (length h.done) (passed start) (passed out) (passed new) limit went h.went h.small in
     record {
       done = h.done ++ bytes;
       parts = ap (λ (t : List ℕ). t ++ bytes) whole ∙ rw empty (sym (append-nil (h.done ++ bytes)));
       wrote = Appends-trans (written start) (written out) (written new) h.done bytes h.wrote wrote;
       went = omega (arith, h.went, length-append h.done bytes);
       counted = omega (arith, h.counted, short, length-append h.done bytes);
-      small = omega (arith, short, length-append h.done bytes);
+      small = rw (length-append h.done bytes) (still_small (length bytes) (length h.done) (passed out) (passed new) limit went h.small);
     }
 
 -- What waits is written.
@@ -108,8 +114,8 @@ flushed written passed front bytes start out new printer block count h waits wro
   parts = h.parts ∙ rw (← waits, empty) (sym (append-nil (h.done ++ bytes)));
   wrote = Appends-trans (written start) (written out) (written new) h.done bytes h.wrote wrote;
   went = omega (arith, h.went, length-append h.done bytes);
-  counted = omega (arith, h.counted, sum_small (length bytes) (length h.done) (passed start) (passed new) limit (omega (arith, went, h.went)) h.small, length-append h.done bytes);
-  small = omega (arith, sum_small (length bytes) (length h.done) (passed start) (passed new) limit (omega (arith, went, h.went)) h.small, length-append h.done bytes);
+  counted = omega (arith, h.counted, sum_small (length bytes) (length h.done) (passed start) (passed out) (passed new) limit went h.went h.small, length-append h.done bytes);
+  small = rw (length-append h.done bytes) (still_small (length bytes) (length h.done) (passed out) (passed new) limit went h.small);
 }
 
 -- Where nothing waits, all was written.
@@ -118,3 +124,8 @@ pub all_written : {W : Type 0} (written : W → Option (List ℕ)) (passed : W �
 all_written written passed front start out printer h empty =
     let whole : front ≡ h.done = h.parts ∙ rw empty (append-nil h.done) in
     (rw whole h.wrote, h.counted ∙ ap length (sym whole))
+
+-- Where nothing waits, the device has passed on as many bytes as were sent.
+pub all_passed : {W : Type 0} (written : W → Option (List ℕ)) (passed : W → ℕ) (front : List ℕ) (start out : W) (printer : Printer) → IsSent written passed front start out printer
+    → (passed out ≡ passed start + printer.count) × (0 < printer.count → passed out ≤ 2 ^ 62)
+all_passed written passed front start out printer h = (rw h.counted h.went, λ (some : 0 < printer.count). h.small (rw (← h.counted) some))

@@ -1,5 +1,5 @@
 -- A text that is sent to a writer in blocks.
-use Rattle.std.specs.Prelude.{◌≡◌, ◌+◌, ◌≤◌, ◌^◌, ℕ, Bool, true, false, List, ◌++◌, length, Option, Result, Ok, Err}
+use Rattle.std.specs.Prelude.{◌≡◌, ◌+◌, ◌<◌, ◌≤◌, ◌^◌, ℕ, Bool, true, false, List, ◌++◌, length, Option, Result, Ok, Err}
 use Rattle.std.specs.Io.KnownBytes.{Appends}
 use Rattle.sp_text.specs.declared.printing.Printer.{Printer}
 use Rattle.sp_text.specs.Devices.{IsBegun}
@@ -11,7 +11,7 @@ pub record IsSent {W : Type 0} (written : W → Option (List ℕ)) (passed : W �
   pub wrote : Appends (written start) (written out) done
   pub went : passed out ≡ passed start + length done
   pub counted : printer.count ≡ length done
-  pub small : length done ≤ 2 ^ 62
+  pub small : 0 < length done → passed out ≤ 2 ^ 62
 
 -- The same, unless the writer has failed: then a beginning of the text stands.
 pub record IsSending {W : Type 0} (written : W → Option (List ℕ)) (passed : W → ℕ) (has_failed : W → Bool) (text : List ℕ) (start out : W) (printer : Printer) : Type 0 where
@@ -23,3 +23,8 @@ pub record IsSending {W : Type 0} (written : W → Option (List ℕ)) (passed : 
 abbrev pub Finished : {W F : Type 0} → (W → Option (List ℕ)) → (W → Bool) → List ℕ → W → Result ℕ F → W → Type 0
 Finished written has_failed text start (Ok count) out = Appends (written start) (written out) text × (count ≡ length text)
 Finished written has_failed text start (Err e) out = IsBegun text (written start) (written out) × (has_failed out ≡ true)
+
+-- The device passed on so many bytes.
+abbrev pub Counted : {W F : Type 0} → (W → ℕ) → W → Result ℕ F → W → Type 0
+Counted passed start (Ok count) out = (passed out ≡ passed start + count) × (0 < count → passed out ≤ 2 ^ 62)
+Counted passed start (Err e) out = Unit {0}

@@ -1,6 +1,6 @@
 //! A text that is written in blocks.
 ghost use Rattle.std.specs.Prelude.{◌≡◌, ◌+◌, ◌≤◌, ℕ, List, [], ◌++◌, length, decimal, false};
-ghost use Rattle.sp_text.specs.Printing.{IsSending, Finished};
+ghost use Rattle.sp_text.specs.Printing.{IsSending, Finished, Counted};
 
 use crate::block::Block;
 use crate::devices::{Write, write_all};
@@ -106,7 +106,8 @@ pub fn print_number<W: Write>(out: &mut W, printer: &mut Printer, n: u64)
 
 /// Writes what waits, and tells how many bytes were written.
 pub fn finish<W: Write>(out: &mut W, mut printer: Printer) -> Result<u64, WriteFault>
-    ensures { (front : List ℕ) (start : W) → IsSending W.written W.passed W.has_failed front start out.old printer → Finished W.written W.has_failed front start result out.new }
+    ensures written { (front : List ℕ) (start : W) → IsSending W.written W.passed W.has_failed front start out.old printer → Finished W.written W.has_failed front start result out.new }
+    ensures passed { (front : List ℕ) (start : W) → IsSending W.written W.passed W.has_failed front start out.old printer → Counted W.passed start result out.new }
 {
     flush(out, &mut printer);
     if printer.failed {
