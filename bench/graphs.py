@@ -1,0 +1,108 @@
+#!/usr/bin/env python3
+"""Makes `.gr` graphs and `.ss` lists of sources, for benchmarks and for trying the program.
+
+Usage: python3 bench/graphs.py KIND N [--seed S] [--sources K] GR SS
+
+KIND is one of
+  roads     a road-like grid: short streets both ways, some missing, and a few long ones; about 2.6 arcs a vertex
+  random    four arcs a vertex between vertices drawn at random, lengths from 1 to 1,000
+  ties      a grid whose arcs all have length 1, so that most vertices have several shortest walks
+  parts     several grids without an arc between them, so that most vertices are unreachable
+  parallel  a grid in which arcs stand several times with other lengths, and vertices have loops
+  far       a line of arcs of the greatest length, whose end is too far for a word with 28 bits of predecessor
+
+The same arguments make the same files.
+"""
+
+import argparse
+import math
+import random
+
+LONGEST = 4294967295
+
+
+def grid(n, draw, length, keep=1.0):
+    """Arcs both ways between neighbours on a square grid of n vertices, each pair kept with this probability."""
+    side = max(1, math.isqrt(n))
+    for vertex in range(1, n + 1):
+        for step in (1, side):
+            other = vertex + step
+            if other > n or (step == 1 and vertex % side == 0) or draw.random() >= keep:
+                continue
+            yield vertex, other, length()
+            yield other, vertex, length()
+
+
+def roads(n, draw):
+    yield from grid(n, draw, lambda: draw.randint(50, 1500), 0.64)
+    for _ in range(n // 100):
+        tail, head, length = draw.randint(1, n), draw.randint(1, n), draw.randint(5000, 50000)
+        yield tail, head, length
+        yield head, tail, length
+
+
+def at_random(n, draw):
+    for tail in range(1, n + 1):
+        for _ in range(4):
+            yield tail, draw.randint(1, n), draw.randint(1, 1000)
+
+
+def ties(n, draw):
+    yield from grid(n, draw, lambda: 1)
+
+
+def parts(n, draw):
+    for tail, head, length in grid(n, draw, lambda: draw.randint(1, 100)):
+        if (tail - 1) * 7 // n == (head - 1) * 7 // n:
+            yield tail, head, length
+
+
+def parallel(n, draw):
+    for tail, head, length in grid(n, draw, lambda: draw.randint(1, 100), 0.7):
+        for _ in range(draw.randint(1, 3)):
+            yield tail, head, length + draw.randint(0, 3)
+    for vertex in range(1, n + 1, 3):
+        yield vertex, vertex, draw.randint(1, 100)
+
+
+def far(n, _draw):
+    for vertex in range(1, n):
+        yield vertex, vertex + 1, LONGEST
+
+
+KINDS = {"roads": roads, "random": at_random, "ties": ties, "parts": parts, "parallel": parallel, "far": far}
+
+
+def write_graph(path, kind, n, seed):
+    """Writes the graph, and tells its number of arcs and their mean length."""
+    arcs = list(KINDS[kind](n, random.Random(seed)))
+    with open(path, "w") as file:
+        file.write(f"c {kind}, seed {seed}\np sp {n} {len(arcs)}\n")
+        file.writelines(f"a {tail} {head} {length}\n" for tail, head, length in arcs)
+    mean = sum(length for _, _, length in arcs) // max(1, len(arcs))
+    return len(arcs), max(1, mean)
+
+
+def write_sources(path, n, count, seed):
+    draw = random.Random(seed + 1)
+    with open(path, "w") as file:
+        file.write(f"p aux sp ss {count}\n")
+        file.writelines(f"s {draw.randint(1, n)}\n" for _ in range(count))
+
+
+def main():
+    options = argparse.ArgumentParser(description=__doc__, formatter_class=argparse.RawDescriptionHelpFormatter)
+    options.add_argument("kind", choices=sorted(KINDS))
+    options.add_argument("n", type=int)
+    options.add_argument("gr")
+    options.add_argument("ss")
+    options.add_argument("--seed", type=int, default=1)
+    options.add_argument("--sources", type=int, default=3)
+    chosen = options.parse_args()
+    count, mean = write_graph(chosen.gr, chosen.kind, chosen.n, chosen.seed)
+    write_sources(chosen.ss, chosen.n, chosen.sources, chosen.seed)
+    print(f"{chosen.n} vertices, {count} arcs of mean length {mean}, {chosen.sources} sources")
+
+
+if __name__ == "__main__":
+    main()
