@@ -3,5 +3,6 @@
 #![tactic(auto)]
 
 mod arc;
+pub mod laws;
 
 pub use arc::Arc;

@@ -1,0 +1,100 @@
+-- Where there is a walk there is a least length: whether a walk of a given length exists is decided by going through the arcs.
+use Rattle.std.proofs.Common.{◌≡◌, ℕ, zero, suc, ◌+◌, ◌-◌, ◌<◌, ◌≤◌, ◌⊎◌, inl, inr, List, [], ◌∷◌, sym, refl, subst, arith}
+use Rattle.std.specs.Prelude.{Contains}
+use Rattle.std.proofs.lemmas.Bool.{cases_lt, cases_eq}
+use Rattle.sp_paths.specs.declared.arc.Arc.{Arc}
+use Rattle.sp_paths.specs.Paths.{Graph, IsGraph, HasArc, HasWalk, IsLeast}
+use Rattle.sp_paths.proofs.Walks.{arc_in, walk_none, walk_more, walk_cases}
+
+-- some element has the property, or none has
+pub any_decided : (P : Arc → Type 0) → ((a : Arc) → P a ⊎ (P a → ⊥)) → (arcs : List Arc) → ((a : Arc) × Contains arcs a × P a) ⊎ ((a : Arc) → Contains arcs a → P a → ⊥)
+any_decided P dec [] = inr (λ a c h. absurd (omega (arith, c.1)))
+any_decided P dec (b ∷ arcs) = go (dec b) (any_decided P dec arcs)
+  where
+    later : (a : Arc) → (P b → ⊥) → ((a : Arc) → Contains arcs a → P a → ⊥) → Contains (b ∷ arcs) a → P a → ⊥
+    later a fails none (zero, lt, e) h = fails (subst P (sym e) h)
+    later a fails none (suc k, lt, e) h = none a (k, omega arith, e) h
+
+    go : P b ⊎ (P b → ⊥) → ((a : Arc) × Contains arcs a × P a) ⊎ ((a : Arc) → Contains arcs a → P a → ⊥) → ((a : Arc) × Contains (b ∷ arcs) a × P a) ⊎ ((a : Arc) → Contains (b ∷ arcs) a → P a → ⊥)
+    go (inl h) rest = inl (b, (0, omega arith, refl), h)
+    go (inr fails) (inl (a, c, h)) = inl (a, (suc c.0, omega (arith, c.1), c.2), h)
+    go (inr fails) (inr none) = inr (λ a. later a fails none)
+
+module _ (g : Graph) (gr : IsGraph g) (s : ℕ) where
+  -- the arc ends a walk of length d to v
+  abbrev Ends : (v d : ℕ) → Arc → Type 0
+  Ends v d a = (a.head ≡ v) × (1 ≤ a.len) × (a.len ≤ d) × HasWalk g s a.tail (d - a.len)
+
+  -- whether an arc does, where that is known of shorter walks
+  ends_decided : (v d : ℕ) → ((u c : ℕ) → c < d → HasWalk g s u c ⊎ (HasWalk g s u c → ⊥)) → (a : Arc) → Ends v d a ⊎ (Ends v d a → ⊥)
+  ends_decided v d shorter a = go (cases_eq a.head v) (cases_lt 0 a.len) (cases_lt d a.len)
+    where
+      inner : (a.head ≡ v) → (1 ≤ a.len) → (a.len ≤ d) → HasWalk g s a.tail (d - a.len) ⊎ (HasWalk g s a.tail (d - a.len) → ⊥) → Ends v d a ⊎ (Ends v d a → ⊥)
+      inner e long fits (inl w) = inl (e, long, fits, w)
+      inner e long fits (inr none) = inr (λ h. none h.3)
+
+      go : (a.head ≡ v) ⊎ (a.head ≡ v → ⊥) → (0 < a.len) ⊎ (a.len ≤ 0) → (d < a.len) ⊎ (a.len ≤ d) → Ends v d a ⊎ (Ends v d a → ⊥)
+      go (inr other) _ _ = inr (λ h. other h.0)
+      go (inl e) (inr empty) _ = inr (λ h. absurd (omega (arith, h.1)))
+      go (inl e) (inl long) (inl over) = inr (λ h. absurd (omega (arith, h.2)))
+      go (inl e) (inl long) (inr fits) = inner e (omega arith) fits (shorter a.tail (d - a.len) (omega arith))
+
+  ends_walk : (v d : ℕ) (a : Arc) → Contains g.arcs a → Ends v d a → HasWalk g s v d
+  ends_walk v d a c (e, long, fits, w) =
+      let whole : HasWalk g s a.head ((d - a.len) + a.len) = walk_more g s a.tail a.head (d - a.len) a.len w c in
+      let sum : (d - a.len) + a.len ≡ d = omega arith in
+      subst (λ x. HasWalk g s v x) sum (subst (λ x. HasWalk g s x ((d - a.len) + a.len)) e whole)
+
+  abbrev IsEmpty : (v d : ℕ) → Type 0
+  IsEmpty v d = (s ≡ v) × (d ≡ 0)
+
+  empty_decided : (v d : ℕ) → IsEmpty v d ⊎ (IsEmpty v d → ⊥)
+  empty_decided v d = go (cases_eq s v) (cases_eq d 0)
+    where
+      go : (s ≡ v) ⊎ (s ≡ v → ⊥) → (d ≡ 0) ⊎ (d ≡ 0 → ⊥) → IsEmpty v d ⊎ (IsEmpty v d → ⊥)
+      go (inl p) (inl q) = inl (p, q)
+      go (inl p) (inr q) = inr (λ h. q h.1)
+      go (inr p) _ = inr (λ h. p h.0)
+
+  -- a walk is empty or has a last arc
+  by_last : (v d : ℕ) → IsEmpty v d ⊎ (IsEmpty v d → ⊥) → ((a : Arc) × Contains g.arcs a × Ends v d a) ⊎ ((a : Arc) → Contains g.arcs a → Ends v d a → ⊥) → HasWalk g s v d ⊎ (HasWalk g s v d → ⊥)
+  by_last v d place (inl (a, c, h)) = inl (ends_walk v d a c h)
+  by_last v d (inl (e, z)) (inr none) = inl (rw (← e, z) (walk_none g s))
+  by_last v d (inr full) (inr none) = inr (λ w. refuse (walk_cases g s v d w))
+    where
+      refuse : IsEmpty v d ⊎ ((u c l : ℕ) × HasWalk g s u c × HasArc g u v l × (c + l ≡ d)) → ⊥
+      refuse (inl h) = full h
+      refuse (inr (u, c, l, w, a, q)) =
+          let rest : c ≡ d - l = omega arith in
+          none (record { tail = u; head = v; len = l }) a (refl, (arc_in g gr u v l a).2, omega arith, subst (λ x. HasWalk g s u x) rest w)
+
+  walk_decided : (bound v d : ℕ) → d < bound → HasWalk g s v d ⊎ (HasWalk g s v d → ⊥)
+  walk_decided zero v d below = absurd (omega arith)
+  walk_decided (suc bound) v d below =
+      by_last v d (empty_decided v d) (any_decided (Ends v d) (ends_decided v d (λ u c h. walk_decided bound u c (omega arith))) g.arcs)
+
+  -- the least length below a bound, or no walk below it
+  least_below : (v n : ℕ) → ((d : ℕ) × IsLeast g s v d × (d < n)) ⊎ ((d : ℕ) → d < n → HasWalk g s v d → ⊥)
+  least_below v zero = inr (λ d h w. absurd (omega arith))
+  least_below v (suc n) = step (least_below v n) (walk_decided (suc n) v n (omega arith))
+    where
+      over : ((d : ℕ) → d < n → HasWalk g s v d → ⊥) → (e : ℕ) → HasWalk g s v e → (e < n) ⊎ (n ≤ e) → n ≤ e
+      over none e w (inl h) = absurd (none e h w)
+      over none e w (inr h) = h
+
+      last : ((d : ℕ) → d < n → HasWalk g s v d → ⊥) → (HasWalk g s v n → ⊥) → (d : ℕ) → HasWalk g s v d → (d < n) ⊎ (n ≤ d) → d < suc n → ⊥
+      last none fails d w (inl h) lt = none d h w
+      last none fails d w (inr h) lt = let same : d ≡ n = omega arith in fails (rw same at w)
+
+      step : ((d : ℕ) × IsLeast g s v d × (d < n)) ⊎ ((d : ℕ) → d < n → HasWalk g s v d → ⊥) → HasWalk g s v n ⊎ (HasWalk g s v n → ⊥) → ((d : ℕ) × IsLeast g s v d × (d < suc n)) ⊎ ((d : ℕ) → d < suc n → HasWalk g s v d → ⊥)
+      step (inl (d, least, h)) here = inl (d, least, omega arith)
+      step (inr none) (inl w) = inl (n, record { walk = w; least = λ e w'. over none e w' (cases_lt e n) }, omega arith)
+      step (inr none) (inr fails) = inr (λ d h w. last none fails d w (cases_lt d n) h)
+
+  -- where there is a walk there is a least length, and it is no greater
+  pub least_exists : (v e : ℕ) → HasWalk g s v e → (d : ℕ) × IsLeast g s v d × (d ≤ e)
+  least_exists v e w = pick (least_below v (suc e))
+    where
+      pick : ((d : ℕ) × IsLeast g s v d × (d < suc e)) ⊎ ((d : ℕ) → d < suc e → HasWalk g s v d → ⊥) → (d : ℕ) × IsLeast g s v d × (d ≤ e)
+      pick (inl (d, least, h)) = (d, least, omega arith)
+      pick (inr none) = absurd (none e (omega arith) w)

@@ -1,0 +1,11 @@
+pub mod Walks
+pub mod Core
+pub mod Least
+pub mod Run
+pub mod Settle
+pub mod Only
+pub mod Proved
+pub mod Sweep
+pub mod SameArcs
+pub mod RowSteps
+pub mod CallSteps

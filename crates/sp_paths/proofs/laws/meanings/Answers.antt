@@ -1,0 +1,11 @@
+use Rattle.sp_paths.proofs.Proved.{least_exists_law, answers_are_one, far_is_meant}
+use Rattle.sp_paths.proofs.laws.meanings.Goals as goal
+
+pub returns-clause-least : goal.returns-clause-least
+returns-clause-least c = least_exists_law
+
+pub returns-clause-one : goal.returns-clause-one
+returns-clause-one c = answers_are_one
+
+pub returns-clause-far : goal.returns-clause-far
+returns-clause-far c = far_is_meant

@@ -1,0 +1,70 @@
+-- What the definitions of Paths make true. Each statement is the contract of a function of the crate.
+use Rattle.std.specs.Prelude.{◌≡◌, ℕ, ◌+◌, ◌*◌, ◌<◌, ◌≤◌, ◌↔◌, Option, Some, None}
+use Rattle.sp_word.specs.History.{Table}
+use Rattle.sp_word.specs.Word.{Pair, Unreached}
+use Rattle.sp_paths.specs.Paths.{Graph, IsGraph, IsVertex, HasWalk, IsLeast, IsTree, IsFar, IsPair, PairAnswer, Found, TooFar, NoWalk, IsTableFrom, IsWithin, IsClosed, EndsInTree, IsLeftOut, IsRelaxedLight, IsRelaxedHeavy, IsSettled}
+
+-- a run from s has ended: its table holds walks of at most max, and every arc is relaxed
+pub record IsFinished (g : Graph) (s max : ℕ) (words : Table) : Type 0 where
+  pub graph : IsGraph g
+  pub source : IsVertex g.n s
+  pub table : IsTableFrom g s words
+  pub within : IsWithin g.n max words
+  pub closed : IsClosed g max words
+
+-- every vertex near the source has its word of the tree, and the others are unreached
+abbrev pub FinishedEndsInTree : Type 0
+FinishedEndsInTree = (g : Graph) (s max : ℕ) (words : Table) → IsFinished g s max words → EndsInTree g s max words
+
+-- where nothing is left out, the table is the tree, and no vertex is too far
+abbrev pub FinishedIsTree : Type 0
+FinishedIsTree = (g : Graph) (s max : ℕ) (words : Table) → IsFinished g s max words → ((v : ℕ) → IsLeftOut g words v → ⊥) → IsTree g s words × IsFar g s max None
+
+-- the smallest vertex that is left out is the one that is too far
+abbrev pub FinishedIsFar : Type 0
+FinishedIsFar = (g : Graph) (s max : ℕ) (words : Table) → IsFinished g s max words → (v : ℕ) → IsLeftOut g words v → ((w : ℕ) → IsLeftOut g words w → v ≤ w) → IsFar g s max (Some v)
+
+-- what a finished table answers for one target
+pub record FinishedAnswers (g : Graph) (s max : ℕ) (words : Table) (t : ℕ) : Type 0 where
+  pub found : (d p : ℕ) → IsVertex g.n t → words t ≡ Pair d p → IsPair g s t max (Found d p)
+  pub too_far : (v : ℕ) → words t ≡ Unreached → IsLeftOut g words v → ((w : ℕ) → IsLeftOut g words w → v ≤ w) → IsPair g s t max (TooFar v)
+  pub no_walk : words t ≡ Unreached → ((v : ℕ) → IsLeftOut g words v → ⊥) → IsPair g s t max NoWalk
+
+abbrev pub FinishedIsPair : Type 0
+FinishedIsPair = (g : Graph) (s max : ℕ) (words : Table) → IsFinished g s max words → (t : ℕ) → FinishedAnswers g s max words t
+
+-- the test of bucket i passed: below its end each distance was relaxed light, below its beginning heavy too
+pub record HasPassed (g : Graph) (s max delta i : ℕ) (words : Table) : Type 0 where
+  pub graph : IsGraph g
+  pub source : IsVertex g.n s
+  pub wide : 1 ≤ delta
+  pub table : IsTableFrom g s words
+  pub light : IsRelaxedLight g max delta ((i + 1) * delta) words
+  pub heavy : IsRelaxedHeavy g max delta (i * delta) words
+
+-- then every vertex whose least length lies in the bucket or before it is final
+abbrev pub PassedIsSettled : Type 0
+PassedIsSettled = (g : Graph) (s max delta i : ℕ) (words : Table) → HasPassed g s max delta i words → IsSettled g s max ((i + 1) * delta) words
+
+-- and a target whose word lies there has its answer
+abbrev pub PassedIsPair : Type 0
+PassedIsPair = (g : Graph) (s max delta i : ℕ) (words : Table) → HasPassed g s max delta i words → (t d p : ℕ) → IsVertex g.n t → words t ≡ Pair d p → d < (i + 1) * delta → d ≤ max → IsPair g s t max (Found d p)
+
+-- where there is a walk there is a least length
+abbrev pub LeastExists : Type 0
+LeastExists = (g : Graph) (s v e : ℕ) → IsGraph g → HasWalk g s v e → (d : ℕ) × IsLeast g s v d × (d ≤ e)
+
+-- a graph, a source and a target have one tree, at most one vertex that is too far, and one answer
+pub record AnswersAreOne : Type 0 where
+  pub least : (g : Graph) (s v d e : ℕ) → IsLeast g s v d → IsLeast g s v e → d ≡ e
+  pub tree : (g : Graph) (s : ℕ) (a b : Table) → IsTree g s a → IsTree g s b → (v : ℕ) → IsVertex g.n v → a v ≡ b v
+  pub far : (g : Graph) (s max : ℕ) (a b : Option ℕ) → IsFar g s max a → IsFar g s max b → a ≡ b
+  pub pair : (g : Graph) (s t max : ℕ) (a b : PairAnswer) → IsPair g s t max a → IsPair g s t max b → a ≡ b
+
+-- no vertex is too far exactly where every least length is within max, and an answer of no walk is the truth
+pub record FarMeans (g : Graph) (s max : ℕ) : Type 0 where
+  pub none : IsFar g s max None ↔ ((v d : ℕ) → IsLeast g s v d → d ≤ max)
+  pub no_walk : (t : ℕ) → IsPair g s t max NoWalk → (d : ℕ) → HasWalk g s t d → ⊥
+
+abbrev pub FarIsMeant : Type 0
+FarIsMeant = (g : Graph) (s max : ℕ) → IsGraph g → FarMeans g s max
