@@ -3,6 +3,10 @@
 #![tactic(auto)]
 
 mod arc;
-pub mod laws;
+mod laws;
 
 pub use arc::Arc;
+pub use laws::{
+    bag_of_arcs, closed_calls, finished_table, meanings, passed_bucket, rows_of_arcs, swept_copy,
+    tested_copy,
+};
