@@ -1,5 +1,5 @@
 -- Each step keeps the rule.
-use Rattle.std.proofs.Common.{◌≡◌, ℕ, ◌<◌, ◌≤◌, max, List, ◌∷◌, set, get_or-set_same, get_or-set_other, refl, sym, ap, ◌∙◌, ⊎_elim, lt_of_not-le, arith, length-set}
+use Rattle.std.proofs.Common.{◌≡◌, ℕ, ◌<◌, max, List, ◌∷◌, set, get_or-set_same, get_or-set_other, refl, sym, ap, ◌∙◌, ⊎_elim, lt_of_not-le, arith, length-set}
 use Rattle.std.specs.Prelude.{slice_index}
 use mathlib.Core.Option.{some, none}
 use mathlib.Core.Logic.{dite}
@@ -38,10 +38,10 @@ kept_grant n words views id slot round v inside above at kept =
           (λ (e : s ≡ slot).
           let word : slice_index (set words slot m) s ≡ round = ap (slice_index (set words slot m)) e ∙ here ∙ is_round in
           let one : times_in_all slot round (set views id w) ≡ 1 =
-              let t = all-set slot round views id v w at in
-              let hit : hits slot round slot round ≡ 1 = hits_itself slot round in
-              let none = (kept.1 slot round).2 above in
-              omega arith in
+          let t = all-set slot round views id v w at in
+          let hit : hits slot round slot round ≡ 1 = hits_itself slot round in
+          let none = (kept.1 slot round).2 above in
+          omega arith in
           ap (λ (x : ℕ). times_in_all x (slice_index (set words slot m) s) (set views id w)) e ∙ ap (λ (r : ℕ). times_in_all slot r (set views id w)) word ∙ one)
           (λ (apart : s ≡ slot → ⊥).
           let word : slice_index (set words slot m) s ≡ slice_index words s = get_or-set_other words slot s m 0 apart in

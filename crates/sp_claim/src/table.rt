@@ -56,7 +56,7 @@ impl ClaimTable {
         ensures grants { IfOk result (λ made. made.1.grants ≡ []) }
     {
         let words = fresh_words(alloc, slots)?;
-        let (table, seat) = Table::of_words(alloc, words.as_slice(), &(slots as usize))?;
+        let (table, seat) = Table::of_words(alloc, words.as_slice(), &words.len())?;
         Ok((ClaimTable { table }, Claimer { seat }))
     }
 
