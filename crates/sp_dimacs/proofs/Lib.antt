@@ -1,1 +1,3 @@
 pub mod Limits
+pub mod LineSteps
+pub mod Given

@@ -3,6 +3,8 @@ pub mod Graph
 pub mod Sources
 pub mod Pairs
 pub mod Reading
+pub mod LineReading
+pub mod Giving
 pub use Rattle.sp_text.specs.Lines
 pub use Rattle.sp_text.specs.Numeral
 pub use Rattle.sp_text.specs.Formats as LineForms

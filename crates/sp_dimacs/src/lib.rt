@@ -5,12 +5,15 @@
 mod formats;
 mod graphs;
 mod laws;
+mod lines;
 mod pairs;
+mod piece;
 mod readers;
 mod sources;
 
 pub use graphs::{GrFile, GrReader, read_gr};
 pub use laws::{spelled_graph_is_within, spelled_pairs_are_within, spelled_sources_are_within};
+pub use lines::Lines;
 pub use pairs::{PairsFile, PairsReader, read_pairs};
 pub use readers::TextReader;
 pub use sources::{SsFile, SsReader, read_ss};

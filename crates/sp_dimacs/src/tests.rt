@@ -1,6 +1,7 @@
 mod blanks;
 mod faults;
 mod layouts;
+mod lines;
 mod lists;
 mod pieces;
 mod samples;

@@ -1,0 +1,99 @@
+-- Where a reader of lines stands.
+use Rattle.std.specs.Prelude.{◌≡◌, ℕ, ◌+◌, ◌-◌, ◌^◌, ◌<◌, ◌≤◌, ◌⊎◌, min, slice_get, Bool, true, false, List, [], ◌∷◌, ◌++◌, length, Option, Some, None, Result, Ok, Err}
+use Rattle.std.specs.Borrow.{Bor}
+use Rattle.std.specs.Io.KnownBytes.{Consumes, IsAtEnd}
+use Rattle.sp_text.specs.declared.faults.Kind.{Kind}
+use Rattle.sp_text.specs.declared.faults.Kind.TheVariants.{LongLine, Read}
+use Rattle.sp_text.specs.declared.faults.DimacsError.{DimacsError}
+use Rattle.sp_text.specs.Lines.{ended, rest, lines}
+use Rattle.sp_dimacs.specs.declared.lines.Lines.{Lines}
+use Rattle.sp_dimacs.specs.declared.lines.State.{State}
+use Rattle.sp_dimacs.specs.declared.lines.State.TheVariants.{Going, Over, Refused}
+
+-- `start` are the bytes that the device had before the first line, where they are known, and `left` those that
+-- it still has.
+
+-- These lines came, each with its LF. Behind them some bytes came that still wait.
+pub record AreEnded {R : Type 0} (left : R → Option (List ℕ)) (start : Option (List ℕ)) (given : List (List ℕ)) (reader : Lines R) : Type 0 where
+  pub behind : List ℕ
+  pub came : Consumes start (left reader.reader) (behind ++ reader.piece)
+  pub ended : ended behind ≡ given
+  pub whole : rest behind ≡ []
+
+-- The text has ended: these lines came, each with its LF, and then this last line without one.
+pub record IsLast {R : Type 0} (left : R → Option (List ℕ)) (start : Option (List ℕ)) (given : List (List ℕ)) (line : List ℕ) (reader : Lines R) : Type 0 where
+  pub text : List ℕ
+  pub came : Consumes start (left reader.reader) text
+  pub all : IsAtEnd (left reader.reader)
+  pub ended : ended text ≡ given
+  pub open_line : rest text ≡ line
+
+-- The text has ended, and these are its lines.
+pub record AreAll {R : Type 0} (left : R → Option (List ℕ)) (start : Option (List ℕ)) (given : List (List ℕ)) (reader : Lines R) : Type 0 where
+  pub text : List ℕ
+  pub came : Consumes start (left reader.reader) text
+  pub all : IsAtEnd (left reader.reader)
+  pub lines : lines text ≡ given
+
+abbrev pub Stands : {R : Type 0} → (R → Option (List ℕ)) → Option (List ℕ) → List (List ℕ) → Lines R → State → Type 0
+Stands left start given reader Going = AreEnded left start given reader
+Stands left start given reader Over = AreAll left start given reader
+Stands left start given reader (Refused e) = ⊥
+
+-- The reader has given these lines, the first ones of the text, and no other.
+pub record IsBehindLines {R : Type 0} (left : R → Option (List ℕ)) (start : Option (List ℕ)) (given : List (List ℕ)) (reader : Lines R) : Type 0 where
+  pub number : reader.number ≡ min (length given) (2 ^ 64 - 1)
+  pub stands : Stands left start given reader reader.state
+
+-- The next line of the text is this one, and it has its LF; or it has none, and the text has ended.
+abbrev pub IsNext : {R : Type 0} → (R → Option (List ℕ)) → Option (List ℕ) → List (List ℕ) → List ℕ → Lines R → (has_end : Bool) → Type 0
+IsNext left start given line reader true = AreEnded left start (given ++ line ∷ []) reader
+IsNext left start given line reader false = IsLast left start given line reader × (0 < length line)
+
+-- Behind the given lines, what came of the next one is too long; or it is not, and the device has failed.
+pub record IsRefused {R : Type 0} (left : R → Option (List ℕ)) (has_failed : R → Bool) (start : Option (List ℕ)) (given : List (List ℕ)) (kind : Kind) (reader : Lines R) : Type 0 where
+  pub front : List ℕ
+  pub more : List ℕ
+  pub came : Consumes start (left reader.reader) (front ++ more)
+  pub ended : ended front ≡ given
+  pub why : ((kind ≡ LongLine) × (1024 < length (rest front))) ⊎ ((kind ≡ Read) × (length (rest front) ≤ 1024) × (more ≡ []) × (has_failed reader.reader ≡ true))
+
+-- whether the line that was given last had its LF
+abbrev pub had_lf : {R : Type 0} → Lines R → Bool
+had_lf reader = reader.has_end
+
+-- The answer to the question for the next line: this one; or there is none; or its fault.
+abbrev pub Gave : {R : Type 0} → (R → Option (List ℕ)) → (R → Bool) → Option (List ℕ) → List (List ℕ) → List ℕ → Result Bool DimacsError → Lines R → Type 0
+Gave left has_failed start given line (Ok true) new = IsBehindLines left start (given ++ line ∷ []) new × IsNext left start given line new (had_lf new) × (length line ≤ 1024)
+Gave left has_failed start given line (Ok false) new = IsBehindLines left start given new × AreAll left start given new
+Gave left has_failed start given line (Err e) new = (new.state ≡ Refused e) × (e.line ≡ min (length given + 1) (2 ^ 64 - 1)) × IsRefused left has_failed start given e.kind new
+
+-- The line in the room is the next one. Without its LF it is the last; and without a byte it is no line.
+abbrev pub Counted : {R : Type 0} → Lines R → (has_end : Bool) → (is_line : Bool) → Lines R → Type 0
+Counted old true false new = ⊥
+Counted old true true new = new ≡ record old { has_end = true; number = min (old.number + 1) (2 ^ 64 - 1) }
+Counted old false true new = (0 < length old.room) × (new ≡ record old { has_end = false; number = min (old.number + 1) (2 ^ 64 - 1); state = Over })
+Counted old false false new = (old.room ≡ []) × (new ≡ record old { state = Over })
+
+-- The reader has refused its text with this fault.
+abbrev pub IsRefusedAs : {R : Type 0} → DimacsError → Lines R → Type 0
+IsRefusedAs e reader = reader.state ≡ Refused e
+
+abbrev pub IsStillRefused : {R : Type 0} → Lines R → Lines R → Type 0
+IsStillRefused old new = (e : DimacsError) → IsRefusedAs e old → IsRefusedAs e new
+
+-- The answer with the line that is lent.
+abbrev pub GaveNext : {R : Type 0} → (R → Option (List ℕ)) → (R → Bool) → Option (List ℕ) → List (List ℕ) → Result (Option (Bor (List ℕ))) DimacsError → Lines R → Type 0
+GaveNext left has_failed start given (Ok (Some line)) new = Gave left has_failed start given line.now (Ok true) new
+GaveNext left has_failed start given (Ok None) new = Gave left has_failed start given [] (Ok false) new
+GaveNext left has_failed start given (Err e) new = Gave left has_failed start given [] (Err e) new
+
+-- The next line of the text is too long; or the device has failed.
+abbrev pub IsFaultOf : (text : List ℕ) → (given : List (List ℕ)) → DimacsError → Type 0
+IsFaultOf text given e = ((e.kind ≡ LongLine) × (long : List ℕ) × (slice_get (lines text) (length given) ≡ Some long) × (1024 < length long)) ⊎ (e.kind ≡ Read)
+
+-- The line behind the given ones is this line of the text; or the given ones are all its lines.
+abbrev pub GaveOf : (text : List ℕ) → (given : List (List ℕ)) → Result (Option (Bor (List ℕ))) DimacsError → Type 0
+GaveOf text given (Ok (Some line)) = (slice_get (lines text) (length given) ≡ Some line.now) × (length line.now ≤ 1024)
+GaveOf text given (Ok None) = lines text ≡ given
+GaveOf text given (Err e) = IsFaultOf text given e

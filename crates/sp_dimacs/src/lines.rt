@@ -1,0 +1,168 @@
+//! The lines of a text, one after the other.
+ghost use Rattle.std.specs.Prelude.{◌≡◌, ◌+◌, ◌-◌, ◌^◌, ◌≤◌, ◌++◌, ◌∷◌, [], ℕ, List, Option, Some, Err, Ok, IfOk, length, min, OnOk};
+ghost use Rattle.sp_text.specs.declared.faults.DimacsError.{DimacsError};
+ghost use Rattle.sp_dimacs.specs.LineReading.{RunTaken, LineRead};
+
+use crate::piece::Piece;
+use memchr::memchr;
+use sp_text::{DimacsError, Kind, Read, Room};
+
+// Whether lines may come, and otherwise why there are no more.
+#[derive(Clone, Copy)]
+pub enum State {
+    Going,
+    Over,
+    Refused(DimacsError),
+}
+
+// Moves bytes up to an LF, and takes the LF away; or all of them, where there is none. It tells whether an
+// LF came.
+fn take_run(piece: &mut Piece, room: &mut Room) -> Result<bool, Kind>
+    ensures taken { RunTaken piece.old room.old result piece.new room.new }
+    ensures short { OnOk result (length room.new ≤ 1024) }
+{
+    let bytes = piece.bytes();
+    let Some(end) = memchr(b'\n', bytes) else {
+        if room.room_left() < bytes.len() {
+            return Err(Kind::LongLine);
+        }
+        room.push(bytes);
+        piece.clear();
+        return Ok(false);
+    };
+    if room.room_left() < end {
+        return Err(Kind::LongLine);
+    }
+    room.push(&bytes[..end]);
+    piece.skip(end + 1);
+    Ok(true)
+}
+
+// Reads the next line into the room, and tells whether it has its LF. Without one, and without a byte, it is
+// no line.
+fn read_line<R: Read>(reader: &mut R, piece: &mut Piece, room: &mut Room) -> Result<bool, Kind>
+    requires { room.old ≡ [] }
+    ensures read { LineRead (R.left reader.old) (R.left reader.new) (R.has_failed reader.new) piece.old result piece.new room.new }
+    ensures short { OnOk result (length room.new ≤ 1024) }
+{
+    loop {
+        match take_run(piece, room) {
+            Ok(true) => return Ok(true),
+            Ok(false) => {}
+            Err(kind) => return Err(kind),
+        }
+        let Ok(()) = piece.refill(reader) else {
+            return Err(Kind::Read);
+        };
+        if piece.bytes().is_empty() {
+            return Ok(false);
+        }
+    }
+}
+
+/// The lines of the text of a device, one after the other. It takes no memory.
+#[derive(Drop)]
+pub struct Lines<R> {
+    reader: R,
+    piece: Piece,
+    room: Room,
+    number: u64,
+    has_end: bool,
+    state: State,
+}
+
+impl<R: Read> Lines<R> {
+    ghost use Rattle.sp_dimacs.specs.Giving.{IsBehindLines, IsRefusedAs, IsStillRefused, had_lf, Gave, GaveNext, GaveOf, Counted};
+    ghost use Rattle.sp_dimacs.specs.contracts.lines.Lines.{the_row};
+    ghost use Rattle.std.specs.Io.BufRead.{Rests};
+    ghost use Rattle.std.specs.Borrow.{sem};
+    ghost use Rattle.sp_dimacs.specs.declared.lines.State.TheVariants.{Refused};
+
+    /// Before the first line.
+    pub fn new(reader: R) -> Self
+        ensures { IsBehindLines R.left (R.left reader) [] result }
+    {
+        Lines {
+            reader,
+            piece: Piece::new(),
+            room: Room::new(),
+            number: 0,
+            has_end: false,
+            state: State::Going,
+        }
+    }
+
+    // Reads the next line into the room, if there is one.
+    fn advance(&mut self) -> Result<bool, DimacsError>
+        ensures again { (e : DimacsError) → self.old.state ≡ Refused e → (result ≡ Err e) × (self.new ≡ self.old) }
+        ensures gave { (start : Option (List ℕ)) (given : List (List ℕ)) → IsBehindLines R.left start given self.old → Gave R.left R.has_failed start given self.new.room result self.new }
+    {
+        match self.state {
+            State::Over => return Ok(false),
+            State::Refused(error) => return Err(error),
+            State::Going => {}
+        }
+        self.room.clear();
+        match read_line(&mut self.reader, &mut self.piece, &mut self.room) {
+            Ok(has_end) => Ok(self.count(has_end)),
+            Err(kind) => Err(self.refuse(kind)),
+        }
+    }
+
+    // The line that was read is the next one, if it is a line.
+    fn count(&mut self, has_end: bool) -> bool
+        ensures { Counted self.old has_end result self.new }
+    {
+        if !has_end {
+            self.state = State::Over;
+            if self.room.is_empty() {
+                return false;
+            }
+        }
+        self.has_end = has_end;
+        self.number = self.number.saturating_add(1);
+        true
+    }
+
+    // The next line has this fault.
+    fn refuse(&mut self, kind: Kind) -> DimacsError
+        ensures line { result ≡ record { line = min (self.old.number + 1) (2 ^ 64 - 1); kind = kind } }
+        ensures refused { self.new ≡ record self.old { state = Refused result } }
+    {
+        let error = DimacsError {
+            line: self.number.saturating_add(1),
+            kind,
+        };
+        self.state = State::Refused(error);
+        error
+    }
+
+    /// The number of the line that was given last, 0 before the first.
+    pub fn line(&self) -> u64
+        ensures { (start : Option (List ℕ)) (given : List (List ℕ)) → IsBehindLines R.left start given self.now → result ≡ min (length given) (2 ^ 64 - 1) }
+    {
+        self.number
+    }
+
+    /// Whether the line that was given last had its LF.
+    pub fn ended(&self) -> bool
+        ensures { result ≡ had_lf self.now }
+    {
+        self.has_end
+    }
+
+    /// The next line, without its LF; None where the text has ended. A line of more than 1,024 bytes is
+    /// refused with LongLine, and where the device has failed, with Read at the line that was being read. After
+    /// a refusal it answers the same again.
+    pub fn next(&mut self) -> Result<Option<&[u8]>, DimacsError>
+        ensures again { (e : DimacsError) → IsRefusedAs e self.old → result ≡ Err e }
+        ensures text { (text : List ℕ) (given : List (List ℕ)) → IsBehindLines R.left (Some text) given self.old → GaveOf text given result }
+        ensures* after { sem 𝓛 (Rests (the_row R.row) self.entry (λ new. IsStillRefused self.old new × ((start : Option (List ℕ)) (given : List (List ℕ)) → IsBehindLines R.left start given self.old → GaveNext R.left R.has_failed start given result new))) }
+    {
+        match self.advance() {
+            Ok(true) => Ok(Some(self.room.line())),
+            Ok(false) => Ok(None),
+            Err(error) => Err(error),
+        }
+    }
+}

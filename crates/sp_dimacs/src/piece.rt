@@ -1,0 +1,79 @@
+//! Bytes that came from a device and wait to be read.
+ghost use Rattle.std.specs.Prelude.{◌≡◌, ◌+◌, ◌≤◌, ◌^◌, [], drop, length, OnOk, OnErr, true};
+ghost use Rattle.std.specs.Io.KnownBytes.{Consumes, Keeps, IsAtEnd};
+
+use sp_text::{Failed, Read};
+use std::marker::Model;
+
+// As many bytes as are taken from a device at a time.
+const ROOM: usize = 16_384;
+
+/// Bytes that wait to be read, at most 16,384.
+#[derive(Drop)]
+pub struct Piece {
+    bytes: [u8; ROOM],
+    start: usize,
+    end: usize,
+}
+
+impl Model for Piece {
+    ghost use Rattle.std.specs.Prelude.{ℕ, List, take, drop, ◌≤◌};
+
+    ghost Value = { List ℕ };
+
+    ghost view = { λ p. drop p.start (take p.end p.bytes) };
+
+    ghost invariant = { λ p. (p.start ≤ p.end) × (p.end ≤ 16384) };
+}
+
+impl Piece {
+    /// A piece in which nothing waits.
+    pub fn new() -> Self
+        ensures { result ≡ [] }
+    {
+        Piece {
+            bytes: [0; ROOM],
+            start: 0,
+            end: 0,
+        }
+    }
+
+    /// What waits.
+    pub fn bytes(&self) -> &[u8]
+        ensures { result.now ≡ self.now }
+    {
+        &self.bytes[self.start..self.end]
+    }
+
+    /// Takes so many bytes off the front.
+    pub fn skip(&mut self, n: usize)
+        requires { n ≤ length self.old }
+        ensures { self.new ≡ drop n self.old }
+    {
+        self.start += n;
+    }
+
+    /// Takes all bytes away.
+    pub fn clear(&mut self)
+        ensures { self.new ≡ [] }
+    {
+        self.start = 0;
+        self.end = 0;
+    }
+
+    /// Takes the next bytes of a device in place of what waits, none only at its end.
+    pub fn refill<R: Read>(&mut self, reader: &mut R) -> Result<(), Failed>
+        ensures bytes { OnOk result (Consumes (R.left reader.old) (R.left reader.new) self.new) }
+        ensures end { OnOk result (self.new ≡ [] → IsAtEnd (R.left reader.new)) }
+        ensures passed { OnOk result (R.passed reader.new ≡ R.passed reader.old + length self.new) }
+        ensures limit { OnOk result (R.passed reader.new ≤ 2 ^ 62) }
+        ensures kept { OnErr result (Keeps (R.left reader.old) (R.left reader.new)) }
+        ensures failed { OnErr result (R.has_failed reader.new ≡ true) }
+    {
+        self.start = 0;
+        self.end = 0;
+        let n = reader.read(&mut self.bytes)?;
+        self.end = n;
+        Ok(())
+    }
+}

@@ -1,0 +1,136 @@
+ghost use Rattle.std.specs.Prelude.{◌≤◌, ◌^◌, length};
+
+use super::samples::DIAMOND;
+use crate::{DimacsError, Kind, Lines, UpTo};
+use std::alloc::Global;
+use std::test::Fail;
+
+// The lines of a text one after the other, each between brackets, with a bar where it lacks its LF; and then
+// the fault, if there is one.
+fn shown(alloc: Global, reader: UpTo) -> Result<(Vec<u8>, Option<DimacsError>), Fail> {
+    let mut all = Vec::new(alloc);
+    let mut lines = Lines::new(reader);
+    for _ in 0..100 {
+        match lines.next() {
+            Ok(Some(line)) => {
+                all.push(b'[')?;
+                all.extend_from_slice(line)?;
+            }
+            Ok(None) => return Ok((all, None)),
+            Err(error) => return Ok((all, Some(error))),
+        }
+        all.push(if lines.ended() { b']' } else { b'|' })?;
+    }
+    Ok((all, None))
+}
+
+#[test]
+fn each_line(rt: HostRuntime) -> Result<(), Fail> {
+    let alloc = rt.alloc();
+    for (text, want) in [
+        (b"".as_slice(), b"".as_slice()),
+        (b"\n", b"[]"),
+        (b"ab\n", b"[ab]"),
+        (b"ab", b"[ab|"),
+        (b"ab\n\ncd", b"[ab][][cd|"),
+        (b"a\r\n\r\nb\r", b"[a\r][\r][b\r|"),
+        (b"\n\n", b"[][]"),
+    ] {
+        for most in 1..4 {
+            let (all, fault) = shown(alloc, UpTo::in_pieces(text, most))?;
+            assert_eq!(rt; all.as_slice(), want);
+            assert_eq!(rt; fault, None);
+        }
+    }
+    Ok(())
+}
+
+#[test]
+fn numbers_of_lines(rt: HostRuntime) -> Result<(), Fail> {
+    let mut lines = Lines::new(UpTo::whole(b"p\n\nq"));
+    assert_eq!(rt; lines.line(), 0);
+    assert_eq!(rt; lines.next(), Ok(Some(b"p".as_slice())));
+    assert_eq!(rt; (lines.line(), lines.ended()), (1, true));
+    assert_eq!(rt; lines.next(), Ok(Some(b"".as_slice())));
+    assert_eq!(rt; (lines.line(), lines.ended()), (2, true));
+    assert_eq!(rt; lines.next(), Ok(Some(b"q".as_slice())));
+    assert_eq!(rt; (lines.line(), lines.ended()), (3, false));
+    assert_eq!(rt; lines.next(), Ok(None));
+    assert_eq!(rt; (lines.line(), lines.ended()), (3, false));
+    assert_eq!(rt; lines.next(), Ok(None));
+    Ok(())
+}
+
+#[test]
+fn long_lines(rt: HostRuntime) -> Result<(), Fail> {
+    let mut text = [b'x'; 1028];
+    text[0] = b'y';
+    text[1] = b'\n';
+    let long = DimacsError {
+        line: 2,
+        kind: Kind::LongLine,
+    };
+    for most in [1, 7, 1024, 2000] {
+        let mut fits = Lines::new(UpTo::in_pieces(&text[..1026], most));
+        assert_eq!(rt; fits.next(), Ok(Some(b"y".as_slice())));
+        assert_eq!(rt; fits.next(), Ok(Some(&text[2..1026])));
+        assert_eq!(rt; fits.ended(), false);
+        assert_eq!(rt; fits.next(), Ok(None));
+        let mut open = Lines::new(UpTo::in_pieces(&text[..1027], most));
+        assert_eq!(rt; open.next(), Ok(Some(b"y".as_slice())));
+        assert_eq!(rt; open.next(), Err(long));
+        assert_eq!(rt; open.next(), Err(long));
+        assert_eq!(rt; open.line(), 1);
+    }
+    text[1026] = b'\n';
+    for most in [1, 7, 1024, 2000] {
+        let mut fits = Lines::new(UpTo::in_pieces(&text[..1027], most));
+        assert_eq!(rt; fits.next(), Ok(Some(b"y".as_slice())));
+        assert_eq!(rt; fits.next(), Ok(Some(&text[2..1026])));
+        assert_eq!(rt; fits.ended(), true);
+        assert_eq!(rt; fits.next(), Ok(None));
+    }
+    text[1026] = b'x';
+    text[1027] = b'\n';
+    for most in [1, 7, 1024, 2000] {
+        let mut ended = Lines::new(UpTo::in_pieces(&text, most));
+        assert_eq!(rt; ended.next(), Ok(Some(b"y".as_slice())));
+        assert_eq!(rt; ended.next(), Err(long));
+        assert_eq!(rt; ended.next(), Err(long));
+    }
+    Ok(())
+}
+
+#[test]
+fn long_before_failure(rt: HostRuntime) -> Result<(), Fail> {
+    let alloc = rt.alloc();
+    let text = [b'x'; 1025];
+    let (_, long) = shown(alloc, UpTo::failing(&text))?;
+    assert_eq!(rt; long.map(|e| (e.line, e.kind)), Some((1, Kind::LongLine)));
+    let (_, read) = shown(alloc, UpTo::failing(&text[..1024]))?;
+    assert_eq!(rt; read.map(|e| (e.line, e.kind)), Some((1, Kind::Read)));
+    Ok(())
+}
+
+#[test]
+fn failing_after_each_byte(rt: HostRuntime) -> Result<(), Fail> {
+    let mut ends = 0;
+    for k in 0..DIAMOND.len() {
+        let mut lines = Lines::new(UpTo::failing(&DIAMOND[..k]));
+        for _ in 0..ends {
+            assert_eq!(rt; lines.next().is_ok(), true);
+            assert_eq!(rt; lines.ended(), true);
+        }
+        let read = DimacsError {
+            line: ends + 1,
+            kind: Kind::Read,
+        };
+        assert_eq!(rt; lines.next(), Err(read));
+        assert_eq!(rt; lines.next(), Err(read));
+        assert_eq!(rt; lines.line(), ends);
+        if DIAMOND[k] == b'\n' && ends < 99 {
+            ends += 1;
+        }
+    }
+    Ok(())
+}
