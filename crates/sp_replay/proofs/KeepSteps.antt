@@ -10,6 +10,7 @@ use Rattle.sp_machine.specs.declared.item.Item.{Item}
 use Rattle.sp_machine.specs.Programme.{row_of}
 use Rattle.sp_text.specs.Text.{Item as Line, is_named}
 use Rattle.sp_replay.specs.Replay.{named_by, asked, item_for, step_by, IsReplay, AreKept}
+use Rattle.sp_replay.specs.Offers.{HasOffers, IsOffers}
 
 flat_push : {A B : Type 0} (f : A → List B) (xs : List A) (x : A) → flat_map f (xs ++ x ∷ []) ≡ flat_map f xs ++ f x
 flat_push f xs x = flat_map-append f xs (x ∷ []) ∙ ap (λ (t : List _). flat_map f xs ++ t) (append-nil (f x))
@@ -63,28 +64,42 @@ on_ok (Ok u) h more = more h
 on_ok (Err e) h more = tt
 
 -- The rows of the first actors.
-row_kept : {A B : Type 0} (f : A → List B) (xs : List A) (most actor : ℕ) → 1 ≤ actor → actor ≤ most → get_or (map f (take most xs)) (actor - 1) [] ≡ get_or (map f xs) (actor - 1) []
-row_kept f xs most actor some few =
+pub row_kept : {A : Type 0} (xs : List (List A)) (most actor : ℕ) → 1 ≤ actor → actor ≤ most → get_or (take most xs) (actor - 1) [] ≡ get_or xs (actor - 1) []
+row_kept xs most actor some few =
     let within : actor - 1 < most = omega arith in
-    rw (← take-map f most xs) (get_or-take most (map f xs) (actor - 1) [] within)
+    get_or-take most xs (actor - 1) [] within
 
-rows_short : {A B : Type 0} (f : A → List B) (xs : List A) (most : ℕ) → length (map f (take most xs)) ≤ most
-rows_short f xs most = omega (arith, length-map (take most xs) f, length-take most xs)
+pub rows_short : {A : Type 0} (xs : List (List A)) (most : ℕ) → length (take most xs) ≤ most
+rows_short xs most = omega (arith, length-take most xs)
 
 -- What all lines say.
-pub given : {P : ℕ} {R : Type 0} (f : R → List (Item P)) (problem : List ℕ) (lines : List Line) (has : ℕ → Bool) (named : List (ℕ × Word)) (rows kept : List R) (steps : List ℕ) (words actors most : ℕ) (all : List (ℕ × Word)) (schedule : List ℕ)
-    → AreKept lines has named (map f rows) steps → words ≡ slice_index problem 0 → actors ≡ slice_index problem 1 → most ≡ slice_index problem 1 → kept ≡ take most rows → all ≡ named → schedule ≡ steps
-    → IsReplay problem lines (record { words = words; actors = actors; named = all; rows = map f kept }) schedule
-given f problem lines has named rows kept steps words actors most all schedule h words_are actors_are most_is kept_is all_is schedule_is =
+pub given : {P : ℕ} (problem : List ℕ) (lines : List Line) (has : ℕ → Bool) (named : List (ℕ × Word)) (rows kept : List (List (Item P))) (steps : List ℕ) (words actors most : ℕ) (all : List (ℕ × Word)) (schedule : List ℕ)
+    → AreKept lines has named rows steps → words ≡ slice_index problem 0 → actors ≡ slice_index problem 1 → most ≡ slice_index problem 1 → kept ≡ take most rows → all ≡ named → schedule ≡ steps
+    → IsReplay problem lines (record { words = words; actors = actors; named = all; rows = kept }) schedule
+given problem lines has named rows kept steps words actors most all schedule h words_are actors_are most_is kept_is all_is schedule_is =
     let same : most ≡ actors = most_is ∙ sym actors_are in
     record {
       words = words_are;
       actors = actors_are;
       named = all_is ∙ h.named;
-      rows = λ actor within. rw kept_is (row_kept f rows most actor within.0 (omega (arith, within.1, same)) ∙ h.rows actor within.0);
-      no_more = rw (kept_is, ← same) (rows_short f rows most);
+      rows = λ actor within. rw kept_is (row_kept rows most actor within.0 (omega (arith, within.1, same)) ∙ h.rows actor within.0);
+      no_more = rw (kept_is, ← same) (rows_short rows most);
       schedule = schedule_is ∙ h.schedule;
     }
 
-pub none_kept : {P : ℕ} {R : Type 0} (f : R → List (Item P)) (has : ℕ → Bool) (named : List (ℕ × Word)) (rows : List R) (steps : List ℕ) → ((vertex : ℕ) → has vertex ≡ false) → named ≡ [] → rows ≡ [] → steps ≡ [] → AreKept [] has named (map f rows) steps
-none_kept f has named rows steps unknown no_words no_rows no_steps = record { known = unknown; named = no_words; rows = λ actor some. rw no_rows refl; schedule = no_steps }
+pub none_kept : {P : ℕ} (has : ℕ → Bool) (named : List (ℕ × Word)) (rows : List (List (Item P))) (steps : List ℕ) → ((vertex : ℕ) → has vertex ≡ false) → named ≡ [] → rows ≡ [] → steps ≡ [] → AreKept [] has named rows steps
+none_kept has named rows steps unknown no_words no_rows no_steps = record { known = unknown; named = no_words; rows = λ actor some. rw no_rows refl; schedule = no_steps }
+
+-- What all offers say.
+pub offers_given : {P : ℕ} (problem : List ℕ) (lines : List Line) (rows kept : List (List (Item P))) (words actors most : ℕ)
+    → ((actor : ℕ) → 1 ≤ actor → HasOffers rows actor lines) → words ≡ slice_index problem 0 → actors ≡ slice_index problem 1 → most ≡ slice_index problem 1 → kept ≡ take most rows
+    → IsOffers problem lines (record { words = words; actors = actors; named = []; rows = kept })
+offers_given problem lines rows kept words actors most h words_are actors_are most_is kept_is =
+    let same : most ≡ actors = most_is ∙ sym actors_are in
+    record {
+      words = words_are;
+      actors = actors_are;
+      unnamed = refl;
+      rows = λ actor within. rw kept_is (row_kept rows most actor within.0 (omega (arith, within.1, same)) ∙ h actor within.0);
+      no_more = rw (kept_is, ← same) (rows_short rows most);
+    }

@@ -8,7 +8,7 @@ use Rattle.sp_replay.specs.declared.keeper.ReplayParts.{ReplayParts}
 use Rattle.sp_replay.specs.Replay.{AreKept, IsReplay}
 
 abbrev pub Keeps : {P : ℕ} → Keeper P → List Line → Type 0
-Keeps k lines = AreKept lines (contains nat_eq k.known) k.named.items (map (λ row. row.items) k.rows.items) k.steps.items
+Keeps k lines = AreKept lines (contains nat_eq k.known) k.named.items k.rows k.steps.items
 
 -- the parts as a programme
 abbrev pub plan_of : {P : ℕ} → ReplayParts P → Programme P

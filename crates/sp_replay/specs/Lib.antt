@@ -2,5 +2,7 @@ pub mod ReplayFormat
 pub mod Replay
 pub mod Keeping
 pub mod ReplayFile
+pub mod Offers
+pub mod OfferKeeping
 pub mod ReportText
 pub mod Sending

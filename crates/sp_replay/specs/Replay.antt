@@ -17,10 +17,14 @@ number place line = slice_index line.numbers place
 abbrev pub named_by : Line → List (ℕ × Word)
 named_by line = if line.kind == 0 then (number 0 line, Pair (number 1 line) (number 2 line)) ∷ [] else []
 
+-- `o A V D P` asks for the offer of (D, P) to V
+abbrev pub offer_of : {P : ℕ} → List ℕ → Item P
+offer_of ns = Offer (slice_index ns 1) (Pair (slice_index ns 2) (slice_index ns 3))
+
 -- what a line of the form at this place with these numbers asks an actor to do: `o A V D P`, `r A V` or `a A U V L`
 abbrev pub asked : {P : ℕ} → (place : ℕ) → List ℕ → List (Item P)
 asked place ns =
-    if place == 1 then Offer (slice_index ns 1) (Pair (slice_index ns 2) (slice_index ns 3)) ∷ []
+    if place == 1 then offer_of ns ∷ []
     else (if place == 2 then Read (slice_index ns 1) ∷ []
     else (if place == 3 then Relax (slice_index ns 1) (slice_index ns 2) (slice_index ns 3) ∷ [] else []))
 

@@ -1,4 +1,4 @@
--- The line forms of replay files.
+-- The line forms of replay files and of offers files.
 use Rattle.std.specs.Prelude.{ℕ, true, false, List, [], ◌∷◌, codes}
 use Rattle.sp_text.specs.declared.layouts.Top.TheVariants.{Number, Dist, Vertex, Problem}
 use Rattle.sp_text.specs.declared.layouts.Ranges.{Ranges}
@@ -59,10 +59,17 @@ relax_line = item_line (codes "a") (actor ∷ field 85 1 (Problem 0) ∷ vertex 
 abbrev pub step_line : LineForm
 step_line = record { words = codes "s" ∷ []; fields = actor ∷ []; fresh = false; group = 2; limit = Number 16777216 }
 
--- `p rep N K`, and the other lines in any order
+-- `p WORD N K`, and lines of these forms in any order
+abbrev pub actors_file : List ℕ → List LineForm → Format
+actors_file word forms = record { problem = actors_line word; items = forms; needed = Number 0 }
+
+abbrev pub replay_lines : List LineForm
+replay_lines = start_line ∷ offer_line ∷ read_line ∷ relax_line ∷ step_line ∷ []
+
+-- replay files: `p rep N K`, and the other lines in any order
 abbrev pub replay : Format
-replay = record {
-  problem = actors_line (codes "rep");
-  items = start_line ∷ offer_line ∷ read_line ∷ relax_line ∷ step_line ∷ [];
-  needed = Number 0;
-}
+replay = actors_file (codes "rep") replay_lines
+
+-- offers files: `p off N K`, and the offers
+abbrev pub offers : Format
+offers = actors_file (codes "off") (offer_line ∷ [])

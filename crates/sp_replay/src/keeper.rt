@@ -4,9 +4,10 @@ ghost use Rattle.sp_word.specs.Word.{Pair, is_layout};
 ghost use Rattle.sp_text.specs.Keeping.{CanKeep};
 ghost use Rattle.sp_text.specs.Text.{Item as Line};
 ghost use Rattle.sp_replay.specs.ReplayFormat.{replay, ranges_of};
+ghost use Rattle.sp_replay.specs.Replay.{offer_of};
 
 use crate::layout::{OFFER, READ, RELAX, START, STEP, limits, replay_layout};
-use crate::rows::push_item;
+use crate::rows::Rows;
 use sp_machine::Item;
 use sp_text::{Keep, Layout, Ranges, Values};
 use sp_word::Word;
@@ -21,7 +22,7 @@ pub struct Keeper<const P: u32> {
     /// The vertices that have a word at the start.
     known: HashSet<u64>,
     named: Vec<(u32, Word<P>)>,
-    rows: Vec<Vec<Item<P>>>,
+    rows: Rows<P>,
     steps: Vec<u32>,
     ghost layout: { is_layout P ≡ true },
 }
@@ -46,6 +47,20 @@ fn word_at<const P: u32>(values: &Values, place: usize) -> Word<P>
     Word::pack(values.get(place), values.get(place + 1) as u32)
 }
 
+/// The offer of a line `o A V D P`.
+pub fn offer_at<const P: u32>(values: &Values) -> Item<P>
+    requires layout { is_layout P ≡ true }
+    requires vertex { slice_index values.now 1 ≤ 65536 }
+    requires dist { slice_index values.now 2 ≤ (ranges_of P).dist }
+    requires pred { slice_index values.now 3 ≤ (ranges_of P).vertex }
+    ensures { result ≡ offer_of values.now }
+{
+    Item::Offer {
+        vertex: values.get(1) as u32,
+        word: word_at(values, 2),
+    }
+}
+
 impl<const P: u32> Keeper<P> {
     ghost use Rattle.sp_replay.specs.Keeping.{Keeps};
 
@@ -58,7 +73,7 @@ impl<const P: u32> Keeper<P> {
             alloc,
             known: HashSet::new(alloc),
             named: Vec::new(alloc),
-            rows: Vec::new(alloc),
+            rows: Rows::new(alloc),
             steps: Vec::new(alloc),
         }
     }
@@ -94,18 +109,12 @@ impl<const P: u32> Keep for Keeper<P> {
                 self.named.push((values.get(0) as u32, word_at(values, 1)))?;
                 Ok(())
             }
-            OFFER => {
-                let item = Item::Offer {
-                    vertex: values.get(1) as u32,
-                    word: word_at(values, 2),
-                };
-                push_item(self.alloc, &mut self.rows, values.get(0), item)
-            }
+            OFFER => self.rows.push(values.get(0), offer_at(values)),
             READ => {
                 let item = Item::Read {
                     vertex: values.get(1) as u32,
                 };
-                push_item(self.alloc, &mut self.rows, values.get(0), item)
+                self.rows.push(values.get(0), item)
             }
             RELAX => {
                 let item = Item::Relax {
@@ -113,7 +122,7 @@ impl<const P: u32> Keep for Keeper<P> {
                     head: values.get(2) as u32,
                     len: values.get(3) as u32,
                 };
-                push_item(self.alloc, &mut self.rows, values.get(0), item)
+                self.rows.push(values.get(0), item)
             }
             STEP => {
                 self.steps.push(values.get(0) as u32)?;
@@ -128,15 +137,12 @@ impl<const P: u32> Keep for Keeper<P> {
     }
 
     fn give(&mut self, problem: &Values) -> ReplayParts<P> {
-        let mut rows = mem::replace(&mut self.rows, Vec::new(self.alloc));
-        // No row stands beyond those of the actors.
-        rows.truncate(problem.get(1) as usize);
         self.known.clear();
         ReplayParts {
             words: problem.get(0) as u32,
             actors: problem.get(1) as u32,
             named: mem::replace(&mut self.named, Vec::new(self.alloc)),
-            rows,
+            rows: self.rows.give(problem.get(1)),
             steps: mem::replace(&mut self.steps, Vec::new(self.alloc)),
         }
     }

@@ -1,8 +1,8 @@
-//! The line forms of replay files, as data.
+//! The line forms of replay files and of offers files, as data.
 ghost use Rattle.std.specs.Prelude.{◌≡◌, true};
 ghost use Rattle.sp_text.specs.Formats.{format_of, IsSmall};
 ghost use Rattle.sp_word.specs.Word.{is_layout};
-ghost use Rattle.sp_replay.specs.ReplayFormat.{replay, ranges_of};
+ghost use Rattle.sp_replay.specs.ReplayFormat.{replay, offers, ranges_of};
 
 use sp_text::{Field, Form, Layout, Ranges, Top};
 use sp_word::Word;
@@ -123,12 +123,32 @@ const REPLAY: Layout = Layout {
     needed: Top::Number(0),
 };
 
+const OFFERS: Layout = Layout {
+    problem: Form {
+        words: b"p off",
+        fields: &[WORDS, ACTORS],
+        fresh: false,
+        group: 0,
+        limit: Top::Number(1),
+    },
+    items: &[OFFER_LINE],
+    needed: Top::Number(0),
+};
+
 /// The line forms of replay files.
 pub fn replay_layout() -> Layout
     ensures format { format_of result ≡ replay }
     ensures small { IsSmall result }
 {
     REPLAY
+}
+
+/// The line forms of offers files.
+pub fn offers_layout() -> Layout
+    ensures format { format_of result ≡ offers }
+    ensures small { IsSmall result }
+{
+    OFFERS
 }
 
 /// The limits of words with `P` bits for a predecessor.

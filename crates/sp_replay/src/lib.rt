@@ -1,13 +1,15 @@
-//! The files of the step machine: replay files are read, and the report of a run is written.
+//! The files of the step machine: replay files and offers files are read, and the report of a run is written.
 #![tactic(auto)]
 
 mod keeper;
 mod layout;
 mod lines;
+mod offers;
 mod replays;
 mod reports;
 mod rows;
 
+pub use offers::read_offers;
 pub use replays::{ReplayFile, read_replay};
 pub use reports::write_report;
 pub use sp_machine::{Call, Ended, Finished, Item, Machine, Programme, Report, replay};

@@ -1,9 +1,57 @@
 //! The items of the actors, a row for each.
-ghost use Rattle.std.specs.Prelude.{◌≡◌, ℕ, ◌==◌, ◌≤◌, ◌++◌, ◌∷◌, [], map, length, OnOk, if◌then◌else◌};
+ghost use Rattle.std.specs.Prelude.{◌≡◌, ℕ, ◌==◌, ◌≤◌, ◌++◌, ◌∷◌, [], map, take, length, OnOk, if◌then◌else◌};
 ghost use Rattle.sp_machine.specs.Programme.{row_of};
 
 use sp_machine::Item;
 use std::alloc::{AllocError, Global};
+use std::marker::Model;
+use std::mem;
+
+/// The items of the actors so far. There are no more rows than actors need.
+#[derive(Drop)]
+pub struct Rows<const P: u32> {
+    alloc: Global,
+    rows: Vec<Vec<Item<P>>>,
+}
+
+impl<const P: u32> Model for Rows<P> {
+    ghost use Rattle.std.specs.Prelude.{List, map};
+    ghost use Rattle.sp_machine.specs.declared.item.Item.{Item};
+
+    ghost Value = { List (List (Item P)) };
+
+    ghost view = { λ r. map (λ row. row.items) r.rows.items };
+}
+
+impl<const P: u32> Rows<P> {
+    /// No item.
+    pub fn new(alloc: Global) -> Self
+        ensures { result ≡ [] }
+    {
+        Rows {
+            alloc,
+            rows: Vec::new(alloc),
+        }
+    }
+
+    /// Puts an item behind those of an actor. Actors are numbered from 1.
+    pub fn push(&mut self, actor: u64, item: Item<P>) -> Result<(), AllocError>
+        requires { actor ≤ 64 }
+        ensures { OnOk result ((other : ℕ) → 1 ≤ other → row_of self.new other ≡ row_of self.old other ++ (if actor == other then item.entry ∷ [] else [])) }
+    {
+        push_item(self.alloc, &mut self.rows, actor, item)
+    }
+
+    /// The rows of so many actors; then it begins again.
+    pub fn give(&mut self, actors: u64) -> Vec<Vec<Item<P>>>
+        ensures given { map (λ row. row.items) result.items ≡ take actors self.old }
+        ensures new { self.new ≡ [] }
+    {
+        let mut rows = mem::replace(&mut self.rows, Vec::new(self.alloc));
+        rows.truncate(actors as usize);
+        rows
+    }
+}
 
 // Makes so many rows, where there are fewer.
 fn grow<const P: u32>(
@@ -20,8 +68,8 @@ fn grow<const P: u32>(
     Ok(())
 }
 
-/// Puts an item behind those of an actor. Actors are numbered from 1.
-pub fn push_item<const P: u32>(
+// Puts an item behind those of an actor. Actors are numbered from 1.
+fn push_item<const P: u32>(
     alloc: Global,
     rows: &mut Vec<Vec<Item<P>>>,
     actor: u64,

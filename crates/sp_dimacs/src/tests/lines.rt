@@ -61,42 +61,53 @@ fn numbers_of_lines(rt: HostRuntime) -> Result<(), Fail> {
     Ok(())
 }
 
+// A line of one byte, and then one of so many bytes and perhaps its LF.
+fn two_lines(bytes: &mut [u8; 1030], len: usize, has_end: bool)
+    requires { len ≤ 1026 }
+{
+    bytes[0] = b'y';
+    bytes[1] = b'\n';
+    if has_end {
+        bytes[2 + len] = b'\n';
+    }
+}
+
+#[test]
+fn longest_lines(rt: HostRuntime) -> Result<(), Fail> {
+    let mut bytes = [b'x'; 1030];
+    two_lines(&mut bytes, 1024, true);
+    let line = [b'x'; 1024];
+    for most in [1, 7, 1024, 2000] {
+        let mut open = Lines::new(UpTo::in_pieces(&bytes[..1026], most));
+        assert_eq!(rt; open.next(), Ok(Some(b"y".as_slice())));
+        assert_eq!(rt; open.next(), Ok(Some(line.as_slice())));
+        assert_eq!(rt; open.ended(), false);
+        assert_eq!(rt; open.next(), Ok(None));
+        let mut whole = Lines::new(UpTo::in_pieces(&bytes[..1027], most));
+        assert_eq!(rt; whole.next(), Ok(Some(b"y".as_slice())));
+        assert_eq!(rt; whole.next(), Ok(Some(line.as_slice())));
+        assert_eq!(rt; whole.ended(), true);
+        assert_eq!(rt; whole.next(), Ok(None));
+    }
+    Ok(())
+}
+
 #[test]
 fn long_lines(rt: HostRuntime) -> Result<(), Fail> {
-    let mut text = [b'x'; 1028];
-    text[0] = b'y';
-    text[1] = b'\n';
+    let mut bytes = [b'x'; 1030];
+    two_lines(&mut bytes, 1025, true);
     let long = DimacsError {
         line: 2,
         kind: Kind::LongLine,
     };
     for most in [1, 7, 1024, 2000] {
-        let mut fits = Lines::new(UpTo::in_pieces(&text[..1026], most));
-        assert_eq!(rt; fits.next(), Ok(Some(b"y".as_slice())));
-        assert_eq!(rt; fits.next(), Ok(Some(&text[2..1026])));
-        assert_eq!(rt; fits.ended(), false);
-        assert_eq!(rt; fits.next(), Ok(None));
-        let mut open = Lines::new(UpTo::in_pieces(&text[..1027], most));
-        assert_eq!(rt; open.next(), Ok(Some(b"y".as_slice())));
-        assert_eq!(rt; open.next(), Err(long));
-        assert_eq!(rt; open.next(), Err(long));
-        assert_eq!(rt; open.line(), 1);
-    }
-    text[1026] = b'\n';
-    for most in [1, 7, 1024, 2000] {
-        let mut fits = Lines::new(UpTo::in_pieces(&text[..1027], most));
-        assert_eq!(rt; fits.next(), Ok(Some(b"y".as_slice())));
-        assert_eq!(rt; fits.next(), Ok(Some(&text[2..1026])));
-        assert_eq!(rt; fits.ended(), true);
-        assert_eq!(rt; fits.next(), Ok(None));
-    }
-    text[1026] = b'x';
-    text[1027] = b'\n';
-    for most in [1, 7, 1024, 2000] {
-        let mut ended = Lines::new(UpTo::in_pieces(&text, most));
-        assert_eq!(rt; ended.next(), Ok(Some(b"y".as_slice())));
-        assert_eq!(rt; ended.next(), Err(long));
-        assert_eq!(rt; ended.next(), Err(long));
+        for end in 1027..1029 {
+            let mut lines = Lines::new(UpTo::in_pieces(&bytes[..end], most));
+            assert_eq!(rt; lines.next(), Ok(Some(b"y".as_slice())));
+            assert_eq!(rt; lines.next(), Err(long));
+            assert_eq!(rt; lines.next(), Err(long));
+            assert_eq!(rt; lines.line(), 1);
+        }
     }
     Ok(())
 }

@@ -8,17 +8,12 @@ word_at-requires g c =
     let fits = start_fits g.row.P c.args.values.now (rw c.in-0.is at c.requires) in
     (lit< tt, (c.args.self.now.layout, (fits.1, (fits.2, lit≤ tt))))
 
-pub word_at-requires-in-1 : goal.word_at-requires-in-1
-word_at-requires-in-1 g c =
-    let fits = offer_fits g.row.P c.args.values.now (rw c.in-1.is at c.requires) in
-    (lit< tt, (c.args.self.now.layout, (fits.2, (fits.3, lit≤ tt))))
-
 pub returns-in_ok-push-in-0 : goal.returns-in_ok-push-in-0
 returns-in_ok-push-in-0 g c = λ before line h kind numbers.
     start_kept before line _ _ _ _ _ _ c.args.values.now c.args.place c.get.result h kind numbers c.in-0.is c.get.ensures c.in_ok-insert-in-0.ensures.updates.0
     (rw (c.in_ok-push-in-0.ensures.items, c.get-in-0.ensures, c.word_at.ensures) refl)
 
 pub returns-in-1 : goal.returns-in-1
-returns-in-1 g c = λ before line h kind numbers. on_ok c.push_item.result c.push_item.ensures (λ pushed.
-    item_kept before line _ _ _ _ _ c.args.values.now c.args.place c.get-in-1-2.result _ h kind numbers (rw c.in-1.is refl) (rw c.in-1.is refl) c.get-in-1-2.ensures
-    (rw (c.in-1.is, c.get-in-1.ensures, c.word_at-in-1.ensures) refl) pushed)
+returns-in-1 g c = λ before line h kind numbers. on_ok c.push-in-1.result c.push-in-1.ensures (λ pushed.
+    item_kept before line _ _ _ _ _ c.args.values.now c.args.place c.get-in-1.result _ h kind numbers (rw c.in-1.is refl) (rw c.in-1.is refl) c.get-in-1.ensures
+    (rw (c.in-1.is, c.offer_at.ensures) refl) pushed)

@@ -1,0 +1,113 @@
+//! Offers files.
+ghost use Rattle.std.specs.Prelude.{◌≡◌, ℕ, List, [], IfOk, IfErr, OnOk, Some, true, false};
+ghost use Rattle.sp_word.specs.Word.{is_layout};
+ghost use Rattle.sp_text.specs.Text.{Item as Line};
+ghost use Rattle.sp_replay.specs.Offers.{IsOffersFile, OffersRead};
+
+use crate::keeper::offer_at;
+use crate::layout::{limits, offers_layout};
+use crate::rows::Rows;
+use sp_machine::{Item, Programme};
+use sp_text::{
+    Collector, DimacsError, Feeder, Keep, Kind, Layout, Ranges, Read, Values, read_text,
+};
+use std::alloc::{AllocError, Global};
+
+/// The offers so far.
+#[derive(Drop)]
+pub struct OfferKeeper<const P: u32> {
+    rows: Rows<P>,
+    ghost layout: { is_layout P ≡ true },
+}
+
+/// What an offers file says.
+#[derive(Drop)]
+pub struct OfferParts<const P: u32> {
+    pub words: u32,
+    pub actors: u32,
+    pub rows: Vec<Vec<Item<P>>>,
+}
+
+impl<const P: u32> OfferKeeper<P> {
+    ghost use Rattle.sp_replay.specs.OfferKeeping.{KeepsOffers};
+
+    /// Before the first line.
+    pub fn new(alloc: Global) -> Self
+        requires { is_layout P ≡ true }
+        ensures { KeepsOffers result [] }
+    {
+        OfferKeeper {
+            rows: Rows::new(alloc),
+        }
+    }
+}
+
+impl<const P: u32> Keep for OfferKeeper<P> {
+    ghost use Rattle.std.specs.Prelude.{◌≡◌, ℕ, List, false};
+    ghost use Rattle.sp_replay.specs.ReplayFormat.{offers, ranges_of};
+    ghost use Rattle.sp_replay.specs.OfferKeeping.{KeepsOffers, SaysOffers};
+
+    type Value = OfferParts<P>;
+
+    ghost format = { offers };
+
+    ghost ranges = { ranges_of P };
+
+    ghost Kept = { λ k lines. KeepsOffers k lines };
+
+    ghost Spelled = { λ problem lines parts. SaysOffers problem lines parts };
+
+    fn layout(&self) -> Layout {
+        offers_layout()
+    }
+
+    fn ranges(&self) -> Ranges {
+        limits::<P>()
+    }
+
+    fn keep(&mut self, _place: usize, values: &Values) -> Result<(), AllocError> {
+        self.rows.push(values.get(0), offer_at(values))
+    }
+
+    // No form is fresh.
+    fn is_named(&self, _place: usize, _first: u64) -> bool
+        ensures { result ≡ false }
+    {
+        false
+    }
+
+    fn give(&mut self, problem: &Values) -> OfferParts<P> {
+        OfferParts {
+            words: problem.get(0) as u32,
+            actors: problem.get(1) as u32,
+            rows: self.rows.give(problem.get(1)),
+        }
+    }
+}
+
+/// The programme of the offers file that the bytes of a reader spell, or their first fault. Its items are the
+/// offers, and no word is there at the start.
+///
+/// It takes memory for the offers as they come. Where a growth is refused it tells Memory at the line whose
+/// offer found no room, in place of a later fault. How much a refused reader took from its source is open.
+pub fn read_offers<const P: u32, R: Read>(
+    alloc: Global,
+    reader: &mut R,
+) -> Result<Programme<P>, DimacsError>
+    requires layout { is_layout P ≡ true }
+    requires fresh { R.passed reader.old ≡ 0 }
+    ensures found { IfOk result IsOffersFile }
+    ensures exact { (text : List ℕ) → R.left reader.old ≡ Some text → OffersRead text (R.left reader.new) (R.has_failed reader.new) result }
+    ensures read { IfErr result (λ e. e.kind ≡ Kind.Read → R.has_failed reader.new ≡ true) }
+{
+    let feeder = Feeder::new(Collector::new(OfferKeeper::<P>::new(alloc)));
+    match read_text(reader, feeder) {
+        Ok(parts) => Ok(Programme::new(
+            parts.words,
+            parts.actors,
+            Vec::new(alloc),
+            parts.rows,
+        )),
+        Err(e) => Err(e),
+    }
+}
