@@ -1,6 +1,6 @@
 -- One item more in a row.
-use Rattle.std.proofs.Common.{⊎_elim, ◌≡◌, ◌≢◌, ℕ, ◌+◌, ◌-◌, ◌<◌, ◌≤◌, true, false, cond, eqb, List, [], ◌∷◌, ◌++◌, length, map, set, get_or, sym, ap, ◌∙◌, arith, get_or-set_same, get_or-set_other}
-use Rattle.std.proofs.lemmas.List.{append-nil, map-set, get_or-map, length-map}
+use Rattle.std.proofs.Common.{⊎_elim, ◌≡◌, ◌≢◌, ℕ, ◌+◌, ◌-◌, ◌<◌, ◌≤◌, true, false, cond, eqb, List, [], ◌∷◌, ◌++◌, length, map, take, set, get_or, sym, ap, ◌∙◌, arith, get_or-set_same, get_or-set_other}
+use Rattle.std.proofs.lemmas.List.{append-nil, map-set, take-map, get_or-map, length-map}
 use Rattle.std.proofs.lemmas.Bool.{eq-eqb, ne_eqb, cases_eq}
 
 pub pushed_at : {A B : Type 0} (f : A → List B) (xs : List A) (place : ℕ) (old new : A) (item : B) (actor other : ℕ) (before : List B) → place + 1 ≤ length xs → old ≡ get_or xs place old → f new ≡ f old ++ item ∷ [] → 1 ≤ actor → place ≡ actor - 1 → 1 ≤ other → get_or (map f xs) (other - 1) [] ≡ before
@@ -19,3 +19,7 @@ pushed_at f xs place old new item actor other before within is pushed some at th
     let none : eqb actor other ≡ false = ne_eqb actor other ne in
     rw (← same_before, none, map-set f xs place new, get_or-set_other (map f xs) place (other - 1) (f new) [] away) (sym (append-nil (get_or (map f xs) (other - 1) []))))
     (cases_eq actor other)
+
+-- the first rows
+pub first_rows : {A B : Type 0} (f : A → B) (n : ℕ) (xs : List A) (view : List B) → map f xs ≡ view → map f (take n xs) ≡ take n view
+first_rows f n xs view is = rw (← is) (sym (take-map f n xs))

@@ -1,5 +1,5 @@
 -- What an offers file says.
-use Rattle.std.specs.Prelude.{◌≡◌, ◌≤◌, ℕ, Bool, List, [], ◌∷◌, ◌==◌, length, slice_index, map, if◌then◌else◌, Option, Result}
+use Rattle.std.specs.Prelude.{◌≡◌, ◌≤◌, ℕ, Bool, List, [], ◌∷◌, ◌==◌, length, slice_index, if◌then◌else◌, Option, Result}
 use Rattle.std.specs.List.{flat_map}
 use Rattle.sp_text.specs.declared.faults.DimacsError.{DimacsError}
 use Rattle.sp_text.specs.Text.{Item as Line, Spells, judge}

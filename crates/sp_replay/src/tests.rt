@@ -1,3 +1,4 @@
+mod offers;
 mod read;
 mod refused;
 mod runs;

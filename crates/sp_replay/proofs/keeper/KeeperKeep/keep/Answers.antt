@@ -1,5 +1,5 @@
 use Rattle.std.proofs.Common.{refl, lit<, lit≤}
-use Rattle.sp_replay.proofs.Bounds.{start_fits, offer_fits}
+use Rattle.sp_replay.proofs.Bounds.{start_fits}
 use Rattle.sp_replay.proofs.KeepSteps.{start_kept, item_kept, on_ok}
 use Rattle.sp_replay.proofs.keeper.KeeperKeep.keep.Goals as goal
 
