@@ -1,4 +1,4 @@
-use super::samples::{DIAMOND, DIAMOND_ARCS, arcs, told};
+use super::samples::{DIAMOND, DIAMOND_ARCS, arcs, pairs, sources, told};
 use crate::{DimacsError, Kind, UpTo, read_gr};
 use std::test::Fail;
 
@@ -79,19 +79,66 @@ fn too_few(rt: HostRuntime) -> Result<(), Fail> {
     Ok(())
 }
 
+// A beginning of the diamond's text: nothing; a part of the problem line; or the whole of it and a part of the
+// five lines of eight bytes each.
+fn ended_after(k: usize) -> Result<usize, DimacsError> {
+    if k == 0 {
+        return told(1, Kind::NoProblem);
+    }
+    if k < 8 {
+        return told(1, Kind::BadLine);
+    }
+    if k >= 48 {
+        return Ok(5);
+    }
+    let place = k.saturating_sub(9);
+    let line = 2 + (place / 8) as u64;
+    match place % 8 {
+        0 => told(line, Kind::TooFew),
+        7 => told(line + 1, Kind::TooFew),
+        _ => told(line, Kind::BadLine),
+    }
+}
+
 #[test]
 fn ended_after_each_byte(rt: HostRuntime) -> Result<(), Fail> {
     let alloc = rt.alloc();
     assert_eq!(rt; DIAMOND.len(), 49);
-    assert_eq!(rt; arcs::<28>(alloc, &DIAMOND[..0]), told(1, Kind::NoProblem));
-    assert_eq!(rt; arcs::<28>(alloc, &DIAMOND[..7]), told(1, Kind::BadLine));
-    assert_eq!(rt; arcs::<28>(alloc, &DIAMOND[..8]), told(2, Kind::TooFew));
-    assert_eq!(rt; arcs::<28>(alloc, &DIAMOND[..9]), told(2, Kind::TooFew));
-    assert_eq!(rt; arcs::<28>(alloc, &DIAMOND[..41]), told(6, Kind::TooFew));
-    assert_eq!(rt; arcs::<28>(alloc, &DIAMOND[..46]), told(6, Kind::BadLine));
-    assert_eq!(rt; arcs::<28>(alloc, &DIAMOND[..47]), told(6, Kind::BadLine));
-    assert_eq!(rt; arcs::<28>(alloc, &DIAMOND[..48]), Ok(5));
-    assert_eq!(rt; arcs::<28>(alloc, DIAMOND), Ok(5));
+    for (k, want) in [
+        (0, told(1, Kind::NoProblem)),
+        (7, told(1, Kind::BadLine)),
+        (8, told(2, Kind::TooFew)),
+        (9, told(2, Kind::TooFew)),
+        (41, told(6, Kind::TooFew)),
+        (46, told(6, Kind::BadLine)),
+        (47, told(6, Kind::BadLine)),
+        (48, Ok(5)),
+        (49, Ok(5)),
+    ] {
+        assert_eq!(rt; ended_after(k), want);
+    }
+    for k in 0..50 {
+        assert_eq!(rt; arcs::<28>(alloc, &DIAMOND[..k]), ended_after(k));
+    }
+    Ok(())
+}
+
+// It takes no memory: no value comes.
+#[test]
+fn announced_but_absent(rt: HostRuntime) -> Result<(), Fail> {
+    let alloc = rt.alloc();
+    assert_eq!(rt;
+        arcs::<28>(alloc, b"p sp 268435454 1073741824\n"),
+        told(2, Kind::TooFew)
+    );
+    assert_eq!(rt;
+        sources::<28>(alloc, b"p aux sp ss 1048576\n"),
+        told(2, Kind::TooFew)
+    );
+    assert_eq!(rt;
+        pairs::<28>(alloc, b"p pairs 1048576\n"),
+        told(2, Kind::TooFew)
+    );
     Ok(())
 }
 

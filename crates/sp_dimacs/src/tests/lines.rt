@@ -77,13 +77,15 @@ fn longest_lines(rt: HostRuntime) -> Result<(), Fail> {
     let mut bytes = [b'x'; 1030];
     two_lines(&mut bytes, 1024, true);
     let line = [b'x'; 1024];
+    let open_text = &bytes[..1026];
+    let whole_text = &bytes[..1027];
     for most in [1, 7, 1024, 2000] {
-        let mut open = Lines::new(UpTo::in_pieces(&bytes[..1026], most));
+        let mut open = Lines::new(UpTo::in_pieces(open_text, most));
         assert_eq!(rt; open.next(), Ok(Some(b"y".as_slice())));
         assert_eq!(rt; open.next(), Ok(Some(line.as_slice())));
         assert_eq!(rt; open.ended(), false);
         assert_eq!(rt; open.next(), Ok(None));
-        let mut whole = Lines::new(UpTo::in_pieces(&bytes[..1027], most));
+        let mut whole = Lines::new(UpTo::in_pieces(whole_text, most));
         assert_eq!(rt; whole.next(), Ok(Some(b"y".as_slice())));
         assert_eq!(rt; whole.next(), Ok(Some(line.as_slice())));
         assert_eq!(rt; whole.ended(), true);
@@ -125,22 +127,22 @@ fn long_before_failure(rt: HostRuntime) -> Result<(), Fail> {
 
 #[test]
 fn failing_after_each_byte(rt: HostRuntime) -> Result<(), Fail> {
-    let mut ends = 0;
+    let mut line = 1;
     for k in 0..DIAMOND.len() {
         let mut lines = Lines::new(UpTo::failing(&DIAMOND[..k]));
-        for _ in 0..ends {
+        for _ in 1..line {
             assert_eq!(rt; lines.next().is_ok(), true);
             assert_eq!(rt; lines.ended(), true);
         }
         let read = DimacsError {
-            line: ends + 1,
+            line,
             kind: Kind::Read,
         };
         assert_eq!(rt; lines.next(), Err(read));
         assert_eq!(rt; lines.next(), Err(read));
-        assert_eq!(rt; lines.line(), ends);
-        if DIAMOND[k] == b'\n' && ends < 99 {
-            ends += 1;
+        assert_eq!(rt; lines.line().checked_add(1), Some(line));
+        if DIAMOND[k] == b'\n' && line < 99 {
+            line += 1;
         }
     }
     Ok(())

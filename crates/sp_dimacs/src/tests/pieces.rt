@@ -1,6 +1,6 @@
 ghost use Rattle.std.specs.Prelude.{◌<◌};
 
-use super::samples::{DIAMOND, DIAMOND_ARCS, fed, told};
+use super::samples::{DIAMOND, DIAMOND_ARCS, arcs, fed, told};
 use crate::{DimacsError, GrReader, Kind};
 use std::alloc::Global;
 use std::test::Fail;
@@ -159,5 +159,23 @@ fn fed_from_a_text(rt: HostRuntime) -> Result<(), Fail> {
             told(3, Kind::TooFew)
         );
     }
+    Ok(())
+}
+
+// A comment behind the problem line, in one text: 9 bytes and the comment.
+#[test]
+fn long_comment_whole(rt: HostRuntime) -> Result<(), Fail> {
+    let alloc = rt.alloc();
+    let mut text = [b'x'; 1_035];
+    text[..11].copy_from_slice(b"p sp 1 0\nc ");
+    let long = told(2, Kind::LongLine);
+    assert_eq!(rt; arcs::<28>(alloc, &text[..1_033]), Ok(0));
+    assert_eq!(rt; arcs::<28>(alloc, &text[..1_034]), long);
+    let mut fits = text;
+    fits[1_033] = b'\n';
+    assert_eq!(rt; arcs::<28>(alloc, &fits[..1_034]), Ok(0));
+    let mut too_long = text;
+    too_long[1_034] = b'\n';
+    assert_eq!(rt; arcs::<28>(alloc, &too_long), long);
     Ok(())
 }
