@@ -62,7 +62,7 @@ pub fn offer_at<const P: u32>(values: &Values) -> Item<P>
 }
 
 impl<const P: u32> Keeper<P> {
-    ghost use Rattle.sp_replay.specs.Keeping.{Keeps};
+    ghost use Rattle.sp_replay.specs.Keeping.{Keeps, IsNamed};
 
     /// Before the first line.
     pub fn new(alloc: Global) -> Keeper<P>
@@ -76,6 +76,18 @@ impl<const P: u32> Keeper<P> {
             rows: Rows::new(alloc),
             steps: Vec::new(alloc),
         }
+    }
+
+    // The vertex has this word at the start.
+    fn name(&mut self, vertex: u64, word: Word<P>) -> Result<(), AllocError>
+        requires { vertex ≤ 65536 }
+        ensures named { OnOk result (IsNamed self.old vertex word.entry self.new) }
+        ensures rows { self.new.rows ≡ self.old.rows }
+        ensures steps { self.new.steps ≡ self.old.steps }
+    {
+        self.known.insert(vertex)?;
+        self.named.push((vertex as u32, word))?;
+        Ok(())
     }
 }
 
@@ -104,11 +116,7 @@ impl<const P: u32> Keep for Keeper<P> {
 
     fn keep(&mut self, place: usize, values: &Values) -> Result<(), AllocError> {
         match place {
-            START => {
-                self.known.insert(values.get(0))?;
-                self.named.push((values.get(0) as u32, word_at(values, 1)))?;
-                Ok(())
-            }
+            START => self.name(values.get(0), word_at(values, 1)),
             OFFER => self.rows.push(values.get(0), offer_at(values)),
             READ => {
                 let item = Item::Read {

@@ -102,12 +102,7 @@ pub fn read_offers<const P: u32, R: Read>(
 {
     let feeder = Feeder::new(Collector::new(OfferKeeper::<P>::new(alloc)));
     match read_text(reader, feeder) {
-        Ok(parts) => Ok(Programme::new(
-            parts.words,
-            parts.actors,
-            Vec::new(alloc),
-            parts.rows,
-        )),
+        Ok(parts) => Ok(Programme::new(parts.words, parts.actors, Vec::new(alloc), parts.rows)),
         Err(e) => Err(e),
     }
 }

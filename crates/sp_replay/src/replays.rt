@@ -1,10 +1,11 @@
 //! Replay files.
 ghost use Rattle.std.specs.Prelude.{◌≡◌, ℕ, List, All, IfOk, IfErr, Some, true};
 ghost use Rattle.sp_word.specs.Word.{is_layout};
-ghost use Rattle.sp_machine.specs.Programme.{IsNumber};
+ghost use Rattle.sp_machine.specs.Programme.{IsNumber, IsProgramme};
+ghost use Rattle.sp_replay.specs.Keeping.{plan_of};
 ghost use Rattle.sp_replay.specs.ReplayFile.{IsReplayFile, ReplayRead};
 
-use crate::keeper::Keeper;
+use crate::keeper::{Keeper, ReplayParts};
 use sp_machine::Programme;
 use sp_text::{Collector, DimacsError, Feeder, Kind, Read, read_text};
 use std::alloc::Global;
@@ -16,6 +17,19 @@ pub struct ReplayFile<const P: u32> {
     pub programme: Programme<P>,
     /// The actors of the steps, in order.
     pub steps: Vec<u32>,
+}
+
+// The file that says this.
+fn file_of<const P: u32>(parts: ReplayParts<P>) -> ReplayFile<P>
+    requires layout { is_layout P ≡ true }
+    requires programme { IsProgramme (plan_of parts) }
+    ensures programme { result.programme ≡ plan_of parts.entry }
+    ensures steps { result.steps.items ≡ parts.entry.steps.items }
+{
+    ReplayFile {
+        programme: Programme::new(parts.words, parts.actors, parts.named, parts.rows),
+        steps: parts.steps,
+    }
 }
 
 /// The replay file that the bytes of a reader spell, or their first fault.
@@ -35,10 +49,7 @@ pub fn read_replay<const P: u32, R: Read>(
 {
     let feeder = Feeder::new(Collector::new(Keeper::<P>::new(alloc)));
     match read_text(reader, feeder) {
-        Ok(parts) => Ok(ReplayFile {
-            programme: Programme::new(parts.words, parts.actors, parts.named, parts.rows),
-            steps: parts.steps,
-        }),
+        Ok(parts) => Ok(file_of(parts)),
         Err(e) => Err(e),
     }
 }

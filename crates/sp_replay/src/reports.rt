@@ -1,7 +1,7 @@
 //! The report of a run, written to a device.
 ghost use Rattle.std.specs.Prelude.{◌++◌};
 ghost use Rattle.std.specs.List.{flat_map};
-ghost use Rattle.sp_text.specs.Printing.{Finished as Written};
+ghost use Rattle.sp_text.specs.Printing.{IsSending, Finished as Written};
 ghost use Rattle.sp_replay.specs.ReportText.{call_text, reached_text, reached_from, totals_text, closed_text, report_text};
 ghost use Rattle.sp_replay.specs.Sending.{Sends};
 
@@ -52,6 +52,17 @@ fn send_end<W: Write>(out: &mut W, printer: &mut Printer, wins: u64, losses: u64
     push_end(&mut printer.block, wins, losses, closed);
 }
 
+// Sends the lines of a report with a new printer.
+fn print_report<const P: u32, W: Write>(report: &Report<P>, out: &mut W) -> Printer
+    ensures { IsSending W.written W.passed W.has_failed (report_text report.now) out.old out.new result }
+{
+    let mut printer = Printer::new();
+    send_calls(out, &mut printer, &report.calls);
+    send_words(out, &mut printer, &report.words);
+    send_end(out, &mut printer, report.wins, report.losses, report.closed);
+    printer
+}
+
 /// Writes the lines of a report, and tells their number of bytes.
 ///
 /// It takes no memory. Where the writer fails, a beginning of the lines stands.
@@ -61,9 +72,6 @@ pub fn write_report<const P: u32, W: Write>(
 ) -> Result<u64, WriteFault>
     ensures { Written W.written W.has_failed (report_text report.now) out.old result out.new }
 {
-    let mut printer = Printer::new();
-    send_calls(out, &mut printer, &report.calls);
-    send_words(out, &mut printer, &report.words);
-    send_end(out, &mut printer, report.wins, report.losses, report.closed);
+    let printer = print_report(report, out);
     finish(out, printer)
 }

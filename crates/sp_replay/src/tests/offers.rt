@@ -60,10 +60,7 @@ fn offers(rt: HostRuntime) -> Result<(), Fail> {
 
 #[test]
 fn actor_out_of_range(rt: HostRuntime) {
-    assert_eq!(rt;
-        fault(rt.alloc(), b"p off 1 1\no 2 1 5 0\n"),
-        out(2, b'A')
-    );
+    assert_eq!(rt; fault(rt.alloc(), b"p off 1 1\no 2 1 5 0\n"), out(2, b'A'));
 }
 
 #[test]
@@ -159,7 +156,10 @@ fn layouts_of_offers(rt: HostRuntime) {
         fault_of::<32>(alloc, b"p off 1 1\no 1 1 4294967295 0\n"),
         d
     );
-    assert_eq!(rt; fault_of::<32>(alloc, b"p off 1 1\no 1 1 0 4294967295\n"), p);
+    assert_eq!(rt;
+        fault_of::<32>(alloc, b"p off 1 1\no 1 1 0 4294967295\n"),
+        p
+    );
 }
 
 #[test]

@@ -6,11 +6,11 @@ use Rattle.sp_replay.specs.ReplayFormat.{replay, ranges_of}
 use Rattle.sp_replay.proofs.Legal.{is_programme, steps_in}
 use Rattle.sp_replay.proofs.replays.read_replay.Goals as goal
 
-pub new-requires-in-Ok : goal.new-requires-in-Ok
-new-requires-in-Ok g c =
+pub file_of-requires : goal.file_of-requires
+file_of-requires g c =
     let found = c.in-Ok.ensures.found in
     let spells : Spells replay (ranges_of g.row.P) found.0 found.2.0 (items_of replay (lines found.0)) = record { faultless = found.1; problem_line = found.2.1; item_lines = refl } in
-    (lit< tt, (lit< tt, (lit< tt, (c.requires.layout, is_programme g.row.P found.2.0 _ _ _ (accepted replay (ranges_of g.row.P) _ _ _ spells) found.2.2))))
+    (lit< tt, (lit< tt, (c.requires.layout, is_programme g.row.P found.2.0 _ _ _ (accepted replay (ranges_of g.row.P) _ _ _ spells) found.2.2)))
 
 pub returns-in-Ok-clause-found : goal.returns-in-Ok-clause-found
 returns-in-Ok-clause-found g c =
@@ -20,11 +20,11 @@ returns-in-Ok-clause-found g c =
       problem = found.2.0;
       lines = items_of replay (lines found.0);
       spelled = record { faultless = found.1; problem_line = found.2.1; item_lines = refl };
-      says = rw c.new-in-Ok.ensures found.2.2;
+      says = rw (c.file_of.ensures.programme, c.file_of.ensures.steps) found.2.2;
     }
 
 pub returns-in-Ok-clause-steps : goal.returns-in-Ok-clause-steps
 returns-in-Ok-clause-steps g c =
     let found = c.in-Ok.ensures.found in
     let spells : Spells replay (ranges_of g.row.P) found.0 found.2.0 (items_of replay (lines found.0)) = record { faultless = found.1; problem_line = found.2.1; item_lines = refl } in
-    rw c.new-in-Ok.ensures (steps_in g.row.P found.2.0 _ _ _ (accepted replay (ranges_of g.row.P) _ _ _ spells) found.2.2)
+    rw (c.file_of.ensures.programme, c.file_of.ensures.steps) (steps_in g.row.P found.2.0 _ _ _ (accepted replay (ranges_of g.row.P) _ _ _ spells) found.2.2)

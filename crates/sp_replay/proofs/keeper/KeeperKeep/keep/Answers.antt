@@ -8,12 +8,12 @@ word_at-requires g c =
     let fits = start_fits g.row.P c.args.values.now (rw c.in-0.is at c.requires) in
     (lit< tt, (c.args.self.now.layout, (fits.1, (fits.2, lit≤ tt))))
 
-pub returns-in_ok-push-in-0 : goal.returns-in_ok-push-in-0
-returns-in_ok-push-in-0 g c = λ before line h kind numbers.
-    start_kept before line _ _ _ _ _ _ c.args.values.now c.args.place c.get.result h kind numbers c.in-0.is c.get.ensures c.in_ok-insert-in-0.ensures.updates.0
-    (rw (c.in_ok-push-in-0.ensures.items, c.get-in-0.ensures, c.word_at.ensures) refl)
+pub returns-in-0 : goal.returns-in-0
+returns-in-0 g c = λ before line h kind numbers. on_ok c.name.result c.name.ensures.named (λ named.
+    rw (c.name.ensures.rows, c.name.ensures.steps) (start_kept before line _ _ _ _ _ _ c.args.values.now c.args.place c.get.result h kind numbers c.in-0.is c.get.ensures named.0
+    (rw (named.1, c.get.ensures, c.word_at.ensures) refl)))
 
 pub returns-in-1 : goal.returns-in-1
-returns-in-1 g c = λ before line h kind numbers. on_ok c.push-in-1.result c.push-in-1.ensures (λ pushed.
+returns-in-1 g c = λ before line h kind numbers. on_ok c.push.result c.push.ensures (λ pushed.
     item_kept before line _ _ _ _ _ c.args.values.now c.args.place c.get-in-1.result _ h kind numbers (rw c.in-1.is refl) (rw c.in-1.is refl) c.get-in-1.ensures
     (rw (c.in-1.is, c.offer_at.ensures) refl) pushed)
