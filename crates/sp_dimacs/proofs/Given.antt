@@ -14,7 +14,7 @@ use Rattle.sp_dimacs.specs.declared.lines.Lines.{Lines}
 use Rattle.sp_dimacs.specs.declared.lines.State.{State}
 use Rattle.sp_dimacs.specs.declared.lines.State.TheVariants.{Going, Over, Refused}
 use Rattle.sp_dimacs.specs.LineReading.{LineRead}
-use Rattle.sp_dimacs.specs.Giving.{AreEnded, IsLast, AreAll, Stands, IsBehindLines, IsNext, IsRefused, Gave, IsFaultOf, Counted}
+use Rattle.sp_dimacs.specs.Giving.{AreEnded, IsLast, AreAll, Stands, IsBehindLines, IsNext, IsRefused, Gave, IsFaulty, IsFaultOf, Counted}
 
 -- The bytes behind ended lines, with more of them.
 came : (start old left : Option (List ℕ)) (behind waits more front after : List ℕ) → Consumes start old (behind ++ waits) → Consumes old left more → waits ++ more ≡ front ++ after → Consumes start left ((behind ++ front) ++ after)
@@ -205,8 +205,8 @@ pub none_of : {R : Type 0} (left : R → Option (List ℕ)) (has_failed : R → 
 none_of left has_failed text given line new (behind, all) = ap lines (all_text text all.text (left new.reader) all.came all.all) ∙ all.lines
 
 pub fault_of : {R : Type 0} (left : R → Option (List ℕ)) (has_failed : R → Bool) (text : List ℕ) (given : List (List ℕ)) (line : List ℕ) (e : DimacsError) (new : Lines R) → Gave left has_failed (Some text) given line (Err e) new → IsFaultOf text given e
-fault_of left has_failed text given line e new (spent, number, refusal) = told refusal.why where
-  told : ((e.kind ≡ LongLine) × (1024 < length (rest refusal.front))) ⊎ ((e.kind ≡ Read) × (length (rest refusal.front) ≤ 1024) × (refusal.more ≡ []) × (has_failed new.reader ≡ true)) → IsFaultOf text given e
+fault_of left has_failed text given line e new (spent, number, refusal) = (number, told refusal.why) where
+  told : ((e.kind ≡ LongLine) × (1024 < length (rest refusal.front))) ⊎ ((e.kind ≡ Read) × (length (rest refusal.front) ≤ 1024) × (refusal.more ≡ []) × (has_failed new.reader ≡ true)) → IsFaulty text given e.kind
   told (inl (kind, many)) =
       let parts = whole_text text (refusal.front ++ refusal.more) (left new.reader) refusal.came in
       let x = refusal.more ++ parts.0 in

@@ -89,8 +89,11 @@ GaveNext left has_failed start given (Ok None) new = Gave left has_failed start 
 GaveNext left has_failed start given (Err e) new = Gave left has_failed start given [] (Err e) new
 
 -- The next line of the text is too long; or the device has failed.
+abbrev pub IsFaulty : (text : List ℕ) → (given : List (List ℕ)) → Kind → Type 0
+IsFaulty text given kind = ((kind ≡ LongLine) × (long : List ℕ) × (slice_get (lines text) (length given) ≡ Some long) × (1024 < length long)) ⊎ (kind ≡ Read)
+
 abbrev pub IsFaultOf : (text : List ℕ) → (given : List (List ℕ)) → DimacsError → Type 0
-IsFaultOf text given e = ((e.kind ≡ LongLine) × (long : List ℕ) × (slice_get (lines text) (length given) ≡ Some long) × (1024 < length long)) ⊎ (e.kind ≡ Read)
+IsFaultOf text given e = (e.line ≡ min (length given + 1) (2 ^ 64 - 1)) × IsFaulty text given e.kind
 
 -- The line behind the given ones is this line of the text; or the given ones are all its lines.
 abbrev pub GaveOf : (text : List ℕ) → (given : List (List ℕ)) → Result (Option (Bor (List ℕ))) DimacsError → Type 0
