@@ -11,7 +11,7 @@ use Rattle.std.specs.HashSet.{HashSet, contains}
 use Rattle.sp_word.specs.Word.{Word, Unreached, Pair, dist_of}
 use Rattle.sp_machine.specs.declared.effect.Relaxation.{Relaxation}
 use Rattle.sp_machine.specs.declared.item.Item.TheVariants.{Relax}
-use Rattle.sp_machine.specs.Programme.{word_at}
+use Rattle.sp_paths.specs.Paths.{word_at}
 use Rattle.sp_machine.specs.Run.{IsItemClosed}
 use Rattle.sp_machine.specs.Closing.{same_relaxation, HasJust}
 

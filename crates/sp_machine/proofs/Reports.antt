@@ -7,7 +7,8 @@ use Rattle.sp_word.specs.Word.{Word}
 use Rattle.sp_machine.specs.declared.item.Item.{Item}
 use Rattle.sp_machine.specs.declared.effect.Relaxation.{Relaxation}
 use Rattle.sp_machine.specs.declared.log.Log.{Log}
-use Rattle.sp_machine.specs.Programme.{Programme, IsProgramme, IsNumber, word_at, opening_words}
+use Rattle.sp_paths.specs.Paths.{word_at}
+use Rattle.sp_machine.specs.Programme.{Programme, IsProgramme, IsNumber, opening_words}
 use Rattle.sp_machine.specs.Step.{Machine}
 use Rattle.sp_machine.specs.Run.{Run, run_from, run_of, IsItemClosed, IsClosed}
 use Rattle.sp_machine.specs.LogView.{log_of}

@@ -14,7 +14,8 @@ use Rattle.sp_machine.specs.declared.effect.Call.{Call}
 use Rattle.sp_machine.specs.declared.effect.Ended.{Ended}
 use Rattle.sp_machine.specs.declared.actor.Actor.{Actor}
 use Rattle.sp_machine.specs.declared.report.Finished.{Finished}
-use Rattle.sp_machine.specs.Programme.{Programme, IsProgramme, IsNumber, IsItem, word_at, item_of, named_words, opening_words}
+use Rattle.sp_paths.specs.Paths.{word_at}
+use Rattle.sp_machine.specs.Programme.{Programme, IsProgramme, IsNumber, IsItem, item_of, named_words, opening_words}
 use Rattle.sp_machine.specs.Step.{actor_of, place_of, item_at, found_by, turn, fresh_actor, vertex_at, call_ended, words_after, actor_after, with_caller, Machine}
 use Rattle.sp_machine.specs.Run.{Log, Run, first_step, begun_after, with_call, opening_run, run_step, run_from}
 use Rattle.sp_machine.specs.Linear.{Point, IsLinear, event_of, history}

@@ -10,7 +10,8 @@ use Rattle.sp_machine.specs.declared.turn.At.TheVariants.{Idle, Offering, Readin
 use Rattle.sp_machine.specs.declared.turn.Turn.{Turn}
 use Rattle.sp_machine.specs.declared.turn.Turn.TheVariants.{Rests, Keeps, Holds, Wins, LosesAndKeeps, LosesAndHolds, EndsRead, EndsLoad, GoesOn}
 use Rattle.sp_machine.specs.declared.actor.Actor.{Actor}
-use Rattle.sp_machine.specs.Programme.{Programme, IsNumber, word_at, opening_words}
+use Rattle.sp_paths.specs.Paths.{word_at}
+use Rattle.sp_machine.specs.Programme.{Programme, IsNumber, opening_words}
 use Rattle.sp_machine.specs.Step.{vertex_at, turn, words_after, actor_after, exchange_of, Machine, fresh_actor, actor_of, place_of, found_by}
 use Rattle.sp_machine.specs.Run.{Run, win, loss, opening_run, run_step, run_from}
 use Rattle.sp_machine.specs.Theorems.{LossesAreBounded}

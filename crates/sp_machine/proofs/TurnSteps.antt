@@ -16,7 +16,8 @@ use Rattle.sp_machine.specs.declared.turn.Turn.TheVariants.{Rests, Keeps, Holds,
 use Rattle.sp_machine.specs.declared.effect.Call.{Call}
 use Rattle.sp_machine.specs.declared.effect.Call.TheVariants.{Offer, Read}
 use Rattle.sp_machine.specs.declared.actor.Actor.{Actor}
-use Rattle.sp_machine.specs.Programme.{IsNumber, IsItem, word_at}
+use Rattle.sp_paths.specs.Paths.{word_at}
+use Rattle.sp_machine.specs.Programme.{IsNumber, IsItem}
 use Rattle.sp_machine.specs.Step.{at, fresh_actor, vertex_at, offered, turn, load_turn, words_after, call_ended, actor_after}
 use Rattle.sp_machine.specs.Linear.{asked}
 use Rattle.sp_machine.proofs.WordSteps.{kept_reply, lesser_kept, lesser_stored, same_words}

@@ -1,16 +1,13 @@
 -- A programme: the words at the start, and what each actor is to do.
 use Rattle.std.specs.Prelude.{◌≡◌, ℕ, ◌-◌, ◌≤◌, List, [], ◌∷◌, length, replicate, slice_index_or, slice_get, slice_set, All, Option, Some}
 use Rattle.sp_word.specs.Word.{Word, Unreached, IsPair}
+use Rattle.sp_paths.specs.Paths.{IsVertex}
 use Rattle.sp_machine.specs.declared.item.Item.{Item}
 use Rattle.sp_machine.specs.declared.item.Item.TheVariants.{Offer, Read, Relax}
 
--- vertices and actors are numbered from 1
+-- actors are numbered from 1, as vertices are
 abbrev pub IsNumber : ℕ → ℕ → Type 0
-IsNumber n v = (1 ≤ v) × (v ≤ n)
-
--- the word of a vertex in a list of words
-abbrev pub word_at : List Word → ℕ → Word
-word_at words vertex = slice_index_or words (vertex - 1) Unreached
+IsNumber n v = IsVertex n v
 
 -- the items of an actor; beyond the last row there are none
 abbrev pub row_of : {P : ℕ} → List (List (Item P)) → ℕ → List (Item P)

@@ -9,7 +9,8 @@ use Rattle.sp_machine.specs.declared.effect.Exchange.{Exchange}
 use Rattle.sp_machine.specs.declared.effect.Exchange.TheVariants.{Won, Lost}
 use Rattle.sp_machine.specs.declared.effect.Effect.{Effect}
 use Rattle.sp_machine.specs.declared.report.Finished.{Finished}
-use Rattle.sp_machine.specs.Programme.{Programme, word_at, opening_words}
+use Rattle.sp_paths.specs.Paths.{word_at}
+use Rattle.sp_machine.specs.Programme.{Programme, opening_words}
 use Rattle.sp_machine.specs.Step.{Machine, fresh_actor, stepped}
 
 -- what is known of the steps so far

@@ -17,7 +17,8 @@ use Rattle.sp_machine.specs.declared.effect.Exchange.{Exchange}
 use Rattle.sp_machine.specs.declared.effect.Exchange.TheVariants.{Won, Lost}
 use Rattle.sp_machine.specs.declared.effect.Effect.{Effect}
 use Rattle.sp_machine.specs.declared.actor.Actor.{Actor}
-use Rattle.sp_machine.specs.Programme.{word_at, item_of}
+use Rattle.sp_paths.specs.Paths.{word_at}
+use Rattle.sp_machine.specs.Programme.{item_of}
 
 -- ## What an actor is at
 

@@ -1,6 +1,7 @@
 -- What holds of every run.
 use Rattle.std.specs.Prelude.{ℕ, ◌-◌, ◌*◌, ◌≤◌, List, All}
-use Rattle.sp_machine.specs.Programme.{Programme, IsProgramme, IsNumber, word_at, opening_words}
+use Rattle.sp_paths.specs.Paths.{word_at}
+use Rattle.sp_machine.specs.Programme.{Programme, IsProgramme, IsNumber, opening_words}
 use Rattle.sp_machine.specs.Run.{run_of}
 use Rattle.sp_machine.specs.Linear.{IsLinear}
 

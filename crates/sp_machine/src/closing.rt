@@ -2,7 +2,7 @@
 ghost use Rattle.std.specs.Prelude.{◌≡◌, ◌↔◌, List, All, IsTrue, IfOk};
 ghost use Rattle.sp_word.specs.Word.{dist_of};
 ghost use Rattle.sp_machine.specs.declared.effect.Relaxation.{Relaxation as Finish};
-ghost use Rattle.sp_machine.specs.Programme.{word_at};
+ghost use Rattle.sp_paths.specs.Paths.{word_at};
 ghost use Rattle.sp_machine.specs.Run.{IsItemClosed};
 ghost use Rattle.sp_machine.specs.Closing.{HasJust};
 

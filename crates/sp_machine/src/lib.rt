@@ -22,4 +22,3 @@ pub use machine::Machine;
 pub use programme::Programme;
 pub use report::{Finished, Report};
 pub use running::replay;
-pub use turn::{At, Turn};

@@ -1,7 +1,8 @@
 //! The machine: the words, and how far each actor has come.
 ghost use Rattle.std.specs.Prelude.{◌≡◌, length, vec_len, true, replicate, All, IfOk};
 ghost use Rattle.sp_word.specs.Word.{Unreached, is_layout};
-ghost use Rattle.sp_machine.specs.Programme.{IsNumber, word_at, named_words};
+ghost use Rattle.sp_paths.specs.Paths.{word_at};
+ghost use Rattle.sp_machine.specs.Programme.{IsNumber, named_words};
 ghost use Rattle.sp_machine.specs.Run.{opening_machine};
 ghost use Rattle.sp_machine.specs.Step.{fresh_actor, vertex_at, words_after, stepped};
 

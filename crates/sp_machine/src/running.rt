@@ -1,6 +1,7 @@
 //! Replays.
 ghost use Rattle.std.specs.Prelude.{◌-◌, ◌*◌, ◌≤◌, All, IfOk};
-ghost use Rattle.sp_machine.specs.Programme.{IsNumber, word_at, opening_words};
+ghost use Rattle.sp_paths.specs.Paths.{word_at};
+ghost use Rattle.sp_machine.specs.Programme.{IsNumber, opening_words};
 ghost use Rattle.sp_machine.specs.Linear.{IsLinear};
 ghost use Rattle.sp_machine.specs.ReportOf.{IsReportOf};
 

@@ -10,7 +10,7 @@ use sp_word::Word;
 
 /// What an actor is at.
 #[derive(Clone, Copy, Debug, PartialEq, Eq)]
-pub enum At<const P: u32> {
+pub(crate) enum At<const P: u32> {
     /// It has no further item.
     Idle,
     /// An offer, by itself or as a relaxation's second part.
@@ -38,7 +38,7 @@ impl<const P: u32> At<P> {
 
 /// What a step of an actor does.
 #[derive(Clone, Copy, Debug, PartialEq, Eq)]
-pub enum Turn {
+pub(crate) enum Turn {
     /// There is no further item: nothing changes.
     Rests,
     /// 1: the word loaded is at most the offer, which ends, Kept.
