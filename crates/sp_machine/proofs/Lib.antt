@@ -9,5 +9,7 @@ pub mod RunSteps
 pub mod Totals
 pub mod Stale
 pub mod Finishes
+pub mod Arcs
+pub mod Closed
 pub mod Everywhere
 pub mod Reports

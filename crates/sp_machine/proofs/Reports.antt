@@ -3,17 +3,20 @@ use Rattle.std.proofs.Common.{◌≡◌, ◌∙◌, ℕ, ◌-◌, ◌*◌, ◌�
 use Rattle.std.proofs.lemmas.List.{at_drop_all, get_or-map, length-map}
 use Rattle.std.proofs.lemmas.List.Elements.{All-map}
 use Rattle.std.specs.Prelude.{All, IsTrue, ◌↔◌}
-use Rattle.sp_word.specs.Word.{Word}
+use Rattle.sp_word.specs.Word.{Word, max_dist}
 use Rattle.sp_machine.specs.declared.item.Item.{Item}
 use Rattle.sp_machine.specs.declared.effect.Relaxation.{Relaxation}
 use Rattle.sp_machine.specs.declared.log.Log.{Log}
-use Rattle.sp_paths.specs.Paths.{word_at}
+use Rattle.sp_machine.specs.declared.report.Report.{Report}
+use Rattle.sp_paths.specs.Paths.{word_at, EndsInTree}
 use Rattle.sp_machine.specs.Programme.{Programme, IsProgramme, IsNumber, opening_words}
 use Rattle.sp_machine.specs.Step.{Machine}
 use Rattle.sp_machine.specs.Run.{Run, run_from, run_of, IsItemClosed, IsClosed}
 use Rattle.sp_machine.specs.LogView.{log_of}
 use Rattle.sp_machine.specs.Linear.{IsLinear}
+use Rattle.sp_machine.specs.Relaxing.{graph_of, RelaxesFrom}
 use Rattle.sp_machine.specs.ReportOf.{IsReportOf}
+use Rattle.sp_machine.proofs.Closed.{closed_run_ends_in_tree}
 use Rattle.sp_machine.proofs.RunSteps.{run_is_linear}
 use Rattle.sp_machine.proofs.Stale.{losses_are_few}
 
@@ -55,3 +58,9 @@ pub few_losses : {P : ℕ} (p : Programme P) (schedule : List ℕ) (machine : Ma
     → record { machine = machine; log = log_of log } ≡ run_of p schedule → log.losses ≤ (p.actors - 1) * log.wins
 few_losses {P = P} p schedule machine log programme numbers ran =
     subst (λ (r : Run P). r.log.losses ≤ (p.actors - 1) * r.log.wins) (sym ran) (losses_are_few P p schedule programme numbers)
+
+-- a report that tells a closed run tells the tree
+pub tree : {P : ℕ} (p : Programme P) (schedule : List ℕ) (report : Report P) → IsProgramme p → All (IsNumber p.actors) schedule → IsReportOf p schedule report
+    → (s : ℕ) → RelaxesFrom p s → IsTrue report.closed → EndsInTree (graph_of p) s (max_dist P) (word_at report.words.items)
+tree {P = P} p schedule report programme numbers is s from closed =
+    subst (λ (end : List Word). EndsInTree (graph_of p) s (max_dist P) (word_at end)) (sym is.words) (closed_run_ends_in_tree P p schedule s programme numbers from (is.closed.0 closed))

@@ -17,7 +17,7 @@ use Rattle.sp_machine.specs.declared.report.Finished.{Finished}
 use Rattle.sp_paths.specs.Paths.{word_at}
 use Rattle.sp_machine.specs.Programme.{Programme, IsProgramme, IsNumber, IsItem, item_of, named_words, opening_words}
 use Rattle.sp_machine.specs.Step.{actor_of, place_of, item_at, found_by, turn, fresh_actor, vertex_at, call_ended, words_after, actor_after, with_caller, Machine}
-use Rattle.sp_machine.specs.Run.{Log, Run, first_step, begun_after, with_call, opening_run, run_step, run_from}
+use Rattle.sp_machine.specs.Run.{Log, Run, first_step, begun_after, with_call, opening_run, run_step, run_from, run_of}
 use Rattle.sp_machine.specs.Linear.{Point, IsLinear, event_of, history}
 use Rattle.sp_machine.specs.Theorems.{EveryRunIsLinear}
 use Rattle.sp_machine.proofs.Histories.{run_push, legal_push}
@@ -175,3 +175,8 @@ linear_run {P} p r sound = record {
 -- every run is linear
 pub run_is_linear : EveryRunIsLinear
 run_is_linear P p actors is numbers = linear_run p (run_from (opening_run p) actors) (sound_run p is (opening_run p) actors (sound_opening p))
+
+-- the calls of a run by rising last step are a legal history, and end in its words
+pub run_is_told : {P : ℕ} (p : Programme P) (actors : List ℕ) → IsProgramme p
+    → IsLegal (word_at (opening_words p)) (map event_of (run_of p actors).log.calls) × ((v : ℕ) → IsNumber p.words v → run (word_at (opening_words p)) (map event_of (run_of p actors).log.calls) v ≡ word_at (run_of p actors).machine.words v)
+run_is_told p actors is = let sound : IsSound p (run_of p actors) = sound_run p is (opening_run p) actors (sound_opening p) in (sound.told.legal, sound.told.ends)

@@ -2,6 +2,7 @@ pub mod Programme
 pub mod Step
 pub mod Run
 pub mod Linear
+pub mod Relaxing
 pub mod Theorems
 pub mod Cases
 pub mod ProgrammeView

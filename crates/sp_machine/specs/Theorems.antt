@@ -1,8 +1,10 @@
 -- What holds of every run.
 use Rattle.std.specs.Prelude.{ℕ, ◌-◌, ◌*◌, ◌≤◌, List, All}
-use Rattle.sp_paths.specs.Paths.{word_at}
+use Rattle.sp_word.specs.Word.{max_dist}
+use Rattle.sp_paths.specs.Paths.{word_at, EndsInTree}
 use Rattle.sp_machine.specs.Programme.{Programme, IsProgramme, IsNumber, opening_words}
-use Rattle.sp_machine.specs.Run.{run_of}
+use Rattle.sp_machine.specs.Run.{run_of, IsClosed}
+use Rattle.sp_machine.specs.Relaxing.{graph_of, RelaxesFrom}
 use Rattle.sp_machine.specs.Linear.{IsLinear}
 
 abbrev pub EveryRunIsLinear : Type 0
@@ -13,3 +15,8 @@ EveryRunIsLinear = (P : ℕ) (p : Programme P) (actors : List ℕ) → IsProgram
 abbrev pub LossesAreBounded : Type 0
 LossesAreBounded = (P : ℕ) (p : Programme P) (actors : List ℕ) → IsProgramme p → All (IsNumber p.actors) actors
     → (run_of p actors).log.losses ≤ (p.actors - 1) * (run_of p actors).log.wins
+
+-- A closed run of relaxations and reads, whatever its interleaving, ends in the tree of the arcs that it relaxes.
+abbrev pub ClosedRunEndsInTree : Type 0
+ClosedRunEndsInTree = (P : ℕ) (p : Programme P) (actors : List ℕ) (s : ℕ) → IsProgramme p → All (IsNumber p.actors) actors → RelaxesFrom p s → IsClosed p (run_of p actors).machine.words (run_of p actors).log.relaxed
+    → EndsInTree (graph_of p) s (max_dist P) (word_at (run_of p actors).machine.words)

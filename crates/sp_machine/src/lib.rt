@@ -1,5 +1,6 @@
 //! The step machine: actors that lower the words of one table by single loads and exchanges, in any
-//! interleaving; and the theorem that every run of it is linear.
+//! interleaving; and the theorems that every run of it is linear, and that a closed run of relaxations ends in
+//! the shortest-path tree.
 #![tactic(auto)]
 
 mod actor;
@@ -17,7 +18,7 @@ mod turn;
 pub use actor::Actor;
 pub use effect::{Call, Effect, Ended, Exchange, Relaxation};
 pub use item::Item;
-pub use laws::{every_run_is_linear, losses_are_bounded};
+pub use laws::{closed_run_ends_in_tree, every_run_is_linear, losses_are_bounded};
 pub use machine::Machine;
 pub use programme::Programme;
 pub use report::{Finished, Report};
