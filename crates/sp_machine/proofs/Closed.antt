@@ -1,6 +1,6 @@
 -- A run of relaxations and reads keeps to the arcs of its graph, and where it is closed it ends in the tree.
 use Rattle.std.proofs.Common.{◌≡◌, ℕ, ◌+◌, ◌-◌, ◌≤◌, ◌⊎◌, inl, inr, Bool, true, false, cond, leb, List, [], ◌∷◌, ◌++◌, get_or, set, Option, Some, None, refl, sym, ap, ◌∙◌, subst, arith, map}
-use Rattle.std.specs.Prelude.{All, Contains, slice_get}
+use Rattle.std.specs.Prelude.{Contains, slice_get}
 use Rattle.std.proofs.lemmas.Bool.{leb-true, leb-false}
 use Rattle.std.proofs.lemmas.Option.{same_Some, none-some}
 use Rattle.std.proofs.lemmas.List.{map_push}
@@ -12,22 +12,22 @@ use Rattle.sp_word.specs.Word.{Word, Unreached, Pair, dist_of, max_dist, is_belo
 use Rattle.sp_word.specs.History.{Table, Event, run, IsLegal}
 use Rattle.sp_word.specs.History as asks
 use Rattle.sp_paths.specs.Paths.{Graph, HasArc, word_at}
-use Rattle.sp_paths.specs.Calls.{HasRead, HasOffer, IsByArc, IsByArcs, IsClosedHistory}
+use Rattle.sp_paths.specs.Calls.{HasRead, HasOffer, IsByArcs}
 use Rattle.sp_paths.proofs.CallSteps.{one_call_more, closed_ends_in_tree}
 use Rattle.sp_machine.specs.declared.item.Item.{Item}
 use Rattle.sp_machine.specs.declared.item.Item.TheVariants.{Offer, Read, Relax}
 use Rattle.sp_machine.specs.declared.turn.At.{At}
 use Rattle.sp_machine.specs.declared.turn.Turn.{Turn}
-use Rattle.sp_machine.specs.declared.turn.Turn.TheVariants.{Rests, Keeps, Holds, Wins, LosesAndKeeps, LosesAndHolds, EndsRead, EndsLoad, GoesOn}
+use Rattle.sp_machine.specs.declared.turn.Turn.TheVariants.{Keeps, Holds, Wins, LosesAndKeeps, LosesAndHolds, EndsLoad, GoesOn}
 use Rattle.sp_machine.specs.declared.effect.Call.{Call}
 use Rattle.sp_machine.specs.declared.effect.Relaxation.{Relaxation}
 use Rattle.sp_machine.specs.declared.actor.Actor.{Actor}
 use Rattle.sp_machine.specs.declared.report.Finished.{Finished}
-use Rattle.sp_machine.specs.Programme.{Programme, IsProgramme, IsNumber, opening_words}
+use Rattle.sp_machine.specs.Programme.{Programme, IsNumber, opening_words}
 use Rattle.sp_machine.specs.Step.{Machine, at, vertex_at, turn, offer_turn, load_turn, ends_item, beyond, actor_after, call_ended, with_caller, relaxation, fresh_actor, actor_of, item_at, place_of, found_by}
-use Rattle.sp_machine.specs.Run.{Log, Run, first_step, with_call, with_relaxation, opening_run, run_step, run_from, run_of, IsItemClosed, IsClosed}
+use Rattle.sp_machine.specs.Run.{Run, first_step, with_call, with_relaxation, opening_run, run_step, run_from, run_of, IsItemClosed}
 use Rattle.sp_machine.specs.Linear.{asked, event_of}
-use Rattle.sp_machine.specs.Relaxing.{graph_of, IsRelaxOrRead, RelaxesFrom}
+use Rattle.sp_machine.specs.Relaxing.{graph_of, IsRelaxOrRead}
 use Rattle.sp_machine.specs.Theorems.{ClosedRunEndsInTree}
 use Rattle.sp_machine.proofs.Arcs.{arc_of_rows, arcs_all, item_has, programme_graph}
 use Rattle.sp_machine.proofs.ListSteps.{each_set, copy_at}
