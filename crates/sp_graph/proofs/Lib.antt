@@ -1,0 +1,5 @@
+pub mod Compare
+pub mod Orders
+pub mod Starts
+pub mod Cuts
+pub mod Longer

@@ -1,0 +1,121 @@
+//! Graphs by rows.
+ghost use Rattle.std.specs.Prelude.{◌≡◌, ◌≤◌, length, All, IfOk};
+ghost use Rattle.std.specs.List.Sorted.{IsPermutation};
+ghost use Rattle.sp_paths.specs.Paths.{IsVertex, IsArc, IsGraph};
+ghost use Rattle.sp_paths.specs.Rows.{row_of};
+ghost use Rattle.sp_graph.specs.Order.{IsInOrder};
+ghost use Rattle.sp_graph.specs.Longest.{IsLongest};
+ghost use Rattle.sp_graph.specs.Index.{IsRowAt};
+
+use crate::index::{copy_in_order, greatest_length, row_starts};
+use sp_paths::Arc;
+use std::alloc::{AllocError, Global};
+use std::marker::Model;
+
+/// A graph with its arcs in order, by tail, then by head, then by length, so that the arcs that leave a vertex are
+/// one slice, its row. Parallel arcs and loops are kept, each as often as it was given.
+///
+/// Contracts see the number of vertices and the arcs in their order.
+#[derive(Drop)]
+pub struct Graph {
+    n: u32,
+    // in order
+    arcs: Vec<Arc>,
+    // the row of vertex v goes from the place at v - 1 up to the one at v
+    starts: Vec<usize>,
+    longest: u32,
+}
+
+impl Model for Graph {
+    ghost use Rattle.sp_paths.specs.Paths.{Graph as Network};
+
+    ghost Value = { Network };
+
+    ghost use Rattle.sp_graph.specs.GraphView.{graph_of, IsStored};
+
+    ghost view = { graph_of };
+
+    ghost invariant = { IsStored };
+}
+
+impl Graph {
+    /// The graph of `n` vertices with these arcs, each as often as it is given. It takes a time of the order of
+    /// `m log m` for `m` arcs, and is refused where there is no memory for a copy of the arcs and for `n + 1` places.
+    pub fn build(alloc: Global, n: u32, arcs: &[Arc]) -> Result<Graph, AllocError>
+        requires some { 1 ≤ n }
+        requires arcs { All (IsArc n) arcs.now }
+        ensures n { IfOk result (λ graph. graph.n ≡ n) }
+        ensures arcs { IfOk result (λ graph. IsPermutation arcs.now graph.arcs) }
+        ensures order { IfOk result (λ graph. IsInOrder graph.arcs) }
+    {
+        let arcs = copy_in_order(alloc, arcs)?;
+        Graph::of_ordered(alloc, n, arcs)
+    }
+
+    // The graph of arcs that are in order.
+    fn of_ordered(alloc: Global, n: u32, arcs: Vec<Arc>) -> Result<Graph, AllocError>
+        requires some { 1 ≤ n }
+        requires arcs { All (IsArc n) arcs.items }
+        requires order { IsInOrder arcs.items }
+        ensures { IfOk result (λ graph. graph ≡ record { n = n; arcs = arcs.items }) }
+    {
+        let starts = row_starts(alloc, n, &arcs)?;
+        let longest = greatest_length(&arcs);
+        Ok(Graph {
+            n,
+            arcs,
+            starts,
+            longest,
+        })
+    }
+
+    /// How many vertices there are; they are numbered from 1.
+    pub fn n(&self) -> u32
+        ensures n { result ≡ self.now.n }
+        ensures some { 1 ≤ self.now.n }
+        ensures graph { IsGraph self.now }
+    {
+        self.n
+    }
+
+    /// How many arcs there are.
+    pub fn m(&self) -> usize
+        ensures { result ≡ length self.now.arcs }
+    {
+        self.arcs.len()
+    }
+
+    /// The greatest length of an arc, 0 where there is none.
+    pub fn longest(&self) -> u32
+        ensures { IsLongest self.now.arcs result }
+    {
+        self.longest
+    }
+
+    /// All arcs, in order.
+    pub fn arcs(&self) -> &[Arc]
+        ensures arcs { result.now ≡ self.now.arcs }
+        ensures graph { IsGraph self.now }
+        ensures order { IsInOrder self.now.arcs }
+    {
+        self.arcs.as_slice()
+    }
+
+    /// The arcs that leave `v`, by rising head, then by rising length. It takes two look-ups.
+    pub fn row(&self, v: u32) -> &[Arc]
+        requires { IsVertex self.now.n v }
+        ensures row { result.now ≡ row_of self.now.arcs v }
+        ensures arcs { All (IsArc self.now.n) result.now }
+    {
+        let (low, high) = self.bounds(v);
+        &self.arcs[low..high]
+    }
+
+    // Where the row of `v` begins and ends among the arcs.
+    fn bounds(&self, v: u32) -> (usize, usize)
+        requires { IsVertex self.now.n v }
+        ensures { IsRowAt self.now v result.0 result.1 }
+    {
+        (self.starts[(v - 1) as usize], self.starts[v as usize])
+    }
+}

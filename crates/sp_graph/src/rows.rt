@@ -1,0 +1,164 @@
+//! Rows with light arcs before heavy ones.
+ghost use Rattle.std.specs.Prelude.{◌≡◌, ℕ, ◌≤◌, ◌++◌, length, slice_range, filter, nat_lt, nat_le, All, IfOk, OnOk};
+ghost use Rattle.sp_paths.specs.Paths.{IsVertex, IsArc, IsGraph};
+ghost use Rattle.sp_paths.specs.Rows.{light_of, heavy_of};
+
+use crate::graph::Graph;
+use sp_paths::Arc;
+use std::alloc::{AllocError, Global};
+use std::marker::Model;
+
+// Where the light arcs of a row begin among all arcs, and where its heavy ones do.
+#[derive(Clone, Copy)]
+struct Cut {
+    light: usize,
+    heavy: usize,
+}
+
+/// The rows of a graph, each with its light arcs, those of a length of at most `delta`, before its heavy ones.
+/// (Meyer and Sanders, "Delta-stepping: a parallelizable shortest path algorithm", Journal of Algorithms 49 (2003),
+/// section 2.)
+///
+/// Contracts see the graph and `delta`.
+#[derive(Drop)]
+pub struct Rows {
+    n: u32,
+    delta: u64,
+    // the rows by vertex, each with light before heavy arcs, both in the order of the row
+    arcs: Vec<Arc>,
+    // that of vertex v at v - 1, and the end of the last row
+    cuts: Vec<Cut>,
+}
+
+impl Model for Rows {
+    ghost use Rattle.sp_graph.specs.RowsValue.{Split};
+
+    ghost Value = { Split };
+
+    ghost use Rattle.sp_graph.specs.RowsView.{split_of, IsKept};
+
+    ghost view = { split_of };
+
+    ghost invariant = { IsKept };
+}
+
+impl Rows {
+    /// The rows of `graph`, parted at `delta`. It takes linear time, and is refused where there is no memory for a copy
+    /// of the arcs and for `n + 1` cuts.
+    pub fn split(alloc: Global, graph: &Graph, delta: u64) -> Result<Rows, AllocError>
+        ensures graph { IfOk result (λ rows. rows.graph ≡ graph.now) }
+        ensures delta { IfOk result (λ rows. rows.delta ≡ delta) }
+    {
+        let n = graph.n();
+        let mut arcs = Vec::with_capacity(alloc, graph.arcs().len())?;
+        let mut cuts = Vec::with_capacity(alloc, n as usize + 1)?;
+        for index in 0..n {
+            let cut = push_row(&mut arcs, graph.row(index + 1), delta)?;
+            cuts.push(cut)?;
+        }
+        let end = arcs.len();
+        cuts.push(Cut {
+            light: end,
+            heavy: end,
+        })?;
+        Ok(Rows {
+            n,
+            delta,
+            arcs,
+            cuts,
+        })
+    }
+
+    /// How many vertices there are.
+    pub fn n(&self) -> u32
+        ensures n { result ≡ self.now.graph.n }
+        ensures some { 1 ≤ self.now.graph.n }
+        ensures graph { IsGraph self.now.graph }
+    {
+        self.n
+    }
+
+    /// The greatest length of a light arc.
+    pub fn delta(&self) -> u64
+        ensures { result ≡ self.now.delta }
+    {
+        self.delta
+    }
+
+    /// The arcs of length at most `delta` that leave `v`, in the order of its row.
+    pub fn light(&self, v: u32) -> &[Arc]
+        requires { IsVertex self.now.graph.n v }
+        ensures row { result.now ≡ light_of self.now.graph.arcs self.now.delta v }
+        ensures arcs { All (IsArc self.now.graph.n) result.now }
+    {
+        self.parts(v).0
+    }
+
+    /// The arcs of a length above `delta` that leave `v`, in the order of its row.
+    pub fn heavy(&self, v: u32) -> &[Arc]
+        requires { IsVertex self.now.graph.n v }
+        ensures row { result.now ≡ heavy_of self.now.graph.arcs self.now.delta v }
+        ensures arcs { All (IsArc self.now.graph.n) result.now }
+    {
+        self.parts(v).1
+    }
+
+    // The light arcs of `v`, and its heavy ones.
+    fn parts(&self, v: u32) -> (&[Arc], &[Arc])
+        requires { IsVertex self.now.graph.n v }
+        ensures light { result.0.now ≡ light_of self.now.graph.arcs self.now.delta v }
+        ensures heavy { result.1.now ≡ heavy_of self.now.graph.arcs self.now.delta v }
+        ensures light_arcs { All (IsArc self.now.graph.n) result.0.now }
+        ensures heavy_arcs { All (IsArc self.now.graph.n) result.1.now }
+    {
+        let cut = self.cuts[(v - 1) as usize];
+        let end = self.cuts[v as usize].light;
+        let light = part(&self.arcs, cut.light, cut.heavy);
+        let heavy = part(&self.arcs, cut.heavy, end);
+        (light, heavy)
+    }
+}
+
+// The arcs from `low` up to, not including, `high`.
+fn part(arcs: &[Arc], low: usize, high: usize) -> &[Arc]
+    requires rising { low ≤ high }
+    requires within { high ≤ length arcs.now }
+    ensures { result.now ≡ slice_range arcs.now low high }
+{
+    &arcs[low..high]
+}
+
+// Appends a row, its light arcs before its heavy ones, and tells where the two begin.
+fn push_row(arcs: &mut Vec<Arc>, row: &[Arc], delta: u64) -> Result<Cut, AllocError>
+    ensures row { OnOk result (arcs.new.items ≡ arcs.old.items ++ (filter (λ a. nat_le a.len delta) row.now ++ filter (λ a. nat_lt delta a.len) row.now)) }
+    ensures light { IfOk result (λ cut. cut.light ≡ length arcs.old.items) }
+    ensures heavy { IfOk result (λ cut. cut.heavy ≡ length (arcs.old.items ++ filter (λ a. nat_le a.len delta) row.now)) }
+{
+    let light = arcs.len();
+    push_light(arcs, row, delta)?;
+    let heavy = arcs.len();
+    push_heavy(arcs, row, delta)?;
+    Ok(Cut { light, heavy })
+}
+
+fn push_light(arcs: &mut Vec<Arc>, row: &[Arc], delta: u64) -> Result<(), AllocError>
+    ensures { OnOk result (arcs.new.items ≡ arcs.old.items ++ filter (λ a. nat_le a.len delta) row.now) }
+{
+    for arc in row {
+        if arc.len as u64 <= delta {
+            arcs.push(*arc)?;
+        }
+    }
+    Ok(())
+}
+
+fn push_heavy(arcs: &mut Vec<Arc>, row: &[Arc], delta: u64) -> Result<(), AllocError>
+    ensures { OnOk result (arcs.new.items ≡ arcs.old.items ++ filter (λ a. nat_lt delta a.len) row.now) }
+{
+    for arc in row {
+        if delta < arc.len as u64 {
+            arcs.push(*arc)?;
+        }
+    }
+    Ok(())
+}
