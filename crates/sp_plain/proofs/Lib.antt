@@ -1,0 +1,2 @@
+pub mod PassSteps
+pub mod TableSteps

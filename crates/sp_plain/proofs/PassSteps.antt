@@ -1,0 +1,143 @@
+-- One step of a pass over the arcs.
+use Rattle.std.proofs.Common.{◌≡◌, ℕ, ◌+◌, ◌-◌, ◌*◌, ◌<◌, ◌≤◌, ◌⊎◌, inl, inr, Bool, true, false, cond, List, [], ◌∷◌, ◌++◌, length, get_or, set, take, Some, sym, ap, ◌∙◌, subst, arith, length-set, get_or-set_same, get_or-set_other}
+use Rattle.std.specs.Prelude.{All, sum_by, unwrap_or}
+use Rattle.std.proofs.Math.Nat.{mul-le-mul_right}
+use Rattle.std.proofs.lemmas.Bool.{cases_eq, cases_lt, cases_order}
+use Rattle.std.proofs.lemmas.List.{take_more, take_all}
+use Rattle.std.proofs.lemmas.List.Elements.{All-get_or, All-set, Contains-push_cases}
+use Rattle.std.proofs.lemmas.List.Sums.{sum_by-set}
+use Rattle.sp_word.specs.Word.{Word, Unreached, Pair, IsBelow, dist_of}
+use Rattle.sp_word.specs.History.{Table}
+use Rattle.sp_paths.specs.declared.arc.Arc.{Arc}
+use Rattle.sp_paths.specs.Paths.{Graph, IsGraph, IsVertex, IsArc, HasArc, HasWalkBy, IsLawful, IsAtMost, IsClosed, IsTableFrom, word_at}
+use Rattle.sp_plain.specs.Passing.{network, IsLesserOffer, IsNoLesser, IsSmall, KeepsTables, rank}
+use Rattle.sp_paths.proofs.Walks.{walk_by}
+use Rattle.sp_paths.proofs.Core.{pair_walk}
+
+-- a distance is that of a pair
+pub pair_of : (w : Word) (d : ℕ) → dist_of w ≡ Some d → (p : ℕ) × (w ≡ Pair d p)
+pair_of Unreached d e = absurd (cc)
+pair_of (Pair c p) d e = (p, ap (λ o. Pair (unwrap_or o 0) p) e)
+
+-- what is below a word is not above it
+not_at_most : (w : Word) (d p : ℕ) → IsBelow (Pair d p) w → IsAtMost w d p → ⊥
+not_at_most Unreached d p h k = k
+not_at_most (Pair e q) d p (inl h) (inl k) = omega arith
+not_at_most (Pair e q) d p (inl h) (inr k) = omega (arith, k.0)
+not_at_most (Pair e q) d p (inr h) (inl k) = omega (arith, h.0)
+not_at_most (Pair e q) d p (inr h) (inr k) = omega (arith, h.1, k.1)
+
+at_most_unless : (w : Word) (d p : ℕ) → (IsBelow (Pair d p) w → ⊥) → IsAtMost w d p
+at_most_unless Unreached d p h = h tt
+at_most_unless (Pair e q) d p h = go (cases_order e d) (cases_lt p q)
+  where
+    go : (e ≡ d) ⊎ ((e < d) ⊎ (d < e)) → (p < q) ⊎ (q ≤ p) → (e < d) ⊎ ((e ≡ d) × (q ≤ p))
+    go (inl s) (inl k) = absurd (h (inr (sym s, k)))
+    go (inl s) (inr k) = inr (s, k)
+    go (inr (inl s)) k = inl s
+    go (inr (inr s)) k = absurd (h (inl s))
+
+-- an arc of the arcs so far and one more
+pub arc_more : (n : ℕ) (arcs : List Arc) (arc : Arc) (u v l : ℕ) → HasArc (network n (arcs ++ arc ∷ [])) u v l → HasArc (network n arcs) u v l ⊎ (arc ≡ record { tail = u; head = v; len = l })
+arc_more n arcs arc u v l h = Contains-push_cases arcs arc (record { tail = u; head = v; len = l }) h
+
+-- the next arc is relaxed too
+pub closed_more : (n max : ℕ) (arcs : List Arc) (arc : Arc) (words : Table) → IsClosed (network n arcs) max words → IsNoLesser max (words arc.tail) arc (words arc.head) → IsClosed (network n (arcs ++ arc ∷ [])) max words
+closed_more n max arcs arc words closed here u v l a d p e fits = go (arc_more n arcs arc u v l a)
+  where
+    go : HasArc (network n arcs) u v l ⊎ (arc ≡ record { tail = u; head = v; len = l }) → IsAtMost (words v) (d + l) u
+    go (inl a') = closed u v l a' d p e fits
+    go (inr same) = let H : Arc → Type 0 = λ x. IsNoLesser max (words x.tail) x (words x.head) in at_most_unless (words v) (d + l) u ((subst H same here) d (ap dist_of e) fits)
+
+-- what is less has a lower place
+rank_less : (n max : ℕ) (found : Word) (d p : ℕ) → IsSmall n max found → d ≤ max → p ≤ n → IsBelow (Pair d p) found → rank n max (Pair d p) < rank n max found
+rank_less n max Unreached d p small fits in' more =
+    let row : d * (n + 1) ≤ max * (n + 1) = mul-le-mul_right (n + 1) fits in omega arith
+rank_less n max (Pair e q) d p small fits in' (inl k) = let row : (d + 1) * (n + 1) ≤ e * (n + 1) = mul-le-mul_right (n + 1) (omega arith) in omega arith
+rank_less n max (Pair e q) d p small fits in' (inr k) = rw k.0 (omega (arith, k.1))
+
+-- the word of a vertex after a write at another, and at itself
+pub word_other : (words : List Word) (head v : ℕ) (w : Word) → 1 ≤ head → 1 ≤ v → (v ≡ head → ⊥) → word_at (set words (head - 1) w) v ≡ word_at words v
+word_other words head v w h k other = get_or-set_other words (head - 1) (v - 1) w Unreached (λ e. other (omega arith))
+
+pub word_same : (words : List Word) (head : ℕ) (w : Word) → 1 ≤ head → head ≤ length words → word_at (set words (head - 1) w) head ≡ w
+word_same words head w h k = get_or-set_same words (head - 1) w Unreached (omega arith)
+
+-- a word that an arc makes of a lawful one is lawful
+module _ (g : Graph) (gr : IsGraph g) (max : ℕ) (words : List Word) (size : length words ≡ g.n) (arc : Arc) (here : HasArc g arc.tail arc.head arc.len) (in' : IsArc g.n arc) (w : Word) (lesser : IsLesserOffer max (word_at words arc.tail) arc (word_at words arc.head) w) where
+  set_table : (s : ℕ) → IsVertex g.n s → IsTableFrom g s (word_at words) → IsTableFrom g s (word_at (set words (arc.head - 1) w))
+  set_table s at table = record { lawful = λ v h. lawful v h (cases_eq v arc.head); source = source (cases_eq s arc.head) }
+    where
+      by : HasWalkBy g s arc.head (lesser.0 + arc.len) arc.tail
+      by = let from = pair_of (word_at words arc.tail) lesser.0 lesser.1 in walk_by g s arc.tail arc.head lesser.0 arc.len (pair_walk g gr s at (word_at words) table arc.tail lesser.0 from.0 in'.0 from.1) here
+
+      new : IsLawful g s arc.head w
+      new = rw lesser.3 (inr by)
+
+      lawful : (v : ℕ) → IsVertex g.n v → (v ≡ arc.head) ⊎ (v ≡ arc.head → ⊥) → IsLawful g s v (word_at (set words (arc.head - 1) w) v)
+      lawful v h (inl same) = rw same (rw (word_same words arc.head w in'.1.0 (omega (arith, in'.1))) new)
+      lawful v h (inr other) = rw (word_other words arc.head v w in'.1.0 h.0 other) (table.lawful v h)
+
+      no_less : (word_at words arc.head ≡ Pair 0 0) → ⊥
+      no_less e = let at_most : IsAtMost (Pair 0 0) (lesser.0 + arc.len) arc.tail = inl (omega (arith, in'.2)) in not_at_most (word_at words arc.head) (lesser.0 + arc.len) arc.tail (rw lesser.3 at lesser.4) (rw e at_most)
+
+      source : (s ≡ arc.head) ⊎ (s ≡ arc.head → ⊥) → word_at (set words (arc.head - 1) w) s ≡ Pair 0 0
+      source (inl same) = absurd (no_less (rw same at table.source))
+      source (inr other) = word_other words arc.head s w in'.1.0 at.0 other ∙ table.source
+
+-- what holds after i arcs of a pass
+pub record IsPassing (n max : ℕ) (arcs : List Arc) (i : ℕ) (initial words : List Word) (changed : Bool) : Type 0 where
+  pub size : length words ≡ n
+  pub small : All (IsSmall n max) words
+  pub kept : KeepsTables (network n arcs) initial words
+  pub closed : changed ≡ false → IsClosed (network n (take i arcs)) max (word_at words)
+  pub less : sum_by (rank n max) words + cond changed 1 0 ≤ sum_by (rank n max) initial
+
+pub pass_start : (n max : ℕ) (arcs : List Arc) (words : List Word) → length words ≡ n → All (IsSmall n max) words → IsPassing n max arcs 0 words words false
+pass_start n max arcs words size small = record {
+  size = size;
+  small = small;
+  kept = λ s h t. t;
+  closed = λ e u v l a. absurd (omega (arith, a.1));
+  less = omega arith;
+}
+
+module _ (n max : ℕ) (arcs : List Arc) (i : ℕ) (initial words : List Word) (changed : Bool) (arc : Arc) (in' : i < length arcs) (is : get_or arcs i arc ≡ arc) (p : IsPassing n max arcs i initial words changed) where
+  next : take (i + 1) arcs ≡ take i arcs ++ arc ∷ []
+  next = take_more arcs i arc in' ∙ ap (λ x. take i arcs ++ x ∷ []) is
+
+  pub pass_keeps : IsNoLesser max (word_at words arc.tail) arc (word_at words arc.head) → IsPassing n max arcs (i + 1) initial words changed
+  pass_keeps here = record {
+    size = p.size;
+    small = p.small;
+    kept = p.kept;
+    closed = λ e. rw next (closed_more n max (take i arcs) arc (word_at words) (p.closed e) here);
+    less = p.less;
+  }
+
+  pub pass_sets : All (IsArc n) arcs → (w : Word) → IsLesserOffer max (word_at words arc.tail) arc (word_at words arc.head) w → IsPassing n max arcs (i + 1) initial (set words (arc.head - 1) w) true
+  pass_sets fine w lesser = record {
+    size = length-set words (arc.head - 1) w ∙ p.size;
+    small = All-set (IsSmall n max) words (arc.head - 1) w (rw lesser.3 (lesser.2, ends.0.1)) p.small;
+    kept = λ s h t. set_table (network n arcs) fine max words p.size arc here ends w lesser s h (p.kept s h t);
+    closed = λ e. absurd (cc);
+    less = less;
+  }
+    where
+      ends : IsArc n arc
+      ends = rw is at (All-get_or (IsArc n) arcs i arc in' fine)
+
+      here : HasArc (network n arcs) arc.tail arc.head arc.len
+      here = (i, in', is)
+
+      place : arc.head - 1 < length words
+      place = omega (arith, ends.1, p.size)
+
+      lower : rank n max w < rank n max (word_at words arc.head)
+      lower = rw lesser.3 (rank_less n max (word_at words arc.head) (lesser.0 + arc.len) arc.tail (All-get_or (IsSmall n max) words (arc.head - 1) Unreached place p.small) lesser.2 ends.0.1 (rw lesser.3 at lesser.4))
+
+      less : sum_by (rank n max) (set words (arc.head - 1) w) + cond true 1 0 ≤ sum_by (rank n max) initial
+      less = let sum = sum_by-set (rank n max) words (arc.head - 1) w Unreached place in let low = lower in omega (arith, p.less)
+
+pub pass_end : (n max : ℕ) (arcs : List Arc) (i : ℕ) (initial words : List Word) (changed : Bool) → length arcs ≤ i → IsPassing n max arcs i initial words changed → changed ≡ false → IsClosed (network n arcs) max (word_at words)
+pass_end n max arcs i initial words changed h p e = rw (take_all i arcs h) at (p.closed e)

@@ -1,0 +1,66 @@
+-- What a pass over the arcs does to a table of words, and what it leaves out.
+use Rattle.std.specs.Prelude.{◌≡◌, ◌≢◌, ℕ, min, replicate, ◌+◌, ◌-◌, ◌*◌, ◌≤◌, List, length, slice_set, All, sum_by, Option, Some, None}
+use Rattle.sp_word.specs.Word.{Word, Unreached, Pair, IsBelow, dist_of}
+use Rattle.sp_word.specs.History.{Table}
+use Rattle.sp_paths.specs.declared.arc.Arc.{Arc}
+use Rattle.sp_paths.specs.Paths.{Graph, IsVertex, IsTree, IsFar, IsTableFrom, IsLeftOut, word_at}
+use Rattle.sp_paths.specs.Theorems.{IsFinished}
+
+abbrev pub network : ℕ → List Arc → Graph
+network n arcs = record { n = n; arcs = arcs }
+
+-- the pair that the arc makes of the word `from`, within max, and less than the word found
+abbrev pub IsLesserOffer : (max : ℕ) → Word → Arc → Word → Word → Type 0
+IsLesserOffer max from arc found word = (d : ℕ) × (dist_of from ≡ Some d) × (d + arc.len ≤ max) × (word ≡ Pair (d + arc.len) arc.tail) × IsBelow word found
+
+-- what the arc makes of the word `from` is not less than the word found
+abbrev pub IsNoLesser : (max : ℕ) → Word → Arc → Word → Type 0
+IsNoLesser max from arc found = (d : ℕ) → dist_of from ≡ Some d → d + arc.len ≤ max → IsBelow (Pair (d + arc.len) arc.tail) found → ⊥
+
+-- distances within max, and predecessors within n
+abbrev pub IsSmall : (n max : ℕ) → Word → Type 0
+IsSmall n max Unreached = Unit {0}
+IsSmall n max (Pair d p) = (d ≤ max) × (p ≤ n)
+
+abbrev pub IsSmallTable : ℕ → List Word → Type 0
+IsSmallTable max words = All (IsSmall (length words) max) words
+
+-- what was the table of a run is one still
+abbrev pub KeepsTables : Graph → List Word → List Word → Type 0
+KeepsTables g before after = (s : ℕ) → IsVertex g.n s → IsTableFrom g s (word_at before) → IsTableFrom g s (word_at after)
+
+-- the place of a word in the order of words
+abbrev pub rank : (n max : ℕ) → Word → ℕ
+rank n max Unreached = (max + 1) * (n + 1)
+rank n max (Pair d p) = d * (n + 1) + p
+
+abbrev pub total_rank : ℕ → List Word → ℕ
+total_rank max words = sum_by (rank (length words) max) words
+
+-- the smallest vertex that is left out, or none
+abbrev pub IsLeastLeftOut : Graph → Table → Option ℕ → Type 0
+IsLeastLeftOut g words None = (v : ℕ) → IsLeftOut g words v → ⊥
+IsLeastLeftOut g words (Some v) = IsLeftOut g words v × ((w : ℕ) → IsLeftOut g words w → v ≤ w)
+
+abbrev pub smaller_of : Option ℕ → ℕ → ℕ
+smaller_of None second = second
+smaller_of (Some first) second = min first second
+
+-- (0, 0) at the source, and unreached elsewhere
+abbrev pub first_words : (n s : ℕ) → List Word
+first_words n s = slice_set (replicate n Unreached) (s - 1) (Pair 0 0)
+
+-- from a pair to unreached
+abbrev pub LeadsOut : Word → Word → Type 0
+LeadsOut from found = (from ≢ Unreached) × (found ≡ Unreached)
+
+-- a table of n words in which every arc is relaxed
+pub record IsFinishedTable (g : Graph) (s max : ℕ) (words : List Word) : Type 0 where
+  pub size : length words ≡ g.n
+  pub small : IsSmallTable max words
+  pub finished : IsFinished g s max (word_at words)
+
+-- what a finished table says: the tree, or the vertex that is too far
+abbrev pub IsOutcome : Graph → (s max : ℕ) → List Word → Option ℕ → Type 0
+IsOutcome g s max words None = IsTree g s (word_at words) × IsFar g s max None
+IsOutcome g s max words (Some v) = IsFar g s max (Some v)

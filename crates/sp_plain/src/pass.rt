@@ -1,0 +1,107 @@
+//! Passes over the arcs.
+ghost use Rattle.std.specs.Prelude.{◌≡◌, ℕ, ◌+◌, ◌≤◌, true, length, vec_len, All, IfOk, IfSome, IfNone, cond};
+ghost use Rattle.std.specs.Bool.{OnFalse};
+ghost use Rattle.sp_word.specs.Word.{is_layout, max_dist, max_pred};
+ghost use Rattle.sp_paths.specs.Paths.{IsArc, IsVertex, IsClosed, word_at};
+ghost use Rattle.sp_plain.specs.Passing.{network, KeepsTables, IsLesserOffer, IsNoLesser, IsSmallTable, total_rank, first_words, IsFinishedTable};
+
+use sp_graph::Graph;
+use sp_paths::Arc;
+use sp_word::Word;
+use std::alloc::{AllocError, Global};
+
+// The word of a vertex.
+pub fn look_up<const P: u32>(words: &[Word<P>], vertex: u32) -> Word<P>
+    requires { IsVertex (length words.now) vertex }
+    ensures { result ≡ word_at words.now vertex }
+{
+    words[(vertex - 1) as usize]
+}
+
+// The word that an arc from a vertex with the word `from` puts in place of the head's, if there is one.
+fn offer<const P: u32>(from: Word<P>, arc: Arc, found: Word<P>) -> Option<Word<P>>
+    requires layout { is_layout P ≡ true }
+    requires tail { arc.tail ≤ max_pred P }
+    ensures some { IfSome result (λ word. IsLesserOffer (max_dist P) from.entry arc found.entry word) }
+    ensures none { IfNone result (IsNoLesser (max_dist P) from.entry arc found.entry) }
+{
+    let dist = from.dist()?;
+    let sum = dist + u64::from(arc.len);
+    if sum > Word::<P>::max_dist() {
+        return None;
+    }
+    let word = Word::pack(sum, arc.tail);
+    if word.is_below(found) {
+        Some(word)
+    } else {
+        None
+    }
+}
+
+// Relaxes every arc once; says whether a word changed.
+fn pass<const P: u32>(words: &mut Vec<Word<P>>, arcs: &[Arc]) -> bool
+    requires layout { is_layout P ≡ true }
+    requires room { vec_len words.old ≤ max_pred P }
+    requires arcs { All (IsArc (vec_len words.old)) arcs.now }
+    requires small { IsSmallTable (max_dist P) words.old.items }
+    ensures size { vec_len words.new ≡ vec_len words.old }
+    ensures small { IsSmallTable (max_dist P) words.new.items }
+    ensures kept { KeepsTables (network (vec_len words.old) arcs.now) words.old.items words.new.items }
+    ensures closed { OnFalse result (IsClosed (network (vec_len words.old) arcs.now) (max_dist P) (word_at words.new.items)) }
+    ensures less { total_rank (max_dist P) words.new.items + cond result 1 0 ≤ total_rank (max_dist P) words.old.items }
+{
+    let mut changed = false;
+    for arc in arcs {
+        let from = look_up(words, arc.tail);
+        let found = look_up(words, arc.head);
+        if let Some(word) = offer(from, *arc, found) {
+            words[(arc.head - 1) as usize] = word;
+            changed = true;
+        }
+    }
+    changed
+}
+
+// Relaxes the arcs until no word changes.
+fn relax_all<const P: u32>(words: &mut Vec<Word<P>>, arcs: &[Arc])
+    requires layout { is_layout P ≡ true }
+    requires room { vec_len words.old ≤ max_pred P }
+    requires arcs { All (IsArc (vec_len words.old)) arcs.now }
+    requires small { IsSmallTable (max_dist P) words.old.items }
+    ensures size { vec_len words.new ≡ vec_len words.old }
+    ensures small { IsSmallTable (max_dist P) words.new.items }
+    ensures kept { KeepsTables (network (vec_len words.old) arcs.now) words.old.items words.new.items }
+    ensures closed { IsClosed (network (vec_len words.old) arcs.now) (max_dist P) (word_at words.new.items) }
+{
+    let mut changed = true;
+    while changed {
+        changed = pass(words, arcs);
+    }
+}
+
+// The table before any arc is relaxed.
+fn first_table<const P: u32>(alloc: Global, n: u32, source: u32) -> Result<Vec<Word<P>>, AllocError>
+    requires layout { is_layout P ≡ true }
+    requires source { IsVertex n source }
+    ensures { IfOk result (λ words. words.items ≡ first_words n source) }
+{
+    let mut words = vec![in alloc; Word::unreached(); n as usize]?;
+    words[(source - 1) as usize] = Word::pack(0, 0);
+    Ok(words)
+}
+
+// The table once every arc is relaxed.
+pub fn finished_table<const P: u32>(
+    alloc: Global,
+    graph: &Graph,
+    source: u32,
+) -> Result<Vec<Word<P>>, AllocError>
+    requires layout { is_layout P ≡ true }
+    requires source { IsVertex graph.now.n source }
+    requires room { graph.now.n ≤ max_pred P }
+    ensures { IfOk result (λ words. IsFinishedTable graph.now source (max_dist P) words.items) }
+{
+    let mut words = first_table(alloc, graph.n(), source)?;
+    relax_all(&mut words, graph.arcs());
+    Ok(words)
+}
