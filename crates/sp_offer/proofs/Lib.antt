@@ -1,0 +1,9 @@
+pub mod Orders
+pub mod Ties
+pub mod Histories
+pub mod Steps
+pub mod Moves
+pub mod Knowing
+pub mod Own
+pub mod Copies
+pub mod Exchanges

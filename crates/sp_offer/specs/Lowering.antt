@@ -1,0 +1,27 @@
+-- How far an offer has come.
+use Rattle.std.specs.Prelude.{◌≡◌, ◌≢◌, ℕ, ◌+◌, ◌<◌, ◌≤◌, true}
+use Rattle.sp_word.specs.Word.{Word, Fits, is_layout, is_word, bits_of, word_of}
+use Rattle.sp_offer.specs.Story.{Story, Calls, Looks, IsTried}
+use Rattle.sp_offer.specs.Rule.{answered}
+
+module _ (P : ℕ) (law : ℕ → Word → Type 0) (by vertex : ℕ) (word : Word) (bits : ℕ) where
+  -- After some steps: where the bits held are no larger than those offered the call is made, and else they were
+  -- seen. Each step but the first found a lesser word.
+  pub record IsUnderWay (held tries : ℕ) (s t : Story) : Type 0 where
+    pub layout : is_layout P ≡ true
+    pub offered : (bits ≡ bits_of P word) × Fits P word
+    pub is_word : is_word P held ≡ true
+    pub kept : held ≤ bits → Calls law (answered by vertex word (word_of P held)) s t
+    pub seen : bits < held → Looks law vertex (word_of P held) s t
+    pub tried : IsTried vertex s t tries
+    pub fits : held < 18446744073709551616
+    pub few : 1 < tries → tries + held < 18446744073709551616
+
+  -- What an exchange of the bits held for those offered tells: it wins, or it loses and keeps, or it loses and the
+  -- offer goes on.
+  pub record IsExchanged (held found : ℕ) (s t : Story) : Type 0 where
+    pub is_word : is_word P found ≡ true
+    pub fits : found < 18446744073709551616
+    pub won : found ≡ held → Calls law (answered by vertex word (word_of P found)) s t
+    pub kept : found ≤ bits → Calls law (answered by vertex word (word_of P found)) s t
+    pub lost : found ≢ held → bits < found → Looks law vertex (word_of P found) s t

@@ -1,0 +1,88 @@
+-- The rule of an offer table, and what its steps tell.
+use Rattle.std.specs.Prelude.{◌≡◌, ◌≢◌, ℕ, ◌+◌, ◌<◌, ◌≤◌, true, List, [], length, slice_index, sum_by}
+use mathlib.Core.Option.{some}
+use mathlib.Core.List.{IsPrefix}
+use lib.ListN.{get_elem?}
+use Rattle.atomic_table.specs.Table.{State, Me, Step}
+use Rattle.atomic_table.specs.Seated.{TableId}
+use Rattle.atomic_table.specs.declared.shared.Seat.{Seat}
+use Rattle.sp_word.specs.Word.{Word, bits_of, is_word, word_of}
+use Rattle.sp_word.specs.History.{Event, Offer, Read, run, IsLegal}
+use Rattle.sp_word.specs.Reply.{reply_to}
+use Rattle.sp_offer.specs.Histories.{blank, event, AreLawful}
+use Rattle.sp_offer.specs.Story.{Story, times, once_below, Calls, Looks}
+use Rattle.sp_offer.specs.Sight.{Sight, story}
+
+-- There is one legal history, which ends in the words, and whose offers the law allows. Each caller has seen a
+-- beginning of it, and each of its calls is one caller's own.
+pub record OneHistory (P : ℕ) (law : ℕ → Word → Type 0) (vertices : ℕ) (words : List ℕ) (views : List Sight) : Type 0 where
+  pub log : List Event
+  pub wide : length words ≡ vertices
+  pub legal : IsLegal blank log
+  pub ends : (i : ℕ) → i < vertices → slice_index words i ≡ bits_of P (run blank log (i + 1))
+  pub lawful : AreLawful law log
+  pub begins : (j : ℕ) (v : Sight) → get_elem? views j ≡ some v → IsPrefix v.seen log × IsPrefix v.heard log
+  pub owned : (p : ℕ) → sum_by (λ (v : Sight). times p v.own) views ≡ once_below p (length log)
+
+abbrev pub rule : {S : Type 0} → ℕ → (ℕ → Word → Type 0) → ℕ → State S Sight → Type 0
+rule P law vertices s = OneHistory P law vertices s.words s.views
+
+-- ## What the steps tell
+
+-- What a view had heard is in the history that it sees next.
+abbrev pub Hears : Sight → Sight → Type 0
+Hears v w = (w.heard ≡ []) × IsPrefix v.heard w.seen
+
+-- an offer, answered by the word found
+abbrev pub answered : ℕ → ℕ → Word → Word → Event
+answered by vertex word found = event by vertex (Offer word found (reply_to found word))
+
+module _ {S : Type 0} (P : ℕ) (law : ℕ → Word → Type 0) where
+  -- a seat holds no slot, before and after, and the bits found are those of a word
+  abbrev pub Stays : Me S Sight → Me S Sight → ℕ → Type 0
+  Stays m m' found = (m'.1 ≡ m.1) × Hears m.0 m'.0 × (is_word P found ≡ true)
+
+  abbrev pub met : Step S → Me S Sight → ℕ → Me S Sight → Type 0
+  met st m found m' = Stays m m' found × Looks law (st.word + 1) (word_of P found) (story m.0) (story m'.0)
+
+  module _ (by : ℕ) where
+    abbrev pub was_read : Step S → Me S Sight → ℕ → Me S Sight → Type 0
+    was_read st m found m' = Stays m m' found × Calls law (event by (st.word + 1) (Read (word_of P found))) (story m.0) (story m'.0)
+
+    module _ (word : Word) where
+      -- a word that is no larger than the one offered ends the call, and another is only seen
+      abbrev pub loaded : Step S → Me S Sight → ℕ → Me S Sight → Type 0
+      loaded st m found m' =
+          Stays m m' found
+          × (found ≤ bits_of P word → Calls law (answered by (st.word + 1) word (word_of P found)) (story m.0) (story m'.0))
+          × (bits_of P word < found → Looks law (st.word + 1) (word_of P found) (story m.0) (story m'.0))
+
+      -- an exchange for a lesser word wins, or loses and decides, or loses and goes on
+      abbrev pub exchanged : Step S → Me S Sight → ℕ → Me S Sight → Type 0
+      exchanged st m found m' =
+          Stays m m' found
+          × (found ≡ st.first → Calls law (answered by (st.word + 1) word (word_of P found)) (story m.0) (story m'.0))
+          × (found ≤ bits_of P word → Calls law (answered by (st.word + 1) word (word_of P found)) (story m.0) (story m'.0))
+          × (found ≢ st.first → bits_of P word < found → Looks law (st.word + 1) (word_of P found) (story m.0) (story m'.0))
+
+      abbrev pub lessened : Step S → Me S Sight → ℕ → Me S Sight → Type 0
+      lessened st m found m' = Stays m m' found × Calls law (answered by (st.word + 1) word (word_of P found)) (story m.0) (story m'.0)
+
+-- ## Seats
+
+-- a seat that a caller may rest on: it holds no slot, and has looked at all that it heard
+module _ {S : Type 0} where
+  abbrev pub IsAtRest : TableId → Seat S Sight → Type 0
+  IsAtRest table it = (it.table_id ≡ table) × (it.me.1 ≡ []) × (it.me.0.heard ≡ [])
+
+  abbrev pub IsSameSeat : Seat S Sight → Seat S Sight → Type 0
+  IsSameSeat p q = (q.table_id ≡ p.table_id) × (q.id ≡ p.id)
+
+  abbrev pub seat_story : Seat S Sight → Story
+  seat_story it = story it.me.0
+
+-- what contracts see of a table: which it is, how many vertices it has, and its law
+pub record Board (L : Type 0) : Type 0 where
+  pub id : TableId
+  pub vertices : ℕ
+  pub law : L

@@ -1,0 +1,128 @@
+-- What a caller knows, and what its calls tell it.
+use Rattle.std.specs.Prelude.{◌≡◌, ℕ, ◌+◌, ◌-◌, ◌<◌, ◌≤◌, ◌==◌, nat_lt, if◌then◌else◌, List, [], ◌∷◌, ◌++◌, length, drop, map, slice_index_or, count_by}
+use mathlib.Core.List.{IsPrefix}
+use Rattle.atomic_table.specs.Seated.{TableId}
+use Rattle.sp_word.specs.Word.{Word, Unreached}
+use Rattle.sp_word.specs.History.{Table, Event, Read, left_by, run, IsLegal}
+use Rattle.sp_offer.specs.Order.{IsAtMost, IsKnownWord}
+use Rattle.sp_offer.specs.Histories.{blank, event, found_by, lowerings}
+
+-- the history that a caller has seen, and the places in it of the caller's own calls
+pub record Story : Type 0 where
+  pub seen : List Event
+  pub own : List ℕ
+
+-- which table a caller is of, its number there, and its story
+pub record Knowledge : Type 0 where
+  pub table : TableId
+  pub number : ℕ
+  pub story : Story
+
+-- What a caller knows of the table: the end of the history that it has seen. The word of a vertex is at most this.
+abbrev pub known : Story → Table
+known s = run blank s.seen
+
+-- ## Own calls
+
+-- how often a place stands in a list of places
+abbrev pub times : ℕ → List ℕ → ℕ
+times p own = count_by (λ q. q == p) own
+
+-- 1 at each place of a history of n calls, and 0 past its end
+abbrev pub once_below : ℕ → ℕ → ℕ
+once_below p n = if nat_lt p n then 1 else 0
+
+-- no place stands there twice, and each is one of the first n
+abbrev pub IsOnce : List ℕ → ℕ → Type 0
+IsOnce own n = (p : ℕ) → times p own ≤ once_below p n
+
+-- a legal history, in which the caller's calls stand, each once
+pub record IsStory (s : Story) : Type 0 where
+  pub legal : IsLegal blank s.seen
+  pub once : IsOnce s.own (length s.seen)
+
+-- the calls themselves, in the order in which the caller came by them
+abbrev pub own_calls : Story → List Event
+own_calls s = map (λ p. slice_index_or s.seen p (event 0 0 (Read Unreached))) s.own
+
+-- ## New stories
+
+-- nothing was seen, and nothing done
+abbrev pub fresh : Story
+fresh = record { seen = []; own = [] }
+
+-- the same was seen, and nothing done
+abbrev pub beside : Story → Story
+beside s = record { seen = s.seen; own = [] }
+
+-- ## What calls tell
+
+-- what a caller's history gained
+abbrev pub gained : Story → Story → List Event
+gained s t = drop (length s.seen) t.seen
+
+module _ (law : ℕ → Word → Type 0) where
+  -- The history so far was seen, and nothing was called: it begins with all that was seen before, and its word of
+  -- the vertex was found.
+  pub record Looks (vertex : ℕ) (found : Word) (s t : Story) : Type 0 where
+    pub between : List Event
+    pub seen : t.seen ≡ s.seen ++ between
+    pub own : t.own ≡ s.own
+    pub last : known t vertex ≡ found
+    pub lawful : IsKnownWord law vertex found
+    pub words : (v : ℕ) → IsKnownWord law v (known t v)
+    pub is_story : IsStory t
+
+  -- The history so far was seen, and this call put at its end: it begins with all that was seen before, the call
+  -- found the word to which all other calls had led, and is one more of the caller's own.
+  pub record Calls (e : Event) (s t : Story) : Type 0 where
+    pub between : List Event
+    pub seen : t.seen ≡ (s.seen ++ between) ++ e ∷ []
+    pub own : t.own ≡ s.own ++ length (s.seen ++ between) ∷ []
+    pub last : run blank (s.seen ++ between) e.vertex ≡ found_by e.call
+    pub lawful : IsKnownWord law e.vertex (found_by e.call)
+    pub words : (v : ℕ) → IsKnownWord law v (known t v)
+    pub is_story : IsStory t
+
+-- The word found is at most what was known; then the word is known that the call left, and of no vertex is less
+-- known than before.
+pub record Knows (e : Event) (s t : Story) : Type 0 where
+  pub below : IsAtMost (found_by e.call) (known s e.vertex)
+  pub here : known t e.vertex ≡ left_by e.call (found_by e.call)
+  pub falls : (v : ℕ) → IsAtMost (known t v) (known s v)
+
+-- each lost exchange found that the vertex had been lowered
+abbrev pub IsTried : ℕ → Story → Story → ℕ → Type 0
+IsTried vertex s t tries = (0 < tries) × (tries ≤ lowerings vertex (gained s t) + 1)
+
+-- A story that begins with what each of two had seen, and knows of each word what either knew.
+pub record Follows (law : ℕ → Word → Type 0) (r s t : Story) : Type 0 where
+  pub first : IsPrefix r.seen t.seen
+  pub second : IsPrefix s.seen t.seen
+  pub falls : (v : ℕ) → IsAtMost (known t v) (known r v) × IsAtMost (known t v) (known s v)
+  pub words : (v : ℕ) → IsKnownWord law v (known t v)
+  pub is_story : IsStory t
+
+-- ## Copies
+
+-- one read of each vertex from k on, in rising order
+abbrev pub Reads : (ℕ → Word → Type 0) → ℕ → ℕ → List Word → Story → Story → Type 0
+Reads law by k [] s t = s ≡ t
+Reads law by k (x ∷ xs) s t = (m : Story) × Calls law (event by k (Read x)) s m × Reads law by (k + 1) xs m t
+
+-- those reads, as the caller's own calls
+abbrev pub reads_of : ℕ → ℕ → List Word → List Event
+reads_of by k [] = []
+reads_of by k (x ∷ xs) = event by k (Read x) ∷ reads_of by (k + 1) xs
+
+-- the word of a vertex in a copy, where vertex 1 stands at place 0
+abbrev pub copied : List Word → ℕ → Word
+copied words v = slice_index_or words (v - 1) Unreached
+
+-- Each word of a copy is unreached or lawful, at most what was known before, and at least what is known afterwards.
+pub record IsCopy (law : ℕ → Word → Type 0) (words : List Word) (s t : Story) : Type 0 where
+  pub lawful : (v : ℕ) → 0 < v → v ≤ length words → IsKnownWord law v (copied words v)
+  pub below : (v : ℕ) → 0 < v → v ≤ length words → IsAtMost (copied words v) (known s v)
+  pub above : (v : ℕ) → 0 < v → v ≤ length words → IsAtMost (known t v) (copied words v)
+  pub falls : (v : ℕ) → IsAtMost (known t v) (known s v)
+  pub words_known : (v : ℕ) → IsKnownWord law v (known t v)

@@ -1,0 +1,20 @@
+//! A table of words that many threads lower without a lock, and the one legal history of their calls.
+//!
+//! Each vertex has a word. An offer leaves the lesser of the word and the pair offered. A `Caller` is a thread's
+//! right to call; contracts see the legal history that it has seen, and which of its calls are the caller's own.
+#![tactic(auto)]
+
+mod law;
+mod lowering;
+mod rule;
+mod table;
+mod view;
+mod words;
+
+pub use law::{AnyWord, Lawful};
+pub use lowering::{Loop, Lowering, OneMin};
+pub use table::{Caller, OfferTable, Offered, SplitRefused};
+pub use words::{Place, Words};
+
+#[cfg(test)]
+mod tests;

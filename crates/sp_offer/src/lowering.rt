@@ -1,0 +1,53 @@
+//! The two ways to lower a word.
+ghost use Rattle.std.specs.Prelude.{◌≡◌, ℕ, ◌≤◌, ◌<◌, Bool, true, false};
+ghost use Rattle.sp_word.specs.Word.{is_word, word_of};
+ghost use Rattle.sp_offer.specs.Order.{lawful};
+ghost use Rattle.sp_offer.specs.Story.{Calls, IsTried};
+ghost use Rattle.sp_offer.specs.Parts.{id_of, vertices_of, layout_of, law_of};
+ghost use Rattle.sp_offer.specs.Rule.{seat_story, IsAtRest, IsSameSeat, answered};
+
+use crate::law::Lawful;
+use crate::words::{Place, Words};
+use std::marker::Brand;
+
+/// A way to lower a word, by its bits.
+pub trait Lowering {
+    // Whether it takes one atomic step at most.
+    ghost is_one_step: { Bool };
+
+    /// Leaves the lesser of the word of the vertex and the word offered. Answers the word by which that was
+    /// decided, and the number of atomic steps.
+    fn lower<L: Lawful>(words: &Words<L>, seat: &mut Place, vertex: u32, word: u64) -> (u64, u64)
+        requires vertex { (0 < vertex) × (vertex ≤ vertices_of words.now) }
+        requires seat { IsAtRest (id_of words.now) seat.old }
+        requires word { lawful (layout_of words.now) (L.allows (law_of words.now)) vertex (word_of (layout_of words.now) word) }
+        ensures seat { IsAtRest (id_of words.now) seat.new × IsSameSeat seat.old seat.new }
+        ensures word { is_word (layout_of words.now) result.0 ≡ true }
+        ensures call { Calls (lawful (layout_of words.now) (L.allows (law_of words.now))) (answered seat.old.id vertex (word_of (layout_of words.now) word) (word_of (layout_of words.now) result.0)) (seat_story seat.old) (seat_story seat.new) }
+        ensures tries { IsTried vertex (seat_story seat.old) (seat_story seat.new) result.1 }
+        ensures one { Self.is_one_step ≡ true → result.1 ≡ 1 };
+}
+
+/// A load, and then exchanges until one wins or a word is found that is no larger than the word offered.
+pub struct Loop;
+
+impl Lowering for Loop {
+    ghost is_one_step = { false };
+
+    #[tactic(auto, using(crate::proofs::Ties::spelled))]
+    fn lower<L: Lawful>(words: &Words<L>, seat: &mut Place, vertex: u32, word: u64) -> (u64, u64) {
+        words.lower::<Brand>(seat, vertex, word)
+    }
+}
+
+/// One step that leaves the lesser of two words.
+pub struct OneMin;
+
+impl Lowering for OneMin {
+    ghost is_one_step = { true };
+
+    #[tactic(auto, using(crate::proofs::Ties::spelled))]
+    fn lower<L: Lawful>(words: &Words<L>, seat: &mut Place, vertex: u32, word: u64) -> (u64, u64) {
+        (words.lessen::<Brand>(seat, vertex, word), 1)
+    }
+}

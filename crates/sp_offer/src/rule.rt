@@ -1,0 +1,117 @@
+//! The rule of the table, and what each kind of step tells.
+ghost use Rattle.std.specs.Prelude.{ℕ, ◌+◌, ◌≤◌, ◌<◌};
+ghost use Rattle.sp_word.specs.Word.{Word, Unreached};
+ghost use Rattle.sp_offer.specs.Order.{lawful};
+ghost use Rattle.sp_offer.specs.Sight.{newcomer, listener, merged};
+ghost use Rattle.sp_offer.specs.Rule.{rule, met, was_read, loaded, exchanged, lessened};
+
+use crate::law::Lawful;
+use crate::view::View;
+use atomic_table::{Join, Play, Split, TableRule};
+use std::marker::{Brand, PhantomData};
+
+/// What a table is told when it is made: its law, the number of its vertices, and the layout of its words.
+#[derive(Drop)]
+pub struct Terms<L> {
+    pub law: L,
+    pub vertices: u64,
+    /// The number of bits of a word that are its predecessor.
+    pub layout: u32,
+}
+
+/// One legal history of all calls.
+pub struct InOneHistory;
+
+impl<L: Lawful> TableRule<(), View, Terms<L>> for InOneHistory {
+    ghost holds = { λ terms. rule terms.layout (lawful terms.layout (L.allows terms.law)) terms.vertices };
+
+    ghost first = { λ _. newcomer };
+}
+
+/// What one call asks. The call picks it, for its proof alone.
+pub trait Asking {
+    // The caller's number.
+    ghost by: { ℕ };
+
+    // The layout of the words.
+    ghost layout: { ℕ };
+
+    // The words that the table takes.
+    ghost law: { ℕ → Word → Type 0 };
+
+    // The word offered.
+    ghost word: { Word };
+}
+
+impl Asking for Brand {
+    ghost by = { 0 };
+
+    ghost layout = { 0 };
+
+    ghost law = { λ _ _. Unit {0} };
+
+    ghost word = { Unreached };
+}
+
+/// A load that only sees the history so far.
+pub struct Meet<J> {
+    call: PhantomData<J>,
+}
+
+impl<J: Asking> Play<(), View> for Meet<J> {
+    ghost then = { met J.layout J.law };
+}
+
+/// The load of a read.
+pub struct ReadWord<J> {
+    call: PhantomData<J>,
+}
+
+impl<J: Asking> Play<(), View> for ReadWord<J> {
+    ghost then = { was_read J.layout J.law J.by };
+}
+
+/// The load that begins an offer, and ends it where the word found is no larger.
+pub struct FirstLook<J> {
+    call: PhantomData<J>,
+}
+
+impl<J: Asking> Play<(), View> for FirstLook<J> {
+    ghost then = { loaded J.layout J.law J.by J.word };
+}
+
+/// An exchange for the word offered.
+pub struct Exchange<J> {
+    call: PhantomData<J>,
+}
+
+impl<J: Asking> Play<(), View> for Exchange<J> {
+    ghost then = { exchanged J.layout J.law J.by J.word };
+}
+
+/// The single step that leaves the lesser of two words.
+pub struct Lessen<J> {
+    call: PhantomData<J>,
+}
+
+impl<J: Asking> Play<(), View> for Lessen<J> {
+    ghost then = { lessened J.layout J.law J.by J.word };
+}
+
+/// The first keeps its view, and a second has seen as much.
+pub struct Share;
+
+impl Split<View> for Share {
+    ghost left = { λ v. v };
+
+    ghost right = { listener };
+}
+
+/// The first takes over the second's calls.
+pub struct TakeOver;
+
+impl Join<View> for TakeOver {
+    ghost both = { merged };
+
+    ghost spent = { newcomer };
+}
