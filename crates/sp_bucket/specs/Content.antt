@@ -1,0 +1,42 @@
+-- What contracts see of buckets: entries, in whatever order, and the width that parts them into buckets.
+use Rattle.std.specs.Prelude.{◌≡◌, ◌≢◌, ℕ, ◌+◌, ◌/◌, ◌≤◌, List, [], ◌∷◌, ◌++◌, All, Any, Option, Some, None, IsPermutation, if◌then◌else◌, nat_le}
+use Rattle.std.specs.Int.{div_ceil}
+use Rattle.sp_bucket.specs.declared.entry.Entry.{Entry}
+
+-- bucket i has the distances from i * delta up to, not including, (i + 1) * delta
+abbrev pub bucket_of : ℕ → Entry → ℕ
+bucket_of delta entry = entry.dist / delta
+
+-- the width of a bucket, the length of the ring, if there is one, and the entries in some order
+pub record Content : Type 0 where
+  pub delta : ℕ
+  pub ring : Option ℕ
+  pub entries : List Entry
+
+-- nothing stands in the buckets
+abbrev pub no_entries : ℕ → Option ℕ → Content
+no_entries delta ring = record { delta = delta; ring = ring; entries = [] }
+
+-- While bucket i is the lowest, what is queued from it stands at most ceil(longest / delta) buckets higher, so one
+-- bucket more holds all. A ring that would be longer than 65,536 buckets isn't made
+abbrev pub ring_for : ℕ → ℕ → Option ℕ
+ring_for delta longest = if nat_le (div_ceil longest delta + 1) 65536 then Some (div_ceil longest delta + 1) else None
+
+-- one entry more stands, and nothing else changes
+pub record Puts (entry : Entry) (old new : Content) : Type 0 where
+  pub delta : new.delta ≡ old.delta
+  pub ring : new.ring ≡ old.ring
+  pub entries : IsPermutation (entry ∷ old.entries) new.entries
+
+-- the entries of bucket i are taken out, all of them and no others
+pub record Takes (i : ℕ) (taken : List Entry) (old new : Content) : Type 0 where
+  pub delta : new.delta ≡ old.delta
+  pub ring : new.ring ≡ old.ring
+  pub entries : IsPermutation old.entries (taken ++ new.entries)
+  pub taken_of_bucket : All (λ entry. bucket_of old.delta entry ≡ i) taken
+  pub left_of_others : All (λ entry. bucket_of old.delta entry ≢ i) new.entries
+
+-- an entry stands in bucket i, and none in a lower one
+pub record IsLowest (content : Content) (i : ℕ) : Type 0 where
+  pub here : Any (λ entry. bucket_of content.delta entry ≡ i) content.entries
+  pub none_lower : All (λ entry. i ≤ bucket_of content.delta entry) content.entries

@@ -1,0 +1,19 @@
+-- The entries of several buckets, and a map whose keys are the buckets of their entries.
+use Rattle.std.specs.Prelude.{◌≡◌, ◌≢◌, ℕ, List, [], ◌∷◌, ◌++◌, All, Vec}
+use Rattle.std.specs.declared.alloc.Global.{Global}
+use Rattle.sp_bucket.specs.declared.entry.Entry.{Entry}
+use Rattle.sp_bucket.specs.Content.{bucket_of}
+
+-- the entries of all the lists, one list after the other
+abbrev pub gathered : List (Vec Entry Global) → List Entry
+gathered [] = []
+gathered (bucket ∷ buckets) = bucket.items ++ gathered buckets
+
+-- some entries stand at the key, all of them of the bucket that it names
+pub record IsBucket (delta key : ℕ) (bucket : Vec Entry Global) : Type 0 where
+  pub some : bucket.items ≢ []
+  pub same : All (λ entry. bucket_of delta entry ≡ key) bucket.items
+
+abbrev pub IsFiled : ℕ → List (ℕ × Vec Entry Global) → Type 0
+IsFiled delta [] = Unit {0}
+IsFiled delta (b ∷ bs) = IsBucket delta b.0 b.1 × IsFiled delta bs

@@ -1,0 +1,4 @@
+pub mod Content
+pub mod Filed
+pub mod Window
+pub mod Beside

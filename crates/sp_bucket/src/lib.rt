@@ -1,0 +1,13 @@
+//! Entries in buckets by distance.
+#![tactic(auto)]
+
+mod buckets;
+mod entry;
+mod map;
+mod ring;
+
+pub use buckets::Buckets;
+pub use entry::Entry;
+
+#[cfg(test)]
+mod tests;

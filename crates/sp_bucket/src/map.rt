@@ -1,0 +1,95 @@
+//! Buckets in an ordered map.
+ghost use Rattle.std.specs.Prelude.{◌≡◌, ◌≢◌, ◌<◌, ◌↔◌, [], None, All, Any, IsTrue, OnOk, OnErr, IsNone, IfSome};
+ghost use Rattle.std.specs.Bool.{OnFalse};
+ghost use Rattle.sp_bucket.specs.Content.{bucket_of, no_entries, Puts, Takes, IsLowest};
+
+use crate::entry::Entry;
+use std::alloc::{AllocError, Global};
+use std::collections::BTreeMap;
+use std::marker::Model;
+
+/// Entries by the number of their bucket. A bucket without an entry has no key.
+#[derive(Drop)]
+pub struct BucketMap {
+    alloc: Global,
+    delta: u64,
+    buckets: BTreeMap<u64, Vec<Entry>>,
+}
+
+impl Model for BucketMap {
+    ghost use Rattle.std.specs.Prelude.{◌<◌, None};
+    ghost use Rattle.std.specs.BTreeMap.{values};
+    ghost use Rattle.sp_bucket.specs.Content.{Content};
+    ghost use Rattle.sp_bucket.specs.Filed.{gathered, IsFiled};
+
+    ghost Value = { Content };
+
+    ghost view = { λ m. record { delta = m.delta; ring = None; entries = gathered (values m.buckets) } };
+
+    ghost invariant = { λ m. (0 < m.delta) × IsFiled m.delta m.buckets.entries };
+}
+
+impl BucketMap {
+    pub fn new(alloc: Global, delta: u64) -> BucketMap
+        requires { 0 < delta }
+        ensures { result ≡ no_entries delta None }
+    {
+        BucketMap {
+            alloc,
+            delta,
+            buckets: BTreeMap::new(alloc),
+        }
+    }
+
+    /// The number of the bucket that an entry belongs in.
+    pub fn number_of(&self, entry: &Entry) -> u64
+        ensures { result ≡ bucket_of self.now.delta entry.now }
+    {
+        entry.dist / self.delta
+    }
+
+    /// Puts an entry into its bucket.
+    pub fn put(&mut self, number: u64, entry: Entry) -> Result<(), AllocError>
+        requires { number ≡ bucket_of self.old.delta entry }
+        ensures put { OnOk result (Puts entry self.old self.new) }
+        ensures refused { OnErr result (self.new ≡ self.old) }
+    {
+        if let Some(bucket) = self.buckets.get_mut(&number) {
+            bucket.push(entry)?;
+            return Ok(());
+        }
+        let mut bucket = Vec::new(self.alloc);
+        bucket.push(entry)?;
+        self.buckets.insert(number, bucket)?;
+        Ok(())
+    }
+
+    /// The number of the lowest bucket with an entry.
+    pub fn lowest(&self) -> Option<u64>
+        ensures none { IsNone result ↔ (self.now.entries ≡ []) }
+        ensures lowest { IfSome result (IsLowest self.now) }
+    {
+        match self.buckets.first_key_value() {
+            Some((number, _)) => Some(*number),
+            None => None,
+        }
+    }
+
+    /// Whether an entry of the bucket stands.
+    pub fn holds(&self, number: u64) -> bool
+        ensures held { IsTrue result → Any (λ entry. bucket_of self.now.delta entry ≡ number) self.now.entries }
+        ensures free { OnFalse result (All (λ entry. bucket_of self.now.delta entry ≢ number) self.now.entries) }
+    {
+        self.buckets.contains_key(&number)
+    }
+
+    /// Takes the bucket out.
+    pub fn take(&mut self, number: u64) -> Vec<Entry>
+        ensures { Takes number result.items self.old self.new }
+    {
+        match self.buckets.remove(&number) {
+            Some(bucket) => bucket,
+            None => Vec::new(self.alloc),
+        }
+    }
+}
