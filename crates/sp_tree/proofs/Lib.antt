@@ -1,0 +1,10 @@
+pub mod Parts
+pub mod Rising
+pub mod Sent
+pub mod Numerals
+pub mod Canonical
+pub mod Ending
+pub mod Told
+pub mod Accepted
+pub mod Finished
+pub mod Capped

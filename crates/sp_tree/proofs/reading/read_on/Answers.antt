@@ -1,0 +1,20 @@
+use Rattle.std.proofs.Common.{◌≤◌, ◌^◌, ◌++◌, length, take, arith, inl, length-append}
+use Rattle.std.proofs.lemmas.Result.{err_from_is_err_and}
+use Rattle.std.proofs.lemmas.List.{length-take-le}
+use Rattle.std.proofs.KnownBytes.{Consumes-trans}
+use Rattle.sp_tree.proofs.reading.read_on.Goals as goal
+
+pub returns-in_err-feed-in-Ok : goal.returns-in_err-feed-in-Ok
+returns-in_err-feed-in-Ok g c =
+    let before = c.loop-tree.invariant in
+    let front = before.0 in
+    let reads = c.in-Ok.ensures in
+    let piece = take c.in-Ok.n c.read.new.buf in
+    let short : length (front ++ piece) ≤ 2 ^ 62 = omega (arith, length-append front piece, length-take-le c.in-Ok.n c.read.new.buf reads.within, before.2, reads.passed, reads.limit) in
+    let told = c.in_err-feed-in-Ok.ensures.fed front short before.4 in
+    let p = err_from_is_err_and c.from_residual.result c.from_residual.ensures.1 in
+    rw (p.1, p.2) (
+      front ++ piece,
+      Consumes-trans (g.R.Read.left c.args.reader.now) (g.R.Read.left c.loop-tree.reader) (g.R.Read.left c.read.new.self) front piece before.1 reads.bytes,
+      inl told.1,
+    )

@@ -1,0 +1,8 @@
+use Rattle.std.proofs.Common.{take}
+use Rattle.std.specs.List.{flat_map}
+use Rattle.sp_tree.specs.TreeText.{row_text}
+use Rattle.sp_tree.specs.Sending.{Sends}
+use Rattle.sp_tree.proofs.writing.send_rows.Given as goal
+
+abbrev pub invariant-loop-vertex : goal.invariant-loop-vertex
+invariant-loop-vertex g l = Sends g.W.Write.written g.W.Write.passed g.W.Write.has_failed (flat_map row_text (take l.vertex-index l.rows)) l.fn.out l.fn.printer l.out l.printer

@@ -1,0 +1,8 @@
+pub mod Table
+pub mod TreeText
+pub mod Spelling
+pub mod Fields
+pub mod Taking
+pub mod Silence
+pub mod Reading
+pub mod Sending

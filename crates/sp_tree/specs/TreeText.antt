@@ -1,0 +1,33 @@
+-- The text of a tree.
+use Rattle.std.specs.Prelude.{ℕ, List, [], ◌++◌, length, codes, decimal}
+use Rattle.std.specs.List.{flat_map}
+use Rattle.sp_word.specs.Word.{Word, Unreached, Pair}
+use Rattle.sp_tree.specs.Table.{TreeTable}
+
+-- a space and a number
+abbrev pub number_text : ℕ → List ℕ
+number_text n = codes " " ++ decimal n
+
+-- `p spt N S`
+abbrev pub problem_text : (n source : ℕ) → List ℕ
+problem_text n source = codes "p spt" ++ number_text n ++ number_text source ++ codes "\n"
+
+-- `v V D P` for a vertex that is reached
+abbrev pub reached_text : (vertex : ℕ) → Word → List ℕ
+reached_text vertex Unreached = []
+reached_text vertex (Pair d p) = codes "v" ++ number_text vertex ++ number_text d ++ number_text p ++ codes "\n"
+
+abbrev pub row_text : ℕ × Word → List ℕ
+row_text row = reached_text row.0 row.1
+
+-- `e R`
+abbrev pub end_text : (count : ℕ) → List ℕ
+end_text count = codes "e" ++ number_text count ++ codes "\n"
+
+-- The block of a tree: its problem line, its rows, and the number of its rows.
+unfoldable pub tree_text : TreeTable → List ℕ
+tree_text t = problem_text t.n t.source ++ flat_map row_text t.rows ++ end_text (length t.rows)
+
+-- `x S V`: of a source, a vertex that is too far
+unfoldable pub far_text : (source vertex : ℕ) → List ℕ
+far_text source vertex = codes "x" ++ number_text source ++ number_text vertex ++ codes "\n"

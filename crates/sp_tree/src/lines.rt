@@ -1,0 +1,165 @@
+//! The lines of a tree file, each by itself.
+ghost use Rattle.std.specs.Prelude.{◌≡◌, ◌∷◌, [], ℕ, List, Some, None, MatchOption, IfSome, true, false};
+ghost use Rattle.sp_text.specs.Text.{is_word};
+ghost use Rattle.sp_text.specs.Numeral.{starts_number};
+ghost use Rattle.sp_tree.specs.Spelling.{fields, line_in, problem_of, spt_of, row_of, end_of};
+ghost use Rattle.sp_tree.specs.Fields.{capped_line, number_in, last_in, HasNoNext, IsFront};
+
+use sp_text::{Numeral, number};
+
+/// A line of a tree file. A number above 2^64 - 1 is told as 2^64 - 1.
+#[derive(Clone, Copy, Debug, PartialEq, Eq)]
+pub enum Line {
+    Problem { n: u64, source: u64 },
+    Row { vertex: u64, dist: u64, pred: u64 },
+    End { count: u64 },
+}
+
+// The bytes up to the first space, and what stands behind that, if there is one.
+fn first_field(text: &[u8]) -> (&[u8], Option<&[u8]>)
+    ensures { MatchOption result.1 (fields text.now ≡ result.0.now ∷ []) (λ rest. fields text.now ≡ result.0.now ∷ fields rest.now) }
+{
+    for (end, byte) in text.iter().enumerate() {
+        if *byte == b' ' {
+            let (field, after) = text.split_at(end);
+            let (_, rest) = after.split_at(1);
+            return (field, Some(rest));
+        }
+    }
+    (text, None)
+}
+
+// The number of a field.
+fn number_in(field: &[u8]) -> Option<u64>
+    ensures { result ≡ number_in field.now }
+{
+    match number(field, 0, u64::MAX) {
+        Numeral::Bad => None,
+        Numeral::Out => Some(u64::MAX),
+        Numeral::Value(n) => Some(n),
+    }
+}
+
+// A value up to this has room for one more digit.
+const ROOMY: u64 = 1_844_674_407_370_955_160;
+
+// The number of the digits at the front, and how many they are, where it isn't large.
+fn front_number(text: &[u8]) -> Option<(u64, usize)>
+    ensures { IfSome result (λ x. IsFront text.now x.0 x.1) }
+{
+    let mut value: u64 = 0;
+    for (end, byte) in text.iter().enumerate() {
+        if !byte.is_ascii_digit() {
+            return Some((value, end));
+        }
+        if value > ROOMY {
+            return None;
+        }
+        value = 10 * value + (*byte - b'0') as u64;
+    }
+    Some((value, text.len()))
+}
+
+// Whether there is a byte, and no zero leads others.
+fn starts_number(field: &[u8]) -> bool
+    ensures { result ≡ starts_number field.now }
+{
+    match field {
+        [] => false,
+        [_] => true,
+        [first, ..] => *first != b'0',
+    }
+}
+
+// The number of the first field, and what stands behind the space after it.
+fn next_number(text: &[u8]) -> Option<(u64, &[u8])>
+    ensures { MatchOption result (HasNoNext (fields text.now)) (λ x. (field : List ℕ) × (fields text.now ≡ field ∷ fields x.1.now) × (number_in field ≡ Some x.0)) }
+{
+    if let Some((n, end)) = front_number(text) {
+        let (field, after) = text.split_at(end);
+        if end < text.len() && text[end] == b' ' && starts_number(field) {
+            let (_, rest) = after.split_at(1);
+            return Some((n, rest));
+        }
+    }
+    let (field, Some(rest)) = first_field(text) else {
+        return None;
+    };
+    match number_in(field) {
+        Some(n) => Some((n, rest)),
+        None => None,
+    }
+}
+
+// The number of the one field.
+fn last_number(text: &[u8]) -> Option<u64>
+    ensures { result ≡ last_in (fields text.now) }
+{
+    if let Some((n, end)) = front_number(text) {
+        if end == text.len() && starts_number(text) {
+            return Some(n);
+        }
+    }
+    match first_field(text) {
+        (field, None) => number_in(field),
+        (_, Some(_)) => None,
+    }
+}
+
+// `spt N S`
+fn read_problem(text: &[u8]) -> Option<Line>
+    ensures { result ≡ capped_line (spt_of (fields text.now)) }
+{
+    let (b"spt", Some(numbers)) = first_field(text) else {
+        return None;
+    };
+    let Some((n, rest)) = next_number(numbers) else {
+        return None;
+    };
+    match last_number(rest) {
+        Some(source) => Some(Line::Problem { n, source }),
+        None => None,
+    }
+}
+
+// `V D P`
+fn read_row(text: &[u8]) -> Option<Line>
+    ensures { result ≡ capped_line (row_of (fields text.now)) }
+{
+    let Some((vertex, rest)) = next_number(text) else {
+        return None;
+    };
+    let Some((dist, rest)) = next_number(rest) else {
+        return None;
+    };
+    match last_number(rest) {
+        Some(pred) => Some(Line::Row { vertex, dist, pred }),
+        None => None,
+    }
+}
+
+// `R`
+fn read_end(text: &[u8]) -> Option<Line>
+    ensures { result ≡ capped_line (end_of (fields text.now)) }
+{
+    match last_number(text) {
+        Some(count) => Some(Line::End { count }),
+        None => None,
+    }
+}
+
+/// The line, if the bytes are one in its one spelling.
+#[tactic(auto, unfolding(crate::specs::Spelling::line_in))]
+pub fn read_line(bytes: &[u8]) -> Option<Line>
+    ensures { result ≡ capped_line (line_in bytes.now) }
+{
+    let (word, Some(rest)) = first_field(bytes) else {
+        return None;
+    };
+    match word {
+        b"v" => read_row(rest),
+        b"p" => read_problem(rest),
+        b"e" => read_end(rest),
+        _ => None,
+    }
+}

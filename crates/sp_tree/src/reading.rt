@@ -1,0 +1,92 @@
+//! Tree files, read whole or fed in pieces.
+ghost use Rattle.std.specs.Prelude.{◌≡◌, ◌≤◌, ◌^◌, ◌++◌, ℕ, List, [], length, true, Err, Some, IfOk, IfErr};
+ghost use Rattle.sp_word.specs.Word.{is_layout};
+ghost use Rattle.sp_text.specs.First.{failed};
+ghost use Rattle.sp_tree.specs.Table.{IsTable};
+ghost use Rattle.sp_tree.specs.Spelling.{tree_judge};
+ghost use Rattle.sp_tree.specs.Reading.{IsBehindTree, IsSpentTree, TreeFed, TreeFinished, TreeRead, TreeReadOn};
+
+use crate::taking::TreeLines;
+use crate::tree::Tree;
+use sp_text::{DimacsError, Feeder, Kind, Read};
+use std::alloc::Global;
+
+// As many bytes as are read at a time.
+const PIECE: usize = 16_384;
+
+/// A reader of a tree file that comes in pieces, for words of `P` bits of predecessor. It tells the first
+/// fault of the text, as early as the bytes so far show it, and answers the same fault from then on.
+#[derive(Drop)]
+pub struct TreeReader<const P: u32> {
+    feeder: Feeder<TreeLines<P>>,
+}
+
+impl<const P: u32> TreeReader<P> {
+    /// A reader behind no text.
+    pub fn new(alloc: Global) -> Self
+        requires { is_layout P ≡ true }
+        ensures { IsBehindTree [] result }
+    {
+        TreeReader {
+            feeder: Feeder::new(TreeLines::new(alloc)),
+        }
+    }
+
+    /// Takes the next piece of the text.
+    pub fn feed(&mut self, piece: &[u8]) -> Result<(), DimacsError>
+        ensures again { (e : DimacsError) → IsSpentTree e self.old → (result ≡ Err e) × (self.new ≡ self.old) }
+        ensures fed { (text : List ℕ) → length (text ++ piece.now) ≤ 2 ^ 62 → IsBehindTree text self.old → TreeFed (text ++ piece.now) result self.new }
+    {
+        self.feeder.feed(piece)
+    }
+
+    /// The text has ended. A reader that gives its tree is a new one then.
+    pub fn finish(&mut self) -> Result<Tree<P>, DimacsError>
+        ensures again { (e : DimacsError) → IsSpentTree e self.old → (result ≡ Err e) × (self.new ≡ self.old) }
+        ensures finished { (text : List ℕ) → length text ≤ 2 ^ 62 → IsBehindTree text self.old → TreeFinished text result self.new }
+    {
+        self.feeder.finish_closed()
+    }
+
+    /// The device failed: the fault that was met before, or Read at the line being read.
+    pub fn fail(&mut self) -> DimacsError
+        ensures again { (e : DimacsError) → IsSpentTree e self.old → (result ≡ e) × (self.new ≡ self.old) }
+        ensures failed { (text : List ℕ) → length text ≤ 2 ^ 62 → IsBehindTree text self.old → (failed (tree_judge P) text ≡ Some result) × IsSpentTree result self.new }
+    {
+        self.feeder.fail()
+    }
+}
+
+// Reads to the end, and feeds what comes.
+fn read_on<const P: u32, R: Read>(
+    reader: &mut R,
+    mut tree: TreeReader<P>,
+) -> Result<Tree<P>, DimacsError>
+    requires fresh { R.passed reader.old ≡ 0 }
+    requires new { IsBehindTree [] tree }
+    ensures { TreeReadOn P (R.left reader.old) (R.left reader.new) (R.has_failed reader.new) result }
+{
+    let mut buffer = [0u8; PIECE];
+    loop {
+        match reader.read(&mut buffer) {
+            Ok(0) => return tree.finish(),
+            Ok(n) => tree.feed(&buffer[..n])?,
+            Err(_) => return Err(tree.fail()),
+        }
+    }
+}
+
+/// The tree whose text the bytes of a device are, or their first fault. Memory may be told in place of a
+/// later fault.
+pub fn read_tree<const P: u32, R: Read>(
+    alloc: Global,
+    reader: &mut R,
+) -> Result<Tree<P>, DimacsError>
+    requires layout { is_layout P ≡ true }
+    requires fresh { R.passed reader.old ≡ 0 }
+    ensures exact { (text : List ℕ) → R.left reader.old ≡ Some text → TreeRead P text (R.left reader.new) (R.has_failed reader.new) result }
+    ensures found { IfOk result (IsTable P) }
+    ensures read { IfErr result (λ e. e.kind ≡ Kind.Read → R.has_failed reader.new ≡ true) }
+{
+    read_on(reader, TreeReader::<P>::new(alloc))
+}

@@ -1,0 +1,6 @@
+mod faults;
+mod layouts;
+mod pieces;
+mod samples;
+mod tables;
+mod written;

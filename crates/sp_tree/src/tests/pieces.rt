@@ -1,0 +1,69 @@
+use super::samples::{ALONE, DIAMOND, cut_off, diamond, fed, told};
+use crate::TreeReader;
+use sp_text::{DimacsError, Kind};
+use std::test::Fail;
+
+#[test]
+fn cut_anywhere(rt: HostRuntime) -> Result<(), Fail> {
+    let alloc = rt.alloc();
+    let same = diamond(alloc)?;
+    let mut reader = TreeReader::<28>::new(alloc);
+    for k in 0..47 {
+        reader.feed(&DIAMOND[..k])?;
+        reader.feed(&DIAMOND[k..])?;
+        let tree = reader.finish()?;
+        assert_eq!(rt; (tree.n(), tree.source()), (4, 1));
+        assert_eq!(rt; tree.rows(), same.rows());
+    }
+    for size in 1..48 {
+        for piece in DIAMOND.chunks(size) {
+            reader.feed(piece)?;
+        }
+        let tree = reader.finish()?;
+        assert_eq!(rt; tree.rows(), same.rows());
+    }
+    Ok(())
+}
+
+#[test]
+fn refused_once_and_for_all(rt: HostRuntime) -> Result<(), Fail> {
+    let alloc = rt.alloc();
+    let many = DimacsError {
+        line: 4,
+        kind: Kind::TooMany,
+    };
+    let mut reader = TreeReader::<28>::new(alloc);
+    assert_eq!(rt; reader.feed(ALONE), Ok(()));
+    assert_eq!(rt; reader.feed(b"x"), Err(many));
+    assert_eq!(rt; reader.feed(b"\n"), Err(many));
+    assert_eq!(rt; reader.finish().err(), Some(many));
+    assert_eq!(rt; reader.fail(), many);
+    Ok(())
+}
+
+#[test]
+fn long_lines(rt: HostRuntime) -> Result<(), Fail> {
+    let alloc = rt.alloc();
+    let mut long = [b'9'; 1100];
+    long[..10].copy_from_slice(b"p spt 1 1\n");
+    assert_eq!(rt; fed(alloc, &long, 1), told(2, Kind::LongLine));
+    assert_eq!(rt; fed(alloc, &long, 1100), told(2, Kind::LongLine));
+    assert_eq!(rt; fed(alloc, &long[..1034], 100), told(2, Kind::TooFew));
+    assert_eq!(rt; fed(alloc, &long[..1035], 100), told(2, Kind::LongLine));
+    Ok(())
+}
+
+// The line that is being read when the device fails, behind each beginning.
+#[test]
+fn failing_anywhere(rt: HostRuntime) -> Result<(), Fail> {
+    let alloc = rt.alloc();
+    let mut line: u64 = 1;
+    for k in 0..47 {
+        assert_eq!(rt; cut_off(alloc, &DIAMOND[..k]), told(line, Kind::Read));
+        if k < 46 && DIAMOND[k] == b'\n' {
+            line = line.saturating_add(1);
+        }
+    }
+    assert_eq!(rt; line, 7);
+    Ok(())
+}

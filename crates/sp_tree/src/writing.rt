@@ -1,0 +1,110 @@
+//! Trees, written to a device.
+ghost use Rattle.std.specs.Prelude.{◌++◌, ◌≡◌, ◌≤◌, ◌+◌, length};
+ghost use Rattle.std.specs.List.{flat_map};
+ghost use Rattle.sp_text.specs.Printing.{Finished as Written, Counted};
+ghost use Rattle.sp_tree.specs.TreeText.{number_text, problem_text, reached_text, row_text, end_text, tree_text, far_text};
+ghost use Rattle.sp_tree.specs.Sending.{Sends};
+
+use crate::tree::Tree;
+use sp_text::{Block, Printer, Write, WriteFault, finish, make_room};
+use sp_word::Word;
+
+// As many bytes as a line has at most.
+const LINE_ROOM: usize = 65;
+
+fn push_number(block: &mut Block, n: u64)
+    requires { length block.old + 21 ≤ 8192 }
+    ensures text { block.new ≡ block.old ++ number_text n }
+    ensures short { length block.new ≤ length block.old + 21 }
+{
+    block.push(b" ");
+    block.push_number(n);
+}
+
+fn push_problem(block: &mut Block, n: u32, source: u32)
+    requires { length block.old + LINE_ROOM ≤ 8192 }
+    ensures { block.new ≡ block.old ++ problem_text n source }
+{
+    block.push(b"p spt");
+    push_number(block, n as u64);
+    push_number(block, source as u64);
+    block.push(b"\n");
+}
+
+fn push_row<const P: u32>(block: &mut Block, vertex: u32, word: Word<P>)
+    requires { length block.old + LINE_ROOM ≤ 8192 }
+    ensures { block.new ≡ block.old ++ reached_text vertex word.entry }
+{
+    let (Some(dist), Some(pred)) = (word.dist(), word.pred()) else {
+        return;
+    };
+    block.push(b"v");
+    push_number(block, vertex as u64);
+    push_number(block, dist);
+    push_number(block, pred as u64);
+    block.push(b"\n");
+}
+
+fn push_end(block: &mut Block, count: u64)
+    requires { length block.old + LINE_ROOM ≤ 8192 }
+    ensures { block.new ≡ block.old ++ end_text count }
+{
+    block.push(b"e");
+    push_number(block, count);
+    block.push(b"\n");
+}
+
+#[tactic(auto, unfolding(crate::specs::TreeText::far_text))]
+fn push_far(block: &mut Block, source: u32, vertex: u32)
+    requires { length block.old + LINE_ROOM ≤ 8192 }
+    ensures { block.new ≡ block.old ++ far_text source vertex }
+{
+    block.push(b"x");
+    push_number(block, source as u64);
+    push_number(block, vertex as u64);
+    block.push(b"\n");
+}
+
+fn send_row<const P: u32, W: Write>(out: &mut W, printer: &mut Printer, vertex: u32, word: Word<P>)
+    ensures { Sends W.written W.passed W.has_failed (reached_text vertex word.entry) out.old printer.old out.new printer.new }
+{
+    make_room(out, printer, LINE_ROOM);
+    push_row(&mut printer.block, vertex, word);
+}
+
+fn send_rows<const P: u32, W: Write>(out: &mut W, printer: &mut Printer, rows: &[(u32, Word<P>)])
+    ensures { Sends W.written W.passed W.has_failed (flat_map row_text rows.now) out.old printer.old out.new printer.new }
+{
+    for (vertex, word) in rows {
+        send_row(out, printer, *vertex, *word);
+    }
+}
+
+/// Writes the block of a tree, and tells its number of bytes.
+///
+/// It takes no memory. Where the writer fails, a beginning of the block stands.
+pub fn write_tree<const P: u32, W: Write>(tree: &Tree<P>, out: &mut W) -> Result<u64, WriteFault>
+    ensures written { Written W.written W.has_failed (tree_text tree.now) out.old result out.new }
+    ensures passed { Counted W.passed out.old result out.new }
+{
+    let mut printer = Printer::new();
+    make_room(out, &mut printer, LINE_ROOM);
+    push_problem(&mut printer.block, tree.n(), tree.source());
+    send_rows(out, &mut printer, tree.rows());
+    make_room(out, &mut printer, LINE_ROOM);
+    push_end(&mut printer.block, tree.rows().len() as u64);
+    finish(out, printer)
+}
+
+/// Writes the line `x S V` of a source and a vertex that is too far from it, and tells its number of bytes.
+///
+/// It takes no memory. Where the writer fails, a beginning of the line stands.
+pub fn write_far<W: Write>(source: u32, vertex: u32, out: &mut W) -> Result<u64, WriteFault>
+    ensures written { Written W.written W.has_failed (far_text source vertex) out.old result out.new }
+    ensures passed { Counted W.passed out.old result out.new }
+{
+    let mut printer = Printer::new();
+    make_room(out, &mut printer, LINE_ROOM);
+    push_far(&mut printer.block, source, vertex);
+    finish(out, printer)
+}
