@@ -1,0 +1,6 @@
+pub mod Checker
+pub mod FirstSteps
+pub mod RowSteps
+pub mod VertexSteps
+pub mod Verdict
+pub mod TreeSteps

@@ -1,0 +1,83 @@
+//! The faults that arcs show at their heads, looked for in parallel.
+ghost use Rattle.std.specs.Prelude.{◌≡◌, ◌≤◌, true, length, All, None};
+ghost use Rattle.sp_word.specs.Word.{is_layout, max_dist, max_pred};
+ghost use Rattle.sp_paths.specs.Paths.{IsArc, word_at};
+ghost use Rattle.sp_cert.specs.Faults.{IsFirstOf, IsBroken, BreaksBy, FaultBy, FaultOfArc, earlier_of};
+
+use crate::fault::{Fault, earlier};
+use crate::rule::Rule;
+use crate::words::word_at;
+use rayon::prelude::*;
+use sp_paths::Arc;
+use sp_word::Word;
+use std::thread::Threads;
+
+// The rule that the arc breaks at its head.
+fn broken_by<const P: u32>(words: &[Word<P>], arc: Arc) -> Option<Rule>
+    requires layout { is_layout P ≡ true }
+    requires most { length words.now ≤ max_pred P }
+    requires arc { IsArc (length words.now) arc }
+    ensures { IsBroken (BreaksBy (max_dist P) (word_at words.now) arc) result }
+{
+    let Some(dist) = word_at(words, arc.tail).dist() else {
+        return None;
+    };
+    let found = word_at(words, arc.head);
+    let sum = dist + u64::from(arc.len);
+    if sum > Word::<P>::max_dist() {
+        if found.is_unreached() {
+            Some(Rule::OnlyTooFar)
+        } else {
+            None
+        }
+    } else if Word::<P>::pack(sum, arc.tail).is_below(found) {
+        Some(Rule::NoLesserOffer)
+    } else {
+        None
+    }
+}
+
+// The fault that the arc shows.
+fn fault_by<const P: u32>(words: &[Word<P>], arc: Arc) -> Option<Fault>
+    requires layout { is_layout P ≡ true }
+    requires most { length words.now ≤ max_pred P }
+    requires arc { IsArc (length words.now) arc }
+    ensures { IsFirstOf (FaultBy (max_dist P) (word_at words.now) arc) result }
+{
+    match broken_by(words, arc) {
+        Some(rule) => Some(Fault {
+            vertex: arc.head,
+            rule,
+        }),
+        None => None,
+    }
+}
+
+/// The earliest fault that an arc shows, whatever piece found it.
+pub fn first_of_arcs<const P: u32, R: Threads + Sync>(
+    rt: &R,
+    words: &[Word<P>],
+    arcs: &[Arc],
+) -> Option<Fault>
+    requires layout { is_layout P ≡ true }
+    requires most { length words.now ≤ max_pred P }
+    requires arcs { All (IsArc (length words.now)) arcs.now }
+    ensures { IsFirstOf (FaultOfArc (max_dist P) (word_at words.now) arcs.now) result }
+{
+    arcs.par_iter()
+        .map(
+            |arc: &Arc| -> Option<Fault>
+                requires { (is_layout P ≡ true) × (length words.now ≤ max_pred P) × IsArc (length words.now) arc.now }
+                ensures { IsFirstOf (FaultBy (max_dist P) (word_at words.entry.now) arc.now) result }
+            { fault_by(words, *arc) },
+        )
+        .reduce(
+            rt,
+            || -> Option<Fault>
+                ensures { result ≡ None }
+            { None },
+            |first: Option<Fault>, second: Option<Fault>| -> Option<Fault>
+                ensures { result ≡ earlier_of first second }
+            { earlier(first, second) },
+        )
+}

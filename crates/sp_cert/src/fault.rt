@@ -1,0 +1,31 @@
+//! Faults, and the earlier of two.
+ghost use Rattle.std.specs.Prelude.{◌≡◌};
+ghost use Rattle.sp_cert.specs.Faults.{is_later, earlier_of};
+
+use crate::rule::Rule;
+
+/// A rule that fails at a vertex.
+#[derive(Clone, Copy, Debug, PartialEq, Eq)]
+pub struct Fault {
+    pub vertex: u32,
+    pub rule: Rule,
+}
+
+// Whether the second fault comes before the first: by vertex, then by rule.
+fn comes_later(first: Fault, second: Fault) -> bool
+    ensures { result ≡ is_later first second }
+{
+    second.vertex < first.vertex
+        || (second.vertex == first.vertex && second.rule.number() < first.rule.number())
+}
+
+/// The earlier of two faults, each of which may be missing.
+pub fn earlier(first: Option<Fault>, second: Option<Fault>) -> Option<Fault>
+    ensures { result ≡ earlier_of first second }
+{
+    match (first, second) {
+        (Some(f), Some(g)) => if comes_later(f, g) { Some(g) } else { Some(f) },
+        (Some(f), None) => Some(f),
+        (None, other) => other,
+    }
+}

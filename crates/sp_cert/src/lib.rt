@@ -1,0 +1,17 @@
+//! A checker of shortest-path trees, whoever made them.
+#![tactic(auto)]
+
+mod arcs;
+mod checking;
+mod fault;
+mod laws;
+mod rule;
+mod vertices;
+mod words;
+
+pub use checking::{CheckError, check};
+pub use laws::checked_table;
+pub use rule::Rule;
+
+#[cfg(test)]
+mod tests;

@@ -1,0 +1,127 @@
+//! The faults that vertices show by their own words, looked for in parallel.
+ghost use Rattle.std.specs.Prelude.{◌≡◌, ◌≤◌, ◌↔◌, true, length, IsTrue, None};
+ghost use Rattle.sp_word.specs.Word.{is_layout, max_pred};
+ghost use Rattle.sp_paths.specs.Paths.{IsVertex, word_at};
+ghost use Rattle.sp_graph.specs.Order.{IsInOrder};
+ghost use Rattle.sp_cert.specs.Rules.{IsExplained};
+ghost use Rattle.sp_cert.specs.Faults.{IsRow, HasArcTo, IsFirstOf, IsBroken, BreaksAt, FaultAt, FaultOfVertex, earlier_of};
+
+use crate::fault::{Fault, earlier};
+use crate::rule::Rule;
+use crate::words::word_at;
+use rayon::prelude::*;
+use sp_graph::Graph;
+use sp_paths::Arc;
+use sp_word::Word;
+use std::thread::Threads;
+
+// Whether a row has an arc of this length to `head`, by a binary search.
+fn has_arc(row: &[Arc], head: u32, len: u64) -> bool
+    requires { IsRow row.now }
+    ensures { IsTrue result ↔ HasArcTo row.now head len }
+{
+    row.binary_search_by_key(&(head, len), |arc| (arc.head, u64::from(arc.len)))
+        .is_ok()
+}
+
+// Whether `pred` is reached, and has an arc to the vertex that makes its distance `dist`.
+fn is_explained<const P: u32>(
+    graph: &Graph,
+    words: &[Word<P>],
+    vertex: u32,
+    dist: u64,
+    pred: u32,
+) -> bool
+    requires size { length words.now ≡ graph.now.n }
+    requires order { IsInOrder graph.now.arcs }
+    ensures { IsTrue result ↔ IsExplained graph.now (word_at words.now) vertex dist pred }
+{
+    if !(1..=graph.n()).contains(&pred) {
+        return false;
+    }
+    match word_at(words, pred).dist() {
+        Some(before) if before <= dist => has_arc(graph.row(pred), vertex, dist - before),
+        _ => false,
+    }
+}
+
+// The rule that the vertex breaks by its own word.
+fn broken_at<const P: u32>(
+    graph: &Graph,
+    words: &[Word<P>],
+    source: u32,
+    vertex: u32,
+) -> Option<Rule>
+    requires layout { is_layout P ≡ true }
+    requires size { length words.now ≡ graph.now.n }
+    requires order { IsInOrder graph.now.arcs }
+    requires vertex { IsVertex graph.now.n vertex }
+    ensures { IsBroken (BreaksAt graph.now source (word_at words.now) vertex) result }
+{
+    let word = word_at(words, vertex);
+    if vertex == source {
+        return if word.is_same(Word::pack(0, 0)) {
+            None
+        } else {
+            Some(Rule::OwnSource)
+        };
+    }
+    let (Some(dist), Some(pred)) = (word.dist(), word.pred()) else {
+        return None;
+    };
+    if is_explained(graph, words, vertex, dist, pred) {
+        None
+    } else {
+        Some(Rule::NamesPredecessor)
+    }
+}
+
+// The fault that the vertex shows.
+fn fault_at<const P: u32>(
+    graph: &Graph,
+    words: &[Word<P>],
+    source: u32,
+    vertex: u32,
+) -> Option<Fault>
+    requires layout { is_layout P ≡ true }
+    requires size { length words.now ≡ graph.now.n }
+    requires order { IsInOrder graph.now.arcs }
+    requires vertex { IsVertex graph.now.n vertex }
+    ensures { IsFirstOf (FaultAt graph.now source (word_at words.now) vertex) result }
+{
+    match broken_at(graph, words, source, vertex) {
+        Some(rule) => Some(Fault { vertex, rule }),
+        None => None,
+    }
+}
+
+/// The earliest fault that a vertex shows, whatever piece found it.
+pub fn first_of_vertices<const P: u32, R: Threads + Sync>(
+    rt: &R,
+    graph: &Graph,
+    words: &[Word<P>],
+    source: u32,
+) -> Option<Fault>
+    requires layout { is_layout P ≡ true }
+    requires size { length words.now ≡ graph.now.n }
+    requires order { IsInOrder graph.now.arcs }
+    ensures { IsFirstOf (FaultOfVertex graph.now source (word_at words.now)) result }
+{
+    (1..=graph.n())
+        .into_par_iter()
+        .map(
+            |vertex: u32| -> Option<Fault>
+                requires { (is_layout P ≡ true) × (length words.now ≡ graph.now.n) × IsInOrder graph.now.arcs × IsVertex graph.now.n vertex }
+                ensures { IsFirstOf (FaultAt graph.entry.now source (word_at words.entry.now) vertex) result }
+            { fault_at(graph, words, source, vertex) },
+        )
+        .reduce(
+            rt,
+            || -> Option<Fault>
+                ensures { result ≡ None }
+            { None },
+            |first: Option<Fault>, second: Option<Fault>| -> Option<Fault>
+                ensures { result ≡ earlier_of first second }
+            { earlier(first, second) },
+        )
+}
