@@ -1,0 +1,39 @@
+-- From the two texts to the answers.
+use Rattle.std.proofs.Common.{◌≡◌, ℕ, Bool, List, Option, Some, None, Result, Ok, Err, refl}
+use Rattle.sp_text.specs.Text.{items_of}
+use Rattle.sp_text.specs.Lines.{lines}
+use Rattle.sp_dimacs.specs.declared.graphs.GrFile.{GrFile}
+use Rattle.sp_dimacs.specs.declared.sources.SsFile.{SsFile}
+use Rattle.sp_dimacs.specs.Formats.{gr, ss}
+use Rattle.sp_dimacs.specs.Graph.{SpellsGraph, GraphRead}
+use Rattle.sp_dimacs.specs.Sources.{SpellsSources, SourcesRead}
+use Rattle.sp_batch.specs.declared.answers.Summary.{Summary}
+use Rattle.sp_batch.specs.declared.answers.BatchError.{BatchError}
+use Rattle.sp_batch.specs.declared.answers.BatchError.TheVariants.{Gr, Ss, NoSuchVertex, Memory, Write}
+use Rattle.sp_batch.specs.Answered.{IsBatch, BatchAnswered, BatchOfSome}
+
+-- What was read to its end is spelled.
+pub graph_spelled : (P : ℕ) (text : List ℕ) (left : Option (List ℕ)) (has_failed : Bool) (file : GrFile) → GraphRead P text left has_failed (Ok file) → SpellsGraph P text file
+graph_spelled P text left has_failed file (_, clean, (ps, found, is)) = (ps, items_of gr (lines text), record { faultless = clean; problem_line = found; item_lines = refl }, is)
+
+pub sources_spelled : (P : ℕ) (text : List ℕ) (left : Option (List ℕ)) (has_failed : Bool) (list : SsFile) → SourcesRead P text left has_failed (Ok list) → SpellsSources P text list
+sources_spelled P text left has_failed list (_, clean, (ps, found, is)) = (ps, items_of ss (lines text), record { faultless = clean; problem_line = found; item_lines = refl }, is)
+
+-- What was answered for a graph and sources is the answer to texts that spell them.
+pub answered : (P : ℕ) (gr_text ss_text : List ℕ) (gr_left ss_left : Option (List ℕ)) (gr_failed ss_failed : Bool) (old new : Option (List ℕ)) (has_failed : Bool) (file : GrFile) (list : SsFile) (result : Result Summary BatchError)
+    → SpellsGraph P gr_text file → SpellsSources P ss_text list → IsBatch P file list old new has_failed result → BatchAnswered P gr_text ss_text gr_left ss_left gr_failed ss_failed old new has_failed result
+answered P gr_text ss_text gr_left ss_left gr_failed ss_failed old new has_failed file list (Ok summary) graph sources is = (file, list, graph, sources, is)
+answered P gr_text ss_text gr_left ss_left gr_failed ss_failed old new has_failed file list (Err (NoSuchVertex v)) graph sources is = (file, list, graph, sources, is)
+answered P gr_text ss_text gr_left ss_left gr_failed ss_failed old new has_failed file list (Err Memory) graph sources is = (file, list, graph, sources, is)
+answered P gr_text ss_text gr_left ss_left gr_failed ss_failed old new has_failed file list (Err Write) graph sources is = (file, list, graph, sources, is)
+answered P gr_text ss_text gr_left ss_left gr_failed ss_failed old new has_failed file list (Err (Gr e)) graph sources is = absurd is
+answered P gr_text ss_text gr_left ss_left gr_failed ss_failed old new has_failed file list (Err (Ss e)) graph sources is = absurd is
+
+pub of_some : (P : ℕ) (gr_text ss_text : List ℕ) (old new : Option (List ℕ)) (has_failed : Bool) (file : GrFile) (list : SsFile) (result : Result Summary BatchError)
+    → SpellsGraph P gr_text file → SpellsSources P ss_text list → IsBatch P file list old new has_failed result → BatchOfSome P old new has_failed result
+of_some P gr_text ss_text old new has_failed file list (Ok summary) graph sources is = (gr_text, ss_text, file, list, graph, sources, is)
+of_some P gr_text ss_text old new has_failed file list (Err (NoSuchVertex v)) graph sources is = (gr_text, ss_text, file, list, graph, sources, is)
+of_some P gr_text ss_text old new has_failed file list (Err Memory) graph sources is = (gr_text, ss_text, file, list, graph, sources, is)
+of_some P gr_text ss_text old new has_failed file list (Err Write) graph sources is = (gr_text, ss_text, file, list, graph, sources, is)
+of_some P gr_text ss_text old new has_failed file list (Err (Gr e)) graph sources is = absurd is
+of_some P gr_text ss_text old new has_failed file list (Err (Ss e)) graph sources is = absurd is

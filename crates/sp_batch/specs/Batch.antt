@@ -1,0 +1,61 @@
+-- What is written for a list of sources.
+use Rattle.std.specs.Prelude.{◌≡◌, ◌<◌, ◌≤◌, ℕ, Bool, true, false, List, [], ◌∷◌, ◌++◌, length, slice_get, Option, Some, None}
+use Rattle.std.specs.List.{flat_map, count_by}
+use Rattle.sp_word.specs.Word.{max_dist}
+use Rattle.sp_text.specs.Devices.{IsBegun}
+use Rattle.sp_paths.specs.Paths.{Graph, IsFar}
+use Rattle.sp_tree.specs.Table.{TreeTable, IsTable}
+use Rattle.sp_tree.specs.TreeText.{tree_text, far_text}
+use Rattle.sp_phase.specs.Answer.{IsAnswer}
+use Rattle.sp_batch.specs.declared.answers.Summary.{Summary}
+
+-- the answer to one source: its tree, or the vertex that is too far
+pub data Answer : Type 0 where
+  TreeOf : TreeTable → Answer
+  FarFrom : (source vertex : ℕ) → Answer
+
+abbrev pub IsAnswerTo : (P : ℕ) → Graph → (s : ℕ) → Answer → Type 0
+IsAnswerTo P g s (TreeOf t) = IsTable P t × IsAnswer P g s t
+IsAnswerTo P g s (FarFrom source vertex) = (source ≡ s) × IsFar g s (max_dist P) (Some vertex)
+
+-- the answers to a list of sources, in its order
+abbrev pub AreAnswers : (P : ℕ) → Graph → List ℕ → List Answer → Type 0
+AreAnswers P g [] [] = Unit {0}
+AreAnswers P g [] (answer ∷ more) = ⊥
+AreAnswers P g (s ∷ sources) [] = ⊥
+AreAnswers P g (s ∷ sources) (answer ∷ more) = IsAnswerTo P g s answer × AreAnswers P g sources more
+
+-- a tree's block, or the line of a vertex that is too far
+abbrev pub answer_text : Answer → List ℕ
+answer_text (TreeOf t) = tree_text t
+answer_text (FarFrom source vertex) = far_text source vertex
+
+-- blocks and lines, joined with nothing between
+abbrev pub batch_text : List Answer → List ℕ
+batch_text answers = flat_map answer_text answers
+
+abbrev pub is_far : Answer → Bool
+is_far (TreeOf t) = false
+is_far (FarFrom source vertex) = true
+
+-- how many sources there were, how many of them with a vertex that is too far, and how many bytes were written
+pub record IsSummary (answers : List Answer) (summary : Summary) : Type 0 where
+  pub sources : summary.sources ≡ length answers
+  pub too_far : summary.too_far ≡ count_by is_far answers
+  pub bytes : summary.bytes ≡ length (batch_text answers)
+
+-- The first of the sources were answered, and of their text a beginning stands.
+pub record HasBegun (P : ℕ) (g : Graph) (sources : List ℕ) (old new : Option (List ℕ)) : Type 0 where
+  pub done : List ℕ
+  pub later : List ℕ
+  pub parts : sources ≡ done ++ later
+  pub answers : List Answer
+  pub are : AreAnswers P g done answers
+  pub begun : IsBegun (batch_text answers) old new
+
+-- The source at some place is above n, and every source before it is not.
+pub record IsFirstAbove (n : ℕ) (sources : List ℕ) (s : ℕ) : Type 0 where
+  pub place : ℕ
+  pub there : slice_get sources place ≡ Some s
+  pub above : n < s
+  pub before : (k v : ℕ) → k < place → slice_get sources k ≡ Some v → v ≤ n

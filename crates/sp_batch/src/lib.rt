@@ -1,0 +1,11 @@
+//! From bytes to bytes: a graph and a list of sources are read, and for each source its shortest-path tree is written.
+#![tactic(auto)]
+
+mod answers;
+mod batch;
+
+pub use answers::{BatchError, Summary};
+pub use batch::run_batch;
+
+#[cfg(test)]
+mod tests;
