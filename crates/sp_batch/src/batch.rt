@@ -29,9 +29,9 @@ fn first_above(sources: &[u32], n: u32) -> Option<u32>
     ensures first { IfSome result (IsFirstAbove n sources.now) }
     ensures none { IfNone result (All (λ s. s ≤ n) sources.now) }
 {
-    for source in sources {
-        if *source > n {
-            return Some(*source);
+    for vertex in sources {
+        if *vertex > n {
+            return Some(*vertex);
         }
     }
     None

@@ -8,7 +8,7 @@ use Rattle.std.specs.Prelude.{◌≢◌, slice_index_or, All, Any, IsPermutation
 use Rattle.std.specs.declared.alloc.AllocError.{AllocError}
 use Rattle.std.proofs.lemmas.Bool.{eqb-false}
 use Rattle.std.proofs.lemmas.List.Elements.{All-nil, All-cons, All-append, All-weaker, All-head}
-use Rattle.std.proofs.lemmas.List.Sorted.{IsPermutation-refl, IsPermutation-trans, IsPermutation-append_left, All-permutation}
+use Rattle.std.proofs.lemmas.List.Sorted.{IsPermutation-trans, IsPermutation-append_left, All-permutation}
 use Rattle.sp_bucket.specs.declared.entry.Entry.{Entry}
 use Rattle.sp_bucket.specs.Content.{bucket_of, Content, Puts, Takes, IsLowest}
 use Rattle.sp_bucket.specs.Window.{Window, content_of}
@@ -178,3 +178,11 @@ empty_is_none v empty = let len : vec_len v ≡ 0 = eqb-true (vec_len v) 0 empty
 
 pub full_is_some : (v : Vec Entry Global) → (vec_len v == 0) ≡ false → v.items ≢ []
 full_is_some v full none = let len : length v.items ≡ 0 = ap (λ (xs : List Entry). length xs) none in eqb-false (vec_len v) 0 full (omega arith)
+
+pub both_delta : (ring : Option Window) (map : Content) → (both ring map).delta ≡ map.delta
+both_delta None map = refl
+both_delta (Some ring) map = refl
+
+-- the number of an entry's bucket, by the map's width
+pub own_number : (ring : Option Window) (map all : Content) → both ring map ≡ all → (x : Entry) (i : ℕ) → i ≡ bucket_of all.delta x → i ≡ bucket_of map.delta x
+own_number ring map all is x i at = at ∙ ap (λ (s : Content). bucket_of s.delta x) (sym is) ∙ ap (λ (d : ℕ). bucket_of d x) (both_delta ring map)

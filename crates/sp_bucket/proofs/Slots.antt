@@ -1,5 +1,5 @@
 -- The slots of a ring: what stands in one of them, and what a change of it leaves.
-use Rattle.std.proofs.Common.{◌≡◌, ℕ, zero, suc, ◌+◌, ◌-◌, ◌*◌, ◌/◌, ◌%◌, ◌<◌, ◌≤◌, List, [], ◌∷◌, ◌++◌, length, set, refl, sym, ap, subst, ◌∙◌, arith, lt_of_not-le, Vec}
+use Rattle.std.proofs.Common.{◌≡◌, ℕ, zero, suc, ◌+◌, ◌*◌, ◌/◌, ◌%◌, ◌<◌, ◌≤◌, List, [], ◌∷◌, ◌++◌, length, set, refl, sym, ap, subst, arith, lt_of_not-le, Vec}
 use Rattle.std.specs.Prelude.{◌≢◌, All, IsPermutation, slice_index_or}
 use Rattle.std.specs.declared.alloc.Global.{Global}
 use mathlib.Core.Logic.{dite}

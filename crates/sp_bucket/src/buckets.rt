@@ -1,6 +1,6 @@
 //! Entries in buckets, in a map or in a ring beside a map.
 ghost use Rattle.std.specs.Prelude.{◌≡◌, ◌<◌, ◌↔◌, [], None, OnOk, OnErr, IsNone, IfSome, IfOk};
-ghost use Rattle.sp_bucket.specs.Content.{no_entries, ring_for, Puts, Takes, IsLowest};
+ghost use Rattle.sp_bucket.specs.Content.{bucket_of, no_entries, ring_for, Puts, Takes, IsLowest};
 ghost use Rattle.sp_bucket.specs.Beside.{lower};
 
 use crate::entry::Entry;
@@ -82,7 +82,23 @@ impl Buckets {
         ensures put { OnOk result (Puts entry self.old self.new) }
         ensures refused { OnErr result (self.new ≡ self.old) }
     {
-        let number = self.map.number_of(&entry);
+        let number = self.number_of(&entry);
+        self.put_at(number, entry)
+    }
+
+    // The number of the bucket that an entry belongs in.
+    fn number_of(&self, entry: &Entry) -> u64
+        ensures { result ≡ bucket_of self.now.delta entry.now }
+    {
+        self.map.number_of(entry)
+    }
+
+    // Puts an entry into the ring where its bucket lies in the window and not in the map, else into the map.
+    fn put_at(&mut self, number: u64, entry: Entry) -> Result<(), AllocError>
+        requires { number ≡ bucket_of self.old.delta entry }
+        ensures put { OnOk result (Puts entry self.old self.new) }
+        ensures refused { OnErr result (self.new ≡ self.old) }
+    {
         if let Some(ring) = &mut self.ring {
             if ring.covers(number) && !self.map.holds(number) {
                 return ring.put(number, entry);
@@ -107,8 +123,24 @@ impl Buckets {
     pub fn take(&mut self, i: u64) -> Vec<Entry>
         ensures { Takes i result.items self.old self.new }
     {
+        self.move_window(i);
+        self.take_out(i)
+    }
+
+    // Lets the ring's window begin at this bucket, where that leaves no entry outside of it.
+    fn move_window(&mut self, number: u64)
+        ensures { self.new ≡ self.old }
+    {
         if let Some(ring) = &mut self.ring {
-            ring.move_to(i);
+            ring.move_to(number);
+        }
+    }
+
+    // Takes the bucket out of the ring, or out of the map where the ring has none of it.
+    fn take_out(&mut self, i: u64) -> Vec<Entry>
+        ensures { Takes i result.items self.old self.new }
+    {
+        if let Some(ring) = &mut self.ring {
             let taken = ring.take(i);
             if !taken.is_empty() {
                 return taken;

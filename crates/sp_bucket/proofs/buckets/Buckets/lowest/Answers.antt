@@ -1,4 +1,4 @@
-use Rattle.std.proofs.Common.{◌≡◌, sym, subst, Some, IfSome}
+use Rattle.std.proofs.Common.{◌≡◌, subst, Some, IfSome}
 use Rattle.sp_bucket.specs.Content.{Content, IsLowest}
 use Rattle.sp_bucket.specs.Beside.{both, AreApart, lower}
 use Rattle.sp_bucket.proofs.BesideSteps.{lowest_of_both}

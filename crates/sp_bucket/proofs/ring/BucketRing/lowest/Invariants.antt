@@ -1,4 +1,4 @@
-use Rattle.std.proofs.Common.{◌≡◌, ◌+◌, ◌≤◌, All}
+use Rattle.std.proofs.Common.{◌+◌, ◌≤◌, All}
 use Rattle.sp_bucket.specs.Content.{bucket_of}
 use Rattle.sp_bucket.proofs.ring.BucketRing.lowest.Given as goal
 

@@ -1,5 +1,4 @@
-use Rattle.std.proofs.Common.{◌≡◌, ℕ, length, arith, refl}
-use Rattle.sp_bucket.specs.Content.{no_entries}
+use Rattle.std.proofs.Common.{◌≡◌, length, arith}
 use Rattle.sp_bucket.proofs.RingSteps.{new_ring}
 use Rattle.sp_bucket.proofs.ring.BucketRing.new.Goals as goal
 

@@ -1,18 +1,18 @@
-use Rattle.std.proofs.Common.{rules, ◌≡◌, ◌≢◌, [], refl, sym, ap, subst, ◌∙◌, Some}
+use Rattle.std.proofs.Common.{◌≡◌, [], sym, ap, subst, ◌∙◌, Some}
 use Rattle.sp_bucket.specs.declared.buckets.Buckets.TheInside.{Inside}
 use Rattle.sp_bucket.specs.Content.{Content, Takes}
-use Rattle.sp_bucket.specs.Window.{Window, content_of}
+use Rattle.sp_bucket.specs.Window.{content_of}
 use Rattle.sp_bucket.specs.Beside.{both, AreApart}
 use Rattle.sp_bucket.proofs.BesideSteps.{Emptied, empty_is_none, full_is_some, take_from_ring, take_from_map}
-use Rattle.sp_bucket.proofs.buckets.Buckets.take.Goals as goal
-use Rattle.sp_bucket.proofs.buckets.Buckets.take.Goals.{in-Some+else-not-is_empty, in_default}
+use Rattle.sp_bucket.proofs.buckets.Buckets.take_out.Goals as goal
+use Rattle.sp_bucket.proofs.buckets.Buckets.take_out.Goals.{in-Some+else-not-is_empty, in_default}
 
 taken : (c : goal.Then-not-is_empty) → AreApart (Some c.take-taken.new.self) c.self.inside.map × Takes c.args.i c.take-taken.result.items c.args.self.now (both (Some c.take-taken.new.self) c.self.inside.map)
 taken c =
     let b = c.self.inside in
     let apart = subst (λ ring. AreApart ring b.map) c.in-Some.is c.self.invariant in
     let view = subst (λ ring. both ring b.map ≡ c.args.self.now) c.in-Some.is c.self.view_is in
-    let took = subst (λ (s : Content). Takes c.args.i c.take-taken.result.items s (content_of c.take-taken.new.self)) c.move_to.ensures c.take-taken.ensures in
+    let took = c.take-taken.ensures in
     let some = full_is_some c.take-taken.result (sym c.is_empty.ensures ∙ c.if-not-is_empty.true) in
     let done = take_from_ring b.map c.args.i c.take-taken.result.items c.in-Some.ring c.take-taken.new.self apart some took in
     (done.0, subst (λ (s : Content). Takes c.args.i c.take-taken.result.items s (both (Some c.take-taken.new.self) b.map)) view done.1)
@@ -29,7 +29,7 @@ ready c =
     let b = c.self.inside in
     elim c.match-self.branch [
       | in-Some+else-not-is_empty w ↦
-          let took = subst (λ (s : Content). Takes c.args.i w.take-taken.result.items s (content_of w.take-taken.new.self)) w.move_to.ensures w.take-taken.ensures in
+          let took = w.take-taken.ensures in
           let none : w.take-taken.result.items ≡ [] = empty_is_none w.take-taken.result (sym w.is_empty.ensures ∙ w.if-not-is_empty.false) in
           let emptied = subst (λ xs. Takes c.args.i xs (content_of w.in-Some.ring) (content_of w.take-taken.new.self)) none took in
           (rw (w.in-Some.is, ap (λ (s : Inside). s.ring) w.self-inside-is) emptied, ap (λ (s : Inside). s.map) w.self-inside-is)
