@@ -2,4 +2,3 @@ pub mod Compare
 pub mod Orders
 pub mod Starts
 pub mod Cuts
-pub mod Longer

@@ -93,15 +93,6 @@ pub record IsPassing (n max : ℕ) (arcs : List Arc) (i : ℕ) (initial words : 
   pub closed : changed ≡ false → IsClosed (network n (take i arcs)) max (word_at words)
   pub less : sum_by (rank n max) words + cond changed 1 0 ≤ sum_by (rank n max) initial
 
-pub pass_start : (n max : ℕ) (arcs : List Arc) (words : List Word) → length words ≡ n → All (IsSmall n max) words → IsPassing n max arcs 0 words words false
-pass_start n max arcs words size small = record {
-  size = size;
-  small = small;
-  kept = λ s h t. t;
-  closed = λ e u v l a. absurd (omega (arith, a.1));
-  less = omega arith;
-}
-
 module _ (n max : ℕ) (arcs : List Arc) (i : ℕ) (initial words : List Word) (changed : Bool) (arc : Arc) (in' : i < length arcs) (is : get_or arcs i arc ≡ arc) (p : IsPassing n max arcs i initial words changed) where
   next : take (i + 1) arcs ≡ take i arcs ++ arc ∷ []
   next = take_more arcs i arc in' ∙ ap (λ x. take i arcs ++ x ∷ []) is

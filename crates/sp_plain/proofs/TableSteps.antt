@@ -3,14 +3,13 @@ use Rattle.std.proofs.Common.{◌≡◌, ℕ, ◌+◌, ◌-◌, ◌<◌, ◌≤�
 use Rattle.std.specs.Prelude.{All}
 use Rattle.std.proofs.lemmas.Bool.{cases_eq, cases_lt}
 use Rattle.std.proofs.lemmas.List.{take_more, length-replicate, get_or-replicate}
-use Rattle.std.proofs.lemmas.List.Elements.{All-replicate, All-set, Contains-push, Contains-append_left}
+use Rattle.std.proofs.lemmas.List.Elements.{Contains-push, Contains-append_left}
 use Rattle.sp_word.specs.Word.{Word, Unreached, Pair}
 use Rattle.sp_word.specs.History.{Table}
 use Rattle.sp_paths.specs.declared.arc.Arc.{Arc}
 use Rattle.sp_paths.specs.Paths.{Graph, IsVertex, IsArc, HasArc, IsLawful, IsClosed, IsTableFrom, IsWithin, IsLeftOut, word_at}
 use Rattle.sp_paths.specs.Theorems.{IsFinished}
 use Rattle.sp_plain.specs.Passing.{network, IsSmall, IsSmallTable, KeepsTables, IsLeastLeftOut, smaller_of, first_words, LeadsOut, IsFinishedTable, IsOutcome}
-use Rattle.sp_plain.specs.Answer.{IsPredWithin}
 use Rattle.sp_plain.proofs.PassSteps.{arc_more, word_other, word_same}
 use Rattle.sp_paths.proofs.Run.{not_both}
 use Rattle.sp_paths.proofs.Proved.{finished_is_tree, finished_is_far}
@@ -23,13 +22,7 @@ pub record IsRelaxing (n max : ℕ) (arcs : List Arc) (initial words : List Word
   pub closed : changed ≡ false → IsClosed (network n arcs) max (word_at words)
 
 -- the table before the first pass
-pub first_small : (n s max : ℕ) → IsVertex n s → IsSmallTable max (first_words n s)
-first_small n s max h =
-    let size : length (first_words n s) ≡ n = length-set (replicate n Unreached) (s - 1) (Pair 0 0) ∙ length-replicate n Unreached in
-    let P : ℕ → Type 0 = λ m. All (IsSmall m max) (first_words n s) in
-    subst P (sym size) (All-set (IsSmall n max) (replicate n Unreached) (s - 1) (Pair 0 0) (omega arith, omega arith) (All-replicate (IsSmall n max) n Unreached tt))
-
-pub first_table : (n s : ℕ) (arcs : List Arc) → IsVertex n s → IsTableFrom (network n arcs) s (word_at (first_words n s))
+first_table : (n s : ℕ) (arcs : List Arc) → IsVertex n s → IsTableFrom (network n arcs) s (word_at (first_words n s))
 first_table n s arcs h = record { lawful = λ v k. lawful v k (cases_eq v s); source = source }
   where
     source : word_at (first_words n s) s ≡ Pair 0 0
@@ -129,11 +122,3 @@ finished_words n s max arcs first words fine h is size small kept closed =
 pub outcome : (g : Graph) (s max : ℕ) (words : List Word) (far : Option ℕ) → IsLeastLeftOut g (word_at words) far → IsFinishedTable g s max words → IsOutcome g s max words far
 outcome g s max words None out f = finished_is_tree g s max (word_at words) f.finished out
 outcome g s max words (Some v) out f = finished_is_far g s max (word_at words) f.finished v out.0 out.1
-
--- what is small has its predecessor within n
-pub preds_within : (n max : ℕ) (words : List Word) → length words ≡ n → IsSmallTable max words → All (IsPredWithin n) words
-preds_within n max words size small k d lt = at (get_or words k d) (let S : ℕ → Type 0 = λ m. IsSmall m max (get_or words k d) in subst S size (small k d lt))
-  where
-    at : (w : Word) → IsSmall n max w → IsPredWithin n w
-    at Unreached h = tt
-    at (Pair d p) h = h.1
