@@ -70,7 +70,8 @@ fn fresh_actors<const P: u32>(alloc: Global, count: u32) -> Result<Vec<Actor<P>>
 // Gives the vertices that are named their words.
 fn name_words<const P: u32>(words: &mut Vec<Word<P>>, named: &[(u32, Word<P>)])
     requires { All (λ x. IsNumber (vec_len words.old) x.0) named.now }
-    ensures { words.new.items ≡ named_words words.old.items named.now }
+    ensures words { words.new.items ≡ named_words words.old.items named.now }
+    ensures length { length words.new.items ≡ length words.old.items }
 {
     for (vertex, word) in named {
         words[(*vertex - 1) as usize] = *word;
