@@ -8,7 +8,7 @@ use Rattle.sp_cert.specs.declared.rule.Rule.{Rule}
 use Rattle.sp_cert.specs.declared.rule.Rule.TheVariants.{Size, OwnSource, NoLesserOffer, NamesPredecessor, OnlyTooFar}
 use Rattle.std.specs.Prelude.{Contains}
 use Rattle.sp_paths.specs.Paths.{Graph, IsGraph, IsVertex, HasArc, HasWalk, HasWalkBy, IsLeast, IsTreeWord, IsFar, IsLawful, IsAtMost, IsRelaxed, IsClosed, IsTableFrom, IsWithin, IsLeftOut, IsTree}
-use Rattle.sp_cert.specs.Rules.{IsExplained, Breaks, Fails, Passes, IsTreeOf, RulesAreExact}
+use Rattle.sp_cert.specs.Rules.{Breaks, Fails, Passes, IsTreeOf, RulesAreExact}
 use Rattle.sp_paths.proofs.Walks.{arc_in, walk_none, walk_by, walk_more, least_same}
 use Rattle.sp_paths.proofs.Core.{cases_word, pair_dist, pair_pred}
 use Rattle.sp_paths.proofs.Least.{any_decided}

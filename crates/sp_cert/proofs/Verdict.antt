@@ -1,17 +1,17 @@
 -- From the earliest fault to what a check says.
-use Rattle.std.proofs.Common.{◌≡◌, ◌≢◌, ℕ, ◌+◌, ◌<◌, ◌≤◌, ◌⊎◌, inl, inr, List, length, Option, Some, None, sym, refl, ap, ◌∙◌, subst, arith}
+use Rattle.std.proofs.Common.{◌≡◌, ℕ, ◌+◌, ◌⊎◌, inl, inr, List, Option, Some, None, sym, refl, ap, ◌∙◌, subst}
 use Rattle.std.specs.Prelude.{Contains}
-use Rattle.sp_word.specs.Word.{Word, Unreached, Pair, IsBelow, max_dist}
+use Rattle.sp_word.specs.Word.{Word, Pair, IsBelow, max_dist}
 use Rattle.sp_word.specs.History.{Table}
 use Rattle.sp_paths.specs.declared.arc.Arc.{Arc}
-use Rattle.sp_paths.specs.Paths.{Graph, IsGraph, IsVertex, HasArc, IsWithin, word_at}
+use Rattle.sp_paths.specs.Paths.{Graph, IsGraph, IsVertex, HasArc, word_at}
 use Rattle.sp_paths.proofs.Walks.{arc_in}
 use Rattle.sp_tree.specs.Table.{TreeTable, IsTable, table_of}
 use Rattle.sp_cert.specs.declared.rule.Rule.{Rule}
 use Rattle.sp_cert.specs.declared.rule.Rule.TheVariants.{Size, OwnSource, NoLesserOffer, NamesPredecessor, OnlyTooFar}
 use Rattle.sp_cert.specs.declared.fault.Fault.{Fault}
 use Rattle.sp_cert.specs.Rules.{IsExplained, Breaks, Fails, IsFirstFault}
-use Rattle.sp_cert.specs.Faults.{IsFirstOf, earlier_of, FaultBy, FaultOfArc, FaultOfVertex}
+use Rattle.sp_cert.specs.Faults.{IsFirstOf, earlier_of, FaultOfArc, FaultOfVertex}
 use Rattle.sp_cert.specs.declared.checking.CheckError.TheVariants.{Fault as Told, Memory}
 use Rattle.sp_cert.specs.Certificate.{IsCertified, IsFirstFaultOf}
 use Rattle.sp_cert.proofs.TreeSteps.{table_within}

@@ -1,6 +1,6 @@
 -- The earliest of some faults, and the faults of a vertex and of an arc.
 use Rattle.std.specs.Prelude.{◌≡◌, ◌≢◌, ℕ, ◌+◌, ◌<◌, ◌≤◌, ◌⊎◌, ◌==◌, ◌&&◌, ◌||◌, Bool, if◌then◌else◌, nat_lt, List, Contains, length, slice_index_or, Option, Some, None}
-use Rattle.sp_word.specs.Word.{Word, Unreached, Pair, IsBelow}
+use Rattle.sp_word.specs.Word.{Unreached, Pair, IsBelow}
 use Rattle.sp_word.specs.History.{Table}
 use Rattle.sp_paths.specs.declared.arc.Arc.{Arc}
 use Rattle.sp_paths.specs.Paths.{Graph, IsVertex}

@@ -1,6 +1,6 @@
 -- The rules of a tree, told as faults, and what they decide.
 use Rattle.std.specs.Prelude.{◌≡◌, ◌≢◌, ℕ, ◌+◌, ◌<◌, ◌≤◌, ◌⊎◌, ◌↔◌, None}
-use Rattle.sp_word.specs.Word.{Word, Unreached, Pair, IsBelow}
+use Rattle.sp_word.specs.Word.{Unreached, Pair, IsBelow}
 use Rattle.sp_word.specs.History.{Table}
 use Rattle.sp_paths.specs.Paths.{Graph, IsGraph, IsVertex, HasArc, IsTree, IsFar, IsWithin}
 use Rattle.sp_cert.specs.declared.rule.Rule.{Rule}

@@ -1,4 +1,4 @@
-use Rattle.std.proofs.Common.{ap, ◌∙◌, arith}
+use Rattle.std.proofs.Common.{◌∙◌, arith}
 use Rattle.sp_paths.specs.Paths.{word_at}
 use Rattle.sp_cert.specs.Faults.{FaultAt}
 use Rattle.sp_cert.proofs.FirstSteps.{first_of_reduced}
