@@ -1,0 +1,56 @@
+-- Two groups of workers, brought together.
+use Rattle.std.proofs.Common.{◌≡◌, ℕ, ◌+◌, ◌≤◌, List, [], Result, Ok, Err, IfOk, IfErr, refl, sym, ap, ◌∙◌, subst, arith}
+use Rattle.sp_word.specs.Word.{Word}
+use Rattle.sp_offer.specs.Story.{Knowledge, Story, own_calls, beside}
+use Rattle.sp_claim.specs.Held.{Held}
+use Rattle.sp_task.specs.declared.work.Done.{Done}
+use Rattle.sp_task.specs.declared.work.RoundRefused.{RoundRefused}
+use Rattle.sp_task.specs.Later.{IsLater}
+use Rattle.sp_task.specs.Work.{Job, Did, did, start, Goes, Answers, IsMerged, Joined, AreJoined, caller_of, claimer_of}
+use Rattle.sp_task.proofs.Making.{later_along, later_joined}
+use Rattle.sp_task.proofs.Going.{goes_joined}
+
+module _ (law : ℕ → Word → Type 0) (jobs : List Job) (number : ℕ) where
+  -- whatever a group answers, its caller has gone on from the one that it was given
+  pub answer_later : (caller : Knowledge) (claimer : Held) (count : ℕ) (r : Result Done RoundRefused) → Answers law jobs number caller claimer count r → IsLater law caller (caller_of r)
+  answer_later caller claimer count (Ok d) h = h.0.made.later
+  answer_later caller claimer count (Err e) h = h.0
+
+  pub answer_claims : (caller : Knowledge) (claimer : Held) (count : ℕ) (r : Result Done RoundRefused) → Answers law jobs number caller claimer count r → (claimer_of r).table ≡ claimer.table
+  answer_claims caller claimer count (Ok d) h = h.0.claims
+  answer_claims caller claimer count (Err e) h = h.1
+
+  at_ok : (caller : Knowledge) (claimer : Held) (count : ℕ) (r : Result Done RoundRefused) (d : Done) → r ≡ Ok d → Answers law jobs number caller claimer count r → Answers law jobs number caller claimer count (Ok d)
+  at_ok caller claimer count r d e h = subst (λ (x : Result Done RoundRefused). Answers law jobs number caller claimer count x) e h
+
+  pub both_answer : (c d : Knowledge) (h i : Held) (m n : ℕ) (mine theirs r : Result Done RoundRefused) → own_calls d.story ≡ [] → i.grants ≡ []
+      → Answers law jobs number c h m mine → Answers law jobs number d i n theirs → IsMerged law mine theirs r → Answers law jobs number c h (m + n) r
+  both_answer c d h i m n mine theirs (Ok x) none bare p q b =
+      let first = at_ok c h m mine b.0 b.2 p in
+      let second = at_ok d i n theirs b.1 b.3 q in
+      let k = b.5 in
+      let l = b.6 in
+      (goes_joined law jobs number c d h i (did b.0) (did b.1) (did x) none bare first.0 second.0 b.4, (let o = first.1 in omega arith), (let o = first.2 in let s = second.2 in omega arith))
+  both_answer c d h i m n mine theirs (Err x) none bare p q b = (
+    later_along law c (caller_of mine) x.caller (answer_later c h m mine p) (later_joined law (caller_of mine) (caller_of theirs) x.caller b.table b.follows),
+    b.claims ∙ answer_claims c h m mine p,
+  )
+
+  -- the same, where the tokens come from a split
+  pub after_split : (c c' d : Knowledge) (h h' i : Held) (m n k : ℕ) (mine theirs r : Result Done RoundRefused) → c' ≡ c → h' ≡ h → d.story ≡ beside c.story → i.grants ≡ [] → m + n ≤ k
+      → Answers law jobs number c' h' m mine → Answers law jobs number d i n theirs → IsMerged law mine theirs r → Answers law jobs number c h k r
+  after_split c c' d h h' i m n k mine theirs r same same' second bare fit p q b =
+      let p' : Answers law jobs number c h m mine = subst (λ (z : Knowledge × Held). Answers law jobs number z.0 z.1 m mine) (λ j. (same j, same' j)) p in
+      wider c h (m + n) k r fit (both_answer c d h i m n mine theirs r (ap own_calls second) bare p' q b)
+    where
+      wider : (c : Knowledge) (h : Held) (m k : ℕ) (r : Result Done RoundRefused) → m ≤ k → Answers law jobs number c h m r → Answers law jobs number c h k r
+      wider c h m k (Ok d) fit p = (p.0, p.1, let o = p.2 in omega arith)
+      wider c h m k (Err e) fit p = p
+
+-- two groups that both ended well, brought together
+pub merged_ok : (law : ℕ → Word → Type 0) (mine theirs r : Result Done RoundRefused) (m t : Done) → mine ≡ Ok m → theirs ≡ Ok t
+    → IfOk r (λ d. Joined law (did m) (did t) (did d)) → IfOk r (λ d. (m.started ≤ d.started) × (d.started ≤ m.started + t.started))
+    → IfErr r (λ e. AreJoined law m.caller t.caller e.caller m.claimer t.claimer e.claimer) → IsMerged law mine theirs r
+merged_ok law mine theirs (Ok d) m t a b joined started refused = (m, t, a, b, joined, started.0, started.1)
+merged_ok law mine theirs (Err e) m t a b joined started refused =
+    subst (λ (x : Result Done RoundRefused × Result Done RoundRefused). IsMerged law x.0 x.1 (Err e)) (λ i. (sym a i, sym b i)) refused

@@ -1,0 +1,10 @@
+pub mod Words
+pub mod Making
+pub mod Arcs
+pub mod Going
+pub mod Both
+pub mod Sums
+pub mod Marks
+pub mod Left
+pub mod Walking
+pub mod Checks

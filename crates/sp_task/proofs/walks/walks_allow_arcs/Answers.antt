@@ -1,0 +1,5 @@
+use Rattle.sp_task.proofs.Walking.{walks_allow}
+use Rattle.sp_task.proofs.walks.walks_allow_arcs.Goals as goal
+
+pub returns : goal.returns
+returns c = walks_allow

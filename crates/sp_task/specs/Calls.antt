@@ -1,0 +1,39 @@
+-- What calls offered, and the entries that they give.
+use Rattle.std.specs.Prelude.{ℕ, List, [], ◌∷◌, ◌++◌}
+use Rattle.sp_word.specs.Word.{Word, Unreached, Pair}
+use Rattle.sp_word.specs.History.{Call, Offer, Read, Event}
+use Rattle.sp_word.specs.declared.reply.Reply.{Reply}
+use Rattle.sp_word.specs.declared.reply.Reply.TheVariants.{Shorter, SmallerPred, Kept}
+use Rattle.sp_offer.specs.Order.{IsAtMost}
+use Rattle.sp_offer.specs.Story.{Story, known}
+use Rattle.sp_bucket.specs.declared.entry.Entry.{Entry}
+use Rattle.sp_task.specs.Offers.{Asked}
+
+-- the word that a call offers; a read offers none
+abbrev pub word_offered : Call → Word
+word_offered (Offer word found reply) = word
+word_offered (Read found) = Unreached
+
+abbrev pub asked : Event → Asked
+asked e = record { vertex = e.vertex; word = word_offered e.call }
+
+-- the entry of an offer that made the distance of its vertex smaller
+abbrev pub entry_of_reply : ℕ → Word → Reply → List Entry
+entry_of_reply v Unreached reply = []
+entry_of_reply v (Pair d p) Shorter = record { vertex = v; dist = d } ∷ []
+entry_of_reply v (Pair d p) SmallerPred = []
+entry_of_reply v (Pair d p) Kept = []
+
+abbrev pub entry_of_call : ℕ → Call → List Entry
+entry_of_call v (Offer word found reply) = entry_of_reply v word reply
+entry_of_call v (Read found) = []
+
+-- one entry for each call that was answered Shorter
+abbrev pub entries : List Event → List Entry
+entries [] = []
+entries (e ∷ es) = entry_of_call e.vertex e.call ++ entries es
+
+-- what is known is at most each word that was offered
+abbrev pub AllKnown : Story → List Event → Type 0
+AllKnown s [] = Unit {0}
+AllKnown s (e ∷ es) = IsAtMost (known s e.vertex) (word_offered e.call) × AllKnown s es

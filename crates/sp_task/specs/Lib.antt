@@ -1,0 +1,7 @@
+pub mod Offers
+pub mod Calls
+pub mod Later
+pub mod Work
+pub mod Left
+pub mod Walking
+pub use Rattle.atomic_table.specs.Seated

@@ -1,0 +1,21 @@
+//! Rounds of tasks that workers share.
+//!
+//! A task relaxes the light or the heavy arcs of one vertex at one distance. A round runs each of its tasks once, by
+//! as many workers as it is given, who take tasks from one another, and joins them.
+#![tactic(auto)]
+
+mod gate;
+mod round;
+mod task;
+mod walks;
+mod work;
+
+pub use gate::{Gate, OpenGate};
+pub use round::{run_round, run_round_by};
+pub use task::{Kind, Round, Task};
+pub use walks::{Walks, walks_allow_arcs};
+pub use work::{Receipt, RoundOut, RoundRefused};
+
+
+#[cfg(test)]
+mod tests;

@@ -1,0 +1,212 @@
+//! Rounds.
+ghost use Rattle.std.specs.Prelude.{◌≡◌, ℕ, ◌+◌, ◌<◌, ◌≤◌, true, false, length, vec_len, replicate, max, All, IfOk, IfErr};
+ghost use Rattle.sp_word.specs.Word.{is_layout, max_dist};
+ghost use Rattle.sp_offer.specs.Order.{lawful};
+ghost use Rattle.sp_task.specs.Offers.{IsTask};
+ghost use Rattle.sp_task.specs.Later.{IsLater};
+ghost use Rattle.sp_task.specs.Work.{IsReady, AreOf};
+ghost use Rattle.sp_task.specs.Left.{RoundDone};
+
+use crate::gate::Gate;
+use crate::task::Round;
+use crate::work::left::{mark, run_left};
+use crate::work::stealing::{Deques, Plan, deal, run_workers};
+use crate::work::{Done, RoundOut, RoundRefused};
+use sp_claim::Claimer;
+use sp_offer::{Caller, Lawful, Loop, Lowering};
+use std::alloc::{AllocError, Global};
+use std::sync::Wait;
+use std::thread::Threads;
+
+/// Runs each task of the round once, by at most so many workers as the round has and as there are tasks. It starts
+/// threads and joins them all. With one worker none is started, and nothing is claimed.
+///
+/// A refusal means that memory was wanting.
+pub fn run_round<
+    R: Threads + Wait + Sync,
+    L: Lawful + Send + Sync,
+    G: Gate + Sync,
+    const P: u32,
+>(
+    rt: &R,
+    alloc: Global,
+    round: &Round<L, P>,
+    caller: Caller,
+    claimer: Claimer,
+    gate: &G,
+) -> Result<RoundOut, RoundRefused>
+    requires layout { is_layout P ≡ true }
+    requires workers { (1 ≤ round.now.workers) × (round.now.workers ≤ 64) }
+    requires table { round.now.table.now.vertices ≡ round.now.rows.now.graph.n }
+    requires slots { round.now.rows.now.graph.n ≤ round.now.claims.now.words }
+    requires caller { caller.table ≡ round.now.table.now.id }
+    requires claimer { claimer.table ≡ round.now.claims.now }
+    requires tasks { All (IsTask (lawful P (L.allows round.now.table.now.law)) (max_dist P) round.now.rows.now) round.now.tasks.now }
+    ensures done { IfOk result (λ o. RoundDone (lawful P (L.allows round.now.table.now.law)) (max_dist P) round.now.rows.now round.now.tasks.now caller o.caller o.found.items) }
+    ensures claimer { IfOk result (λ o. o.claimer.table ≡ claimer.table) }
+    ensures started { IfOk result (λ o. (1 ≤ o.started) × (o.started ≤ round.now.workers)) }
+    ensures refused { IfErr result (λ r. IsLater (lawful P (L.allows round.now.table.now.law)) caller r.caller) }
+    ensures refused_claimer { IfErr result (λ r. r.claimer.table ≡ claimer.table) }
+{
+    run_round_by::<Loop, R, L, G, P>(rt, alloc, round, caller, claimer, gate)
+}
+
+/// As `run_round`, with offers by a lowering of the caller's choice.
+pub fn run_round_by<
+    M: Lowering + Send + Sync,
+    R: Threads + Wait + Sync,
+    L: Lawful + Send + Sync,
+    G: Gate + Sync,
+    const P: u32,
+>(
+    rt: &R,
+    alloc: Global,
+    round: &Round<L, P>,
+    caller: Caller,
+    claimer: Claimer,
+    gate: &G,
+) -> Result<RoundOut, RoundRefused>
+    requires layout { is_layout P ≡ true }
+    requires workers { (1 ≤ round.now.workers) × (round.now.workers ≤ 64) }
+    requires table { round.now.table.now.vertices ≡ round.now.rows.now.graph.n }
+    requires slots { round.now.rows.now.graph.n ≤ round.now.claims.now.words }
+    requires caller { caller.table ≡ round.now.table.now.id }
+    requires claimer { claimer.table ≡ round.now.claims.now }
+    requires tasks { All (IsTask (lawful P (L.allows round.now.table.now.law)) (max_dist P) round.now.rows.now) round.now.tasks.now }
+    ensures done { IfOk result (λ o. RoundDone (lawful P (L.allows round.now.table.now.law)) (max_dist P) round.now.rows.now round.now.tasks.now caller o.caller o.found.items) }
+    ensures claimer { IfOk result (λ o. o.claimer.table ≡ claimer.table) }
+    ensures started { IfOk result (λ o. (1 ≤ o.started) × (o.started ≤ round.now.workers)) }
+    ensures refused { IfErr result (λ r. IsLater (lawful P (L.allows round.now.table.now.law)) caller r.caller) }
+    ensures refused_claimer { IfErr result (λ r. r.claimer.table ≡ claimer.table) }
+{
+    // there is a vertex, and so a slot to claim
+    let _ = round.rows.n();
+    let workers = round.tasks.len().min(round.workers as usize);
+    if workers > 1 {
+        if let Ok(prepared) = prepare(alloc, round.tasks.len(), workers) {
+            return run_shared::<M, R, L, G, P>(rt, alloc, round, prepared, caller, claimer, gate);
+        }
+    }
+    run_by_leader::<M, L, G, P>(alloc, round, caller, claimer, gate)
+}
+
+/// What a round of several workers takes room for before its first offer.
+#[derive(Drop)]
+struct Prepared {
+    marks: Vec<bool>,
+    deques: Deques,
+}
+
+fn prepare(alloc: Global, tasks: usize, workers: usize) -> Result<Prepared, AllocError>
+    requires { 0 < workers }
+    ensures marks { IfOk result (λ p. p.marks.items ≡ replicate tasks false) }
+    ensures len { IfOk result (λ p. vec_len p.marks ≡ tasks) }
+    ensures owners { IfOk result (λ p. vec_len p.deques.owners ≡ workers) }
+{
+    let marks = vec![in alloc; false; tasks]?;
+    let deques = deal(alloc, tasks, workers)?;
+    Ok(Prepared { marks, deques })
+}
+
+/// The leader runs all tasks, alone.
+fn run_by_leader<M: Lowering, L: Lawful, G: Gate, const P: u32>(
+    alloc: Global,
+    round: &Round<L, P>,
+    mut caller: Caller,
+    claimer: Claimer,
+    gate: &G,
+) -> Result<RoundOut, RoundRefused>
+    requires ready { IsReady P (lawful P (L.allows round.now.table.now.law)) round.now.table.now.vertices round.now.claims.now.words round.now.rows.now round.now.tasks.now }
+    requires caller { caller.table ≡ round.now.table.now.id }
+    ensures done { IfOk result (λ o. RoundDone (lawful P (L.allows round.now.table.now.law)) (max_dist P) round.now.rows.now round.now.tasks.now caller o.caller o.found.items) }
+    ensures claimer { IfOk result (λ o. o.claimer ≡ claimer) }
+    ensures started { IfOk result (λ o. o.started ≡ 1) }
+    ensures refused { IfErr result (λ r. IsLater (lawful P (L.allows round.now.table.now.law)) caller r.caller) }
+    ensures refused_claimer { IfErr result (λ r. r.claimer ≡ claimer) }
+{
+    let mut found = Vec::new(alloc);
+    if !run_left::<M, L, G, P>(round, gate, &[], &mut caller, &mut found) {
+        return Err(RoundRefused { caller, claimer });
+    }
+    Ok(RoundOut {
+        caller,
+        claimer,
+        found,
+        started: 1,
+    })
+}
+
+/// The workers run tasks until there are none, and then the leader runs each task that has no receipt.
+fn run_shared<
+    M: Lowering + Send + Sync,
+    R: Threads + Sync,
+    L: Lawful + Send + Sync,
+    G: Gate + Sync,
+    const P: u32,
+>(
+    rt: &R,
+    alloc: Global,
+    round: &Round<L, P>,
+    prepared: Prepared,
+    caller: Caller,
+    claimer: Claimer,
+    gate: &G,
+) -> Result<RoundOut, RoundRefused>
+    requires ready { IsReady P (lawful P (L.allows round.now.table.now.law)) round.now.table.now.vertices round.now.claims.now.words round.now.rows.now round.now.tasks.now }
+    requires slots { 0 < round.now.claims.now.words }
+    requires tokens { AreOf round.now.table.now.id round.now.claims.now caller claimer }
+    requires marks { prepared.marks.items ≡ replicate (length round.now.tasks.now) false }
+    requires len { vec_len prepared.marks ≡ length round.now.tasks.now }
+    ensures done { IfOk result (λ o. RoundDone (lawful P (L.allows round.now.table.now.law)) (max_dist P) round.now.rows.now round.now.tasks.now caller o.caller o.found.items) }
+    ensures claimer { IfOk result (λ o. o.claimer.table ≡ claimer.table) }
+    ensures started { IfOk result (λ o. (1 ≤ o.started) × (o.started ≤ max 1 (vec_len prepared.deques.owners))) }
+    ensures refused { IfErr result (λ r. IsLater (lawful P (L.allows round.now.table.now.law)) caller r.caller) }
+    ensures refused_claimer { IfErr result (λ r. r.claimer.table ≡ claimer.table) }
+{
+    let Prepared { mut marks, deques } = prepared;
+    let Deques {
+        mut owners,
+        stealers,
+    } = deques;
+    let Some(own) = owners.pop() else {
+        return run_by_leader::<M, L, G, P>(alloc, round, caller, claimer, gate);
+    };
+    let plan = Plan {
+        number: round.number,
+        workers: round.workers,
+    };
+    let done = run_workers::<R, M, L, G, P>(
+        rt,
+        alloc,
+        round.table,
+        round.claims,
+        round.rows,
+        round.tasks,
+        plan,
+        gate,
+        0,
+        own,
+        owners,
+        stealers.as_slice(),
+        caller,
+        claimer,
+    )?;
+    let Done {
+        mut caller,
+        mut claimer,
+        receipts,
+        mut found,
+        started,
+    } = done;
+    round.claims.check(&mut claimer);
+    mark(&mut marks, receipts.as_slice());
+    if !run_left::<M, L, G, P>(round, gate, marks.as_slice(), &mut caller, &mut found) {
+        return Err(RoundRefused { caller, claimer });
+    }
+    Ok(RoundOut {
+        caller,
+        claimer,
+        found,
+        started,
+    })
+}

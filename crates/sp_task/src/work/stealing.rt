@@ -1,0 +1,277 @@
+//! Workers that take tasks from one another.
+//!
+//! What a deque hands out is a hint: nothing is known of it but that it is a number. The claim decides who runs a task.
+ghost use Rattle.std.specs.Prelude.{◌≡◌, ℕ, ◌+◌, ◌<◌, ◌≤◌, length, vec_len, IfOk};
+ghost use denote.Param.Send.{IsSync, IsSend};
+ghost use Rattle.sp_word.specs.Word.{max_dist};
+ghost use Rattle.sp_offer.specs.Order.{lawful};
+ghost use Rattle.sp_task.specs.Work.{IsReady, Goes, did, start, AreOf, Answers, jobs_of};
+
+use crate::gate::Gate;
+use crate::task::{Round, Task};
+use crate::work::Done;
+use crate::work::merge::{Worked, merge};
+use crate::work::steps::try_task;
+use crossbeam_deque::{Steal, Stealer, Worker};
+use sp_claim::{ClaimTable, Claimer};
+use sp_graph::Rows;
+use sp_offer::{Caller, Lawful, Lowering, OfferTable};
+use std::alloc::{AllocError, Global};
+use std::thread::{Threads, join};
+
+/// How often a deque is asked again, in one pass, that answers neither a task nor empty.
+const MOST_RETRIES: usize = 1000;
+
+/// The deques of a round: the workers' own, the leader's last, and a thief's side of each.
+#[derive(Drop)]
+pub(crate) struct Deques {
+    pub owners: Vec<Worker<usize>>,
+    pub stealers: Vec<Stealer<usize>>,
+}
+
+/// The number of a round and of its workers. A closure that borrows a whole `Round` gets no contract, so the parts of
+/// a round go to its threads one by one.
+#[derive(Clone, Copy)]
+pub(crate) struct Plan {
+    pub number: u64,
+    pub workers: u32,
+}
+
+/// Deals task `k` to worker `k` modulo `workers`, first in, first out. A task that a deque refuses is left to the
+/// leader.
+pub(crate) fn deal(alloc: Global, tasks: usize, workers: usize) -> Result<Deques, AllocError>
+    requires { 0 < workers }
+    ensures { IfOk result (λ d. vec_len d.owners ≡ workers) }
+{
+    let share = tasks.div_ceil(workers);
+    let mut owners = Vec::with_capacity(alloc, workers)?;
+    let mut stealers = Vec::with_capacity(alloc, workers)?;
+    for dealt in 0..workers {
+        let worker = workers - 1 - dealt;
+        let mut own = Worker::new_fifo(alloc, share)?;
+        stealers.push(own.stealer()?)?;
+        for number in (worker..tasks).step_by(workers) {
+            let _ = own.push(number);
+        }
+        owners.push(own)?;
+    }
+    Ok(Deques { owners, stealers })
+}
+
+/// A task of another worker.
+fn steal(stealer: &Stealer<usize>) -> Option<usize> {
+    for _ in 0..=MOST_RETRIES {
+        match stealer.steal() {
+            Steal::Success(number) => return Some(number),
+            Steal::Empty => return None,
+            Steal::Retry => {}
+        }
+    }
+    None
+}
+
+/// A task of its own, or else one of another's, by one pass over all deques.
+fn next_task(own: &mut Worker<usize>, stealers: &[Stealer<usize>]) -> Option<usize> {
+    if let Some(number) = own.pop() {
+        return Some(number);
+    }
+    for stealer in stealers {
+        if let Some(number) = steal(stealer) {
+            return Some(number);
+        }
+    }
+    None
+}
+
+/// As `try_task`, for a number that a deque handed out.
+fn try_number<M: Lowering, L: Lawful, G: Gate, const P: u32>(
+    round: &Round<L, P>,
+    gate: &G,
+    worker: u32,
+    number: usize,
+    done: &mut Done,
+) -> bool
+    requires ready { IsReady P (lawful P (L.allows round.now.table.now.law)) round.now.table.now.vertices round.now.claims.now.words round.now.rows.now round.now.tasks.now }
+    requires table { done.old.caller.table ≡ round.now.table.now.id }
+    requires claims { done.old.claimer.table ≡ round.now.claims.now }
+    ensures goes { Goes (lawful P (L.allows round.now.table.now.law)) (jobs_of (max_dist P) round.now.rows.now round.now.tasks.now) round.now.number (did done.old) (did done.new) }
+    ensures started { done.new.started ≡ done.old.started }
+{
+    if number >= round.tasks.len() {
+        return true;
+    }
+    try_task::<M, L, G, P>(round, gate, worker, number, done)
+}
+
+/// One worker. It ends when a pass gave nothing, or there was no room, or after as many tasks as the round has.
+fn run_worker<M: Lowering, L: Lawful, G: Gate, const P: u32>(
+    alloc: Global,
+    round: &Round<L, P>,
+    gate: &G,
+    worker: u32,
+    mut own: Worker<usize>,
+    stealers: &[Stealer<usize>],
+    caller: Caller,
+    claimer: Claimer,
+) -> Done
+    requires ready { IsReady P (lawful P (L.allows round.now.table.now.law)) round.now.table.now.vertices round.now.claims.now.words round.now.rows.now round.now.tasks.now }
+    requires tokens { AreOf round.now.table.now.id round.now.claims.now caller claimer }
+    ensures goes { Goes (lawful P (L.allows round.now.table.now.law)) (jobs_of (max_dist P) round.now.rows.now round.now.tasks.now) round.now.number (start caller claimer) (did result) }
+    ensures started { result.started ≡ 1 }
+{
+    let mut done = Done {
+        caller,
+        claimer,
+        receipts: Vec::new(alloc),
+        found: Vec::new(alloc),
+        started: 1,
+    };
+    for _ in 0..round.tasks.len() {
+        let Some(number) = next_task(&mut own, stealers) else {
+            return done;
+        };
+        if !try_number::<M, L, G, P>(round, gate, worker, number, &mut done) {
+            return done;
+        }
+    }
+    done
+}
+
+/// One worker, from the parts of a round.
+fn run_alone<M: Lowering, L: Lawful, G: Gate, const P: u32>(
+    alloc: Global,
+    table: &OfferTable<L, P>,
+    claims: &ClaimTable,
+    rows: &Rows,
+    tasks: &[Task],
+    plan: Plan,
+    gate: &G,
+    worker: u32,
+    own: Worker<usize>,
+    stealers: &[Stealer<usize>],
+    caller: Caller,
+    claimer: Claimer,
+) -> Worked
+    requires ready { IsReady P (lawful P (L.allows table.now.law)) table.now.vertices claims.now.words rows.now tasks.now }
+    requires tokens { AreOf table.now.id claims.now caller claimer }
+    ensures { Answers (lawful P (L.allows table.now.law)) (jobs_of (max_dist P) rows.now tasks.now) plan.number caller claimer 1 result }
+{
+    let round = Round {
+        table,
+        claims,
+        rows,
+        tasks,
+        number: plan.number,
+        workers: plan.workers,
+    };
+    Ok(run_worker::<M, L, G, P>(
+        alloc, &round, gate, worker, own, stealers, caller, claimer,
+    ))
+}
+
+/// A worker on this thread, and those of the other deques on threads that it starts. Where a caller or a claimer can't
+/// be split, the deques without a worker are emptied by the others.
+#[cycle(workers)]
+pub(crate) fn run_workers<
+    R: Threads + Sync,
+    M: Lowering + Send + Sync,
+    L: Lawful + Send + Sync,
+    G: Gate + Sync,
+    const P: u32,
+>(
+    rt: &R,
+    alloc: Global,
+    table: &OfferTable<L, P>,
+    claims: &ClaimTable,
+    rows: &Rows,
+    tasks: &[Task],
+    plan: Plan,
+    gate: &G,
+    worker: u32,
+    own: Worker<usize>,
+    mut others: Vec<Worker<usize>>,
+    stealers: &[Stealer<usize>],
+    caller: Caller,
+    claimer: Claimer,
+) -> Worked
+    requires ready { IsReady P (lawful P (L.allows table.now.law)) table.now.vertices claims.now.words rows.now tasks.now }
+    requires slots { 0 < claims.now.words }
+    requires tokens { AreOf table.now.id claims.now caller claimer }
+    ensures { Answers (lawful P (L.allows table.now.law)) (jobs_of (max_dist P) rows.now tasks.now) plan.number caller claimer (vec_len others + 1) result }
+{
+    let Some(their_own) = others.pop() else {
+        return run_alone::<M, L, G, P>(
+            alloc, table, claims, rows, tasks, plan, gate, worker, own, stealers, caller, claimer,
+        );
+    };
+    let (caller, other_caller) = match table.split(caller) {
+        Ok(two) => two,
+        Err(refused) => {
+            return run_alone::<M, L, G, P>(
+                alloc,
+                table,
+                claims,
+                rows,
+                tasks,
+                plan,
+                gate,
+                worker,
+                own,
+                stealers,
+                refused.caller,
+                claimer,
+            );
+        }
+    };
+    let (claimer, other_claimer) = match claims.split(claimer) {
+        Ok(two) => two,
+        Err(refused) => {
+            return run_alone::<M, L, G, P>(
+                alloc,
+                table,
+                claims,
+                rows,
+                tasks,
+                plan,
+                gate,
+                worker,
+                own,
+                stealers,
+                caller,
+                refused.claimer,
+            );
+        }
+    };
+    let next = worker.saturating_add(1);
+    let theirs = move || -> Worked
+        requires { IsSync R.row × IsSync G.row × IsSync M.row × IsSend M.row × IsSync L.row × IsSend L.row × (0 < claims.now.words) × IsReady P (lawful P (L.allows table.now.law)) table.now.vertices claims.now.words rows.now tasks.now × AreOf table.now.id claims.now other_caller other_claimer }
+        ensures { Answers (lawful P (L.allows table.entry.now.law)) (jobs_of (max_dist P) rows.entry.now tasks.entry.now) plan.number other_caller other_claimer (vec_len others + 1) result }
+    {
+        run_workers::<R, M, L, G, P>(
+            rt,
+            alloc,
+            table,
+            claims,
+            rows,
+            tasks,
+            plan,
+            gate,
+            next,
+            their_own,
+            others,
+            stealers,
+            other_caller,
+            other_claimer,
+        )
+    };
+    let mine = move || -> Worked
+        requires { IsReady P (lawful P (L.allows table.now.law)) table.now.vertices claims.now.words rows.now tasks.now × AreOf table.now.id claims.now caller claimer }
+        ensures { Answers (lawful P (L.allows table.entry.now.law)) (jobs_of (max_dist P) rows.entry.now tasks.entry.now) plan.number caller claimer 1 result }
+    {
+        run_alone::<M, L, G, P>(
+            alloc, table, claims, rows, tasks, plan, gate, worker, own, stealers, caller, claimer,
+        )
+    };
+    let (later, sooner) = join(rt, theirs, mine);
+    merge(table, claims, sooner, later)
+}
