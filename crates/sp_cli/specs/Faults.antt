@@ -1,5 +1,5 @@
 -- Exit statuses, and which faults have which.
-use Rattle.std.specs.Prelude.{ℕ}
+use Rattle.std.specs.Prelude.{ℕ, Bool, true, false}
 use Rattle.sp_cli.specs.declared.faults.Status.{Status}
 use Rattle.sp_cli.specs.declared.faults.Status.TheVariants as status
 use Rattle.sp_cli.specs.declared.faults.Fault.{Fault}
@@ -12,8 +12,17 @@ abbrev pub code_of : Status → ℕ
 code_of status.Done = 0
 code_of status.Usage = 1
 code_of status.Refused = 2
+code_of status.CheckedNo = 3
+code_of status.TooFar = 4
 code_of status.Memory = 5
 code_of status.Failed = 6
+
+-- the command was done, and nothing stands on standard error
+abbrev pub is_done : Status → Bool
+is_done status.Done = true
+is_done status.CheckedNo = true
+is_done status.TooFar = true
+is_done _ = false
 
 -- a text is refused, but for a growth or a read that failed
 abbrev pub status_of_kind : Kind → Status
@@ -23,7 +32,9 @@ status_of_kind _ = status.Refused
 
 abbrev pub status_of : Fault → Status
 status_of (fault.Usage error) = status.Usage
+status_of fault.DeltaOutOfRange = status.Usage
 status_of (fault.CannotOpen file) = status.Failed
 status_of (fault.Input file error) = status_of_kind error.kind
+status_of (fault.NoSuchVertex source) = status.Refused
 status_of fault.Memory = status.Memory
 status_of fault.WriteFailed = status.Failed

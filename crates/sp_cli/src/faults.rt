@@ -1,6 +1,6 @@
 //! What keeps a command from being done: its line on standard error, and its exit status.
-ghost use Rattle.std.specs.Prelude.{◌≡◌, ◌≤◌};
-ghost use Rattle.sp_cli.specs.Faults.{code_of, status_of};
+ghost use Rattle.std.specs.Prelude.{◌≡◌, ◌≤◌, false};
+ghost use Rattle.sp_cli.specs.Faults.{code_of, is_done, status_of};
 ghost use Rattle.sp_cli.specs.declared.faults.Fault.TheVariants.{Memory, WriteFailed};
 
 use sp_text::{DimacsError, Kind, WriteFault};
@@ -17,6 +17,10 @@ pub enum Status {
     Usage = 1,
     /// An input was refused.
     Refused = 2,
+    /// The tree is not the shortest-path tree of its source.
+    CheckedNo = 3,
+    /// For some source a vertex is too far.
+    TooFar = 4,
     /// Memory was refused.
     Memory = 5,
     /// A file could not be opened or read, or the output could not be written.
@@ -36,13 +40,21 @@ impl Status {
 /// What a file is to a command.
 #[derive(Clone, Copy, Debug, PartialEq, Eq)]
 pub enum FileKind {
+    Graph,
+    Sources,
+    Tree,
     Replay,
+    Offers,
 }
 
 impl fmt::Display for FileKind {
     fn fmt<W: fmt::Write>(&self, f: &mut fmt::Formatter<W>) -> fmt::Result {
         f.write_str(match self {
+            FileKind::Graph => "gr",
+            FileKind::Sources => "ss",
+            FileKind::Tree => "tree",
             FileKind::Replay => "replay",
+            FileKind::Offers => "offers",
         })
     }
 }
@@ -53,12 +65,18 @@ pub enum Fault {
     /// The words are no order.
     #[error(transparent)]
     Usage(clap::Error),
+    /// The delta is greater than the distances of the words.
+    #[error("spt: delta out of range\n")]
+    DeltaOutOfRange,
     /// A file could not be opened.
     #[error("spt: {0}: cannot open\n")]
     CannotOpen(FileKind),
     /// A file's text has a fault, its device failed, or its values found no memory.
     #[error("spt: {file}: {error}\n")]
     Input { file: FileKind, error: DimacsError },
+    /// A source is no vertex of the graph.
+    #[error("spt: source {0}: no such vertex\n")]
+    NoSuchVertex(u32),
     /// Memory was refused.
     #[error("spt: memory\n")]
     Memory,
@@ -71,16 +89,17 @@ impl Fault {
     /// The exit status.
     pub fn status(&self) -> Status
         ensures exact { result ≡ status_of self.now }
-        ensures fails { 1 ≤ code_of result }
+        ensures fails { is_done result ≡ false }
     {
         match self {
-            Fault::Usage(_) => Status::Usage,
+            Fault::Usage(_) | Fault::DeltaOutOfRange => Status::Usage,
             Fault::CannotOpen(_) | Fault::WriteFailed => Status::Failed,
             Fault::Input { error, .. } => match error.kind {
                 Kind::Memory => Status::Memory,
                 Kind::Read => Status::Failed,
                 _ => Status::Refused,
             },
+            Fault::NoSuchVertex(_) => Status::Refused,
             Fault::Memory => Status::Memory,
         }
     }

@@ -1,8 +1,9 @@
 //! `spt replay`: the run of a replay file, and its report.
-ghost use Rattle.std.specs.Prelude.{◌≡◌, ◌≢◌, true, IfErr};
+ghost use Rattle.std.specs.Prelude.{◌≡◌, ◌≢◌, true, IfOk, IfErr};
 ghost use Rattle.sp_word.specs.Word.{is_layout};
+ghost use Rattle.sp_cli.specs.declared.faults.Status.TheVariants.{Done};
 
-use crate::faults::{Fault, FileKind};
+use crate::faults::{Fault, FileKind, Status};
 use crate::inputs::Inputs;
 use crate::words::PredBits;
 use sp_text::{Read, Write};
@@ -15,7 +16,8 @@ pub fn replay<F: Inputs, W: Write>(
     pred_bits: PredBits,
     files: &F,
     out: &mut W,
-) -> Result<(), Fault>
+) -> Result<Status, Fault>
+    ensures done { IfOk result (λ status. status ≡ Done) }
     ensures unwritten { IfErr result (λ fault. fault ≢ Fault.WriteFailed → out.new ≡ out.old) }
 {
     let Some(mut reader) = files.open_input(path) else {
@@ -33,9 +35,10 @@ fn replay_file<const P: u32, R: Read, W: Write>(
     alloc: Global,
     reader: &mut R,
     out: &mut W,
-) -> Result<(), Fault>
+) -> Result<Status, Fault>
     requires layout { is_layout P ≡ true }
     requires fresh { R.passed reader.old ≡ 0 }
+    ensures done { IfOk result (λ status. status ≡ Done) }
     ensures unwritten { IfErr result (λ fault. fault ≢ Fault.WriteFailed → out.new ≡ out.old) }
 {
     let file = match sp_replay::read_replay::<P, R>(alloc, reader) {
@@ -49,5 +52,5 @@ fn replay_file<const P: u32, R: Read, W: Write>(
     };
     let report = sp_machine::replay::<P>(alloc, &file.programme, &file.steps)?;
     sp_replay::write_report::<P, W>(&report, out)?;
-    Ok(())
+    Ok(Status::Done)
 }

@@ -1,19 +1,26 @@
 //! A whole run of the program.
-ghost use Rattle.std.specs.Prelude.{◌≡◌, ◌≤◌, IfErr};
-ghost use Rattle.sp_cli.specs.Faults.{code_of, status_of};
+ghost use Rattle.std.specs.Prelude.{◌≡◌, ◌≤◌, true, IfOk, IfErr};
+ghost use Rattle.sp_cli.specs.Faults.{code_of, is_done, status_of};
 
+use crate::check::check;
 use crate::faults::{Fault, Status};
 use crate::inputs::Inputs;
+use crate::offers::offers;
+use crate::orders::Order;
 use crate::replay::replay;
 use crate::text::print;
-use crate::words::{Order, read_order};
+use crate::tree::tree;
+use crate::words::read_order;
 use sp_text::Write;
 use std::alloc::Global;
+use std::sync::Wait;
+use std::thread::Threads;
 
 /// Runs the command that the words order, the program's name first among them, and answers the exit
 /// status. Its output goes to `out`, and the text of a fault to `err`; whether `err` takes that text
 /// changes no status.
-pub fn run_command<F: Inputs, W: Write, E: Write>(
+pub fn run_command<R: Threads + Wait + Sync, F: Inputs, W: Write, E: Write>(
+    rt: &R,
     alloc: Global,
     words: &[&str],
     files: &F,
@@ -22,10 +29,13 @@ pub fn run_command<F: Inputs, W: Write, E: Write>(
 ) -> u8
     ensures range { result ≤ 6 }
     ensures silent { result ≡ 0 → err.new ≡ err.old }
-    ensures unwritten { 1 ≤ result → result ≤ 2 → out.new ≡ out.old }
+    ensures silent_no { result ≡ 3 → err.new ≡ err.old }
+    ensures silent_far { result ≡ 4 → err.new ≡ err.old }
+    ensures untouched { result ≡ 1 → out.new ≡ out.old }
+    ensures unwritten { 1 ≤ result → result ≤ 2 → W.written out.new ≡ W.written out.old }
 {
-    let status = match obey(alloc, words, files, out) {
-        Ok(()) => Status::Done,
+    let status = match obey(rt, alloc, words, files, out) {
+        Ok(status) => status,
         Err(fault) => {
             let _ = print(err, &fault);
             fault.status()
@@ -34,19 +44,29 @@ pub fn run_command<F: Inputs, W: Write, E: Write>(
     status.code()
 }
 
-fn obey<F: Inputs, W: Write>(
+fn obey<R: Threads + Wait + Sync, F: Inputs, W: Write>(
+    rt: &R,
     alloc: Global,
     words: &[&str],
     files: &F,
     out: &mut W,
-) -> Result<(), Fault>
-    ensures { IfErr result (λ fault. code_of (status_of fault) ≤ 2 → out.new ≡ out.old) }
+) -> Result<Status, Fault>
+    ensures done { IfOk result (λ status. is_done status ≡ true) }
+    ensures unwritten { IfErr result (λ fault. code_of (status_of fault) ≤ 2 → W.written out.new ≡ W.written out.old) }
+    ensures untouched { IfErr result (λ fault. code_of (status_of fault) ≤ 1 → out.new ≡ out.old) }
 {
     match read_order(alloc, words)? {
         Order::Show(text) => {
             print(out, &text)?;
-            Ok(())
+            Ok(Status::Done)
         }
+        Order::Tree(order) => tree(rt, alloc, &order, files, out),
+        Order::Check {
+            graph,
+            tree,
+            pred_bits,
+        } => check(rt, alloc, graph, tree, pred_bits, files, out),
         Order::Replay { file, pred_bits } => replay(alloc, file, pred_bits, files, out),
+        Order::Offers { file, pred_bits } => offers(rt, alloc, file, pred_bits, files, out),
     }
 }

@@ -1,9 +1,12 @@
 //! Runs of the program over memory.
 ghost use Rattle.std.specs.Prelude.{◌≡◌, ◌≤◌, ◌^◌, IfSome};
 
+mod check;
 mod faults;
 mod help;
+mod offers;
 mod replay;
+mod tree;
 mod usage;
 
 use crate::{Inputs, run_command};
@@ -11,6 +14,8 @@ use sp_text::{Read, UpTo, UpToWriter};
 use std::alloc::Global;
 use std::process::Abort;
 use std::str::from_utf8;
+use std::sync::Wait;
+use std::thread::Threads;
 
 // More bytes than any text here has.
 const AMPLE: usize = 1 << 24;
@@ -62,7 +67,8 @@ struct Ended {
 }
 
 // Runs the program with streams that take so many bytes in all.
-fn run_into(
+fn run_into<R: Threads + Wait + Sync>(
+    rt: &R,
     alloc: Global,
     out_room: usize,
     err_room: usize,
@@ -74,12 +80,17 @@ fn run_into(
 {
     let mut out = UpToWriter::new(alloc, out_room, AMPLE);
     let mut err = UpToWriter::new(alloc, err_room, AMPLE);
-    let status = run_command(alloc, words, &Shelf { files }, &mut out, &mut err);
+    let status = run_command(rt, alloc, words, &Shelf { files }, &mut out, &mut err);
     Ended { status, out, err }
 }
 
-fn run(alloc: Global, words: &[&str], files: &[(&str, Stored<'_>)]) -> Ended {
-    run_into(alloc, AMPLE, AMPLE, words, files)
+fn run<R: Threads + Wait + Sync>(
+    rt: &R,
+    alloc: Global,
+    words: &[&str],
+    files: &[(&str, Stored<'_>)],
+) -> Ended {
+    run_into(rt, alloc, AMPLE, AMPLE, words, files)
 }
 
 // Asserts the status, and what stands on standard output and on standard error.

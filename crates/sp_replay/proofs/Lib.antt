@@ -3,3 +3,4 @@ pub mod RowSteps
 pub mod Bounds
 pub mod KeepSteps
 pub mod Legal
+pub mod Counted

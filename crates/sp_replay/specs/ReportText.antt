@@ -42,6 +42,20 @@ abbrev pub reached_from : (vertex : ℕ) → List Word → List ℕ
 reached_from vertex [] = []
 reached_from vertex (word ∷ more) = reached_text vertex word ++ reached_from (vertex + 1) more
 
+-- how many of the words are reached
+abbrev pub reached_count : List Word → ℕ
+reached_count [] = 0
+reached_count (Unreached ∷ more) = reached_count more
+reached_count (Pair d p ∷ more) = reached_count more + 1
+
+-- `e R`
+abbrev pub count_text : (count : ℕ) → List ℕ
+count_text count = codes "e" ++ number_text count ++ codes "\n"
+
+-- the lines of the reached vertices, and how many they are
+abbrev pub words_text : List Word → List ℕ
+words_text words = reached_from 1 words ++ count_text (reached_count words)
+
 -- `t WINS LOSSES`
 abbrev pub totals_text : (wins losses : ℕ) → List ℕ
 totals_text wins losses = codes "t" ++ number_text wins ++ number_text losses ++ codes "\n"

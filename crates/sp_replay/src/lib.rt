@@ -1,4 +1,5 @@
-//! The files of the step machine: replay files and offers files are read, and the report of a run is written.
+//! The files of the step machine: replay files and offers files are read, and the report of a run is written,
+//! or the words that offers leave.
 #![tactic(auto)]
 
 mod keeper;
@@ -8,11 +9,13 @@ mod offers;
 mod replays;
 mod reports;
 mod rows;
+mod words;
 
 pub use offers::read_offers;
 pub use replays::{ReplayFile, read_replay};
 pub use reports::write_report;
 pub use sp_machine::{Call, Ended, Finished, Item, Machine, Programme, Report, replay};
+pub use words::write_words;
 
 #[cfg(test)]
 mod tests;

@@ -1,6 +1,6 @@
 //! The lines of a report, pushed to a block.
 ghost use Rattle.std.specs.Prelude.{◌≡◌, ◌+◌, ◌≤◌, ◌++◌, length};
-ghost use Rattle.sp_replay.specs.ReportText.{number_text, word_text, reply_text, asked_text, call_text, reached_text, totals_text, closed_text};
+ghost use Rattle.sp_replay.specs.ReportText.{number_text, word_text, reply_text, asked_text, call_text, reached_text, count_text, totals_text, closed_text};
 
 use sp_machine::{Call, Finished};
 use sp_text::Block;
@@ -11,6 +11,9 @@ pub const CALL_ROOM: usize = 136;
 
 /// As many bytes as the line of a reached vertex has at most.
 pub const REACHED_ROOM: usize = 65;
+
+/// As many bytes as the line of the count has at most.
+pub const COUNT_ROOM: usize = 23;
 
 /// As many bytes as the last two lines have at most.
 pub const END_ROOM: usize = 55;
@@ -95,6 +98,16 @@ pub fn push_reached<const P: u32>(block: &mut Block, vertex: u64, word: Word<P>)
     push_number(block, vertex);
     push_number(block, dist);
     push_number(block, pred as u64);
+    block.push(b"\n");
+}
+
+/// The line that says how many vertices are reached.
+pub fn push_count(block: &mut Block, count: u64)
+    requires { length block.old + COUNT_ROOM ≤ 8192 }
+    ensures { block.new ≡ block.old ++ count_text count }
+{
+    block.push(b"e");
+    push_number(block, count);
     block.push(b"\n");
 }
 

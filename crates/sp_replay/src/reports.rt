@@ -37,7 +37,8 @@ fn send_reached<const P: u32, W: Write>(
     push_reached(&mut printer.block, vertex, word);
 }
 
-fn send_words<const P: u32, W: Write>(out: &mut W, printer: &mut Printer, words: &[Word<P>])
+/// Sends the lines of the reached vertices.
+pub fn send_words<const P: u32, W: Write>(out: &mut W, printer: &mut Printer, words: &[Word<P>])
     ensures { Sends W.written W.passed W.has_failed (reached_from 1 words.now) out.old printer.old out.new printer.new }
 {
     for (place, word) in words.iter().enumerate() {

@@ -5,6 +5,8 @@ use sp_cli::{Inputs, run_command};
 use sp_text::{OfRead, OfWrite, Write};
 use std::process::ExitCode;
 use std::rt::{Env, Files};
+use std::sync::Wait;
+use std::thread::Threads;
 use std::{env, fs, io};
 
 /// The files of the system.
@@ -22,7 +24,7 @@ impl<R: Files> Inputs for Disk<'_, R> {
 }
 
 /// Runs the command that the program's arguments order, and answers the exit status.
-fn run<R: AllocGlobal + Env + Files, W: Write, E: Write>(
+fn run<R: AllocGlobal + Env + Files + Threads + Wait + Sync, W: Write, E: Write>(
     rt: &R,
     out: &mut W,
     err: &mut E,
@@ -30,7 +32,7 @@ fn run<R: AllocGlobal + Env + Files, W: Write, E: Write>(
     let alloc = rt.alloc();
     let arguments: Vec<String> = env::args(rt)?.collect(alloc)?;
     let words: Vec<&str> = arguments.iter().map(|word| word.as_str()).collect(alloc)?;
-    Ok(run_command(alloc, &words, &Disk { rt }, out, err))
+    Ok(run_command(rt, alloc, &words, &Disk { rt }, out, err))
 }
 
 fn main(rt: HostRuntime) -> ExitCode {

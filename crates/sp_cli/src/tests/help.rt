@@ -6,7 +6,7 @@ fn version(rt: HostRuntime) {
     for word in ["-V", "--version"] {
         expect(
             &rt,
-            run(rt.alloc(), &["spt", word], &[]),
+            run(&rt, rt.alloc(), &["spt", word], &[]),
             0,
             "spt 0.1.0\n",
             "",
@@ -22,7 +22,10 @@ A shortest-path tree engine
 Usage: spt <COMMAND>
 
 Commands:
+  tree    Write the shortest-path tree of each source
+  check   Check a tree against its graph
   replay  Run the steps of several actors on one table in a given order, and report each call
+  offers  Make the offers of several actors at once, and write the words that are left
   help    Print this message or the help of the given subcommand(s)
 
 Options:
@@ -30,20 +33,23 @@ Options:
   -V, --version  Print version
 
 A command reads its files, and writes its result to standard output. What keeps it from being done
-is told on standard error.
+is told on standard error. `spt COMMAND --help` tells all of a command.
 
 Exit status:
   0  done
   1  the command line is wrong
   2  a file is refused
+  3  check: the tree is not the one of its source
+  4  tree: for some source a vertex is too far; all answers are written
   5  there is not enough memory
   6  a file could not be opened or read, or the output could not be written
 
 Example:
-  spt replay lost_exchange.rep
+  spt tree diamond.gr diamond.ss --delta 3 > diamond.tree
+  spt check diamond.gr diamond.tree
 ";
     for word in ["-h", "--help", "help"] {
-        expect(&rt, run(rt.alloc(), &["spt", word], &[]), 0, text, "");
+        expect(&rt, run(&rt, rt.alloc(), &["spt", word], &[]), 0, text, "");
     }
 }
 
@@ -63,7 +69,7 @@ Options:
 ";
     expect(
         &rt,
-        run(rt.alloc(), &["spt", "replay", "-h"], &[]),
+        run(&rt, rt.alloc(), &["spt", "replay", "-h"], &[]),
         0,
         text,
         "",
@@ -159,14 +165,14 @@ Exit status:
 ";
     expect(
         &rt,
-        run(rt.alloc(), &["spt", "replay", "--help"], &[]),
+        run(&rt, rt.alloc(), &["spt", "replay", "--help"], &[]),
         0,
         text,
         "",
     );
     expect(
         &rt,
-        run(rt.alloc(), &["spt", "help", "replay"], &[]),
+        run(&rt, rt.alloc(), &["spt", "help", "replay"], &[]),
         0,
         text,
         "",
@@ -175,7 +181,7 @@ Exit status:
 
 #[test]
 fn help_that_cannot_be_written(rt: HostRuntime) {
-    let ended = run_into(rt.alloc(), 27, AMPLE, &["spt", "--help"], &[]);
+    let ended = run_into(&rt, rt.alloc(), 27, AMPLE, &["spt", "--help"], &[]);
     expect(
         &rt,
         ended,

@@ -2,7 +2,9 @@
 use super::{AMPLE, Stored, expect, run, run_into};
 use std::alloc::Global;
 use std::process::Abort;
+use std::sync::Wait;
 use std::test::Fail;
+use std::thread::Threads;
 
 const LOST_EXCHANGE: &str = "p rep 1 2\no 1 1 5 3\no 2 1 5 2\ns 1\ns 2\ns 1\ns 2\ns 2\n";
 
@@ -10,16 +12,16 @@ const LOST_EXCHANGE_REPORT: &str =
     "o 1 1 5 3 shorter 1 3\no 2 1 5 2 smaller 2 5\nw 1 5 2\nt 2 1\nclosed yes\n";
 
 // Asserts the report of a file with this text.
-fn reports(rt: &impl Abort, alloc: Global, text: &str, report: &str) {
+fn reports<R: Abort + Threads + Wait + Sync>(rt: &R, alloc: Global, text: &str, report: &str) {
     let files = [("f.rep", Stored::Whole(text.as_bytes()))];
-    let ended = run(alloc, &["spt", "replay", "f.rep"], &files);
+    let ended = run(rt, alloc, &["spt", "replay", "f.rep"], &files);
     expect(rt, ended, 0, report, "");
 }
 
 // Asserts what a file with these bytes is refused with.
-fn refuses(rt: &impl Abort, alloc: Global, bytes: &[u8], line: &str) {
+fn refuses<R: Abort + Threads + Wait + Sync>(rt: &R, alloc: Global, bytes: &[u8], line: &str) {
     let files = [("f.rep", Stored::Whole(bytes))];
-    let ended = run(alloc, &["spt", "replay", "f.rep"], &files);
+    let ended = run(rt, alloc, &["spt", "replay", "f.rep"], &files);
     expect(rt, ended, 2, "", line);
 }
 
@@ -145,8 +147,8 @@ closed yes
 
 // Asserts that a file is read with this many bits for a predecessor: its word stands up to these ends,
 // and beyond each of them it is refused.
-fn reads_up_to(
-    rt: &impl Abort,
+fn reads_up_to<R: Abort + Threads + Wait + Sync>(
+    rt: &R,
     alloc: Global,
     words: &[&str],
     dist: u64,
@@ -155,19 +157,19 @@ fn reads_up_to(
     let text = format!(in alloc; "p rep 1 1\ni 1 {dist} {pred}\n")?;
     let files = [("f.rep", Stored::Whole(text.as_bytes()))];
     let report = format!(in alloc; "w 1 {dist} {pred}\nt 0 0\nclosed yes\n")?;
-    let ended = run(alloc, words, &files);
+    let ended = run(rt, alloc, words, &files);
     expect(rt, ended, 0, report.as_str(), "");
 
     let far = dist.saturating_add(1);
     let text = format!(in alloc; "p rep 1 1\ni 1 {far} {pred}\n")?;
     let files = [("f.rep", Stored::Whole(text.as_bytes()))];
-    let ended = run(alloc, words, &files);
+    let ended = run(rt, alloc, words, &files);
     expect(rt, ended, 2, "", "spt: replay: line 2: 5 OutOfRange D\n");
 
     let beyond = pred.saturating_add(1);
     let text = format!(in alloc; "p rep 1 1\ni 1 {dist} {beyond}\n")?;
     let files = [("f.rep", Stored::Whole(text.as_bytes()))];
-    let ended = run(alloc, words, &files);
+    let ended = run(rt, alloc, words, &files);
     expect(rt, ended, 2, "", "spt: replay: line 2: 5 OutOfRange P\n");
     Ok(())
 }
@@ -293,7 +295,7 @@ fn too_many(rt: HostRuntime) -> Result<(), Fail> {
 #[test]
 fn cannot_open(rt: HostRuntime) {
     let files = [("f.rep", Stored::Whole(b"p rep 1 1\n"))];
-    let ended = run(rt.alloc(), &["spt", "replay", "g.rep"], &files);
+    let ended = run(&rt, rt.alloc(), &["spt", "replay", "g.rep"], &files);
     expect(&rt, ended, 6, "", "spt: replay: cannot open\n");
 }
 
@@ -310,7 +312,7 @@ fn failing_reader(rt: HostRuntime) {
         ("faulty", 2, "spt: replay: line 1: 3 NoProblem\n"),
     ];
     for (name, status, line) in cases {
-        let ended = run(rt.alloc(), &["spt", "replay", name], &files);
+        let ended = run(&rt, rt.alloc(), &["spt", "replay", name], &files);
         expect(&rt, ended, status, "", line);
     }
 }
@@ -320,11 +322,18 @@ fn failing_writer(rt: HostRuntime) {
     let words = ["spt", "replay", "f.rep"];
     let files = [("f.rep", Stored::Whole(LOST_EXCHANGE.as_bytes()))];
     for k in 0..LOST_EXCHANGE_REPORT.len() {
-        let ended = run_into(rt.alloc(), k, AMPLE, &words, &files);
+        let ended = run_into(&rt, rt.alloc(), k, AMPLE, &words, &files);
         let begun = LOST_EXCHANGE_REPORT.get(..k).expect(&rt, "a boundary");
         expect(&rt, ended, 6, begun, "spt: write failed\n");
     }
-    let ended = run_into(rt.alloc(), LOST_EXCHANGE_REPORT.len(), 0, &words, &files);
+    let ended = run_into(
+        &rt,
+        rt.alloc(),
+        LOST_EXCHANGE_REPORT.len(),
+        0,
+        &words,
+        &files,
+    );
     expect(&rt, ended, 0, LOST_EXCHANGE_REPORT, "");
 }
 
@@ -333,7 +342,14 @@ fn failing_errors(rt: HostRuntime) {
     let files = [("f.rep", Stored::Whole(b"p rep 1 1\np rep 1 1\n"))];
     let line = "spt: replay: line 2: 4 SecondProblem\n";
     for k in 0..line.len() {
-        let ended = run_into(rt.alloc(), AMPLE, k, &["spt", "replay", "f.rep"], &files);
+        let ended = run_into(
+            &rt,
+            rt.alloc(),
+            AMPLE,
+            k,
+            &["spt", "replay", "f.rep"],
+            &files,
+        );
         let begun = line.get(..k).expect(&rt, "a boundary");
         expect(&rt, ended, 2, "", begun);
     }
