@@ -1,12 +1,12 @@
 -- Two groups of workers, brought together.
-use Rattle.std.proofs.Common.{◌≡◌, ℕ, ◌+◌, ◌≤◌, List, [], Result, Ok, Err, IfOk, IfErr, refl, sym, ap, ◌∙◌, subst, arith}
+use Rattle.std.proofs.Common.{◌≡◌, ℕ, ◌+◌, ◌≤◌, List, [], Result, Ok, Err, IfOk, IfErr, sym, ap, ◌∙◌, subst, arith}
 use Rattle.sp_word.specs.Word.{Word}
-use Rattle.sp_offer.specs.Story.{Knowledge, Story, own_calls, beside}
+use Rattle.sp_offer.specs.Story.{Knowledge, own_calls, beside}
 use Rattle.sp_claim.specs.Held.{Held}
 use Rattle.sp_task.specs.declared.work.Done.{Done}
 use Rattle.sp_task.specs.declared.work.RoundRefused.{RoundRefused}
 use Rattle.sp_task.specs.Later.{IsLater}
-use Rattle.sp_task.specs.Work.{Job, Did, did, start, Goes, Answers, IsMerged, Joined, AreJoined, caller_of, claimer_of}
+use Rattle.sp_task.specs.Work.{Job, did, Answers, IsMerged, Joined, AreJoined, caller_of, claimer_of}
 use Rattle.sp_task.proofs.Making.{later_along, later_joined}
 use Rattle.sp_task.proofs.Going.{goes_joined}
 

@@ -1,5 +1,5 @@
 -- What a worker did, task by task.
-use Rattle.std.proofs.Common.{◌≡◌, ℕ, zero, suc, ◌+◌, ◌-◌, ◌<◌, ◌≤◌, List, [], ◌∷◌, ◌++◌, length, map, get_or, refl, sym, ap, ◌∙◌, subst, arith, append_assoc, append-nil}
+use Rattle.std.proofs.Common.{◌≡◌, ℕ, zero, suc, ◌+◌, ◌-◌, ◌<◌, List, [], ◌∷◌, ◌++◌, length, map, get_or, refl, sym, ap, ◌∙◌, subst, arith, append_assoc, append-nil}
 use Rattle.std.proofs.lemmas.List.Sums.{sum_by-append, sum_by-cons}
 use Rattle.std.specs.Prelude.{sum_by}
 use Rattle.sp_word.specs.Word.{Word}
@@ -13,8 +13,8 @@ use Rattle.sp_bucket.specs.declared.entry.Entry.{Entry}
 use Rattle.sp_graph.specs.RowsValue.{Split}
 use Rattle.sp_task.specs.declared.task.Task.{Task}
 use Rattle.sp_task.specs.Offers.{Asked, offers_of}
-use Rattle.sp_task.specs.Calls.{asked, entries}
-use Rattle.sp_task.specs.Work.{Job, job_of, jobs_of, offers_at, slot_at, grant_at, calls_weight, Did, Made, MadeOffers, AllBelow, Goes, start, AreJoined, Joined}
+use Rattle.sp_task.specs.Calls.{asked}
+use Rattle.sp_task.specs.Work.{Job, jobs_of, offers_at, slot_at, grant_at, calls_weight, Did, Made, MadeOffers, AllBelow, Goes, start, Joined}
 use Rattle.sp_task.proofs.Making.{map-append, made_more, made_none, entries-append, AllKnown-lower, AllKnown-append, later_along, later_joined}
 
 pub offers_at-is : (max : ℕ) (rows : Split) (tasks : List Task) (k : ℕ) (d : Task) → k < length tasks → offers_at (jobs_of max rows tasks) k ≡ offers_of max rows (get_or tasks k d)

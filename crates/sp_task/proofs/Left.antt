@@ -1,6 +1,6 @@
 -- What the leader runs itself, and the whole round.
-use Rattle.std.proofs.Common.{subst, ◌≡◌, ℕ, zero, suc, ◌+◌, ◌-◌, ◌*◌, ◌<◌, ◌≤◌, List, [], ◌∷◌, ◌++◌, length, map, get_or, refl, sym, ap, ◌∙◌, arith, add-one, eq-eqb, ne_eqb, nat_lt, Bool, true, false}
-use Rattle.std.proofs.lemmas.List.Sums.{sum_by-append, sum_by-cons, get_or-le-sum_by}
+use Rattle.std.proofs.Common.{subst, ◌≡◌, ℕ, zero, suc, ◌+◌, ◌*◌, ◌≤◌, List, [], ◌∷◌, ◌++◌, length, map, get_or, refl, sym, ap, ◌∙◌, arith, add-one, eq-eqb, ne_eqb, Bool, true, false}
+use Rattle.std.proofs.lemmas.List.Sums.{sum_by-cons, get_or-le-sum_by}
 use Rattle.std.specs.Prelude.{sum_by, filter, flat_map, nat_le, if◌then◌else◌, All, slice_index_or}
 use mathlib.Core.Logic.{dite}
 use native.Mathlib.Decide.{ℕ_discrete}
@@ -122,7 +122,7 @@ arc_known s max d a h fits =
 arcs_known : (s : Story) (max d : ℕ) (arcs : List Arc) → sum_by (above s) (offers_along max d arcs) ≡ 0 → All (IsArcRelaxed max (known s) d) arcs
 arcs_known s max d arcs e k x low =
     let f : sum_by (λ (a : Arc). above s (offer_along d a)) (filter (λ (a : Arc). nat_le (d + a.len) max) arcs) ≡ 0 =
-        sym (sum_by-map (above s) (offer_along d) (filter (λ (a : Arc). nat_le (d + a.len) max) arcs)) ∙ e in
+    sym (sum_by-map (above s) (offer_along d) (filter (λ (a : Arc). nat_le (d + a.len) max) arcs)) ∙ e in
     arc_known s max d (get_or arcs k x) (each_zero (λ (a : Arc). above s (offer_along d a)) (λ (a : Arc). nat_le (d + a.len) max) arcs f k x low)
 
 tasks_known : (after : Knowledge) (max : ℕ) (rows : Split) (tasks : List Task) → sum_by (above after.story) (flat_map (offers_of max rows) tasks) ≡ 0 → All (IsTaskDone max rows after) tasks
@@ -170,7 +170,7 @@ module _ (law : ℕ → Word → Type 0) (max : ℕ) (rows : Split) (tasks : Lis
       let t = sum-tally g (length (jobs_of max rows tasks)) p.more p.inside in
       let l = length-map (job_of max rows) tasks in
       let u : upto (λ k. tally k p.more * g k) (length (jobs_of max rows tasks)) ≡ upto (λ k. tally k rs * g k) (length tasks) =
-          ap (upto (λ k. tally k p.more * g k)) l ∙ ap (λ (m : List ℕ). upto (λ k. tally k m * g k) (length tasks)) (sym p.receipts ∙ sym same) in
+      ap (upto (λ k. tally k p.more * g k)) l ∙ ap (λ (m : List ℕ). upto (λ k. tally k m * g k) (length tasks)) (sym p.receipts ∙ sym same) in
       let all = in_or_left g (length tasks) rs marks one marked in
       let whole = all_weight w in
       omega arith)

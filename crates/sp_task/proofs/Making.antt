@@ -1,12 +1,11 @@
 -- Calls in a row, and what is known after them.
 use Rattle.std.proofs.Common.{◌≡◌, ◌⊎◌, inl, inr, ℕ, List, [], ◌∷◌, ◌++◌, map, refl, sym, ap, ◌∙◌, subst, append_assoc, append-nil}
 use mathlib.Core.List.{IsPrefix}
-use Rattle.sp_word.specs.Word.{Word, Unreached, Pair, lesser}
-use Rattle.sp_word.specs.History.{Event, Call, Offer, Read, left_by}
-use Rattle.sp_word.specs.Reply.{reply_to}
+use Rattle.sp_word.specs.Word.{Word, Pair}
+use Rattle.sp_word.specs.History.{Event, Offer}
 use Rattle.sp_word.specs.declared.reply.Reply.{Reply}
 use Rattle.sp_word.specs.declared.reply.Reply.TheVariants.{Shorter, SmallerPred, Kept}
-use Rattle.sp_offer.specs.Order.{IsAtMost, IsKnownWord}
+use Rattle.sp_offer.specs.Order.{IsAtMost}
 use Rattle.sp_offer.specs.Histories.{event}
 use Rattle.sp_offer.specs.Story.{Story, Knowledge, Calls, Knows, Follows, known, own_calls}
 use Rattle.sp_bucket.specs.declared.entry.Entry.{Entry}
@@ -124,9 +123,10 @@ entries_shorter by v d p word found reply pair shorter = ap (λ (w : Word). entr
 pub entries_other : (by v d p : ℕ) (word found : Word) (reply : Reply) → word ≡ Pair d p → (reply ≡ SmallerPred) ⊎ (reply ≡ Kept) → entries (event by v (Offer word found reply) ∷ []) ≡ []
 entries_other by v d p word found reply pair is =
     ap (λ (w : Word). entries (event by v (Offer w found reply) ∷ [])) pair
-    ∙ elim is as (λ _. entries (event by v (Offer (Pair d p) found reply) ∷ []) ≡ [])
-    [ inl e ↦ ap (λ (r : Reply). entries (event by v (Offer (Pair d p) found r) ∷ [])) e
-    | inr e ↦ ap (λ (r : Reply). entries (event by v (Offer (Pair d p) found r) ∷ [])) e ]
+    ∙ elim is as (λ _. entries (event by v (Offer (Pair d p) found reply) ∷ []) ≡ []) [
+      | inl e ↦ ap (λ (r : Reply). entries (event by v (Offer (Pair d p) found r) ∷ [])) e
+      | inr e ↦ ap (λ (r : Reply). entries (event by v (Offer (Pair d p) found r) ∷ [])) e
+    ]
 
 module _ (law : ℕ → Word → Type 0) where
   -- an offer of a pair that made the distance smaller

@@ -1,11 +1,10 @@
 -- Marks for the numbers among the receipts.
-use Rattle.std.proofs.Common.{◌≡◌, ℕ, zero, suc, ◌+◌, ◌<◌, ◌≤◌, List, [], ◌∷◌, length, map, set, get_or, get_or-set_same, get_or-set_other, refl, sym, ap, ◌∙◌, arith, Bool, true, false, eq-eqb, ne_eqb, length-set}
-use Rattle.std.specs.Prelude.{◌==◌, if◌then◌else◌, replicate, slice_index_or}
+use Rattle.std.proofs.Common.{◌≡◌, ℕ, zero, suc, ◌<◌, ◌≤◌, List, [], ◌∷◌, length, set, get_or, get_or-set_same, get_or-set_other, refl, sym, ap, ◌∙◌, arith, Bool, true, false, eq-eqb, ne_eqb, length-set}
+use Rattle.std.specs.Prelude.{◌==◌, if◌then◌else◌, replicate}
 use mathlib.Core.Logic.{dite}
 use native.Mathlib.Decide.{ℕ_discrete}
-use Rattle.sp_task.specs.declared.work.Receipt.{Receipt}
 use Rattle.sp_task.specs.Left.{tally, IsMarked}
-use Rattle.sp_task.specs.Work.{AllBelow, numbers_of}
+use Rattle.sp_task.specs.Work.{AllBelow}
 
 -- the rest of the receipts is still to be marked
 pub record Marking (n : ℕ) (all rest : List ℕ) (marks : List Bool) : Type 0 where

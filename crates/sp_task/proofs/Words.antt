@@ -1,10 +1,8 @@
 -- The order of words.
-use Rattle.std.proofs.Common.{◌≡◌, ℕ, ◌+◌, ◌<◌, ◌≤◌, ◌⊎◌, inl, inr, refl, arith, Bool, true, false, eq-eqb, ne_eqb, nat_lt}
+use Rattle.std.proofs.Common.{◌≡◌, ℕ, ◌<◌, ◌≤◌, ◌⊎◌, inl, inr, refl, arith, true, false, nat_lt}
 use Rattle.std.specs.Prelude.{◌==◌, ◌&&◌, ◌||◌, if◌then◌else◌}
 use Rattle.std.proofs.lemmas.Bool.Decides.{nat_tests}
-use mathlib.Core.Logic.{dite}
-use native.Mathlib.Decide.{ℕ_discrete}
-use Rattle.sp_word.specs.Word.{Word, Unreached, Pair, is_below, lesser, IsPair}
+use Rattle.sp_word.specs.Word.{Word, Unreached, Pair, is_below, lesser}
 use Rattle.sp_offer.specs.Order.{IsAtMost}
 use Rattle.sp_paths.specs.Paths.{IsAtMost as IsWithinPair}
 
@@ -17,9 +15,10 @@ at_most_along a b Unreached h k = tt
 at_most_along a Unreached (Pair f r) h k = absurd k
 at_most_along Unreached (Pair e q) (Pair f r) h k = absurd h
 at_most_along (Pair d p) (Pair e q) (Pair f r) h k =
-    elim h as (λ _. (d < f) ⊎ ((d ≡ f) × (p ≤ r)))
-    [ inl x ↦ elim k as (λ _. (d < f) ⊎ ((d ≡ f) × (p ≤ r))) [ inl y ↦ inl (omega arith) | inr y ↦ inl (let e = y.0 in omega arith) ]
-    | inr x ↦ elim k as (λ _. (d < f) ⊎ ((d ≡ f) × (p ≤ r))) [ inl y ↦ inl (let e = x.0 in omega arith) | inr y ↦ inr ((let e = x.0 in let g = y.0 in omega arith), (let e = x.1 in let g = y.1 in omega arith)) ] ]
+    elim h as (λ _. (d < f) ⊎ ((d ≡ f) × (p ≤ r))) [
+      | inl x ↦ elim k as (λ _. (d < f) ⊎ ((d ≡ f) × (p ≤ r))) [ inl y ↦ inl (omega arith) | inr y ↦ inl (let e = y.0 in omega arith) ]
+      | inr x ↦ elim k as (λ _. (d < f) ⊎ ((d ≡ f) × (p ≤ r))) [ inl y ↦ inl (let e = x.0 in omega arith) | inr y ↦ inr ((let e = x.0 in let g = y.0 in omega arith), (let e = x.1 in let g = y.1 in omega arith)) ]
+    ]
 
 -- what is at most a pair, in the words of the graph's theorems
 pub within_pair : (a : Word) (d p : ℕ) → IsAtMost a (Pair d p) → IsWithinPair a d p

@@ -1,5 +1,5 @@
 -- Tasks, and the offers that they ask for.
-use Rattle.std.specs.Prelude.{◌≡◌, ℕ, ◌+◌, ◌-◌, ◌≤◌, List, map, filter, flat_map, nat_le, All, sum_by}
+use Rattle.std.specs.Prelude.{◌≡◌, ℕ, ◌+◌, ◌≤◌, List, map, filter, nat_le, All, sum_by}
 use Rattle.sp_word.specs.Word.{Word, Pair}
 use Rattle.sp_paths.specs.declared.arc.Arc.{Arc}
 use Rattle.sp_paths.specs.Paths.{IsVertex}

@@ -16,6 +16,5 @@ pub use task::{Kind, Round, Task};
 pub use walks::{Walks, walks_allow_arcs};
 pub use work::{Receipt, RoundOut, RoundRefused};
 
-
 #[cfg(test)]
 mod tests;

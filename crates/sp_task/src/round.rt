@@ -22,12 +22,7 @@ use std::thread::Threads;
 /// threads and joins them all. With one worker none is started, and nothing is claimed.
 ///
 /// A refusal means that memory was wanting.
-pub fn run_round<
-    R: Threads + Wait + Sync,
-    L: Lawful + Send + Sync,
-    G: Gate + Sync,
-    const P: u32,
->(
+pub fn run_round<R: Threads + Wait + Sync, L: Lawful + Send + Sync, G: Gate + Sync, const P: u32>(
     rt: &R,
     alloc: Global,
     round: &Round<L, P>,

@@ -25,6 +25,7 @@ mod gates;
 use gates::{Meeting, Thief};
 
 const MOST_VERTICES: u32 = 1_000_000;
+
 const MOST_DIST: u64 = 1_000_000_000;
 
 /// The rows of a graph, and tables over them that take every word.
@@ -130,22 +131,23 @@ fn play<M: Lowering + Send + Sync, R: Threads + Wait + Sync, G: Gate + Sync>(
         number,
         workers,
     };
-    let (caller, claimer, found, started, refused) =
-        match run_round_by::<M, R, AnyWord, G, 28>(rt, alloc, &round, caller, claimer, gate) {
-            Ok(out) => {
-                let RoundOut {
-                    caller,
-                    claimer,
-                    found,
-                    started,
-                } = out;
-                (caller, claimer, found, started, false)
-            }
-            Err(refusal) => {
-                let RoundRefused { caller, claimer } = refusal;
-                (caller, claimer, Vec::new(alloc), 0, true)
-            }
-        };
+    let (caller, claimer, found, started, refused) = match run_round_by::<M, R, AnyWord, G, 28>(
+        rt, alloc, &round, caller, claimer, gate,
+    ) {
+        Ok(out) => {
+            let RoundOut {
+                caller,
+                claimer,
+                found,
+                started,
+            } = out;
+            (caller, claimer, found, started, false)
+        }
+        Err(refusal) => {
+            let RoundRefused { caller, claimer } = refusal;
+            (caller, claimer, Vec::new(alloc), 0, true)
+        }
+    };
     let bench = Bench {
         rows,
         table,
@@ -363,13 +365,23 @@ fn many_workers_leave_the_words_of_one_caller(rt: HostRuntime) -> Result<(), Fai
     let wanted = words(alloc, &mut plain)?;
     for workers in [1, 2, 4, 64] {
         let bench = set_up(alloc, MANY, arcs.as_slice(), 25)?;
-        let played =
-            play::<Loop, HostRuntime, OpenGate>(&rt, alloc, bench, tasks.as_slice(), 1, workers, &OpenGate);
+        let played = play::<Loop, HostRuntime, OpenGate>(
+            &rt,
+            alloc,
+            bench,
+            tasks.as_slice(),
+            1,
+            workers,
+            &OpenGate,
+        );
         assert!(rt; !played.refused, "no memory");
         assert!(rt; 1 <= played.started && played.started <= workers);
         let mut bench = played.bench;
         let left = words(alloc, &mut bench)?;
-        assert!(rt; left.as_slice() == wanted.as_slice(), "other words with {workers} workers");
+        assert!(rt;
+            left.as_slice() == wanted.as_slice(),
+            "other words with {workers} workers"
+        );
     }
     Ok(())
 }
@@ -388,7 +400,15 @@ fn refused_rounds_are_made_up_for(rt: HostRuntime) -> Result<(), Fail> {
     let wanted = [entry(4, 2), entry(5, 2)];
     let first = play::<Loop, HostRuntime, OpenGate>(&rt, alloc, bench, &tasks, 1, 2, &OpenGate);
     assert!(rt; first.refused || are_entries(first.found.as_slice(), &wanted));
-    let second = play::<Loop, HostRuntime, OpenGate>(&rt, alloc, first.bench, &tasks, 2, 2, &OpenGate);
+    let second = play::<Loop, HostRuntime, OpenGate>(
+        &rt,
+        alloc,
+        first.bench,
+        &tasks,
+        2,
+        2,
+        &OpenGate,
+    );
     let mut bench = second.bench;
     let left = words(alloc, &mut bench)?;
     let pair = |dist: u64, pred: u64| (dist << 28) | pred;

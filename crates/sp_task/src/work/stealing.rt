@@ -164,9 +164,7 @@ fn run_alone<M: Lowering, L: Lawful, G: Gate, const P: u32>(
         number: plan.number,
         workers: plan.workers,
     };
-    Ok(run_worker::<M, L, G, P>(
-        alloc, &round, gate, worker, own, stealers, caller, claimer,
-    ))
+    Ok(run_worker::<M, L, G, P>(alloc, &round, gate, worker, own, stealers, caller, claimer))
 }
 
 /// A worker on this thread, and those of the other deques on threads that it starts. Where a caller or a claimer can't

@@ -96,10 +96,13 @@ pub(crate) fn make_offers<M: Lowering, L: Lawful, G: Gate, const P: u32>(
 
 /// Takes room for one more receipt and for so many entries. `false` says that there was none.
 fn take_room(done: &mut Done, entries: usize) -> bool
-    ensures same { did done.new ≡ did done.old }
+    ensures caller { done.new.caller ≡ done.old.caller }
+    ensures claimer { done.new.claimer ≡ done.old.claimer }
+    ensures receipts { done.new.receipts.items ≡ done.old.receipts.items }
+    ensures found { done.new.found.items ≡ done.old.found.items }
     ensures started { done.new.started ≡ done.old.started }
-    ensures receipts { IsTrue result → vec_len done.new.receipts < vec_capacity done.new.receipts }
-    ensures found { IsTrue result → vec_len done.new.found + entries ≤ vec_capacity done.new.found }
+    ensures receipt_fits { IsTrue result → vec_len done.new.receipts < vec_capacity done.new.receipts }
+    ensures entries_fit { IsTrue result → vec_len done.new.found + entries ≤ vec_capacity done.new.found }
 {
     done.receipts.reserve(1).is_ok() && done.found.reserve(entries).is_ok()
 }
@@ -141,6 +144,7 @@ fn run_task<M: Lowering, L: Lawful, G: Gate, const P: u32>(
 }
 
 /// Runs the task if it is granted. `false` says that there was no room, and nothing was done.
+#[tactic(auto, using(crate::proofs::Going::goes_refused))]
 pub(crate) fn try_task<M: Lowering, L: Lawful, G: Gate, const P: u32>(
     round: &Round<L, P>,
     gate: &G,

@@ -1,8 +1,8 @@
-use Rattle.std.proofs.Common.{refl, sym, ap, ◌∙◌, ◌≡◌, ◌≤◌, ◌<◌, ℕ, length, subst, List, Bool, vec_len, arith}
+use Rattle.std.proofs.Common.{refl, sym, ap, ◌∙◌, ℕ, length, subst, List, Bool, vec_len}
 use Rattle.sp_word.specs.Word.{max_dist}
 use Rattle.sp_offer.specs.Order.{lawful}
 use Rattle.sp_task.specs.Work.{job_of, jobs_of, did, numbers_of}
-use Rattle.sp_task.specs.Left.{tally, IsMarked}
+use Rattle.sp_task.specs.Left.{IsMarked}
 use Rattle.sp_task.proofs.Going.{length-map}
 use Rattle.sp_task.proofs.Making.{later_along}
 use Rattle.sp_task.proofs.Left.{once, below, round_done}
@@ -26,7 +26,7 @@ returns-clause-done g c =
     let same = ap numbers_of c.as_slice-2.ensures.value in
     let one = once law jobs round.number _ (did c.in_ok-done.done) (numbers_of c.as_slice-2.result.now) c.check.new.claimer.grants same goes refl (ap (λ h. h.grants) c.check.ensures.same) c.check.ensures.once in
     let marked : IsMarked (length round.tasks.now) (numbers_of c.as_slice-2.result.now) c.as_slice-3.result.now =
-        subst (λ (n : ℕ). IsMarked n (numbers_of c.as_slice-2.result.now) c.as_slice-3.result.now) c.requires.len
-        (subst (λ (ms : List Bool). IsMarked (vec_len c.args.prepared.marks) (numbers_of c.as_slice-2.result.now) ms) (sym c.as_slice-3.ensures.value) c.mark.ensures) in
+    subst (λ (n : ℕ). IsMarked n (numbers_of c.as_slice-2.result.now) c.as_slice-3.result.now) c.requires.len
+    (subst (λ (ms : List Bool). IsMarked (vec_len c.args.prepared.marks) (numbers_of c.as_slice-2.result.now) ms) (sym c.as_slice-3.ensures.value) c.mark.ensures) in
     round_done law (max_dist g.row.P) round.rows.now round.tasks.now round.number c.args.caller c.run_left.new.caller c.args.claimer (did c.in_ok-done.done) (numbers_of c.as_slice-2.result.now) c.as_slice-3.result.now
     c.run_left.new.found.items same one marked goes (c.if-not-run_left.ensures.left refl)

@@ -1,9 +1,7 @@
-use Rattle.std.proofs.Common.{rules, ◌≡◌, ◌∙◌, sym, refl, ap, List, subst, false}
+use Rattle.std.proofs.Common.{◌∙◌, sym, refl}
 use Rattle.sp_word.specs.Word.{max_dist}
 use Rattle.sp_offer.specs.Order.{lawful}
-use Rattle.sp_bucket.specs.declared.entry.Entry.{Entry}
-use Rattle.sp_task.specs.Offers.{Asked, offers_along}
-use Rattle.sp_task.specs.Work.{MadeOffers, jobs_of}
+use Rattle.sp_task.specs.Work.{jobs_of}
 use Rattle.sp_task.proofs.Arcs.{task_made}
 use Rattle.sp_task.proofs.Left.{left_none, left_more}
 use Rattle.sp_task.proofs.work.left.run_left.Goals as goal
@@ -18,6 +16,7 @@ pub loop-number-preserved : goal.loop-number-preserved
 loop-number-preserved g c =
     let law = lawful g.row.P (g.L.Lawful.allows c.args.round.now.table.now.law) in
     let jobs = jobs_of (max_dist g.row.P) c.args.round.now.rows.now c.args.round.now.tasks.now in
-    let made = task_made law (max_dist g.row.P) c.args.round.now.rows.now c.args.round.now.tasks.now c.loop-number.number _ _ _ _ _ _ _ c.loop-number-test.true c.task_arcs-arcs.ensures.row c.reserve.ensures.items c.make_offers.ensures in
-    (made.2.later.table ∙ c.loop-number.invariant.0,
-     left_more law jobs c.args.marks.now c.loop-number.number _ _ _ _ _ _ (sym c.is_marked.ensures ∙ c.if-is_marked.false) c.loop-number.invariant.1 made)
+    let made = task_made law (max_dist g.row.P) c.args.round.now.rows.now c.args.round.now.tasks.now c.loop-number.number _ _ _ _ _ _ _ c.loop-number-test.true c.task_arcs-arcs.ensures.row c.reserve.ensures.items c.make_offers.ensures in (
+      made.2.later.table ∙ c.loop-number.invariant.0,
+      left_more law jobs c.args.marks.now c.loop-number.number _ _ _ _ _ _ (sym c.is_marked.ensures ∙ c.if-is_marked.false) c.loop-number.invariant.1 made,
+    )

@@ -1,4 +1,3 @@
-use Rattle.std.proofs.Common.{◌≡◌}
 use Rattle.sp_task.proofs.Both.{merged_ok}
 use Rattle.sp_task.proofs.work.merge.merge.Goals as goal
 

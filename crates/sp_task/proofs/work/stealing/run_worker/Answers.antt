@@ -1,4 +1,4 @@
-use Rattle.std.proofs.Common.{◌∙◌, refl, ap, map, List}
+use Rattle.std.proofs.Common.{◌∙◌, refl}
 use Rattle.sp_task.specs.Work.{numbers_of}
 use Rattle.sp_task.proofs.Going.{goes_more, goes_same}
 use Rattle.sp_task.proofs.work.stealing.run_worker.Goals as goal

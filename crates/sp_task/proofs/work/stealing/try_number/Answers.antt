@@ -1,4 +1,3 @@
-use Rattle.std.proofs.Common.{refl}
 use Rattle.sp_task.proofs.Going.{goes_none}
 use Rattle.sp_task.proofs.work.stealing.try_number.Goals as goal
 

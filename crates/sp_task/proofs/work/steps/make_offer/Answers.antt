@@ -1,8 +1,4 @@
-use Rattle.std.proofs.Common.{rules, ◌≡◌, ◌≢◌, List, [], ◌∷◌, ◌++◌, refl, sym, ap, ◌∙◌, subst, append-nil}
-use Rattle.sp_word.specs.Word.{Word}
-use Rattle.sp_word.specs.declared.reply.Reply.TheVariants.{Shorter}
-use Rattle.sp_task.specs.Offers.{Asked}
-use Rattle.sp_task.specs.Work.{MadeOffers}
+use Rattle.std.proofs.Common.{rules, refl}
 use Rattle.sp_task.proofs.Making.{made_shorter, made_other}
 use Rattle.sp_task.proofs.work.steps.make_offer.Goals as goal
 

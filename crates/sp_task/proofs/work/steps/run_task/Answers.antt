@@ -1,4 +1,4 @@
-use Rattle.std.proofs.Common.{◌≡◌, List, ◌∙◌, sym, ap, subst}
+use Rattle.std.proofs.Common.{List, ◌∙◌, sym, ap, subst}
 use Rattle.sp_word.specs.Word.{max_dist}
 use Rattle.sp_offer.specs.Order.{lawful}
 use Rattle.sp_task.specs.Offers.{Asked, offers_along}
