@@ -1,5 +1,9 @@
 //! Texts of help.
 use super::{AMPLE, expect, run, run_into};
+use std::alloc::Global;
+use std::process::Abort;
+use std::sync::Wait;
+use std::thread::Threads;
 
 #[test]
 fn version(rt: HostRuntime) {
@@ -189,4 +193,257 @@ fn help_that_cannot_be_written(rt: HostRuntime) {
         "A shortest-path tree engine",
         "spt: write failed\n",
     );
+}
+
+// Asserts the long help of a command.
+fn tells<R: Abort + Threads + Wait + Sync>(rt: &R, alloc: Global, name: &str, text: &str) {
+    let ended = run(rt, alloc, &["spt", name, "--help"], &[]);
+    expect(rt, ended, 0, text, "");
+}
+
+#[test]
+fn help_of_tree(rt: HostRuntime) {
+    let text = "\
+Write the shortest-path tree of each source
+
+A distance is the least length of a walk from the source. The predecessor of a vertex is the vertex
+before it on a shortest walk, the one with the smallest number where there are several. So a source
+has one tree, and the same bytes are written for each delta and each number of workers.
+
+Usage: spt tree [OPTIONS] --delta <D> <GR> <SS>
+
+Arguments:
+  <GR>
+          The graph, a .gr file
+
+  <SS>
+          The sources, a .ss file
+
+Options:
+      --delta <D>
+          The width of a bucket of tentative distances, from 1 to the greatest distance of a word. The mean
+          length of an arc is a good first choice; then try from 0.3 to 3 times as much. A delta that is far
+          off costs much time or memory. Any delta gives the same bytes
+
+      --workers <W>
+          Threads that may work on one tree, from 1 to 64, the main thread counted. Any number gives the same
+          bytes
+          
+          [default: 1]
+
+      --pred-bits <P>
+          Bits of a word that hold the predecessor; the others of its 64 hold the distance. So distances D
+          and predecessors P range
+            with 20 from 0 to 17592186044414 and from 0 to 1048574
+            with 24 from 0 to 1099511627774 and from 0 to 16777214
+            with 28 from 0 to 68719476734 and from 0 to 268435454
+            with 32 from 0 to 4294967294 and from 0 to 4294967294
+          
+          [default: 28]
+          [possible values: 20, 24, 28, 32]
+
+  -h, --help
+          Print help (see a summary with '-h')
+
+The graph is a .gr file of the Ninth DIMACS Implementation Challenge, its fields parted by blanks:
+  p sp N M      there are N vertices, numbered from 1, and M arcs, M at most 1073741824; it stands
+                first, and once. N is at most the greatest predecessor of a word
+  a U V W       an arc from U to V of length W, 1 to 4294967295; there are M of these lines
+  c ...         a comment; so is a line without a field
+The sources are a .ss file:
+  p aux sp ss K there are K sources, at most 1048576; it stands first, and once
+  s V           a source; there are K of these lines
+  c ...         a comment; so is a line without a field
+Both are read, the graph first, and all sources are tested, before anything is written.
+
+For each source, in the order of its file, a block is written:
+  p spt N S     the tree of source S, of N vertices
+  v V D P       vertex V has distance D and predecessor P, the source 0 and 0; by rising V. A vertex
+                that no walk leads to has no line
+  e R           there were R lines of this kind
+or, where a vertex with an arc from one within the greatest distance of a word lies beyond it, one
+line that names the smallest such V (exit status 4 at the end):
+  x S V
+
+Example: where diamond.gr and diamond.ss have the lines
+  p sp 4 5
+  a 1 2 3
+  a 1 3 3
+  a 2 4 2
+  a 3 4 2
+  a 1 4 6
+and
+  p aux sp ss 1
+  s 1
+the output of `spt tree diamond.gr diamond.ss --delta 3` is
+  p spt 4 1
+  v 1 0 0
+  v 2 3 1
+  v 3 3 1
+  v 4 5 2
+  e 4
+
+A fault of a file is told with its line, as in `spt: gr: line 2: 5 OutOfRange V`; FILE is gr or ss:
+  1 LongLine       a line has more than 1024 bytes
+  2 BadLine        a line is none of those above
+  3 NoProblem      a line stands before the p line, or there is no p line
+  4 SecondProblem  a second p line
+  5 OutOfRange V   a field is out of its range; the letter is that of the field
+  6 TooMany        more than M arcs or K sources
+  7 TooFew         fewer than M arcs or K sources
+  8 Memory         there is not enough memory for a line (exit status 5)
+  9 Read           reading failed (exit status 6)
+Others are
+  spt: FILE: cannot open             (exit status 6)
+  spt: delta out of range            a word of this layout has no such distance (exit status 1)
+  spt: source V: no such vertex      the first source above N; nothing is written (exit status 2)
+  spt: memory                        a beginning of the output may stand (exit status 5)
+  spt: write failed                  a beginning of the output may stand (exit status 6)
+
+Exit status:
+  0  done
+  1  the command line is wrong, or delta is out of range
+  2  a file is refused, or a source is no vertex
+  4  for some source a vertex is too far; all answers are written
+  5  there is not enough memory
+  6  a file could not be opened or read, or the output could not be written
+";
+    tells(&rt, rt.alloc(), "tree", text);
+}
+
+#[test]
+fn help_of_check(rt: HostRuntime) {
+    let text = "\
+Check a tree against its graph
+
+The answer is `yes` where the file holds the shortest-path tree of its source and no vertex is too
+far for a word, whoever made the file. Else it is `no V R`, with the lowest vertex V at which a rule
+fails and the number R of its lowest such rule:
+  1  the tree's number of vertices is not the graph's (V is 0, and nothing else is looked at)
+  2  the source's line has another distance or predecessor than 0
+  3  an arc from a vertex of the tree offers V a shorter distance, or the same one with a smaller
+     predecessor, within the greatest distance of a word
+  4  V is not the source, and its predecessor is not a vertex of the tree with an arc to V of
+     exactly the difference of the two distances
+  5  V has no line, and an arc leads to it from a vertex of the tree, beyond the greatest distance
+
+Usage: spt check [OPTIONS] <GR> <TREE>
+
+Arguments:
+  <GR>
+          The graph, a .gr file
+
+  <TREE>
+          The tree file
+
+Options:
+      --pred-bits <P>
+          Bits of a word that hold the predecessor; the others of its 64 hold the distance. So distances D
+          and predecessors P range
+            with 20 from 0 to 17592186044414 and from 0 to 1048574
+            with 24 from 0 to 1099511627774 and from 0 to 16777214
+            with 28 from 0 to 68719476734 and from 0 to 268435454
+            with 32 from 0 to 4294967294 and from 0 to 4294967294
+          
+          [default: 28]
+          [possible values: 20, 24, 28, 32]
+
+  -h, --help
+          Print help (see a summary with '-h')
+
+The graph is a .gr file, as `spt tree --help` tells. The tree file has one block as `spt tree` writes
+it for a source, with one space between fields and an LF at the end of each line:
+  p spt N S, then v V D P by rising V, then e R
+
+Example: for the graph and the tree of the example there, `spt check diamond.gr diamond.tree` writes
+`yes`. With `v 4 5 3` for `v 4 5 2` it writes `no 4 3`, since vertex 2 offers the same distance.
+
+A fault is told with its line, as in `spt: tree: line 3: 5 OutOfRange V`, FILE being gr or tree; the
+kinds are those of `spt tree --help`. In a tree file
+  2 BadLine        a line is none of these, or is spelled in another way; so is an x line
+  5 OutOfRange     also a V that is not greater than the one before, and an R that is not the number
+                   of v lines
+  6 TooMany        something stands after the e line
+  7 TooFew         the file ends before the e line
+
+Exit status:
+  0  yes
+  1  the command line is wrong
+  2  a file is refused
+  3  no
+  5  there is not enough memory
+  6  a file could not be opened or read, or the answer could not be written
+";
+    tells(&rt, rt.alloc(), "check", text);
+}
+
+#[test]
+fn help_of_offers(rt: HostRuntime) {
+    let text = "\
+Make the offers of several actors at once, and write the words that are left
+
+A word of the table is unreached, or holds a distance and a predecessor. An offer of a pair leaves
+the lesser of the two, by distance, then by predecessor. Each actor has a thread of its own, and no
+thread waits for another's offers. Whatever their order, the words that are left are the same.
+
+Usage: spt offers [OPTIONS] <FILE>
+
+Arguments:
+  <FILE>
+          The offers file
+
+Options:
+      --pred-bits <P>
+          Bits of a word that hold the predecessor; the others of its 64 hold the distance. So distances D
+          and predecessors P range
+            with 20 from 0 to 17592186044414 and from 0 to 1048574
+            with 24 from 0 to 1099511627774 and from 0 to 16777214
+            with 28 from 0 to 68719476734 and from 0 to 268435454
+            with 32 from 0 to 4294967294 and from 0 to 4294967294
+          
+          [default: 28]
+          [possible values: 20, 24, 28, 32]
+
+  -h, --help
+          Print help (see a summary with '-h')
+
+The file has a line for each of these, its fields parted by blanks:
+  p off N K    there are N words, 1 to 65536, and K actors, 1 to 64; it stands first, and once
+  o A V D P    actor A, 1 to K, offers distance D and predecessor P to word V, 1 to N
+  c ...        a comment; so is a line without a field
+An actor makes its offers in the order of the file. There are at most 1048576 offers. All words are
+unreached before.
+
+The output has a line for each word that is reached, by rising V, and then their number:
+  w V D P      word V holds distance D and predecessor P
+  e R          there are R lines of this kind
+
+Example: where the file offers.off has the lines
+  p off 1 2
+  o 1 1 9 1
+  o 1 1 7 4
+  o 2 1 7 2
+  o 2 1 8 3
+the output of `spt offers offers.off` is
+  w 1 7 2
+  e 1
+
+A fault is told with its line, as in `spt: offers: line 2: 5 OutOfRange A`:
+  1 LongLine       a line has more than 1024 bytes
+  2 BadLine        a line is none of those above
+  3 NoProblem      a line stands before the p line, or there is no p line
+  4 SecondProblem  a second p line
+  5 OutOfRange V   a field is out of its range; the letter is that of the field
+  6 TooMany        an offer is one too many
+  8 Memory         there is not enough memory for a line (exit status 5)
+  9 Read           reading failed (exit status 6)
+
+Exit status:
+  0  done
+  1  the command line is wrong
+  2  the file is refused
+  5  there is not enough memory
+  6  the file could not be opened or read, or the output could not be written
+";
+    tells(&rt, rt.alloc(), "offers", text);
 }
