@@ -1,7 +1,8 @@
 -- The answers for a graph whose arcs were put in another order.
-use Rattle.std.proofs.Common.{◌≡◌, ℕ, ◌≤◌, Bool, List, [], ◌∷◌, Option, Some, None, Result, Ok, Err, refl, sym, ap, ◌∙◌}
+use Rattle.std.proofs.Common.{◌≡◌, ℕ, ◌≤◌, Bool, true, false, List, [], ◌∷◌, Option, Some, None, Result, Ok, Err, refl, sym, ap, ◌∙◌}
 use Rattle.std.proofs.KnownBytes.{Appends-nil}
-use Rattle.std.specs.Prelude.{All, Contains, IsPermutation}
+use Rattle.std.proofs.lemmas.Bool.{false≢true}
+use Rattle.std.specs.Prelude.{IfErr, All, Contains, IsPermutation}
 use Rattle.sp_word.specs.Word.{max_dist}
 use Rattle.std.proofs.lemmas.List.Sorted.{Contains-permutation, IsPermutation-sym}
 use Rattle.sp_paths.specs.declared.arc.Arc.{Arc}
@@ -17,7 +18,7 @@ use Rattle.sp_batch.specs.declared.answers.BatchError.{BatchError}
 use Rattle.sp_batch.specs.declared.answers.BatchError.TheVariants.{Gr, Ss, NoSuchVertex, Memory, Write}
 use Rattle.sp_batch.specs.Batch.{Answer, TreeOf, FarFrom, IsAnswerTo, AreAnswers, HasBegun}
 use Rattle.sp_batch.specs.Steps.{AreAllAnswered}
-use Rattle.sp_batch.specs.Answered.{IsBatch}
+use Rattle.sp_batch.specs.Answered.{IsBatch, is_early}
 
 same_answer : (P : ℕ) (g h : Graph) (s : ℕ) (answer : Answer) → AreSame g h → IsAnswerTo P g s answer → IsAnswerTo P h s answer
 same_answer P g h s (TreeOf t) same is =
@@ -80,3 +81,12 @@ refused_early P file list old has_failed within = (
     begun = record { part = []; more = []; parts = refl; wrote = Appends-nil old };
   },
 )
+
+-- Once answers are written, no file is refused.
+pub not_early : {W : Type 0} (P : ℕ) (g : Graph) (sources : List ℕ) (written : W → Option (List ℕ)) (has_failed : W → Bool) (old new : W) (result : Result Summary BatchError) (same : Type 0) → AreAllAnswered P g sources written has_failed old result new → IfErr result (λ e. is_early e ≡ true → same)
+not_early P g sources written has_failed old new (Ok summary) same is = tt
+not_early P g sources written has_failed old new (Err Memory) same is = λ early. absurd (false≢true early)
+not_early P g sources written has_failed old new (Err Write) same is = λ early. absurd (false≢true early)
+not_early P g sources written has_failed old new (Err (Gr e)) same is = absurd is
+not_early P g sources written has_failed old new (Err (Ss e)) same is = absurd is
+not_early P g sources written has_failed old new (Err (NoSuchVertex v)) same is = absurd is

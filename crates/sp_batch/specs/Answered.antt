@@ -1,5 +1,5 @@
 -- What a batch answers, and what then stands written.
-use Rattle.std.specs.Prelude.{◌≡◌, ◌≤◌, ℕ, Bool, true, List, All, Option, Result, Ok, Err}
+use Rattle.std.specs.Prelude.{◌≡◌, ◌≤◌, ℕ, Bool, true, false, List, All, Option, Result, Ok, Err}
 use Rattle.std.specs.Io.KnownBytes.{Appends}
 use Rattle.sp_dimacs.specs.declared.graphs.GrFile.{GrFile}
 use Rattle.sp_dimacs.specs.declared.sources.SsFile.{SsFile}
@@ -32,3 +32,11 @@ abbrev pub BatchOfSome : (P : ℕ) → (old new : Option (List ℕ)) → (has_fa
 BatchOfSome P old new has_failed (Err (Gr e)) = new ≡ old
 BatchOfSome P old new has_failed (Err (Ss e)) = new ≡ old
 BatchOfSome P old new has_failed result = (gr ss : List ℕ) × (file : GrFile) × (list : SsFile) × SpellsGraph P gr file × SpellsSources P ss list × IsBatch P file list old new has_failed result
+
+-- The files were refused, before anything was to be written.
+abbrev pub is_early : BatchError → Bool
+is_early (Gr e) = true
+is_early (Ss e) = true
+is_early (NoSuchVertex s) = true
+is_early Memory = false
+is_early Write = false

@@ -1,12 +1,12 @@
 //! A batch of sources.
-ghost use Rattle.std.specs.Prelude.{◌≡◌, ◌≤◌, ℕ, true, List, length, All, Some, IfSome, IfNone};
+ghost use Rattle.std.specs.Prelude.{◌≡◌, ◌≤◌, ℕ, true, List, length, All, Some, IfSome, IfNone, IfErr};
 ghost use Rattle.sp_word.specs.Word.{is_layout, max_dist, max_pred};
 ghost use Rattle.sp_paths.specs.Paths.{IsVertex, IsGraph};
 ghost use Rattle.sp_dimacs.specs.Graph.{IsNetwork};
 ghost use Rattle.sp_dimacs.specs.Sources.{AreSourcesWithin};
 ghost use Rattle.sp_batch.specs.Batch.{IsFirstAbove};
 ghost use Rattle.sp_batch.specs.Steps.{IsAnswered, AreAllAnswered};
-ghost use Rattle.sp_batch.specs.Answered.{BatchAnswered, BatchOfSome, IsBatch};
+ghost use Rattle.sp_batch.specs.Answered.{BatchAnswered, BatchOfSome, IsBatch, is_early};
 
 use crate::answers::{BatchError, Summary};
 use sp_dimacs::{GrFile, Read, SsFile, Write, read_gr, read_ss};
@@ -101,6 +101,7 @@ fn answer_sources<const P: u32, R: Threads + Wait + Sync, W: Write>(
 }
 
 // Tests the sources, and writes the answers.
+#[tactic(auto, using(crate::proofs::OfFile::not_early))]
 fn answer_files<const P: u32, R: Threads + Wait + Sync, W: Write>(
     rt: &R,
     alloc: Global,
@@ -114,7 +115,8 @@ fn answer_files<const P: u32, R: Threads + Wait + Sync, W: Write>(
     requires sources { AreSourcesWithin P list.now }
     requires delta { (1 ≤ plan.delta) × (plan.delta ≤ max_dist P) }
     requires workers { (1 ≤ plan.workers) × (plan.workers ≤ 64) }
-    ensures { IsBatch P file list.now (W.written out.old) (W.written out.new) (W.has_failed out.new) result }
+    ensures batch { IsBatch P file list.now (W.written out.old) (W.written out.new) (W.has_failed out.new) result }
+    ensures untouched { IfErr result (λ e. is_early e ≡ true → out.new ≡ out.old) }
 {
     if let Some(source) = first_above(&list.sources, file.n) {
         return Err(BatchError::NoSuchVertex(source));
@@ -145,6 +147,7 @@ pub fn run_batch<const P: u32, R: Threads + Wait + Sync, G: Read, S: Read, W: Wr
     requires delta { (1 ≤ delta) × (delta ≤ max_dist P) }
     requires workers { (1 ≤ workers) × (workers ≤ 64) }
     ensures exact { (gr_text ss_text : List ℕ) → G.left gr.old ≡ Some gr_text → S.left ss.old ≡ Some ss_text → BatchAnswered P gr_text ss_text (G.left gr.new) (S.left ss.new) (G.has_failed gr.new) (S.has_failed ss.new) (W.written out.old) (W.written out.new) (W.has_failed out.new) result }
+    ensures untouched { IfErr result (λ e. is_early e ≡ true → out.new ≡ out.old) }
     ensures found { BatchOfSome P (W.written out.old) (W.written out.new) (W.has_failed out.new) result }
 {
     let file = match read_gr::<P, G>(alloc, gr) {

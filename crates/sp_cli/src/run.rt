@@ -31,8 +31,7 @@ pub fn run_command<R: Threads + Wait + Sync, F: Inputs, W: Write, E: Write>(
     ensures silent { result ≡ 0 → err.new ≡ err.old }
     ensures silent_no { result ≡ 3 → err.new ≡ err.old }
     ensures silent_far { result ≡ 4 → err.new ≡ err.old }
-    ensures untouched { result ≡ 1 → out.new ≡ out.old }
-    ensures unwritten { 1 ≤ result → result ≤ 2 → W.written out.new ≡ W.written out.old }
+    ensures unwritten { 1 ≤ result → result ≤ 2 → out.new ≡ out.old }
 {
     let status = match obey(rt, alloc, words, files, out) {
         Ok(status) => status,
@@ -52,8 +51,7 @@ fn obey<R: Threads + Wait + Sync, F: Inputs, W: Write>(
     out: &mut W,
 ) -> Result<Status, Fault>
     ensures done { IfOk result (λ status. is_done status ≡ true) }
-    ensures unwritten { IfErr result (λ fault. code_of (status_of fault) ≤ 2 → W.written out.new ≡ W.written out.old) }
-    ensures untouched { IfErr result (λ fault. code_of (status_of fault) ≤ 1 → out.new ≡ out.old) }
+    ensures unwritten { IfErr result (λ fault. code_of (status_of fault) ≤ 2 → out.new ≡ out.old) }
 {
     match read_order(alloc, words)? {
         Order::Show(text) => {

@@ -24,8 +24,7 @@ pub fn tree<R: Threads + Wait + Sync, F: Inputs, W: Write>(
     out: &mut W,
 ) -> Result<Status, Fault>
     ensures done { IfOk result (λ status. is_done status ≡ true) }
-    ensures unwritten { IfErr result (λ fault. code_of (status_of fault) ≤ 2 → W.written out.new ≡ W.written out.old) }
-    ensures untouched { IfErr result (λ fault. code_of (status_of fault) ≤ 1 → out.new ≡ out.old) }
+    ensures unwritten { IfErr result (λ fault. code_of (status_of fault) ≤ 2 → out.new ≡ out.old) }
 {
     match order.pred_bits {
         PredBits::Bits20 => tree_by::<20, _, _, _>(rt, alloc, order, files, out),
@@ -44,8 +43,7 @@ fn tree_by<const P: u32, R: Threads + Wait + Sync, F: Inputs, W: Write>(
 ) -> Result<Status, Fault>
     requires layout { is_layout P ≡ true }
     ensures done { IfOk result (λ status. is_done status ≡ true) }
-    ensures unwritten { IfErr result (λ fault. code_of (status_of fault) ≤ 2 → W.written out.new ≡ W.written out.old) }
-    ensures untouched { IfErr result (λ fault. code_of (status_of fault) ≤ 1 → out.new ≡ out.old) }
+    ensures unwritten { IfErr result (λ fault. code_of (status_of fault) ≤ 2 → out.new ≡ out.old) }
 {
     let (delta, workers) = (order.delta, order.workers);
     if !(1..=Word::<P>::max_dist()).contains(&delta) {
