@@ -1,0 +1,67 @@
+//! Times parts of the engine. Each command prints lines `name number unit`; `bench/parts.py` sets them beside those of a
+//! plain program.
+#![tactic(auto)]
+
+mod files;
+mod offers;
+mod report;
+mod rounds;
+
+use offers::Crowd;
+use rounds::Drill;
+use std::rt::Files;
+use std::sync::Wait;
+use std::thread::Threads;
+use std::time::Clock;
+use std::{env, io};
+
+const USAGE: &str =
+    "usage: spt_bench read GR | tree FILE | offers THREADS WORDS COUNT | rounds WORKERS TASKS ROUNDS";
+
+// The crowd that three words of the command line order.
+fn crowd_of(threads: &str, words: &str, count: &str) -> Option<Crowd> {
+    Crowd::new(
+        threads.parse().ok()?,
+        words.parse().ok()?,
+        count.parse().ok()?,
+    )
+}
+
+// The drill that three words of the command line order.
+fn drill_of(workers: &str, tasks: &str, rounds: &str) -> Option<Drill> {
+    Drill::new(
+        workers.parse().ok()?,
+        tasks.parse().ok()?,
+        rounds.parse().ok()?,
+    )
+}
+
+// Runs the command of these words, or tells the usage.
+fn run<R: AllocGlobal + Clock + Eprint + Files + Print + Threads + Wait + Sync>(
+    rt: &R,
+    words: &[&str],
+) -> io::Result<()> {
+    match words {
+        ["read", path] => return files::time_graph(rt, path),
+        ["tree", path] => return files::time_tree(rt, path),
+        ["offers", threads, words, count] => {
+            if let Some(crowd) = crowd_of(threads, words, count) {
+                return offers::time_offers(rt, crowd);
+            }
+        }
+        ["rounds", workers, tasks, rounds] => {
+            if let Some(drill) = drill_of(workers, tasks, rounds) {
+                return rounds::time_rounds(rt, drill);
+            }
+        }
+        _ => {}
+    }
+    eprintln!(rt; "{USAGE}")
+}
+
+fn main(rt: HostRuntime) -> io::Result<()> {
+    let alloc = rt.alloc();
+    let arguments: Vec<String> = env::args(&rt)?.skip(1).collect(alloc)?;
+    let words: Vec<&str> = arguments.iter().map(|word| word.as_str()).collect(alloc)?;
+    run(&rt, &words)
+}
