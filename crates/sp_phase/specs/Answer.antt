@@ -1,5 +1,5 @@
 -- What a run from a source answers.
-use Rattle.std.specs.Prelude.{◌≡◌, ℕ, Option, Some, None}
+use Rattle.std.specs.Prelude.{◌≡◌, ℕ, Some, None}
 use Rattle.sp_word.specs.Word.{max_dist}
 use Rattle.sp_paths.specs.Paths.{Graph, IsVertex, IsTree, IsFar}
 use Rattle.sp_tree.specs.Table.{TreeTable, table_of}
@@ -19,3 +19,9 @@ abbrev pub IsRefusal : (P : ℕ) → Graph → (s : ℕ) → RunError → Type 0
 IsRefusal P g s Memory = IsVertex g.n s
 IsRefusal P g s (TooFar v) = IsVertex g.n s × IsFar g s (max_dist P) (Some v)
 IsRefusal P g s NoSuchVertex = IsVertex g.n s → ⊥
+
+-- why nothing was stored: the source is no vertex exactly where that is told
+abbrev pub IsUnstored : Graph → (s : ℕ) → RunError → Type 0
+IsUnstored g s Memory = IsVertex g.n s
+IsUnstored g s (TooFar v) = ⊥
+IsUnstored g s NoSuchVertex = IsVertex g.n s → ⊥

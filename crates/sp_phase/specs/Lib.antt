@@ -1,1 +1,6 @@
 pub mod Answer
+pub mod Stage
+pub mod Marks
+pub mod Running
+pub mod Sweep
+pub mod Progress

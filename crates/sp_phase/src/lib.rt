@@ -2,7 +2,19 @@
 #![tactic(auto)]
 
 mod answers;
+mod far;
+mod finish;
+mod leader;
+mod marks;
+mod phases;
+mod round;
+mod run;
 mod source;
+mod store;
+mod sweep;
+mod tasks;
 
 pub use answers::RunError;
-pub use source::run_source;
+pub use run::Run;
+pub use source::{run_source, run_source_with};
+pub use store::Store;

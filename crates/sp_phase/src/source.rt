@@ -4,8 +4,12 @@ ghost use Rattle.sp_word.specs.Word.{is_layout, max_dist, max_pred};
 ghost use Rattle.sp_phase.specs.Answer.{IsAnswer, IsRefusal};
 
 use crate::answers::RunError;
+use crate::run::Run;
+use crate::store::Store;
+use sp_claim::Claimer;
 use sp_graph::Graph;
-use sp_plain::{Answer, plain_tree};
+use sp_offer::Caller;
+use sp_task::{Gate, OpenGate};
 use sp_tree::Tree;
 use std::alloc::Global;
 use std::sync::Wait;
@@ -16,7 +20,7 @@ use std::thread::Threads;
 /// `delta` is the width of a bucket, `workers` the number of threads, the leader counted. The answer is the same for
 /// each of both.
 pub fn run_source<const P: u32, R: Threads + Wait + Sync>(
-    _rt: &R,
+    rt: &R,
     alloc: Global,
     graph: &Graph,
     delta: u64,
@@ -30,15 +34,48 @@ pub fn run_source<const P: u32, R: Threads + Wait + Sync>(
     ensures tree { IfOk result (IsAnswer P graph.now source) }
     ensures refused { IfErr result (IsRefusal P graph.now source) }
 {
-    if source < 1 || source > graph.n() {
-        return Err(RunError::NoSuchVertex);
-    }
-    let _ = (delta, workers);
-    match plain_tree::<P>(alloc, graph, source) {
-        Ok(Answer::Tree(words)) => {
-            Tree::of_words(alloc, source, &words).map_err(|_| RunError::Memory)
-        }
-        Ok(Answer::TooFar(vertex)) => Err(RunError::TooFar(vertex)),
-        Err(_) => Err(RunError::Memory),
-    }
+    run_source_with(rt, alloc, graph, delta, workers, source, &OpenGate)
+}
+
+/// The same, with a gate round every offer of its rounds.
+pub fn run_source_with<const P: u32, R: Threads + Wait + Sync, G: Gate + Sync>(
+    rt: &R,
+    alloc: Global,
+    graph: &Graph,
+    delta: u64,
+    workers: u32,
+    source: u32,
+    gate: &G,
+) -> Result<Tree<P>, RunError>
+    requires layout { is_layout P ≡ true }
+    requires n { graph.now.n ≤ max_pred P }
+    requires delta { (1 ≤ delta) × (delta ≤ max_dist P) }
+    requires workers { (1 ≤ workers) × (workers ≤ 64) }
+    ensures tree { IfOk result (IsAnswer P graph.now source) }
+    ensures refused { IfErr result (IsRefusal P graph.now source) }
+{
+    let (store, caller, claimer) = Store::new(alloc, graph, delta, source)?;
+    run_stored(rt, alloc, &store, caller, claimer, workers, gate)
+}
+
+// A whole run over a store.
+fn run_stored<const P: u32, R: Threads + Wait + Sync, G: Gate + Sync>(
+    rt: &R,
+    alloc: Global,
+    store: &Store<P>,
+    caller: Caller,
+    claimer: Claimer,
+    workers: u32,
+    gate: &G,
+) -> Result<Tree<P>, RunError>
+    requires workers { (1 ≤ workers) × (workers ≤ 64) }
+    requires caller { caller.table ≡ store.now.table }
+    requires claimer { claimer.table ≡ store.now.claims }
+    ensures tree { IfOk result (IsAnswer P store.now.graph store.now.source) }
+    ensures refused { IfErr result (IsRefusal P store.now.graph store.now.source) }
+{
+    let _ = store.n();
+    let run = Run::begin(alloc, store, caller, claimer, workers)?;
+    let done = run.finish(rt, gate)?;
+    Ok(done.0)
 }

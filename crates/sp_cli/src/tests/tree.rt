@@ -15,12 +15,12 @@ const FROM_1: &str = "p aux sp ss 1\ns 1\n";
 const DIAMOND_TREE: &str = "p spt 4 1\nv 1 0 0\nv 2 3 1\nv 3 3 1\nv 4 5 2\ne 4\n";
 
 // Asserts what `tree` gives with these options, for 1, 2 and 64 workers.
-fn gives<R: Abort + Threads + Wait + Sync>(
+fn gives<'x, R: Abort + Threads + Wait + Sync>(
     rt: &R,
     alloc: Global,
-    gr: &str,
-    ss: &str,
-    options: (&str, &str),
+    gr: &'x str,
+    ss: &'x str,
+    options: (&'x str, &'x str),
     status: u8,
     out: &str,
     err: &str,

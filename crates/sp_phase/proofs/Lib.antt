@@ -1,0 +1,6 @@
+pub mod Known
+pub mod Marking
+pub mod Found
+pub mod Staging
+pub mod Rounds
+pub mod Sweeping

@@ -1,0 +1,30 @@
+-- What contracts see of a run.
+use Rattle.std.specs.Prelude.{ℕ, Option, Some, None, IsSome}
+use Rattle.sp_offer.specs.Story.{Knowledge}
+use Rattle.sp_phase.specs.declared.answers.RunError.{RunError}
+use Rattle.sp_phase.specs.declared.answers.RunError.TheVariants.{Memory, TooFar, NoSuchVertex}
+use Rattle.sp_phase.specs.declared.leader.Leader.{Leader}
+use Rattle.sp_phase.specs.Stage.{Stage}
+use Rattle.sp_phase.specs.Running.{Leads}
+
+-- the store's stage, and the caller of a run that isn't spent
+pub record Progress : Type 0 where
+  pub stage : Stage
+  pub caller : Option Knowledge
+
+abbrev pub caller_of : Option Leader → Option Knowledge
+caller_of None = None
+caller_of (Some l) = Some l.caller
+
+abbrev pub MayLead : (P : ℕ) → Stage → Option Leader → Type 0
+MayLead P st None = Unit {0}
+MayLead P st (Some l) = Leads P st l
+
+abbrev pub IsUnspent : Progress → Type 0
+IsUnspent run = IsSome run.caller
+
+-- nothing but a growth was refused
+abbrev pub IsMemory : RunError → Type 0
+IsMemory Memory = Unit {0}
+IsMemory (TooFar v) = ⊥
+IsMemory NoSuchVertex = ⊥

@@ -1,0 +1,46 @@
+-- What a leader's copy of the words shows.
+use Rattle.std.specs.Prelude.{◌≡◌, ℕ, ◌<◌, List, length, Some}
+use Rattle.sp_word.specs.Word.{Word, Pair, max_dist}
+use Rattle.sp_word.specs.History.{Table}
+use Rattle.sp_paths.specs.Paths.{IsVertex, word_at}
+use Rattle.sp_paths.specs.Phase.{IsCopy, HasNoOpen}
+use Rattle.sp_offer.specs.Order.{IsAtMost as IsNoMore}
+use Rattle.sp_offer.specs.Story.{Knowledge, known}
+use Rattle.sp_tree.specs.Table.{TreeTable, table_of}
+use Rattle.sp_bucket.specs.declared.entry.Entry.{Entry}
+use Rattle.sp_phase.specs.declared.marks.Mark.{Mark}
+use Rattle.sp_phase.specs.declared.sweep.Bounds.{Bounds}
+use Rattle.sp_phase.specs.Stage.{Stage}
+use Rattle.sp_phase.specs.Marks.{light_at, heavy_at}
+
+-- relaxed at the distance d, where that is below the bounds
+abbrev pub IsRelaxedAtDist : List Mark → Bounds → (u d : ℕ) → Type 0
+IsRelaxedAtDist marks b u d = (d < b.light → light_at marks u ≡ Some d) × (d < b.heavy → heavy_at marks u ≡ Some d)
+
+-- so is each of the first n vertices at the distance of its word
+abbrev pub AreRelaxed : List Word → List Mark → Bounds → (n : ℕ) → Type 0
+AreRelaxed words marks b n = (u d p : ℕ) → IsVertex n u → word_at words u ≡ Pair d p → IsRelaxedAtDist marks b u d
+
+-- so is the vertex, at the distance of its word
+abbrev pub IsRelaxedHere : List Word → List Mark → Bounds → (u : ℕ) → Type 0
+IsRelaxedHere words marks b u = (d p : ℕ) → word_at words u ≡ Pair d p → IsRelaxedAtDist marks b u d
+
+-- the entry's vertex has its distance, and wasn't relaxed there
+abbrev pub IsOpen : List Word → List Mark → Bounds → Entry → Type 0
+IsOpen words marks b e = IsVertex (length words) e.vertex × ((p : ℕ) × (word_at words e.vertex ≡ Pair e.dist p)) × (IsRelaxedAtDist marks b e.vertex e.dist → ⊥)
+
+-- A copy of all words: lawful, no more than what was known when the marks were made, and no less than what the caller
+-- knows now.
+pub record IsCopied (P : ℕ) (st : Stage) (c : Knowledge) (marks : List Mark) (copy : List Word) : Type 0 where
+  pub words : Table
+  pub of : IsCopy st.graph st.source (max_dist P) st.delta words (word_at copy) (light_at marks) (heavy_at marks)
+  pub size : length copy ≡ st.graph.n
+  pub above : (v : ℕ) → IsVertex st.graph.n v → IsNoMore (known c.story v) (word_at copy v)
+
+-- and no vertex is open in it
+abbrev pub IsSwept : (P : ℕ) → Stage → Knowledge → List Mark → List Word → Type 0
+IsSwept P st c marks copy = IsCopied P st c marks copy × HasNoOpen st.graph (word_at copy) (light_at marks) (heavy_at marks)
+
+-- a tree with these words
+abbrev pub HasWords : TreeTable → (n : ℕ) → Table → Type 0
+HasWords t n words = (v : ℕ) → IsVertex n v → words v ≡ table_of t v

@@ -1,0 +1,133 @@
+//! Runs.
+ghost use Rattle.std.specs.Prelude.{◌≡◌, ◌≤◌, Some, IfOk, IfErr, OnOk};
+ghost use Rattle.sp_offer.specs.Story.{known};
+ghost use Rattle.sp_paths.specs.Paths.{IsVertex};
+ghost use Rattle.sp_phase.specs.Answer.{IsAnswer, IsRefusal};
+ghost use Rattle.sp_phase.specs.Running.{Leads};
+ghost use Rattle.sp_phase.specs.Sweep.{HasWords};
+ghost use Rattle.sp_phase.specs.Progress.{IsMemory, IsUnspent};
+
+use crate::answers::RunError;
+use crate::finish::finish;
+use crate::leader::Leader;
+use crate::marks::Marks;
+use crate::store::Store;
+use sp_bucket::{Buckets, Entry};
+use sp_claim::Claimer;
+use sp_offer::Caller;
+use sp_task::Gate;
+use sp_tree::Tree;
+use sp_word::Word;
+use std::alloc::{AllocError, Global};
+use std::marker::Model;
+use std::sync::Wait;
+use std::thread::Threads;
+
+/// A run of delta-stepping from a store's source. A run that was refused is spent.
+///
+/// Contracts see the store's stage, and the caller, if the run isn't spent.
+#[derive(Drop)]
+pub struct Run<'a, 'g, const P: u32> {
+    alloc: Global,
+    store: &'a Store<'g, P>,
+    workers: u32,
+    leader: Option<Leader>,
+    words: Vec<Word<P>>,
+}
+
+impl<'a, 'g, const P: u32> Model for Run<'a, 'g, P> {
+    ghost use Rattle.std.specs.Prelude.{◌≡◌, ◌≤◌, vec_len};
+    ghost use Rattle.sp_phase.specs.Progress.{Progress, caller_of, MayLead};
+
+    ghost Value = { Progress };
+
+    ghost view = { λ r. record { stage = r.store.now; caller = caller_of r.leader } };
+
+    ghost invariant = { λ r. (1 ≤ r.workers) × (r.workers ≤ 64) × (vec_len r.words ≡ r.store.now.graph.n) × MayLead P r.store.now r.leader };
+}
+
+// The leader of a run that begins: the source has its pair, and is queued.
+fn first_leader<const P: u32>(
+    alloc: Global,
+    store: &Store<P>,
+    mut caller: Caller,
+    claimer: Claimer,
+) -> Result<Leader, AllocError>
+    requires caller { caller.table ≡ store.now.table }
+    requires claimer { claimer.table ≡ store.now.claims }
+    ensures { IfOk result (Leads P store.now) }
+{
+    let n = store.n();
+    let mut buckets = Buckets::with_longest(alloc, store.delta(), u64::from(store.longest()))?;
+    buckets.put(Entry {
+        vertex: store.source(),
+        dist: 0,
+    })?;
+    let marks = Marks::new(alloc, n)?;
+    store.open(&mut caller);
+    Ok(Leader {
+        caller,
+        claimer,
+        marks,
+        buckets,
+    })
+}
+
+impl<'a, 'g, const P: u32> Run<'a, 'g, P> {
+    /// Begins a run with the first caller and the first claimer of a store, or with what they became. Refused, it
+    /// spends both.
+    pub fn begin(
+        alloc: Global,
+        store: &'a Store<'g, P>,
+        caller: Caller,
+        claimer: Claimer,
+        workers: u32,
+    ) -> Result<Run<'a, 'g, P>, RunError>
+        requires workers { (1 ≤ workers) × (workers ≤ 64) }
+        requires caller { caller.table ≡ store.now.table }
+        requires claimer { claimer.table ≡ store.now.claims }
+        ensures stage { IfOk result (λ run. run.stage ≡ store.entry.now) }
+        ensures unspent { IfOk result IsUnspent }
+        ensures refused { IfErr result IsMemory }
+    {
+        let n = store.n() as usize;
+        let Ok(leader) = first_leader(alloc, store, caller, claimer) else {
+            return Err(RunError::Memory);
+        };
+        let Ok(words) = vec![in alloc; Word::unreached(); n] else {
+            return Err(RunError::Memory);
+        };
+        Ok(Run {
+            alloc,
+            store,
+            workers,
+            leader: Some(leader),
+            words,
+        })
+    }
+
+    /// Does all that is left, and gives the caller back, which knows the tree's words.
+    pub fn finish<R: Threads + Wait + Sync, G: Gate + Sync>(
+        self,
+        rt: &R,
+        gate: &G,
+    ) -> Result<(Tree<P>, Caller), RunError>
+        ensures tree { IfOk result (λ done. IsAnswer P self.entry.stage.graph self.entry.stage.source done.0) }
+        ensures caller { IfOk result (λ done. done.1.table ≡ self.entry.stage.table) }
+        ensures known { IfOk result (λ done. HasWords done.0 self.entry.stage.graph.n (known done.1.story)) }
+        ensures refused { IfErr result (IsRefusal P self.entry.stage.graph self.entry.stage.source) }
+    {
+        let Run {
+            alloc,
+            store,
+            workers,
+            leader,
+            words,
+        } = self;
+        let _ = store.n();
+        match leader {
+            None => Err(RunError::Memory),
+            Some(leader) => finish(rt, alloc, store, workers, leader, words, gate),
+        }
+    }
+}

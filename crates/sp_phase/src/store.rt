@@ -1,0 +1,211 @@
+//! What a run works on: rows, the table of words, the table of claims.
+ghost use Rattle.std.specs.Prelude.{◌≡◌, ◌≤◌, [], true, vec_len, All, IfOk, IfErr};
+ghost use Rattle.sp_word.specs.Word.{Pair, is_layout, max_dist, max_pred};
+ghost use Rattle.sp_paths.specs.Paths.{IsVertex, IsArc};
+ghost use Rattle.sp_offer.specs.Story.{fresh, known, IsCopy};
+ghost use Rattle.sp_task.specs.Left.{RoundDone};
+ghost use Rattle.sp_phase.specs.Answer.{IsUnstored};
+ghost use Rattle.sp_phase.specs.Stage.{IsStage, IsOf, Learns, law_of, rows_of};
+ghost use Rattle.sp_phase.specs.Running.{IsDue};
+
+use crate::answers::RunError;
+use sp_claim::{ClaimTable, Claimer};
+use sp_graph::{Graph, Rows};
+use sp_offer::{Caller, OfferTable};
+use sp_paths::Arc;
+use sp_task::{Gate, Round, RoundOut, Task, Walks, run_round, walks_allow_arcs};
+use sp_word::Word;
+use std::alloc::{AllocError, Global};
+use std::marker::Model;
+use std::sync::Wait;
+use std::thread::Threads;
+
+/// The tables of a run from one source of a graph: its rows, parted at `delta`, a word and a claim for each vertex.
+/// Callers of its table may read and offer while a run goes on.
+///
+/// Contracts see the graph, the source, `delta`, and which tables these are.
+#[derive(Drop)]
+pub struct Store<'g, const P: u32> {
+    graph: &'g Graph,
+    delta: u64,
+    source: u32,
+    rows: Rows,
+    table: OfferTable<Walks<'g>, P>,
+    claims: ClaimTable,
+}
+
+impl<'g, const P: u32> Model for Store<'g, P> {
+    ghost use Rattle.sp_phase.specs.Stage.{Stage, IsStage, AreOfStage};
+
+    ghost Value = { Stage };
+
+    ghost view = { λ s. record { graph = s.graph.now; source = s.source; delta = s.delta; table = s.table.id; claims = s.claims } };
+
+    ghost invariant = { λ s. let st : Stage = record { graph = s.graph.now; source = s.source; delta = s.delta; table = s.table.id; claims = s.claims } in IsStage P st × AreOfStage st s.rows s.table.law s.table.vertices s.claims.words };
+}
+
+impl<'g, const P: u32> Store<'g, P> {
+    /// The tables for a run from `source`, with their first caller and their first claimer.
+    pub fn new(
+        alloc: Global,
+        graph: &'g Graph,
+        delta: u64,
+        source: u32,
+    ) -> Result<(Store<'g, P>, Caller, Claimer), RunError>
+        requires layout { is_layout P ≡ true }
+        requires n { graph.now.n ≤ max_pred P }
+        requires delta { (1 ≤ delta) × (delta ≤ max_dist P) }
+        ensures store { IfOk result (λ made. IsOf graph.entry.now delta source made.0) }
+        ensures range { IfOk result (λ made. IsStage P made.0) }
+        ensures caller { IfOk result (λ made. (made.1.table ≡ made.0.table) × (made.1.story ≡ fresh)) }
+        ensures claimer { IfOk result (λ made. (made.2.table ≡ made.0.claims) × (made.2.grants ≡ [])) }
+        ensures refused { IfErr result (IsUnstored graph.entry.now source) }
+    {
+        let n = graph.n();
+        if source < 1 || source > n {
+            return Err(RunError::NoSuchVertex);
+        }
+        Store::make(alloc, graph, n, delta, source).map_err(|_| RunError::Memory)
+    }
+
+    // The same for a source that is a vertex.
+    fn make(
+        alloc: Global,
+        graph: &'g Graph,
+        n: u32,
+        delta: u64,
+        source: u32,
+    ) -> Result<(Store<'g, P>, Caller, Claimer), AllocError>
+        requires layout { is_layout P ≡ true }
+        requires n { (n ≡ graph.now.n) × (n ≤ max_pred P) }
+        requires delta { (1 ≤ delta) × (delta ≤ max_dist P) }
+        requires source { (1 ≤ source) × (source ≤ n) }
+        ensures store { IfOk result (λ made. IsOf graph.entry.now delta source made.0) }
+        ensures range { IfOk result (λ made. IsStage P made.0) }
+        ensures caller { IfOk result (λ made. (made.1.table ≡ made.0.table) × (made.1.story ≡ fresh)) }
+        ensures claimer { IfOk result (λ made. (made.2.table ≡ made.0.claims) × (made.2.grants ≡ [])) }
+    {
+        let _ = graph.n();
+        let rows = Rows::split(alloc, graph, delta)?;
+        let (table, caller) = OfferTable::new(alloc, n, Walks::new(graph, source))?;
+        let (claims, claimer) = ClaimTable::new(alloc, n)?;
+        let store = Store {
+            graph,
+            delta,
+            source,
+            rows,
+            table,
+            claims,
+        };
+        Ok((store, caller, claimer))
+    }
+
+    /// How many vertices there are.
+    pub(crate) fn n(&self) -> u32
+        ensures n { result ≡ self.now.graph.n }
+        ensures stage { IsStage P self.now }
+    {
+        self.graph.n()
+    }
+
+    /// The source.
+    pub(crate) fn source(&self) -> u32
+        ensures { result ≡ self.now.source }
+    {
+        self.source
+    }
+
+    /// The width of a bucket.
+    pub(crate) fn delta(&self) -> u64
+        ensures { result ≡ self.now.delta }
+    {
+        self.delta
+    }
+
+    /// The greatest length of an arc.
+    pub(crate) fn longest(&self) -> u32 {
+        self.graph.longest()
+    }
+
+    /// All arcs.
+    pub(crate) fn arcs(&self) -> &[Arc]
+        ensures arcs { result.now ≡ self.now.graph.arcs }
+        ensures fine { All (IsArc self.now.graph.n) result.now }
+    {
+        self.graph.arcs()
+    }
+
+    /// The table. Callers that were split from the first one may read it and offer it lawful pairs.
+    pub fn table(&self) -> &OfferTable<Walks<'g>, P>
+        ensures table { result.now.id ≡ self.now.table }
+        ensures vertices { result.now.vertices ≡ self.now.graph.n }
+        ensures law { result.now.law ≡ record { graph = self.now.graph; source = self.now.source } }
+    {
+        &self.table
+    }
+
+    /// Reads the word of a vertex.
+    pub(crate) fn read(&self, caller: &mut Caller, vertex: u32) -> Word<P>
+        requires vertex { IsVertex self.now.graph.n vertex }
+        requires caller { caller.old.table ≡ self.now.table }
+        ensures caller { Learns P self.now caller.old caller.new }
+        ensures word { known caller.new.story vertex ≡ result }
+    {
+        self.table.read(caller, vertex)
+    }
+
+    /// Offers the source its pair.
+    pub(crate) fn open(&self, caller: &mut Caller)
+        requires { caller.old.table ≡ self.now.table }
+        ensures caller { Learns P self.now caller.old caller.new }
+        ensures source { known caller.new.story self.now.source ≡ Pair 0 0 }
+    {
+        let source = self.source;
+        self.table.offer(caller, source, Word::pack(0, 0));
+    }
+
+    /// Copies all words.
+    pub(crate) fn copy_words(&self, caller: &mut Caller, words: &mut Vec<Word<P>>)
+        requires caller { caller.old.table ≡ self.now.table }
+        requires room { vec_len words.old ≡ self.now.graph.n }
+        ensures caller { Learns P self.now caller.old caller.new }
+        ensures length { vec_len words.new ≡ vec_len words.old }
+        ensures copy { IsCopy (law_of P self.now) words.new.items caller.old.story caller.new.story }
+    {
+        self.table.copy_words(caller, words);
+    }
+
+    /// Runs a round of tasks. A refusal spends the caller and the claimer.
+    pub(crate) fn run_tasks<R: Threads + Wait + Sync, G: Gate + Sync>(
+        &self,
+        rt: &R,
+        alloc: Global,
+        tasks: &[Task],
+        number: u64,
+        workers: u32,
+        caller: Caller,
+        claimer: Claimer,
+        gate: &G,
+    ) -> Result<RoundOut, AllocError>
+        requires workers { (1 ≤ workers) × (workers ≤ 64) }
+        requires caller { caller.table ≡ self.now.table }
+        requires claimer { claimer.table ≡ self.now.claims }
+        requires tasks { All (IsDue P self.now) tasks.now }
+        ensures done { IfOk result (λ o. RoundDone (law_of P self.now) (max_dist P) (rows_of self.now) tasks.now caller o.caller o.found.items) }
+        ensures claimer { IfOk result (λ o. o.claimer.table ≡ claimer.table) }
+    {
+        walks_allow_arcs();
+        let round = Round {
+            table: &self.table,
+            claims: &self.claims,
+            rows: &self.rows,
+            tasks,
+            number,
+            workers,
+        };
+        match run_round(rt, alloc, &round, caller, claimer, gate) {
+            Ok(out) => Ok(out),
+            Err(_) => Err(AllocError),
+        }
+    }
+}
