@@ -18,3 +18,6 @@ pub use answers::RunError;
 pub use run::Run;
 pub use source::{run_source, run_source_with};
 pub use store::Store;
+
+#[cfg(test)]
+mod tests;
