@@ -5,3 +5,4 @@ pub mod Split
 pub mod RowsValue
 pub mod GraphView
 pub mod RowsView
+pub mod LeftOut

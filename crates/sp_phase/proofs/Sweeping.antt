@@ -14,7 +14,7 @@ use Rattle.sp_word.proofs.Layouts.{by_layout}
 use Rattle.sp_paths.specs.Paths.{Graph, IsGraph, IsVertex, IsLawful, IsAtMost, IsTree, IsTreeWord, IsFar, word_at}
 use Rattle.sp_paths.specs.declared.arc.Arc.{Arc}
 use Rattle.sp_paths.specs.Phase.{IsCopy, SweptIsTree, SweptIsFar}
-use Rattle.sp_plain.specs.Passing.{network, IsLeastLeftOut}
+use Rattle.sp_graph.specs.LeftOut.{network, IsLeastLeftOut}
 use Rattle.sp_paths.proofs.Walks.{arc_in, walk_by_parts}
 use Rattle.sp_offer.specs.Order.{IsKnownWord, IsAtMost as IsNoMore}
 use Rattle.sp_offer.specs.Story.{Knowledge, known, IsCopy as IsWordsCopy}

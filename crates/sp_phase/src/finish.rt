@@ -1,6 +1,6 @@
 //! The end of a run.
 ghost use Rattle.std.specs.Prelude.{◌≡◌, ◌≤◌, None, vec_len, IfOk, IfErr};
-ghost use Rattle.sp_plain.specs.Passing.{IsLeastLeftOut};
+ghost use Rattle.sp_graph.specs.LeftOut.{IsLeastLeftOut};
 ghost use Rattle.sp_offer.specs.Story.{known};
 ghost use Rattle.sp_paths.specs.Paths.{word_at};
 ghost use Rattle.sp_phase.specs.Answer.{IsAnswer, IsRefusal};
@@ -8,11 +8,11 @@ ghost use Rattle.sp_phase.specs.Running.{Leads};
 ghost use Rattle.sp_phase.specs.Sweep.{IsSwept, HasWords};
 
 use crate::answers::RunError;
-use crate::far::left_out;
 use crate::leader::Leader;
 use crate::phases::empty_all;
 use crate::store::Store;
 use crate::sweep::sweep;
+use sp_graph::left_out;
 use sp_offer::Caller;
 use sp_paths::swept_copy;
 use sp_task::Gate;

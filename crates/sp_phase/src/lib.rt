@@ -2,7 +2,6 @@
 #![tactic(auto)]
 
 mod answers;
-mod far;
 mod finish;
 mod leader;
 mod marks;

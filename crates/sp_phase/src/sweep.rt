@@ -5,12 +5,12 @@ ghost use Rattle.sp_phase.specs.Marks.{mark_of};
 ghost use Rattle.sp_phase.specs.Running.{Holds, Leads};
 ghost use Rattle.sp_phase.specs.Sweep.{AreRelaxed, IsRelaxedHere, IsOpen, IsCopied, IsSwept};
 
-use crate::far::look_up;
 use crate::leader::Leader;
 use crate::marks::{Mark, Marks};
 use crate::round::put_all;
 use crate::store::Store;
 use sp_bucket::Entry;
+use sp_graph::look_up;
 use sp_offer::Caller;
 use sp_word::Word;
 use std::alloc::{AllocError, Global};

@@ -4,15 +4,17 @@ use Rattle.std.specs.Prelude.{All, sum_by, unwrap_or}
 use Rattle.std.proofs.Math.Nat.{mul-le-mul_right}
 use Rattle.std.proofs.lemmas.Bool.{cases_eq, cases_lt, cases_order}
 use Rattle.std.proofs.lemmas.List.{take_more, take_all}
-use Rattle.std.proofs.lemmas.List.Elements.{All-get_or, All-set, Contains-push_cases}
+use Rattle.std.proofs.lemmas.List.Elements.{All-get_or, All-set}
 use Rattle.std.proofs.lemmas.List.Sums.{sum_by-set}
 use Rattle.sp_word.specs.Word.{Word, Unreached, Pair, IsBelow, dist_of}
 use Rattle.sp_word.specs.History.{Table}
 use Rattle.sp_paths.specs.declared.arc.Arc.{Arc}
 use Rattle.sp_paths.specs.Paths.{Graph, IsGraph, IsVertex, IsArc, HasArc, HasWalkBy, IsLawful, IsAtMost, IsClosed, IsTableFrom, word_at}
-use Rattle.sp_plain.specs.Passing.{network, IsLesserOffer, IsNoLesser, IsSmall, KeepsTables, rank}
+use Rattle.sp_graph.specs.LeftOut.{network}
+use Rattle.sp_plain.specs.Passing.{IsLesserOffer, IsNoLesser, IsSmall, KeepsTables, rank}
 use Rattle.sp_paths.proofs.Walks.{walk_by}
 use Rattle.sp_paths.proofs.Core.{pair_walk}
+use Rattle.sp_graph.proofs.LeftOut.{arc_more}
 
 -- a distance is that of a pair
 pub pair_of : (w : Word) (d : ℕ) → dist_of w ≡ Some d → (p : ℕ) × (w ≡ Pair d p)
@@ -36,10 +38,6 @@ at_most_unless (Pair e q) d p h = go (cases_order e d) (cases_lt p q)
     go (inl s) (inr k) = inr (s, k)
     go (inr (inl s)) k = inl s
     go (inr (inr s)) k = absurd (h (inl s))
-
--- an arc of the arcs so far and one more
-pub arc_more : (n : ℕ) (arcs : List Arc) (arc : Arc) (u v l : ℕ) → HasArc (network n (arcs ++ arc ∷ [])) u v l → HasArc (network n arcs) u v l ⊎ (arc ≡ record { tail = u; head = v; len = l })
-arc_more n arcs arc u v l h = Contains-push_cases arcs arc (record { tail = u; head = v; len = l }) h
 
 -- the next arc is relaxed too
 pub closed_more : (n max : ℕ) (arcs : List Arc) (arc : Arc) (words : Table) → IsClosed (network n arcs) max words → IsNoLesser max (words arc.tail) arc (words arc.head) → IsClosed (network n (arcs ++ arc ∷ [])) max words

@@ -1,13 +1,9 @@
--- What a pass over the arcs does to a table of words, and what it leaves out.
-use Rattle.std.specs.Prelude.{◌≡◌, ◌≢◌, ℕ, min, replicate, ◌+◌, ◌-◌, ◌*◌, ◌≤◌, List, length, slice_set, All, sum_by, Option, Some, None}
+-- What a pass over the arcs does to a table of words.
+use Rattle.std.specs.Prelude.{◌≡◌, ℕ, replicate, ◌+◌, ◌-◌, ◌*◌, ◌≤◌, List, length, slice_set, All, sum_by, Option, Some, None}
 use Rattle.sp_word.specs.Word.{Word, Unreached, Pair, IsBelow, dist_of}
-use Rattle.sp_word.specs.History.{Table}
 use Rattle.sp_paths.specs.declared.arc.Arc.{Arc}
-use Rattle.sp_paths.specs.Paths.{Graph, IsVertex, IsTree, IsFar, IsTableFrom, IsLeftOut, word_at}
+use Rattle.sp_paths.specs.Paths.{Graph, IsVertex, IsTree, IsFar, IsTableFrom, word_at}
 use Rattle.sp_paths.specs.Theorems.{IsFinished}
-
-abbrev pub network : ℕ → List Arc → Graph
-network n arcs = record { n = n; arcs = arcs }
 
 -- the pair that the arc makes of the word `from`, within max, and less than the word found
 abbrev pub IsLesserOffer : (max : ℕ) → Word → Arc → Word → Word → Type 0
@@ -37,22 +33,9 @@ rank n max (Pair d p) = d * (n + 1) + p
 abbrev pub total_rank : ℕ → List Word → ℕ
 total_rank max words = sum_by (rank (length words) max) words
 
--- the smallest vertex that is left out, or none
-abbrev pub IsLeastLeftOut : Graph → Table → Option ℕ → Type 0
-IsLeastLeftOut g words None = (v : ℕ) → IsLeftOut g words v → ⊥
-IsLeastLeftOut g words (Some v) = IsLeftOut g words v × ((w : ℕ) → IsLeftOut g words w → v ≤ w)
-
-abbrev pub smaller_of : Option ℕ → ℕ → ℕ
-smaller_of None second = second
-smaller_of (Some first) second = min first second
-
 -- (0, 0) at the source, and unreached elsewhere
 abbrev pub first_words : (n s : ℕ) → List Word
 first_words n s = slice_set (replicate n Unreached) (s - 1) (Pair 0 0)
-
--- from a pair to unreached
-abbrev pub LeadsOut : Word → Word → Type 0
-LeadsOut from found = (from ≢ Unreached) × (found ≡ Unreached)
 
 -- a table of n words in which every arc is relaxed
 pub record IsFinishedTable (g : Graph) (s max : ℕ) (words : List Word) : Type 0 where

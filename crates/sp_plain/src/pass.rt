@@ -3,20 +3,13 @@ ghost use Rattle.std.specs.Prelude.{◌≡◌, ℕ, ◌+◌, ◌≤◌, true, le
 ghost use Rattle.std.specs.Bool.{OnFalse};
 ghost use Rattle.sp_word.specs.Word.{is_layout, max_dist, max_pred};
 ghost use Rattle.sp_paths.specs.Paths.{IsArc, IsVertex, IsClosed, word_at};
-ghost use Rattle.sp_plain.specs.Passing.{network, KeepsTables, IsLesserOffer, IsNoLesser, IsSmallTable, total_rank, first_words, IsFinishedTable};
+ghost use Rattle.sp_graph.specs.LeftOut.{network};
+ghost use Rattle.sp_plain.specs.Passing.{KeepsTables, IsLesserOffer, IsNoLesser, IsSmallTable, total_rank, first_words, IsFinishedTable};
 
-use sp_graph::Graph;
+use sp_graph::{Graph, look_up};
 use sp_paths::Arc;
 use sp_word::Word;
 use std::alloc::{AllocError, Global};
-
-// The word of a vertex.
-pub fn look_up<const P: u32>(words: &[Word<P>], vertex: u32) -> Word<P>
-    requires { IsVertex (length words.now) vertex }
-    ensures { result ≡ word_at words.now vertex }
-{
-    words[(vertex - 1) as usize]
-}
 
 // The word that an arc from a vertex with the word `from` puts in place of the head's, if there is one.
 fn offer<const P: u32>(from: Word<P>, arc: Arc, found: Word<P>) -> Option<Word<P>>

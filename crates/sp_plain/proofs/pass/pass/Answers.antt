@@ -5,7 +5,7 @@ use Rattle.std.specs.Prelude.{All}
 use Rattle.sp_word.specs.Word.{max_dist}
 use Rattle.sp_paths.specs.declared.arc.Arc.{Arc}
 use Rattle.sp_paths.specs.Paths.{IsArc, IsClosed, word_at}
-use Rattle.sp_plain.specs.Passing.{network}
+use Rattle.sp_graph.specs.LeftOut.{network}
 use Rattle.sp_plain.proofs.PassSteps.{pass_keeps, pass_sets, pass_end}
 use Rattle.sp_plain.proofs.pass.pass.Goals as goal
 use Rattle.sp_plain.proofs.pass.pass.Goals.{in-Some, in_default}

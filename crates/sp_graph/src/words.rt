@@ -1,13 +1,13 @@
-//! Vertices that arcs leave out of a table.
+//! Words by vertex, and what arcs leave out of a table of words.
 ghost use Rattle.std.specs.Prelude.{◌≡◌, ◌↔◌, length, All, IsTrue};
 ghost use Rattle.sp_paths.specs.Paths.{IsArc, IsVertex, word_at};
-ghost use Rattle.sp_plain.specs.Passing.{network, LeadsOut, smaller_of, IsLeastLeftOut};
+ghost use Rattle.sp_graph.specs.LeftOut.{network, LeadsOut, smaller_of, IsLeastLeftOut};
 
 use sp_paths::Arc;
 use sp_word::Word;
 
-/// The word of a vertex.
-pub(crate) fn look_up<const P: u32>(words: &[Word<P>], vertex: u32) -> Word<P>
+/// The word of a vertex, in a list that has that of vertex `v` at `v - 1`.
+pub fn look_up<const P: u32>(words: &[Word<P>], vertex: u32) -> Word<P>
     requires { IsVertex (length words.now) vertex }
     ensures { result ≡ word_at words.now vertex }
 {
@@ -31,8 +31,9 @@ fn leads_out<const P: u32>(from: Word<P>, found: Word<P>) -> bool
     !from.is_unreached() && found.is_unreached()
 }
 
-/// The smallest unreached vertex with an arc from a reached one.
-pub(crate) fn left_out<const P: u32>(words: &[Word<P>], arcs: &[Arc]) -> Option<u32>
+/// The smallest unreached vertex that has an arc from a reached one: where each arc within the greatest distance is relaxed,
+/// the smallest vertex that is too far.
+pub fn left_out<const P: u32>(words: &[Word<P>], arcs: &[Arc]) -> Option<u32>
     requires { All (IsArc (length words.now)) arcs.now }
     ensures { IsLeastLeftOut (network (length words.now) arcs.now) (word_at words.now) result }
 {

@@ -3,10 +3,10 @@ use Rattle.std.proofs.lemmas.Bool.{iff_false}
 use Rattle.std.proofs.lemmas.List.{get_or_default, take_all}
 use Rattle.sp_paths.specs.declared.arc.Arc.{Arc}
 use Rattle.sp_paths.specs.Paths.{word_at}
-use Rattle.sp_plain.specs.Passing.{LeadsOut}
-use Rattle.sp_plain.proofs.TableSteps.{loop_keeps, loop_adds}
-use Rattle.sp_plain.proofs.far.left_out.Goals as goal
-use Rattle.sp_plain.proofs.far.left_out.Goals.{then-leads_out, else-leads_out}
+use Rattle.sp_graph.specs.LeftOut.{LeadsOut}
+use Rattle.sp_graph.proofs.LeftOut.{loop_keeps, loop_adds}
+use Rattle.sp_graph.proofs.words.left_out.Goals as goal
+use Rattle.sp_graph.proofs.words.left_out.Goals.{then-leads_out, else-leads_out}
 
 pub loop-arc-preserved : goal.loop-arc-preserved
 loop-arc-preserved g c =
