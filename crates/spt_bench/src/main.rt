@@ -6,6 +6,7 @@ mod files;
 mod offers;
 mod report;
 mod rounds;
+mod whole;
 
 use offers::Crowd;
 use rounds::Drill;
@@ -14,9 +15,10 @@ use std::sync::Wait;
 use std::thread::Threads;
 use std::time::Clock;
 use std::{env, io};
+use whole::{Paths, Plan};
 
 const USAGE: &str =
-    "usage: spt_bench read GR | tree FILE | offers THREADS WORDS COUNT | rounds WORKERS TASKS ROUNDS";
+    "usage: spt_bench read GR | tree FILE | offers THREADS WORDS COUNT | rounds WORKERS TASKS ROUNDS | whole GR SS DELTA WORKERS TREES";
 
 // The crowd that three words of the command line order.
 fn crowd_of(threads: &str, words: &str, count: &str) -> Option<Crowd> {
@@ -36,6 +38,11 @@ fn drill_of(workers: &str, tasks: &str, rounds: &str) -> Option<Drill> {
     )
 }
 
+// The plan that two words of the command line order.
+fn plan_of(delta: &str, workers: &str) -> Option<Plan> {
+    Plan::new(delta.parse().ok()?, workers.parse().ok()?)
+}
+
 // Runs the command of these words, or tells the usage.
 fn run<R: AllocGlobal + Clock + Eprint + Files + Print + Threads + Wait + Sync>(
     rt: &R,
@@ -52,6 +59,16 @@ fn run<R: AllocGlobal + Clock + Eprint + Files + Print + Threads + Wait + Sync>(
         ["rounds", workers, tasks, rounds] => {
             if let Some(drill) = drill_of(workers, tasks, rounds) {
                 return rounds::time_rounds(rt, drill);
+            }
+        }
+        ["whole", graph, sources, delta, workers, trees] => {
+            if let Some(plan) = plan_of(delta, workers) {
+                let paths = Paths {
+                    graph,
+                    sources,
+                    trees,
+                };
+                return whole::time_whole(rt, &paths, plan);
             }
         }
         _ => {}

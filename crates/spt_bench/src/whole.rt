@@ -1,0 +1,135 @@
+//! The whole job by its parts: two files are read, rows are made, and for each source a tree is found and written.
+ghost use Rattle.std.specs.Prelude.{◌≤◌, All};
+ghost use Rattle.sp_word.specs.Word.{max_pred};
+ghost use Rattle.sp_dimacs.specs.Graph.{IsNetwork};
+
+use crate::report::print_each;
+use sp_dimacs::{GrFile, OfRead, OfWrite, SsFile, Write, read_gr, read_ss};
+use sp_graph::Graph;
+use sp_phase::run_source;
+use sp_tree::{Tree, write_tree};
+use std::fs;
+use std::io;
+use std::rt::Files;
+use std::sync::Wait;
+use std::thread::Threads;
+use std::time::{Clock, Duration, Instant};
+
+const MOST_DELTA: u64 = 68_719_476_734;
+
+const MOST_WORKERS: u32 = 64;
+
+/// The width of a bucket, and the number of workers.
+#[derive(Clone, Copy)]
+pub struct Plan {
+    delta: u64,
+    workers: u32,
+    ghost wide: { (1 ≤ delta) × (delta ≤ 68719476734) },
+    ghost some_workers: { (1 ≤ workers) × (workers ≤ 64) },
+}
+
+impl Plan {
+    /// A plan, if these numbers are in range.
+    pub fn new(delta: u64, workers: u32) -> Option<Plan> {
+        if delta < 1 || delta > MOST_DELTA || workers < 1 || workers > MOST_WORKERS {
+            return None;
+        }
+        Some(Plan { delta, workers })
+    }
+}
+
+/// The files of a job.
+#[derive(Clone, Copy)]
+pub struct Paths<'a> {
+    pub graph: &'a str,
+    pub sources: &'a str,
+    pub trees: &'a str,
+}
+
+// What the parts of all sources took.
+#[derive(Clone, Copy)]
+struct Taken {
+    solving: Duration,
+    writing: Duration,
+}
+
+/// Prints what each part of a whole job takes, in milliseconds.
+pub fn time_whole<R: AllocGlobal + Clock + Files + Print + Threads + Wait + Sync>(
+    rt: &R,
+    paths: &Paths,
+    plan: Plan,
+) -> io::Result<()> {
+    let start = Instant::now(rt)?;
+    let mut file = OfRead::new(fs::open(rt, paths.graph)?);
+    let Ok(graph) = read_gr::<28, _>(rt.alloc(), &mut file) else {
+        return Err(io::Error::other("the graph is refused"));
+    };
+    let mut file = OfRead::new(fs::open(rt, paths.sources)?);
+    let Ok(sources) = read_ss::<28, _>(rt.alloc(), &mut file) else {
+        return Err(io::Error::other("the sources are refused"));
+    };
+    print_each(rt, "read", start.elapsed(rt)?, 1_000_000, "ms")?;
+    time_trees(rt, graph, &sources, plan, paths.trees)
+}
+
+// The same behind the reading.
+fn time_trees<R: AllocGlobal + Clock + Files + Print + Threads + Wait + Sync>(
+    rt: &R,
+    file: GrFile,
+    sources: &SsFile,
+    plan: Plan,
+    trees: &str,
+) -> io::Result<()>
+    requires { IsNetwork 28 file }
+{
+    let start = Instant::now(rt)?;
+    let graph = Graph::build(rt.alloc(), file.n, &file.arcs)?;
+    drop(file);
+    print_each(rt, "rows", start.elapsed(rt)?, 1_000_000, "ms")?;
+    let mut out = OfWrite::new(fs::create(rt, trees)?);
+    let taken = answer_all(rt, &graph, &sources.sources, plan, &mut out)?;
+    print_each(rt, "solve", taken.solving, 1_000_000, "ms")?;
+    print_each(rt, "write", taken.writing, 1_000_000, "ms")
+}
+
+// Finds and writes the tree of each source.
+fn answer_all<R: AllocGlobal + Clock + Threads + Wait + Sync, W: Write>(
+    rt: &R,
+    graph: &Graph,
+    sources: &[u32],
+    plan: Plan,
+    out: &mut W,
+) -> io::Result<Taken>
+    requires { graph.now.n ≤ max_pred 28 }
+{
+    let mut taken = Taken {
+        solving: Duration::ZERO,
+        writing: Duration::ZERO,
+    };
+    for source in sources {
+        let start = Instant::now(rt)?;
+        let tree = solve(rt, graph, *source, plan)?;
+        taken.solving = taken.solving.saturating_add(start.elapsed(rt)?);
+        let start = Instant::now(rt)?;
+        if write_tree(&tree, out).is_err() {
+            return Err(io::Error::other("the trees can't be written"));
+        }
+        taken.writing = taken.writing.saturating_add(start.elapsed(rt)?);
+    }
+    Ok(taken)
+}
+
+// The tree of a source.
+fn solve<R: AllocGlobal + Threads + Wait + Sync>(
+    rt: &R,
+    graph: &Graph,
+    source: u32,
+    plan: Plan,
+) -> io::Result<Tree<28>>
+    requires { graph.now.n ≤ max_pred 28 }
+{
+    match run_source::<28, R>(rt, rt.alloc(), graph, plan.delta, plan.workers, source) {
+        Ok(tree) => Ok(tree),
+        Err(_) => Err(io::Error::other("a source has no tree")),
+    }
+}
