@@ -19,6 +19,12 @@ is_below Unreached b = false
 is_below (Pair d p) Unreached = true
 is_below (Pair d p) (Pair e q) = nat_lt d e || ((d == e) && nat_lt p q)
 
+-- the distance is less; unreached is further than every pair
+abbrev pub is_nearer : Word → Word → Bool
+is_nearer Unreached b = false
+is_nearer (Pair d p) Unreached = true
+is_nearer (Pair d p) (Pair e q) = nat_lt d e
+
 abbrev pub is_same : Word → Word → Bool
 is_same Unreached Unreached = true
 is_same Unreached (Pair d p) = false

@@ -22,10 +22,11 @@ pub fn decide<const P: u32>(found: Word<P>, offered: Word<P>) -> Reply
     requires { IsPair offered }
     ensures { result ≡ reply_to found.entry offered.entry }
 {
-    match (found.dist(), offered.dist()) {
-        (None, _) => Reply::Shorter,
-        (Some(old), Some(new)) if new < old => Reply::Shorter,
-        _ if offered < found => Reply::SmallerPred,
-        _ => Reply::Kept,
+    if offered.is_nearer(found) {
+        Reply::Shorter
+    } else if offered.is_below(found) {
+        Reply::SmallerPred
+    } else {
+        Reply::Kept
     }
 }

@@ -70,6 +70,20 @@ fn bits_that_are_words(rt: HostRuntime) {
 }
 
 #[test]
+fn words_of_known_bits(rt: HostRuntime) {
+    assert_eq!(rt; Word::<28>::from_bits(805_306_369), Word::pack(3, 1));
+    assert_eq!(rt;
+        Word::<28>::from_bits(0xffff_ffff_efff_fffe),
+        Word::pack(68_719_476_734, 268_435_454)
+    );
+    assert_eq!(rt;
+        Word::<20>::from_bits(0x0000_0000_0050_0002),
+        Word::pack(5, 2)
+    );
+    assert_eq!(rt; Word::<28>::from_bits(u64::MAX), Word::unreached());
+}
+
+#[test]
 fn a_word_in_parts(rt: HostRuntime) {
     let word = Word::<28>::pack(5, 2);
     assert_eq!(rt;

@@ -1,7 +1,7 @@
 //! The packed word.
 
 ghost use Rattle.std.specs.Prelude.{◌≡◌, ◌<◌, ◌≤◌, ◌↔◌, true, IsTrue, IsSome, IfSome};
-ghost use Rattle.sp_word.specs.Word.{Unreached, Pair, Fits, IsBelow, is_below, is_same, dist_of, pred_of, is_layout, max_dist, max_pred, bits_of, is_word};
+ghost use Rattle.sp_word.specs.Word.{Unreached, Pair, Fits, IsBelow, is_below, is_same, dist_of, pred_of, is_layout, max_dist, max_pred, bits_of, is_word, word_of, is_nearer};
 
 use std::marker::Model;
 
@@ -86,6 +86,17 @@ impl<const P: u32> Word<P> {
         }
     }
 
+    /// The word whose bits these are. Where that isn't known, `of_bits` tells.
+    pub fn from_bits(bits: u64) -> Word<P>
+        requires layout { is_layout P ≡ true }
+        requires word { is_word P bits ≡ true }
+        ensures word { result ≡ word_of P bits }
+        ensures bits { bits_of P result ≡ bits }
+        ensures range { Fits P result }
+    {
+        Word { bits }
+    }
+
     /// The distance, of a pair.
     pub fn dist(self) -> Option<u64>
         ensures dist { result ≡ dist_of self.entry }
@@ -131,6 +142,13 @@ impl<const P: u32> Word<P> {
         ensures order { IsTrue result ↔ IsBelow self.entry other.entry }
     {
         self.bits < other.bits
+    }
+
+    // Whether the distance of this word is less than the other's, with unreached at no distance.
+    pub(crate) fn is_nearer(self, other: Word<P>) -> bool
+        ensures { result ≡ is_nearer self.entry other.entry }
+    {
+        self.bits >> P < other.bits >> P
     }
 }
 
