@@ -1,6 +1,6 @@
 //! The table and its callers.
 ghost use Rattle.std.specs.Prelude.{◌≡◌, ℕ, ◌+◌, ◌≤◌, ◌<◌, true, [], ◌∷◌, ◌++◌, length, IfOk, IsOkAnd};
-ghost use Rattle.sp_word.specs.Word.{IsPair, is_layout, is_word, word_of};
+ghost use Rattle.sp_word.specs.Word.{IsPair, is_layout};
 ghost use Rattle.sp_word.specs.History.{Offer, Read};
 ghost use Rattle.sp_word.specs.Reply.{reply_to};
 ghost use Rattle.sp_offer.specs.Order.{lawful};
@@ -67,17 +67,6 @@ pub struct Offered<const P: u32> {
     pub tries: u64,
 }
 
-// The word that has these bits.
-fn word_of_bits<const P: u32>(bits: u64) -> Word<P>
-    requires layout { is_layout P ≡ true }
-    requires word { is_word P bits ≡ true }
-    ensures { result ≡ word_of P bits }
-{
-    let word = Word::of_bits(bits).unwrap();
-    let _ = word.dist();
-    word
-}
-
 impl<L: Lawful, const P: u32> OfferTable<L, P> {
     /// A table whose words are all unreached, and its first caller, which has seen nothing.
     pub fn new(alloc: Global, n: u32, law: L) -> Result<(OfferTable<L, P>, Caller), AllocError>
@@ -127,7 +116,7 @@ impl<L: Lawful, const P: u32> OfferTable<L, P> {
     {
         let _ = word.dist();
         let (bits, tries) = M::lower(&self.words, &mut caller.seat, vertex, word.bits());
-        let found = word_of_bits(bits);
+        let found = Word::from_bits(bits);
         Offered {
             reply: decide(found, word),
             found,
@@ -144,7 +133,7 @@ impl<L: Lawful, const P: u32> OfferTable<L, P> {
         ensures known { Knows (event caller.old.number vertex (Read result)) caller.old.story caller.new.story }
         ensures own { own_calls caller.new.story ≡ own_calls caller.old.story ++ event caller.old.number vertex (Read result) ∷ [] }
     {
-        word_of_bits(self.words.read::<Brand>(&mut caller.seat, vertex))
+        Word::from_bits(self.words.read::<Brand>(&mut caller.seat, vertex))
     }
 
     /// Copies the words of all vertices, by one read a vertex, in rising order.
