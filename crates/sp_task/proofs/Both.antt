@@ -1,12 +1,14 @@
 -- Two groups of workers, brought together.
 use Rattle.std.proofs.Common.{◌≡◌, ℕ, ◌+◌, ◌≤◌, List, [], Result, Ok, Err, IfOk, IfErr, sym, ap, ◌∙◌, subst, arith}
 use Rattle.sp_word.specs.Word.{Word}
-use Rattle.sp_offer.specs.Story.{Knowledge, own_calls, beside}
+use Rattle.sp_offer.specs.Order.{IsAtMost}
+use Rattle.sp_offer.specs.Story.{Story, Knowledge, known, own_calls, beside}
 use Rattle.sp_claim.specs.Held.{Held}
 use Rattle.sp_task.specs.declared.work.Done.{Done}
 use Rattle.sp_task.specs.declared.work.RoundRefused.{RoundRefused}
 use Rattle.sp_task.specs.Later.{IsLater}
 use Rattle.sp_task.specs.Work.{Job, did, Answers, IsMerged, Joined, AreJoined, caller_of, claimer_of}
+use Rattle.sp_task.proofs.Words.{at_most_itself}
 use Rattle.sp_task.proofs.Making.{later_along, later_joined}
 use Rattle.sp_task.proofs.Going.{goes_joined}
 
@@ -23,15 +25,15 @@ module _ (law : ℕ → Word → Type 0) (jobs : List Job) (number : ℕ) where
   at_ok : (caller : Knowledge) (claimer : Held) (count : ℕ) (r : Result Done RoundRefused) (d : Done) → r ≡ Ok d → Answers law jobs number caller claimer count r → Answers law jobs number caller claimer count (Ok d)
   at_ok caller claimer count r d e h = subst (λ (x : Result Done RoundRefused). Answers law jobs number caller claimer count x) e h
 
-  pub both_answer : (c d : Knowledge) (h i : Held) (m n : ℕ) (mine theirs r : Result Done RoundRefused) → own_calls d.story ≡ [] → i.grants ≡ []
+  pub both_answer : (c d : Knowledge) (h i : Held) (m n : ℕ) (mine theirs r : Result Done RoundRefused) → own_calls d.story ≡ [] → ((v : ℕ) → IsAtMost (known d.story v) (known c.story v)) → i.grants ≡ []
       → Answers law jobs number c h m mine → Answers law jobs number d i n theirs → IsMerged law mine theirs r → Answers law jobs number c h (m + n) r
-  both_answer c d h i m n mine theirs (Ok x) none bare p q b =
+  both_answer c d h i m n mine theirs (Ok x) none low bare p q b =
       let first = at_ok c h m mine b.0 b.2 p in
       let second = at_ok d i n theirs b.1 b.3 q in
       let k = b.5 in
       let l = b.6 in
-      (goes_joined law jobs number c d h i (did b.0) (did b.1) (did x) none bare first.0 second.0 b.4, (let o = first.1 in omega arith), (let o = first.2 in let s = second.2 in omega arith))
-  both_answer c d h i m n mine theirs (Err x) none bare p q b = (
+      (goes_joined law jobs number c d h i (did b.0) (did b.1) (did x) none low bare first.0 second.0 b.4, (let o = first.1 in omega arith), (let o = first.2 in let s = second.2 in omega arith))
+  both_answer c d h i m n mine theirs (Err x) none low bare p q b = (
     later_along law c (caller_of mine) x.caller (answer_later c h m mine p) (later_joined law (caller_of mine) (caller_of theirs) x.caller b.table b.follows),
     b.claims ∙ answer_claims c h m mine p,
   )
@@ -41,7 +43,8 @@ module _ (law : ℕ → Word → Type 0) (jobs : List Job) (number : ℕ) where
       → Answers law jobs number c' h' m mine → Answers law jobs number d i n theirs → IsMerged law mine theirs r → Answers law jobs number c h k r
   after_split c c' d h h' i m n k mine theirs r same same' second bare fit p q b =
       let p' : Answers law jobs number c h m mine = subst (λ (z : Knowledge × Held). Answers law jobs number z.0 z.1 m mine) (λ j. (same j, same' j)) p in
-      wider c h (m + n) k r fit (both_answer c d h i m n mine theirs r (ap own_calls second) bare p' q b)
+      let low : (v : ℕ) → IsAtMost (known d.story v) (known c.story v) = λ v. subst (λ (s : Story). IsAtMost (known s v) (known c.story v)) (sym second) (at_most_itself (known c.story v)) in
+      wider c h (m + n) k r fit (both_answer c d h i m n mine theirs r (ap own_calls second) low bare p' q b)
     where
       wider : (c : Knowledge) (h : Held) (m k : ℕ) (r : Result Done RoundRefused) → m ≤ k → Answers law jobs number c h m r → Answers law jobs number c h k r
       wider c h m k (Ok d) fit p = (p.0, p.1, let o = p.2 in omega arith)

@@ -4,7 +4,8 @@ use Rattle.std.proofs.lemmas.List.Sums.{sum_by-append, sum_by-cons}
 use Rattle.std.specs.Prelude.{sum_by}
 use Rattle.sp_word.specs.Word.{Word}
 use Rattle.sp_word.specs.History.{Event}
-use Rattle.sp_offer.specs.Story.{Knowledge, own_calls}
+use Rattle.sp_offer.specs.Order.{IsAtMost}
+use Rattle.sp_offer.specs.Story.{Knowledge, known, own_calls}
 use Rattle.sp_claim.specs.Held.{Held}
 use Rattle.sp_claim.specs.declared.grants.Grant.{Grant}
 use Rattle.sp_claim.specs.Grants.{times}
@@ -15,7 +16,7 @@ use Rattle.sp_task.specs.declared.task.Task.{Task}
 use Rattle.sp_task.specs.Offers.{Asked, offers_of}
 use Rattle.sp_task.specs.Calls.{asked}
 use Rattle.sp_task.specs.Work.{Job, jobs_of, offers_at, slot_at, grant_at, calls_weight, Did, Made, MadeOffers, AllBelow, Goes, start, Joined}
-use Rattle.sp_task.proofs.Making.{map-append, made_more, made_none, entries-append, AllKnown-lower, AllKnown-append, later_along, later_joined}
+use Rattle.sp_task.proofs.Making.{map-append, made_more, made_none, entries-append, nearer_append, AllKnown-lower, AllKnown-append, later_along, later_joined}
 
 pub offers_at-is : (max : ℕ) (rows : Split) (tasks : List Task) (k : ℕ) (d : Task) → k < length tasks → offers_at (jobs_of max rows tasks) k ≡ offers_of max rows (get_or tasks k d)
 offers_at-is max rows [] k d h = absurd (omega arith)
@@ -114,9 +115,9 @@ module _ (law : ℕ → Word → Type 0) (jobs : List Job) (number : ℕ) where
   }
 
   -- two groups, of which the second began with no calls and no grants of its own
-  pub goes_joined : (c d : Knowledge) (h i : Held) (a b j : Did) → own_calls d.story ≡ [] → i.grants ≡ []
+  pub goes_joined : (c d : Knowledge) (h i : Held) (a b j : Did) → own_calls d.story ≡ [] → ((v : ℕ) → IsAtMost (known d.story v) (known c.story v)) → i.grants ≡ []
       → Goes law jobs number (start c h) a → Goes law jobs number (start d i) b → Joined law a b j → Goes law jobs number (start c h) j
-  goes_joined c d h i a b j none bare p q both = record {
+  goes_joined c d h i a b j none low bare p q both = record {
     calls = p.calls ++ q.calls;
     more = p.more ++ q.more;
     made = record {
@@ -125,6 +126,7 @@ module _ (law : ℕ → Word → Type 0) (jobs : List Job) (number : ℕ) where
           both.tokens.own
           ∙ ((λ k. p.made.mine k ++ (q.made.mine ∙ ap (λ l. l ++ q.calls) none) k) ∙ append_assoc (own_calls c.story) p.calls q.calls);
       found = both.found ∙ ((λ k. p.made.found k ++ q.made.found k) ∙ sym (entries-append p.calls q.calls));
+      nearer = nearer_append (known d.story) (known c.story) p.calls q.calls low p.made.nearer q.made.nearer;
       knows =
           AllKnown-append j.caller.story p.calls q.calls
           (AllKnown-lower a.caller.story j.caller.story p.calls (λ v. (both.tokens.follows.falls v).0) p.made.knows)

@@ -17,7 +17,7 @@ use Rattle.sp_claim.specs.declared.grants.Grant.{Grant}
 use Rattle.sp_claim.specs.Grants.{times, EachOnce}
 use Rattle.sp_task.specs.declared.task.Task.{Task}
 use Rattle.sp_task.specs.Offers.{Asked, arcs_of, offer_along, offers_along, offers_of, AreSameOffers}
-use Rattle.sp_task.specs.Calls.{asked, AllKnown}
+use Rattle.sp_task.specs.Calls.{asked, IsNearer, AllKnown}
 use Rattle.sp_task.specs.Work.{Job, job_of, jobs_of, offers_at, slot_at, grant_at, calls_weight, Did, start, Made, MadeOffers, Goes, AllBelow}
 use Rattle.sp_task.specs.Left.{tally, upto, unmarked, IsMarked, RanLeft, IsTaskDone, RoundDone}
 use Rattle.sp_task.proofs.Words.{not_above, at_most, within_pair}
@@ -149,6 +149,7 @@ module _ (law : ℕ → Word → Type 0) (max : ℕ) (rows : Split) (tasks : Lis
     own = made.mine;
     each = each;
     shorter = made.found;
+    nearer = subst (All (IsNearer (known c.story))) (sym made.found) made.nearer;
     relaxed = tasks_known d max rows tasks (sym (each (above d.story)) ∙ none_above d.story calls made.knows);
   }
 

@@ -1,8 +1,12 @@
 -- Calls in a row, and what is known after them.
 use Rattle.std.proofs.Common.{◌≡◌, ◌⊎◌, inl, inr, ℕ, List, [], ◌∷◌, ◌++◌, map, refl, sym, ap, ◌∙◌, subst, append_assoc, append-nil}
+use Rattle.std.specs.Prelude.{◌<◌, All}
+use Rattle.std.proofs.lemmas.List.Elements.{All-nil, All-cons, All-append, All-weaker}
 use mathlib.Core.List.{IsPrefix}
-use Rattle.sp_word.specs.Word.{Word, Pair}
-use Rattle.sp_word.specs.History.{Event, Offer}
+use Rattle.std.proofs.Common.{arith}
+use Rattle.sp_word.specs.Word.{Word, Unreached, Pair}
+use Rattle.sp_word.specs.Reply.{reply_to}
+use Rattle.sp_word.specs.History.{Table, Event, Offer}
 use Rattle.sp_word.specs.declared.reply.Reply.{Reply}
 use Rattle.sp_word.specs.declared.reply.Reply.TheVariants.{Shorter, SmallerPred, Kept}
 use Rattle.sp_offer.specs.Order.{IsAtMost}
@@ -10,10 +14,10 @@ use Rattle.sp_offer.specs.Histories.{event}
 use Rattle.sp_offer.specs.Story.{Story, Knowledge, Calls, Knows, Follows, known, own_calls}
 use Rattle.sp_bucket.specs.declared.entry.Entry.{Entry}
 use Rattle.sp_task.specs.Offers.{Asked}
-use Rattle.sp_task.specs.Calls.{asked, entries, entry_of_call, AllKnown}
+use Rattle.sp_task.specs.Calls.{asked, entries, entry_of_call, IsNearer, AllKnown}
 use Rattle.sp_task.specs.Later.{IsLater}
 use Rattle.sp_task.specs.Work.{Made, MadeOffers}
-use Rattle.sp_task.proofs.Words.{at_most_itself, at_most_along, lesser_at_most}
+use Rattle.sp_task.proofs.Words.{at_most_itself, at_most_along, lesser_at_most, no_farther, shorter_below}
 
 pub map-append : {A B : Type 0} (f : A → B) (xs ys : List A) → map f (xs ++ ys) ≡ map f xs ++ map f ys
 map-append f [] ys = refl
@@ -32,6 +36,20 @@ AllKnown-lower s t (x ∷ xs) low h = (at_most_along _ _ _ (low x.vertex) h.0, A
 pub AllKnown-append : (s : Story) (xs ys : List Event) → AllKnown s xs → AllKnown s ys → AllKnown s (xs ++ ys)
 AllKnown-append s [] ys h k = k
 AllKnown-append s (x ∷ xs) ys h k = (h.0, AllKnown-append s xs ys h.1 k)
+
+-- what is nearer than one table is nearer than a table above it
+nearer_along : (t s : Table) (e : Entry) → IsAtMost (t e.vertex) (s e.vertex) → IsNearer t e → IsNearer s e
+nearer_along t s e low h d p is = go (t e.vertex) refl (subst (λ (w : Word). IsAtMost (t e.vertex) w) is low)
+  where
+    go : (w : Word) → t e.vertex ≡ w → IsAtMost w (Pair d p) → e.dist < d
+    go Unreached same k = absurd k
+    go (Pair f r) same k = let a = h f r same in let b = no_farther f r d p k in omega arith
+
+-- the entries of calls, and of further calls
+pub nearer_append : (t s : Table) (xs ys : List Event) → ((v : ℕ) → IsAtMost (t v) (s v)) → All (IsNearer s) (entries xs) → All (IsNearer t) (entries ys) → All (IsNearer s) (entries (xs ++ ys))
+nearer_append t s xs ys low h k =
+    subst (All (IsNearer s)) (sym (entries-append xs ys))
+    (All-append (IsNearer s) (entries xs) (entries ys) h (All-weaker (IsNearer t) (IsNearer s) (λ e near. nearer_along t s e (low e.vertex) near) (entries ys) k))
 
 pub prefix_itself : (xs : List Event) → IsPrefix xs xs
 prefix_itself xs = ([], append-nil xs)
@@ -71,6 +89,7 @@ module _ (law : ℕ → Word → Type 0) where
     later = later_along a b c p.later q.later;
     mine = q.mine ∙ (ap (λ l. l ++ ys) p.mine ∙ append_assoc (own_calls a.story) xs ys);
     found = q.found ∙ (ap (λ l. l ++ entries ys) p.found ∙ (append_assoc f (entries xs) (entries ys) ∙ ap (λ l. f ++ l) (sym (entries-append xs ys))));
+    nearer = nearer_append (known b.story) (known a.story) xs ys p.later.falls p.nearer q.nearer;
     knows = AllKnown-append c.story xs ys (AllKnown-lower b.story c.story xs q.later.falls p.knows) q.knows;
   }
 
@@ -79,6 +98,7 @@ module _ (law : ℕ → Word → Type 0) where
     later = later_itself a;
     mine = sym (append-nil (own_calls a.story));
     found = sym (append-nil f);
+    nearer = All-nil (IsNearer (known a.story));
     knows = tt;
   }
 
@@ -99,8 +119,9 @@ module _ (law : ℕ → Word → Type 0) where
       → Knows (event by v (Offer word found reply)) a.story b.story
       → own_calls b.story ≡ own_calls a.story ++ event by v (Offer word found reply) ∷ []
       → g ≡ f ++ entries (event by v (Offer word found reply) ∷ [])
+      → All (IsNearer (known a.story)) (entries (event by v (Offer word found reply) ∷ []))
       → MadeOffers law (record { vertex = v; word = word } ∷ []) a b f g
-  made_one by v word found reply a b f g table call knows own bag = (
+  made_one by v word found reply a b f g table call knows own bag nearer = (
     event by v (Offer word found reply) ∷ [],
     refl,
     record {
@@ -112,6 +133,7 @@ module _ (law : ℕ → Word → Type 0) where
       };
       mine = own;
       found = bag;
+      nearer = nearer;
       knows = (subst (λ (w : Word). IsAtMost w word) (sym knows.here) (lesser_at_most found word), tt);
     },
   )
@@ -131,16 +153,20 @@ entries_other by v d p word found reply pair is =
 module _ (law : ℕ → Word → Type 0) where
   -- an offer of a pair that made the distance smaller
   pub made_shorter : (by v d p : ℕ) (word found : Word) (reply : Reply) (a b : Knowledge) (f g : List Entry)
-      → word ≡ Pair d p → reply ≡ Shorter
+      → word ≡ Pair d p → reply ≡ Shorter → reply ≡ reply_to found word
       → b.table ≡ a.table
       → Calls law (event by v (Offer word found reply)) a.story b.story
       → Knows (event by v (Offer word found reply)) a.story b.story
       → own_calls b.story ≡ own_calls a.story ++ event by v (Offer word found reply) ∷ []
       → g ≡ f ++ record { vertex = v; dist = d } ∷ []
       → MadeOffers law (record { vertex = v; word = Pair d p } ∷ []) a b f g
-  made_shorter by v d p word found reply a b f g pair is table call knows own bag =
+  made_shorter by v d p word found reply a b f g pair is answer table call knows own bag =
+      let one = entries_shorter by v d p word found reply pair is in
+      let shorter : reply_to found (Pair d p) ≡ Shorter = ap (reply_to found) (sym pair) ∙ (sym answer ∙ is) in
+      let near : IsNearer (known a.story) (record { vertex = v; dist = d }) = λ e q at. shorter_below found d p e q shorter (subst (λ (w : Word). IsAtMost found w) at knows.below) in
       subst (λ (w : Word). MadeOffers law (record { vertex = v; word = w } ∷ []) a b f g) pair
-      (made_one law by v word found reply a b f g table call knows own (bag ∙ ap (λ l. f ++ l) (sym (entries_shorter by v d p word found reply pair is))))
+      (made_one law by v word found reply a b f g table call knows own (bag ∙ ap (λ l. f ++ l) (sym one))
+      (subst (All (IsNearer (known a.story))) (sym one) (All-cons (IsNearer (known a.story)) (record { vertex = v; dist = d }) [] near (All-nil (IsNearer (known a.story))))))
 
   pub made_other : (by v d p : ℕ) (word found : Word) (reply : Reply) (a b : Knowledge) (f g : List Entry)
       → word ≡ Pair d p → (reply ≡ SmallerPred) ⊎ (reply ≡ Kept)
@@ -151,5 +177,7 @@ module _ (law : ℕ → Word → Type 0) where
       → g ≡ f
       → MadeOffers law (record { vertex = v; word = Pair d p } ∷ []) a b f g
   made_other by v d p word found reply a b f g pair is table call knows own bag =
+      let none = entries_other by v d p word found reply pair is in
       subst (λ (w : Word). MadeOffers law (record { vertex = v; word = w } ∷ []) a b f g) pair
-      (made_one law by v word found reply a b f g table call knows own (bag ∙ (sym (append-nil f) ∙ ap (λ l. f ++ l) (sym (entries_other by v d p word found reply pair is)))))
+      (made_one law by v word found reply a b f g table call knows own (bag ∙ (sym (append-nil f) ∙ ap (λ l. f ++ l) (sym none)))
+      (subst (All (IsNearer (known a.story))) (sym none) (All-nil (IsNearer (known a.story)))))

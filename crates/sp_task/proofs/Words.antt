@@ -1,8 +1,10 @@
 -- The order of words.
-use Rattle.std.proofs.Common.{◌≡◌, ℕ, ◌<◌, ◌≤◌, ◌⊎◌, inl, inr, refl, arith, true, false, nat_lt}
+use Rattle.std.proofs.Common.{◌≡◌, ℕ, ◌<◌, ◌≤◌, ◌⊎◌, inl, inr, refl, arith, Bool, true, false, nat_lt}
 use Rattle.std.specs.Prelude.{◌==◌, ◌&&◌, ◌||◌, if◌then◌else◌}
 use Rattle.std.proofs.lemmas.Bool.Decides.{nat_tests}
 use Rattle.sp_word.specs.Word.{Word, Unreached, Pair, is_below, lesser}
+use Rattle.sp_word.specs.Reply.{reply_to}
+use Rattle.sp_word.specs.declared.reply.Reply.TheVariants.{Shorter, SmallerPred, Kept}
 use Rattle.sp_offer.specs.Order.{IsAtMost}
 use Rattle.sp_paths.specs.Paths.{IsAtMost as IsWithinPair}
 
@@ -49,3 +51,23 @@ lesser_at_most found word =
     let other = at_most found word in
     elim (is_below word found) as (λ b. is_below word found ≡ b → IsAtMost (if b then word else found) word)
     [ true ↦ (λ e. same) | false ↦ (λ e. other e) ] refl
+
+-- of two pairs the lesser has no greater distance
+pub no_farther : (d p e q : ℕ) → IsAtMost (Pair d p) (Pair e q) → d ≤ e
+no_farther d p e q h = elim h as (λ _. d ≤ e) [ inl x ↦ omega arith | inr x ↦ (let s = x.0 in omega arith) ]
+
+shorter_if : (a b : Bool) → (if a then Shorter else if b then SmallerPred else Kept) ≡ Shorter → a ≡ true
+shorter_if true b h = refl
+shorter_if false true h = absurd (cc)
+shorter_if false false h = absurd (cc)
+
+is_less : (a b : ℕ) → nat_lt a b ≡ true → a < b
+is_less a b h = grind (arith, nat_tests, h)
+
+shorter_pair : (f r d p : ℕ) → reply_to (Pair f r) (Pair d p) ≡ Shorter → d < f
+shorter_pair f r d p h = is_less d f (shorter_if (nat_lt d f) ((d == f) && nat_lt p r) h)
+
+-- an offer that made the distance smaller offered less than any word above the one found
+pub shorter_below : (found : Word) (d p e q : ℕ) → reply_to found (Pair d p) ≡ Shorter → IsAtMost found (Pair e q) → d < e
+shorter_below Unreached d p e q h k = absurd k
+shorter_below (Pair f r) d p e q h k = let a = shorter_pair f r d p h in let b = no_farther f r e q k in omega arith

@@ -1,7 +1,7 @@
 -- What calls offered, and the entries that they give.
-use Rattle.std.specs.Prelude.{ℕ, List, [], ◌∷◌, ◌++◌}
+use Rattle.std.specs.Prelude.{◌≡◌, ℕ, ◌<◌, List, [], ◌∷◌, ◌++◌}
 use Rattle.sp_word.specs.Word.{Word, Unreached, Pair}
-use Rattle.sp_word.specs.History.{Call, Offer, Read, Event}
+use Rattle.sp_word.specs.History.{Table, Call, Offer, Read, Event}
 use Rattle.sp_word.specs.declared.reply.Reply.{Reply}
 use Rattle.sp_word.specs.declared.reply.Reply.TheVariants.{Shorter, SmallerPred, Kept}
 use Rattle.sp_offer.specs.Order.{IsAtMost}
@@ -32,6 +32,10 @@ entry_of_call v (Read found) = []
 abbrev pub entries : List Event → List Entry
 entries [] = []
 entries (e ∷ es) = entry_of_call e.vertex e.call ++ entries es
+
+-- the table has no word of the entry's vertex, or one of a greater distance
+abbrev pub IsNearer : Table → Entry → Type 0
+IsNearer t e = (d p : ℕ) → t e.vertex ≡ Pair d p → e.dist < d
 
 -- what is known is at most each word that was offered
 abbrev pub AllKnown : Story → List Event → Type 0

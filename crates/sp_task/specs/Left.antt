@@ -8,7 +8,7 @@ use Rattle.sp_offer.specs.Story.{Knowledge, known, own_calls}
 use Rattle.sp_bucket.specs.declared.entry.Entry.{Entry}
 use Rattle.sp_task.specs.declared.task.Task.{Task}
 use Rattle.sp_task.specs.Offers.{Asked, arcs_of, offers_of, AreSameOffers}
-use Rattle.sp_task.specs.Calls.{asked, entries}
+use Rattle.sp_task.specs.Calls.{asked, entries, IsNearer}
 use Rattle.sp_task.specs.Later.{IsLater}
 use Rattle.sp_task.specs.Work.{Job, Made, offers_at, calls_weight}
 
@@ -44,11 +44,12 @@ abbrev pub IsTaskDone : (max : ℕ) → Split → Knowledge → Task → Type 0
 IsTaskDone max rows after t = All (IsArcRelaxed max (known after.story) t.dist) (arcs_of rows t)
 
 -- The caller gained own calls: these are each offer of each task, each once, and no other. It knows every word of
--- them. Each call that was answered Shorter gave its entry.
+-- them. Each call that was answered Shorter gave its entry, which is nearer than what the caller knew before.
 pub record RoundDone (law : ℕ → Word → Type 0) (max : ℕ) (rows : Split) (tasks : List Task) (before after : Knowledge) (found : List Entry) : Type 0 where
   pub later : IsLater law before after
   pub calls : List Event
   pub own : own_calls after.story ≡ own_calls before.story ++ calls
   pub each : AreSameOffers (map asked calls) (flat_map (offers_of max rows) tasks)
   pub shorter : found ≡ entries calls
+  pub nearer : All (IsNearer (known before.story)) found
   pub relaxed : All (IsTaskDone max rows after) tasks

@@ -3,7 +3,7 @@ use Rattle.std.specs.Prelude.{◌≡◌, ℕ, zero, suc, ◌+◌, ◌-◌, ◌�
 use Rattle.atomic_table.specs.Seated.{TableId}
 use Rattle.sp_word.specs.Word.{Word, is_layout, max_dist}
 use Rattle.sp_word.specs.History.{Event}
-use Rattle.sp_offer.specs.Story.{Knowledge, Follows, own_calls}
+use Rattle.sp_offer.specs.Story.{Knowledge, Follows, known, own_calls}
 use Rattle.sp_claim.specs.Held.{Held}
 use Rattle.sp_claim.specs.declared.grants.Grant.{Grant}
 use Rattle.sp_claim.specs.Grants.{grant, times}
@@ -14,7 +14,7 @@ use Rattle.sp_task.specs.declared.work.Receipt.{Receipt}
 use Rattle.sp_task.specs.declared.work.Done.{Done}
 use Rattle.sp_task.specs.declared.work.RoundRefused.{RoundRefused}
 use Rattle.sp_task.specs.Offers.{Asked, offers_of, IsTask}
-use Rattle.sp_task.specs.Calls.{asked, entries, AllKnown}
+use Rattle.sp_task.specs.Calls.{asked, entries, IsNearer, AllKnown}
 use Rattle.sp_task.specs.Later.{IsLater}
 
 -- ## Jobs
@@ -85,11 +85,12 @@ abbrev pub start : Knowledge → Held → Did
 start caller claimer = record { caller = caller; claimer = claimer; receipts = []; found = [] }
 
 -- The caller made these calls and no others, and knows each word that they offered. Each call that was answered
--- Shorter put its entry into the bag.
+-- Shorter put its entry into the bag, and that entry is nearer than what the caller knew before.
 pub record Made (law : ℕ → Word → Type 0) (calls : List Event) (before after : Knowledge) (bag bag' : List Entry) : Type 0 where
   pub later : IsLater law before after
   pub mine : own_calls after.story ≡ own_calls before.story ++ calls
   pub found : bag' ≡ bag ++ entries calls
+  pub nearer : All (IsNearer (known before.story)) (entries calls)
   pub knows : AllKnown after.story calls
 
 -- the calls are these offers, in their order

@@ -10,4 +10,4 @@ returns-in-SmallerPred-clause-made g c =
 pub returns-else-is_err-clause-made : goal.returns-else-is_err-clause-made
 returns-else-is_err-clause-made g c =
     let offer = c.offer_by-offered.ensures in
-    made_shorter _ _ _ _ _ _ _ _ _ _ _ _ c.pack-word.ensures c.in-Shorter.is offer.caller.0 offer.call offer.known offer.own (search rules)
+    made_shorter _ _ _ _ _ _ _ _ _ _ _ _ c.pack-word.ensures c.in-Shorter.is offer.reply offer.caller.0 offer.call offer.known offer.own (search rules)
