@@ -4,3 +4,4 @@ pub mod Found
 pub mod Staging
 pub mod Rounds
 pub mod Sweeping
+pub mod Settled

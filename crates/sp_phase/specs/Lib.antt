@@ -4,3 +4,4 @@ pub mod Marks
 pub mod Running
 pub mod Sweep
 pub mod Progress
+pub mod Settling

@@ -1,6 +1,7 @@
 -- What contracts see of a run.
-use Rattle.std.specs.Prelude.{ℕ, Option, Some, None, IsSome}
-use Rattle.sp_offer.specs.Story.{Knowledge}
+use Rattle.std.specs.Prelude.{◌≡◌, ℕ, Option, Some, None, IsSome, IsSomeAnd}
+use Rattle.sp_word.specs.Word.{Word}
+use Rattle.sp_offer.specs.Story.{Knowledge, known}
 use Rattle.sp_phase.specs.declared.answers.RunError.{RunError}
 use Rattle.sp_phase.specs.declared.answers.RunError.TheVariants.{Memory, TooFar, NoSuchVertex}
 use Rattle.sp_phase.specs.declared.leader.Leader.{Leader}
@@ -22,6 +23,13 @@ MayLead P st (Some l) = Leads P st l
 
 abbrev pub IsUnspent : Progress → Type 0
 IsUnspent run = IsSome run.caller
+
+abbrev pub IsSpent : Progress → Type 0
+IsSpent run = run.caller ≡ None
+
+-- the caller's word of the vertex
+abbrev pub HasRead : Progress → (v : ℕ) → Word → Type 0
+HasRead run v word = IsSomeAnd run.caller (λ c. known c.story v ≡ word)
 
 -- nothing but a growth was refused
 abbrev pub IsMemory : RunError → Type 0

@@ -8,6 +8,7 @@ mod marks;
 mod phases;
 mod round;
 mod run;
+mod settle;
 mod source;
 mod store;
 mod sweep;

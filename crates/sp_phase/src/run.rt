@@ -1,16 +1,19 @@
 //! Runs.
-ghost use Rattle.std.specs.Prelude.{◌≡◌, ◌≤◌, Some, IfOk, IfErr, OnOk};
+ghost use Rattle.std.specs.Prelude.{◌≡◌, ℕ, ◌≤◌, Option, Some, IfOk, IfErr, OnOk, OnErr, IsErrAnd};
 ghost use Rattle.sp_offer.specs.Story.{known};
 ghost use Rattle.sp_paths.specs.Paths.{IsVertex};
 ghost use Rattle.sp_phase.specs.Answer.{IsAnswer, IsRefusal};
 ghost use Rattle.sp_phase.specs.Running.{Leads};
 ghost use Rattle.sp_phase.specs.Sweep.{HasWords};
-ghost use Rattle.sp_phase.specs.Progress.{IsMemory, IsUnspent};
+ghost use Rattle.sp_phase.specs.Progress.{IsMemory, IsUnspent, IsSpent, HasRead};
+ghost use Rattle.sp_phase.specs.Settling.{IsTold, IsToldBy};
 
 use crate::answers::RunError;
 use crate::finish::finish;
 use crate::leader::Leader;
 use crate::marks::Marks;
+use crate::phases::heavy_round;
+use crate::settle::{Settled, settle};
 use crate::store::Store;
 use sp_bucket::{Buckets, Entry};
 use sp_claim::Claimer;
@@ -73,6 +76,18 @@ fn first_leader<const P: u32>(
     })
 }
 
+// The word of a vertex, as the leader reads it.
+fn read_word<const P: u32>(store: &Store<P>, leader: &mut Leader, vertex: u32) -> Word<P>
+    requires vertex { IsVertex store.now.graph.n vertex }
+    requires leads { Leads P store.now leader.old }
+    ensures leads { Leads P store.now leader.new }
+    ensures word { known leader.new.caller.story vertex ≡ result }
+    ensures stays { (bucket : Option ℕ) → IsTold P store.now bucket leader.old.caller → IsTold P store.now bucket leader.new.caller }
+{
+    let _ = store.n();
+    store.read(&mut leader.caller, vertex)
+}
+
 impl<'a, 'g, const P: u32> Run<'a, 'g, P> {
     /// Begins a run with the first caller and the first claimer of a store, or with what they became. Refused, it
     /// spends both.
@@ -104,6 +119,79 @@ impl<'a, 'g, const P: u32> Run<'a, 'g, P> {
             leader: Some(leader),
             words,
         })
+    }
+
+    /// Empties the lowest bucket with an entry by rounds of light arcs, and copies all words, until all that was to be
+    /// relaxed was: then the bucket is final, and told, before its heavy arcs. Where no entry is left, and no vertex is
+    /// open, all words are final. A refusal spends the run.
+    pub fn settle<R: Threads + Wait + Sync, G: Gate + Sync>(
+        &mut self,
+        rt: &R,
+        gate: &G,
+    ) -> Result<Option<u64>, RunError>
+        ensures stage { self.new.stage ≡ self.old.stage }
+        ensures told { IfOk result (λ bucket. IsToldBy P bucket self.new) }
+        ensures refused { IfErr result (λ e. IsMemory e × IsSpent self.new) }
+        ensures spent { IsSpent self.old → IsErrAnd result IsMemory × (self.new ≡ self.old) }
+    {
+        let Some(leader) = self.leader.take() else {
+            return Err(RunError::Memory);
+        };
+        let settled = settle(
+            rt,
+            self.alloc,
+            self.store,
+            self.workers,
+            leader,
+            &mut self.words,
+            gate,
+        );
+        match settled {
+            Err(_) => Err(RunError::Memory),
+            Ok(settled) => {
+                let Settled { leader, bucket } = settled;
+                self.leader = Some(leader);
+                Ok(bucket)
+            }
+        }
+    }
+
+    /// One round of the heavy arcs of the vertices that were in a light round since the last such round. A refusal
+    /// spends the run.
+    pub fn heavy<R: Threads + Wait + Sync, G: Gate + Sync>(
+        &mut self,
+        rt: &R,
+        gate: &G,
+    ) -> Result<(), RunError>
+        ensures stage { self.new.stage ≡ self.old.stage }
+        ensures unspent { OnOk result (IsUnspent self.new) }
+        ensures refused { IfErr result (λ e. IsMemory e × IsSpent self.new) }
+        ensures spent { IsSpent self.old → IsErrAnd result IsMemory × (self.new ≡ self.old) }
+    {
+        let Some(leader) = self.leader.take() else {
+            return Err(RunError::Memory);
+        };
+        match heavy_round(rt, self.alloc, self.store, self.workers, leader, gate) {
+            Err(_) => Err(RunError::Memory),
+            Ok(leader) => {
+                self.leader = Some(leader);
+                Ok(())
+            }
+        }
+    }
+
+    /// Reads the word of a vertex by the run's caller. What `settle` told stays true.
+    pub fn read(&mut self, vertex: u32) -> Word<P>
+        requires vertex { IsVertex self.old.stage.graph.n vertex }
+        requires unspent { IsUnspent self.old }
+        ensures stage { self.new.stage ≡ self.old.stage }
+        ensures word { HasRead self.new vertex result }
+        ensures stays { (bucket : Option ℕ) → IsToldBy P bucket self.old → IsToldBy P bucket self.new }
+    {
+        match &mut self.leader {
+            Some(leader) => read_word(self.store, leader, vertex),
+            None => unreachable!(),
+        }
     }
 
     /// Does all that is left, and gives the caller back, which knows the tree's words.
