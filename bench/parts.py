@@ -2,7 +2,7 @@
 """Times parts of the engine beside plain C++ programs that do the same, and prints the ratios of one run.
 
 The parts are reading a `.gr` and a tree file, making rows, writing a tree, offers from several threads, and rounds of
-tasks (ours alone). Ours is `crates/spt_bench`, the other `bench/reference.cpp`; without a C++ compiler ours stands alone.
+tasks (ours alone), below each what starting its threads takes, and joining them, where they do nothing. Ours is `crates/spt_bench`, the other `bench/reference.cpp`; without a C++ compiler ours stands alone.
 Both run in turn, several times, and the best of each counts, since other programs on the machine only add to a time.
 
 Usage: python3 bench/parts.py [--small] [--runs K] [--built PROGRAM]
@@ -158,12 +158,24 @@ def time_offers(programs, small, runs):
             print_row(f"offers, {counted(words, 'word')}, {counted(threads, 'thread')}", "offers", best)
 
 
-def time_rounds(program, small, runs):
+def print_starts(started, tasks, best):
+    """What starting and joining threads takes, shared out among the tasks of a round."""
+    shares = [{name: (number / tasks, "ns/task") for name, (number, _) in both.items()} for both in best]
+    print_row(f"  starting and joining {counted(started, 'thread')}", "threads", shares)
+
+
+def time_rounds(programs, small, runs):
+    starts = {
+        threads: best_of(programs, ["threads", threads, 100 if small else 1000], runs) for threads in (2, 4)
+    }
     for tasks in (2, 100, 10_000):
         for workers in (1, 2, 4):
             rounds = max(10, min(1000, (50_000 if small else 500_000) // tasks))
-            best = best_of([program, None], ["rounds", workers, tasks, rounds], runs)
+            best = best_of([programs[0], None], ["rounds", workers, tasks, rounds], runs)
             print_row(f"rounds of {tasks:,} tasks, {counted(workers, 'worker')}", "rounds", best)
+            threads = min(workers, tasks)
+            if threads > 1:
+                print_starts(threads - 1, tasks, starts[threads])
 
 
 def main():
@@ -179,7 +191,7 @@ def main():
         print(f"{'part':<34} {'ours':>10} {'C++':>10} {'ratio':>6}  unit")
         time_files(programs, folder, chosen.small, chosen.runs)
         time_offers(programs, chosen.small, chosen.runs)
-        time_rounds(programs[0], chosen.small, chosen.runs)
+        time_rounds(programs, chosen.small, chosen.runs)
 
 
 if __name__ == "__main__":

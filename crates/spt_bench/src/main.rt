@@ -6,10 +6,12 @@ mod files;
 mod offers;
 mod report;
 mod rounds;
+mod starts;
 mod whole;
 
 use offers::Crowd;
 use rounds::Drill;
+use starts::Muster;
 use std::rt::Files;
 use std::sync::Wait;
 use std::thread::Threads;
@@ -18,7 +20,7 @@ use std::{env, io};
 use whole::{Paths, Plan};
 
 const USAGE: &str =
-    "usage: spt_bench read GR | tree FILE | offers THREADS WORDS COUNT | rounds WORKERS TASKS ROUNDS | whole GR SS DELTA WORKERS TREES";
+    "usage: spt_bench read GR | tree FILE | offers THREADS WORDS COUNT | rounds WORKERS TASKS ROUNDS | threads THREADS COUNT | whole GR SS DELTA WORKERS TREES";
 
 // The crowd that three words of the command line order.
 fn crowd_of(threads: &str, words: &str, count: &str) -> Option<Crowd> {
@@ -41,6 +43,11 @@ fn drill_of(workers: &str, tasks: &str, rounds: &str) -> Option<Drill> {
 // The plan that two words of the command line order.
 fn plan_of(delta: &str, workers: &str) -> Option<Plan> {
     Plan::new(delta.parse().ok()?, workers.parse().ok()?)
+}
+
+// The muster that two words of the command line order.
+fn muster_of(threads: &str, times: &str) -> Option<Muster> {
+    Muster::new(threads.parse().ok()?, times.parse().ok()?)
 }
 
 // Runs the command of these words, or tells the usage.
@@ -69,6 +76,11 @@ fn run<R: AllocGlobal + Clock + Eprint + Files + Print + Threads + Wait + Sync>(
                     trees,
                 };
                 return whole::time_whole(rt, &paths, plan);
+            }
+        }
+        ["threads", threads, times] => {
+            if let Some(muster) = muster_of(threads, times) {
+                return starts::time_starts(rt, muster);
             }
         }
         _ => {}
