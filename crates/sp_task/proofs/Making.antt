@@ -1,9 +1,8 @@
 -- Calls in a row, and what is known after them.
-use Rattle.std.proofs.Common.{◌≡◌, ◌⊎◌, inl, inr, ℕ, List, [], ◌∷◌, ◌++◌, map, refl, sym, ap, ◌∙◌, subst, append_assoc, append-nil}
+use Rattle.std.proofs.Common.{◌≡◌, ◌⊎◌, inl, inr, ℕ, List, [], ◌∷◌, ◌++◌, map, refl, sym, ap, ◌∙◌, subst, append_assoc, append-nil, arith}
 use Rattle.std.specs.Prelude.{◌<◌, All}
 use Rattle.std.proofs.lemmas.List.Elements.{All-nil, All-cons, All-append, All-weaker}
 use mathlib.Core.List.{IsPrefix}
-use Rattle.std.proofs.Common.{arith}
 use Rattle.sp_word.specs.Word.{Word, Unreached, Pair}
 use Rattle.sp_word.specs.Reply.{reply_to}
 use Rattle.sp_word.specs.History.{Table, Event, Offer}
