@@ -8,10 +8,13 @@ use Rattle.sp_phase.specs.declared.leader.Leader.{Leader}
 use Rattle.sp_phase.specs.Stage.{Stage}
 use Rattle.sp_phase.specs.Running.{Leads}
 
--- the store's stage, and the caller of a run that isn't spent
+-- The store's stage, and the caller of a run that isn't spent. `settled` is the bucket of the last answer that no round
+-- of heavy arcs has followed yet, `closed` the last bucket that was settled and then relaxed heavy.
 pub record Progress : Type 0 where
   pub stage : Stage
   pub caller : Option Knowledge
+  pub settled : Option ℕ
+  pub closed : Option ℕ
 
 abbrev pub caller_of : Option Leader → Option Knowledge
 caller_of None = None
@@ -26,6 +29,10 @@ IsUnspent run = IsSome run.caller
 
 abbrev pub IsSpent : Progress → Type 0
 IsSpent run = run.caller ≡ None
+
+-- the same buckets are settled and closed
+abbrev pub IsAsFar : (before after : Progress) → Type 0
+IsAsFar before after = (after.settled ≡ before.settled) × (after.closed ≡ before.closed)
 
 -- the caller's word of the vertex
 abbrev pub HasRead : Progress → (v : ℕ) → Word → Type 0

@@ -1,5 +1,5 @@
 -- What an answer of settle says.
-use Rattle.std.specs.Prelude.{ℕ, ◌+◌, ◌*◌, Option, Some, None, IsSomeAnd}
+use Rattle.std.specs.Prelude.{ℕ, ◌+◌, ◌*◌, ◌<◌, Option, Some, None, IfSome, IsSomeAnd}
 use Rattle.sp_word.specs.Word.{max_dist}
 use Rattle.sp_paths.specs.Paths.{EndsInTree, IsSettled}
 use Rattle.sp_offer.specs.Story.{Knowledge, known}
@@ -14,3 +14,7 @@ IsTold P st (Some i) c = IsSettled st.graph st.source (max_dist P) ((i + 1) * st
 -- so it is for the caller of a run that isn't spent
 abbrev pub IsToldBy : (P : ℕ) → Option ℕ → Progress → Type 0
 IsToldBy P bucket run = IsSomeAnd run.caller (IsTold P run.stage bucket)
+
+-- a bucket that is told is later than the closed one, if there is one
+abbrev pub IsLater : (closed bucket : Option ℕ) → Type 0
+IsLater closed bucket = IfSome bucket (λ i. IfSome closed (λ j. j < i))

@@ -1,12 +1,13 @@
 //! Runs.
-ghost use Rattle.std.specs.Prelude.{◌≡◌, ℕ, ◌≤◌, Option, Some, IfOk, IfErr, OnOk, OnErr, IsErrAnd};
+ghost use Rattle.std.specs.Prelude.{◌≡◌, ℕ, ◌≤◌, Option, Some, None, IfOk, IfErr, OnOk, IsErrAnd};
+ghost use Rattle.std.specs.Option.{option_or};
 ghost use Rattle.sp_offer.specs.Story.{known};
 ghost use Rattle.sp_paths.specs.Paths.{IsVertex};
 ghost use Rattle.sp_phase.specs.Answer.{IsAnswer, IsRefusal};
 ghost use Rattle.sp_phase.specs.Running.{Leads};
 ghost use Rattle.sp_phase.specs.Sweep.{HasWords};
-ghost use Rattle.sp_phase.specs.Progress.{IsMemory, IsUnspent, IsSpent, HasRead};
-ghost use Rattle.sp_phase.specs.Settling.{IsTold, IsToldBy};
+ghost use Rattle.sp_phase.specs.Progress.{IsMemory, IsUnspent, IsSpent, IsAsFar, HasRead};
+ghost use Rattle.sp_phase.specs.Settling.{IsTold, IsToldBy, IsLater};
 
 use crate::answers::RunError;
 use crate::finish::finish;
@@ -28,7 +29,7 @@ use std::thread::Threads;
 
 /// A run of delta-stepping from a store's source. A run that was refused is spent.
 ///
-/// Contracts see the store's stage, and the caller, if the run isn't spent.
+/// Contracts see the store's stage, the caller, if the run isn't spent, and how far the run has come.
 #[derive(Drop)]
 pub struct Run<'a, 'g, const P: u32> {
     alloc: Global,
@@ -36,6 +37,10 @@ pub struct Run<'a, 'g, const P: u32> {
     workers: u32,
     leader: Option<Leader>,
     words: Vec<Word<P>>,
+    // the bucket of the last answer that no `heavy` has followed yet
+    settled: Option<u64>,
+    // the last bucket that `heavy` followed
+    closed: Option<u64>,
 }
 
 impl<'a, 'g, const P: u32> Model for Run<'a, 'g, P> {
@@ -44,7 +49,7 @@ impl<'a, 'g, const P: u32> Model for Run<'a, 'g, P> {
 
     ghost Value = { Progress };
 
-    ghost view = { λ r. record { stage = r.store.now; caller = caller_of r.leader } };
+    ghost view = { λ r. record { stage = r.store.now; caller = caller_of r.leader; settled = r.settled; closed = r.closed } };
 
     ghost invariant = { λ r. (1 ≤ r.workers) × (r.workers ≤ 64) × (vec_len r.words ≡ r.store.now.graph.n) × MayLead P r.store.now r.leader };
 }
@@ -103,6 +108,7 @@ impl<'a, 'g, const P: u32> Run<'a, 'g, P> {
         requires claimer { claimer.table ≡ store.now.claims }
         ensures stage { IfOk result (λ run. run.stage ≡ store.entry.now) }
         ensures unspent { IfOk result IsUnspent }
+        ensures first { IfOk result (λ run. (run.settled ≡ None) × (run.closed ≡ None)) }
         ensures refused { IfErr result IsMemory }
     {
         let n = store.n() as usize;
@@ -118,12 +124,15 @@ impl<'a, 'g, const P: u32> Run<'a, 'g, P> {
             workers,
             leader: Some(leader),
             words,
+            settled: None,
+            closed: None,
         })
     }
 
     /// Empties the lowest bucket with an entry by rounds of light arcs, and copies all words, until all that was to be
     /// relaxed was: then the bucket is final, and told, before its heavy arcs. Where no entry is left, and no vertex is
-    /// open, all words are final. A refusal spends the run.
+    /// open, all words are final. A bucket that is told is later than each that `heavy` followed. A refusal spends the
+    /// run.
     pub fn settle<R: Threads + Wait + Sync, G: Gate + Sync>(
         &mut self,
         rt: &R,
@@ -131,6 +140,9 @@ impl<'a, 'g, const P: u32> Run<'a, 'g, P> {
     ) -> Result<Option<u64>, RunError>
         ensures stage { self.new.stage ≡ self.old.stage }
         ensures told { IfOk result (λ bucket. IsToldBy P bucket self.new) }
+        ensures later { IfOk result (IsLater self.old.closed) }
+        ensures settled { IfOk result (λ bucket. self.new.settled ≡ bucket) }
+        ensures closed { self.new.closed ≡ self.old.closed }
         ensures refused { IfErr result (λ e. IsMemory e × IsSpent self.new) }
         ensures spent { IsSpent self.old → IsErrAnd result IsMemory × (self.new ≡ self.old) }
     {
@@ -144,6 +156,7 @@ impl<'a, 'g, const P: u32> Run<'a, 'g, P> {
             self.workers,
             leader,
             &mut self.words,
+            self.closed,
             gate,
         );
         match settled {
@@ -151,6 +164,7 @@ impl<'a, 'g, const P: u32> Run<'a, 'g, P> {
             Ok(settled) => {
                 let Settled { leader, bucket } = settled;
                 self.leader = Some(leader);
+                self.settled = bucket;
                 Ok(bucket)
             }
         }
@@ -165,6 +179,8 @@ impl<'a, 'g, const P: u32> Run<'a, 'g, P> {
     ) -> Result<(), RunError>
         ensures stage { self.new.stage ≡ self.old.stage }
         ensures unspent { OnOk result (IsUnspent self.new) }
+        ensures settled { OnOk result (self.new.settled ≡ None) }
+        ensures closed { OnOk result (self.new.closed ≡ option_or self.old.settled self.old.closed) }
         ensures refused { IfErr result (λ e. IsMemory e × IsSpent self.new) }
         ensures spent { IsSpent self.old → IsErrAnd result IsMemory × (self.new ≡ self.old) }
     {
@@ -175,6 +191,8 @@ impl<'a, 'g, const P: u32> Run<'a, 'g, P> {
             Err(_) => Err(RunError::Memory),
             Ok(leader) => {
                 self.leader = Some(leader);
+                self.closed = self.settled.or(self.closed);
+                self.settled = None;
                 Ok(())
             }
         }
@@ -185,6 +203,7 @@ impl<'a, 'g, const P: u32> Run<'a, 'g, P> {
         requires vertex { IsVertex self.old.stage.graph.n vertex }
         requires unspent { IsUnspent self.old }
         ensures stage { self.new.stage ≡ self.old.stage }
+        ensures far { IsAsFar self.old self.new }
         ensures word { HasRead self.new vertex result }
         ensures stays { (bucket : Option ℕ) → IsToldBy P bucket self.old → IsToldBy P bucket self.new }
     {
@@ -211,6 +230,7 @@ impl<'a, 'g, const P: u32> Run<'a, 'g, P> {
             workers,
             leader,
             words,
+            ..
         } = self;
         let _ = store.n();
         match leader {

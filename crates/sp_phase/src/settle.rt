@@ -2,10 +2,10 @@
 ghost use Rattle.std.specs.Prelude.{◌≡◌, ◌+◌, ◌*◌, ◌<◌, ◌≤◌, Some, None, IsTrue, vec_len, IfOk, IfSome};
 ghost use Rattle.sp_bucket.specs.Content.{IsLowest};
 ghost use Rattle.sp_phase.specs.Running.{Leads};
-ghost use Rattle.sp_phase.specs.Settling.{IsTold};
+ghost use Rattle.sp_phase.specs.Settling.{IsTold, IsLater};
 
 use crate::leader::Leader;
-use crate::phases::empty_bucket;
+use crate::phases::{empty_bucket, heavy_round};
 use crate::store::Store;
 use crate::sweep::{Bounds, queue_open, sweep};
 use sp_paths::{swept_copy, tested_copy};
@@ -100,6 +100,16 @@ fn settle_once<R: Threads + Wait + Sync, G: Gate + Sync, const P: u32>(
     }
 }
 
+// Whether a bucket is later than the closed one; none is later than all.
+fn is_later(closed: Option<u64>, bucket: Option<u64>) -> bool
+    ensures { IsTrue result → IsLater closed bucket }
+{
+    match (closed, bucket) {
+        (Some(closed), Some(number)) => closed < number,
+        _ => true,
+    }
+}
+
 /// A leader, and the bucket that is final for its caller; none where all words are.
 #[derive(Drop)]
 pub(crate) struct Settled {
@@ -107,7 +117,8 @@ pub(crate) struct Settled {
     pub bucket: Option<u64>,
 }
 
-/// Empties the lowest bucket until its test passes, or, where no entry is queued, sweeps until no vertex is open.
+/// Empties the lowest bucket until its test passes, or, where no entry is queued, sweeps until no vertex is open. A bucket
+/// that isn't later than the closed one is relaxed heavy at once, and not told.
 pub(crate) fn settle<R: Threads + Wait + Sync, G: Gate + Sync, const P: u32>(
     rt: &R,
     alloc: Global,
@@ -115,6 +126,7 @@ pub(crate) fn settle<R: Threads + Wait + Sync, G: Gate + Sync, const P: u32>(
     workers: u32,
     mut leader: Leader,
     words: &mut Vec<Word<P>>,
+    closed: Option<u64>,
     gate: &G,
 ) -> Result<Settled, AllocError>
     requires workers { (1 ≤ workers) × (workers ≤ 64) }
@@ -123,13 +135,17 @@ pub(crate) fn settle<R: Threads + Wait + Sync, G: Gate + Sync, const P: u32>(
     ensures leads { IfOk result (λ s. Leads P store.now s.leader) }
     ensures size { vec_len words.new ≡ store.now.graph.n }
     ensures told { IfOk result (λ s. IsTold P store.now s.bucket s.leader.caller) }
+    ensures later { IfOk result (λ s. IsLater closed s.bucket) }
 {
     for _ in rt.forever() {
         let bucket = leader.buckets.lowest();
         let (after, passed) = settle_once(rt, alloc, store, workers, leader, words, bucket, gate)?;
         leader = after;
         if passed {
-            return Ok(Settled { leader, bucket });
+            if is_later(closed, bucket) {
+                return Ok(Settled { leader, bucket });
+            }
+            leader = heavy_round(rt, alloc, store, workers, leader, gate)?;
         }
     }
     unreachable!()
