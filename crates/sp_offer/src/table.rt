@@ -148,17 +148,20 @@ impl<L: Lawful, const P: u32> OfferTable<L, P> {
     {
         let _ = &self.words;
         for i in 0..words.len() {
-            words[i] = self.read(caller, self.vertex_at(i));
+            self.copy_word(caller, i, &mut words[i]);
         }
     }
 
-    // The vertex of a place, counted from 0.
-    fn vertex_at(&self, place: usize) -> u32
-        requires { place < self.now.vertices }
-        ensures { result ≡ place + 1 }
+    // Reads the word of a place, counted from 0, into its copy.
+    fn copy_word(&self, caller: &mut Caller, place: usize, copy: &mut Word<P>)
+        requires caller { caller.old.table ≡ self.now.id }
+        requires place { place < self.now.vertices }
+        ensures caller { (caller.new.table ≡ caller.old.table) × (caller.new.number ≡ caller.old.number) }
+        ensures call { Calls (lawful P (L.allows self.now.law)) (event caller.old.number (place + 1) (Read copy.new)) caller.old.story caller.new.story }
+        ensures own { own_calls caller.new.story ≡ own_calls caller.old.story ++ event caller.old.number (place + 1) (Read copy.new) ∷ [] }
     {
         let _ = &self.words;
-        place as u32 + 1
+        *copy = self.read(caller, place as u32 + 1);
     }
 
     /// A second caller, which has seen what the first has and made no calls. It takes no memory, and is never refused.
@@ -197,7 +200,6 @@ impl<L: Lawful, const P: u32> OfferTable<L, P> {
         ensures second_sees { Follows (lawful P (L.allows self.now.law)) second.old.story first.new.story second.new.story }
         ensures own { (own_calls first.new.story ≡ own_calls first.old.story) × (own_calls second.new.story ≡ own_calls second.old.story) }
     {
-        self.words.hear(&mut first.seat, &mut second.seat);
-        self.words.hear(&mut second.seat, &mut first.seat);
+        self.words.meet(&mut first.seat, &mut second.seat);
     }
 }

@@ -5,7 +5,7 @@ ghost use Rattle.sp_word.specs.History.{Read};
 ghost use Rattle.sp_offer.specs.Order.{lawful};
 ghost use Rattle.sp_offer.specs.Histories.{event};
 ghost use Rattle.sp_offer.specs.Story.{Calls, Looks, IsTried, Follows};
-ghost use Rattle.sp_offer.specs.Sight.{newcomer, listener};
+ghost use Rattle.sp_offer.specs.Sight.{newcomer, listener, merged};
 ghost use Rattle.sp_offer.specs.Lowering.{IsUnderWay, IsExchanged};
 ghost use Rattle.sp_offer.specs.Rule.{seat_story, Hears, IsAtRest, IsSameSeat, answered};
 
@@ -72,7 +72,7 @@ impl<L: Lawful> Words<L> {
     {
         self.table
             .shared
-            .load::<ReadWord<J>>(seat, vertex as usize - 1)
+            .load::<ReadWord<J>>(seat, (vertex - 1) as usize)
     }
 
     // The load that begins an offer.
@@ -88,7 +88,7 @@ impl<L: Lawful> Words<L> {
     {
         self.table
             .shared
-            .load::<FirstLook<J>>(seat, vertex as usize - 1)
+            .load::<FirstLook<J>>(seat, (vertex - 1) as usize)
     }
 
     // An exchange of the bits held for the lesser bits offered.
@@ -105,7 +105,7 @@ impl<L: Lawful> Words<L> {
     {
         self.table
             .shared
-            .compare_exchange::<Exchange<J>>(seat, vertex as usize - 1, held, word)
+            .compare_exchange::<Exchange<J>>(seat, (vertex - 1) as usize, held, word)
     }
 
     /// A load, and exchanges until one wins or a word is found that is no larger. Answers the word found last and
@@ -148,7 +148,7 @@ impl<L: Lawful> Words<L> {
     {
         self.table
             .shared
-            .fetch_min::<Lessen<J>>(seat, vertex as usize - 1, word)
+            .fetch_min::<Lessen<J>>(seat, (vertex - 1) as usize, word)
     }
 
     /// A second seat, which has seen what the first has.
@@ -173,6 +173,17 @@ impl<L: Lawful> Words<L> {
         self.table.shared.load::<Meet<J>>(seat, 0);
     }
 
+    // The seat takes over the other's calls, and hears what that one has seen.
+    #[tactic(auto, using(crate::proofs::Moves::joins))]
+    fn merge(&self, seat: &mut Place, other: Place)
+        requires seat { IsAtRest self.now.table.shared.table_id seat.old }
+        requires other { IsAtRest self.now.table.shared.table_id other }
+        ensures seat { (seat.new.table_id ≡ self.now.table.shared.table_id) × (seat.new.me.1 ≡ []) × IsSameSeat seat.old seat.new }
+        ensures view { seat.new.me.0 ≡ merged seat.old.me.0 other.me.0 }
+    {
+        self.table.shared.join_seat::<TakeOver>(seat, other);
+    }
+
     /// The seat takes over the other's calls, and sees what that one has seen.
     pub(crate) fn take_over(&self, seat: &mut Place, other: Place)
         requires seat { IsAtRest self.now.table.shared.table_id seat.old }
@@ -181,7 +192,7 @@ impl<L: Lawful> Words<L> {
         ensures story { Follows (lawful self.now.table.shared.key.layout (L.allows self.now.table.shared.key.law)) (seat_story seat.old) (seat_story other) (seat_story seat.new) }
         ensures own { (seat_story seat.new).own ≡ (seat_story seat.old).own ++ (seat_story other).own }
     {
-        self.table.shared.join_seat::<TakeOver>(seat, other);
+        self.merge(seat, other);
         self.look::<Brand>(seat);
     }
 
@@ -196,5 +207,18 @@ impl<L: Lawful> Words<L> {
     {
         let echo = self.split(second);
         self.take_over(first, echo);
+    }
+    /// Both see what both have seen, and the first's history is a beginning of the second's.
+    pub(crate) fn meet(&self, first: &mut Place, second: &mut Place)
+        requires first { IsAtRest self.now.table.shared.table_id first.old }
+        requires second { IsAtRest self.now.table.shared.table_id second.old }
+        ensures first { IsAtRest self.now.table.shared.table_id first.new × IsSameSeat first.old first.new }
+        ensures second { IsAtRest self.now.table.shared.table_id second.new × IsSameSeat second.old second.new }
+        ensures first_sees { Follows (lawful self.now.table.shared.key.layout (L.allows self.now.table.shared.key.law)) (seat_story first.old) (seat_story second.old) (seat_story first.new) }
+        ensures second_sees { Follows (lawful self.now.table.shared.key.layout (L.allows self.now.table.shared.key.law)) (seat_story second.old) (seat_story first.new) (seat_story second.new) }
+        ensures own { ((seat_story first.new).own ≡ (seat_story first.old).own) × ((seat_story second.new).own ≡ (seat_story second.old).own) }
+    {
+        self.hear(first, second);
+        self.hear(second, first);
     }
 }

@@ -15,19 +15,19 @@ grown words i x inside = rw (add-one) (sym (take-suc-set words i x inside))
 pub loop-i-preserved : goal.loop-i-preserved
 loop-i-preserved g c =
     let words : List Word = c.loop-i.words in
-    let read : Word = c.read.result in
+    let read : Word = c.copy_word.new.copy in
     let number : ℕ = c.args.caller.now.number in
     let inside : c.loop-i.i < length words = omega arith in
     let long : length (take c.loop-i.i words) ≡ c.loop-i.i = length-take-le c.loop-i.i words (omega arith) in
-    let vertex : c.vertex_at.result ≡ 1 + length (take c.loop-i.i words) = omega (arith, long, c.vertex_at.ensures) in
+    let vertex : c.loop-i.i + 1 ≡ 1 + length (take c.loop-i.i words) = omega (arith, long) in
     let more = grown words c.loop-i.i read inside in record {
       same = search rules;
-      reads = subst (λ (ws : List Word). Reads (lawful g.row.P (g.L.Lawful.allows c.args.self.now.law)) number 1 ws c.args.caller.now.story c.read.new.caller.story) more
+      reads = subst (λ (ws : List Word). Reads (lawful g.row.P (g.L.Lawful.allows c.args.self.now.law)) number 1 ws c.args.caller.now.story c.copy_word.new.caller.story) more
           (reads_more _ _ _ _ _ _ _ _ c.loop-i.invariant.reads
-          (subst (λ (z : ℕ × ℕ). Calls (lawful g.row.P (g.L.Lawful.allows c.args.self.now.law)) (event z.0 z.1 (Read read)) c.loop-i.caller.story c.read.new.caller.story)
-          (λ k. (c.loop-i.invariant.same.1 k, vertex k)) c.read.ensures.call));
-      own = subst (λ (ws : List Word). own_calls c.read.new.caller.story ≡ own_calls c.args.caller.now.story ++ reads_of number 1 ws) more
-          (own_more _ _ _ _ _ _ _ _ c.loop-i.invariant.same.1 vertex c.loop-i.invariant.own c.read.ensures.own);
+          (subst (λ (z : ℕ × ℕ). Calls (lawful g.row.P (g.L.Lawful.allows c.args.self.now.law)) (event z.0 z.1 (Read read)) c.loop-i.caller.story c.copy_word.new.caller.story)
+          (λ k. (c.loop-i.invariant.same.1 k, vertex k)) c.copy_word.ensures.call));
+      own = subst (λ (ws : List Word). own_calls c.copy_word.new.caller.story ≡ own_calls c.args.caller.now.story ++ reads_of number 1 ws) more
+          (own_more _ _ _ _ _ _ _ _ c.loop-i.invariant.same.1 vertex c.loop-i.invariant.own c.copy_word.ensures.own);
     }
 
 pub returns-clause-reads : goal.returns-clause-reads
