@@ -1,21 +1,32 @@
 //! Runs on small graphs, for several numbers of workers and widths of a bucket.
+ghost use Rattle.std.specs.Prelude.{◌≡◌, ◌≤◌, true, IfOk};
+ghost use Rattle.sp_word.specs.Word.{is_layout, max_pred};
+
 use crate::{RunError, run_source};
 use sp_graph::Graph;
 use sp_paths::Arc;
 use sp_tree::Tree;
+use sp_word::Word;
 use std::process::Abort;
 use std::sync::Wait;
 use std::test::Fail;
 use std::thread::Threads;
 
+mod meeting;
+mod settling;
+
 const WORKERS: [u32; 3] = [1, 2, 64];
+
+const DIAMOND: [(u32, u32, u32); 5] = [(1, 2, 3), (1, 3, 3), (2, 4, 2), (3, 4, 2), (1, 4, 6)];
 
 // The graph of arcs that are given by tail, head and length.
 fn graph_of(
     rt: &(impl Abort + AllocGlobal),
     n: u32,
     arcs: &[(u32, u32, u32)],
-) -> Result<Graph, Fail> {
+) -> Result<Graph, Fail>
+    ensures { IfOk result (λ graph. graph.n ≤ 1000) }
+{
     let mut list = Vec::new(rt.alloc());
     for (tail, head, len) in arcs {
         let (tail, head, len) = (*tail, *head, *len);
@@ -28,7 +39,23 @@ fn graph_of(
     Ok(Graph::build(rt.alloc(), n, &list)?)
 }
 
-// What a run tells, in words of 28 bits of predecessor.
+// What a run tells.
+fn run<const P: u32>(
+    rt: &(impl Abort + AllocGlobal + Threads + Wait + Sync),
+    graph: &Graph,
+    delta: u64,
+    workers: u32,
+    source: u32,
+) -> Result<Tree<P>, RunError>
+    requires { is_layout P ≡ true }
+{
+    assert!(rt; graph.n() <= Word::<P>::max_pred());
+    assert!(rt; 1 <= delta && delta <= Word::<P>::max_dist());
+    assert!(rt; 1 <= workers && workers <= 64);
+    run_source(rt, rt.alloc(), graph, delta, workers, source)
+}
+
+// The same for the graph of these arcs, in words of 28 bits of predecessor.
 fn answer(
     rt: &(impl Abort + AllocGlobal + Threads + Wait + Sync),
     n: u32,
@@ -38,33 +65,35 @@ fn answer(
     source: u32,
 ) -> Result<Result<Tree<28>, RunError>, Fail> {
     let graph = graph_of(rt, n, arcs)?;
-    assert!(rt; graph.n() <= 1000);
-    assert!(rt; 1 <= delta && delta <= 1_000_000);
-    assert!(rt; 1 <= workers && workers <= 64);
-    Ok(run_source(rt, rt.alloc(), &graph, delta, workers, source))
+    Ok(run(rt, &graph, delta, workers, source))
 }
 
 // Whether the tree has these rows: vertex, distance, predecessor.
-fn has_rows(tree: &Result<Tree<28>, RunError>, want: &[(u32, u64, u32)]) -> bool {
-    match tree {
-        Err(_) => false,
-        Ok(tree) => {
-            tree.rows().len() == want.len()
-                && tree.rows().iter().zip(want).all(|(row, want)| {
-                    row.0 == want.0 && row.1.dist() == Some(want.1) && row.1.pred() == Some(want.2)
-                })
-        }
-    }
+fn has_rows(tree: &Tree<28>, want: &[(u32, u64, u32)]) -> bool {
+    tree.rows().len() == want.len()
+        && tree.rows().iter().zip(want).all(|(row, want)| {
+            row.0 == want.0 && row.1.dist() == Some(want.1) && row.1.pred() == Some(want.2)
+        })
 }
+
+// An arc from each of 18 vertices to the next: 16 of the greatest length, and the last of the length given.
+fn long_path(rt: &(impl Abort + AllocGlobal), last: u32) -> Result<Vec<(u32, u32, u32)>, Fail> {
+    let mut arcs = Vec::new(rt.alloc());
+    for tail in 1..17u32 {
+        arcs.push((tail, tail + 1, u32::MAX))?;
+    }
+    arcs.push((17, 18, last))?;
+    Ok(arcs)
+}
+
+const WIDE: [u64; 3] = [1, 4_294_967_295, 68_719_476_734];
 
 #[test]
 fn diamond(rt: HostRuntime) -> Result<(), Fail> {
-    let arcs = [(1, 2, 3), (1, 3, 3), (2, 4, 2), (3, 4, 2), (1, 4, 6)];
-    let want = [(1, 0, 0), (2, 3, 1), (3, 3, 1), (4, 5, 2)];
     for workers in WORKERS {
         for delta in [1u64, 2, 100] {
-            let told = answer(&rt, 4, &arcs, delta, workers, 1)?;
-            assert!(rt; has_rows(&told, &want));
+            let tree = answer(&rt, 4, &DIAMOND, delta, workers, 1)??;
+            assert!(rt; has_rows(&tree, &[(1, 0, 0), (2, 3, 1), (3, 3, 1), (4, 5, 2)]));
         }
     }
     Ok(())
@@ -72,30 +101,72 @@ fn diamond(rt: HostRuntime) -> Result<(), Fail> {
 
 #[test]
 fn no_such_vertex(rt: HostRuntime) -> Result<(), Fail> {
-    let told = answer(&rt, 1, &[], 1, 1, 5)?;
-    assert!(rt; matches!(&told, Err(RunError::NoSuchVertex)));
+    for workers in WORKERS {
+        for source in [0u32, 5] {
+            let told = answer(&rt, 4, &DIAMOND, 2, workers, source)?;
+            assert!(rt; matches!(&told, Err(RunError::NoSuchVertex)));
+        }
+    }
     Ok(())
 }
 
 #[test]
 fn parallel_arcs(rt: HostRuntime) -> Result<(), Fail> {
     for workers in WORKERS {
-        let told = answer(&rt, 2, &[(1, 2, 5), (1, 2, 4), (1, 1, 1)], 1, workers, 1)?;
-        assert!(rt; has_rows(&told, &[(1, 0, 0), (2, 4, 1)]));
+        let tree = answer(&rt, 2, &[(1, 2, 5), (1, 2, 4), (1, 1, 1)], 1, workers, 1)??;
+        assert!(rt; has_rows(&tree, &[(1, 0, 0), (2, 4, 1)]));
     }
     Ok(())
 }
 
 #[test]
 fn unreached(rt: HostRuntime) -> Result<(), Fail> {
-    let told = answer(&rt, 3, &[(1, 2, 7)], 1, 2, 2)?;
-    assert!(rt; has_rows(&told, &[(2, 0, 0)]));
+    for workers in WORKERS {
+        let tree = answer(&rt, 3, &[(1, 2, 7)], 1, workers, 2)??;
+        assert!(rt; has_rows(&tree, &[(2, 0, 0)]));
+    }
     Ok(())
 }
 
 #[test]
 fn light_and_heavy(rt: HostRuntime) -> Result<(), Fail> {
-    let told = answer(&rt, 3, &[(1, 2, 3), (1, 3, 4)], 3, 2, 1)?;
-    assert!(rt; has_rows(&told, &[(1, 0, 0), (2, 3, 1), (3, 4, 1)]));
+    for workers in WORKERS {
+        let tree = answer(&rt, 3, &[(1, 2, 3), (1, 3, 4)], 3, workers, 1)??;
+        assert!(rt; has_rows(&tree, &[(1, 0, 0), (2, 3, 1), (3, 4, 1)]));
+    }
+    Ok(())
+}
+
+#[test]
+fn at_the_limit(rt: HostRuntime) -> Result<(), Fail> {
+    let arcs = long_path(&rt, 14)?;
+    for workers in WORKERS {
+        for delta in WIDE {
+            let tree = answer(&rt, 18, &arcs, delta, workers, 1)??;
+            assert_eq!(rt; tree.rows().len(), 18);
+            let last = tree.rows().last().copied();
+            assert!(rt; last == Some((18, Word::pack(68_719_476_734, 17))));
+        }
+    }
+    Ok(())
+}
+
+#[test]
+fn beyond_the_limit(rt: HostRuntime) -> Result<(), Fail> {
+    let mut arcs = long_path(&rt, 15)?;
+    for workers in WORKERS {
+        for delta in WIDE {
+            let told = answer(&rt, 18, &arcs, delta, workers, 1)?;
+            assert!(rt; matches!(&told, Err(RunError::TooFar(18))));
+        }
+    }
+    arcs.push((1, 18, 9))?;
+    for workers in WORKERS {
+        for delta in WIDE {
+            let tree = answer(&rt, 18, &arcs, delta, workers, 1)??;
+            let last = tree.rows().last().copied();
+            assert!(rt; last == Some((18, Word::pack(9, 1))));
+        }
+    }
     Ok(())
 }
