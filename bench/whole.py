@@ -12,6 +12,7 @@ import argparse
 import filecmp
 import importlib.util
 import os
+import re
 import shutil
 import subprocess
 import sys
@@ -29,6 +30,13 @@ def module(name):
     found = importlib.util.module_from_spec(spec)
     spec.loader.exec_module(found)
     return found
+
+
+def make_graph(gr, ss, vertices, count):
+    """Writes a graph and a list of sources, in a process of its own, so that this one stays small, and tells what graphs.py tells."""
+    words = [sys.executable, os.path.join(HOME, "bench", "graphs.py"), "roads", str(vertices), gr, ss]
+    done = subprocess.run([*words, "--seed", str(SEED), "--sources", str(count)], stdout=subprocess.PIPE, text=True, check=True)
+    return done.stdout.strip()
 
 
 def build_reference(folder):
@@ -72,9 +80,13 @@ def jobs_of(count, mean):
             yield f"{count}, {share} mean lengths, {workers}", delta, workers
 
 
-def time_sources(ours, plain, folder, gr, vertices, count, mean, runs):
-    ss, expected, trees = (os.path.join(folder, name) for name in ("sources", "expected", "trees"))
-    module("graphs").write_sources(ss, vertices, count, SEED)
+def time_sources(ours, plain, folder, vertices, count, runs):
+    gr, ss, expected, trees = (os.path.join(folder, name) for name in ("roads.gr", "sources.ss", "expected", "trees"))
+    told = make_graph(gr, ss, vertices, count)
+    mean = int(re.search(r"mean length (\d+)", told).group(1))
+    print(f"{told}, {os.path.getsize(gr) / 2**20:.1f} MiB\n")
+    print("| sources, delta, workers | read, ms | rows, ms | solve, ms | write, ms | whole, ms | ratio | peak, MiB |")
+    print("|---|---|---|---|---|---|---|---|")
     best = {}
 
     def keep(job, found):
@@ -90,6 +102,7 @@ def time_sources(ours, plain, folder, gr, vertices, count, mean, runs):
                 sys.exit(f"whole: the trees differ: {job}")
     for job, found in best.items():
         print_row(job, found, best.get(f"{count}, C++"))
+    print(flush=True)
 
 
 def main():
@@ -103,14 +116,8 @@ def main():
         plain = build_reference(folder)
         if plain is None:
             print("whole: no C++ compiler: ours alone", file=sys.stderr)
-        gr = os.path.join(folder, "roads.gr")
-        arcs, mean = module("graphs").write_graph(gr, "roads", chosen.vertices, SEED)
-        print(f"{chosen.vertices:,} vertices, {arcs:,} arcs of mean length {mean}, {os.path.getsize(gr) / 2**20:.1f} MiB")
-        print()
-        print("| sources, delta, workers | read, ms | rows, ms | solve, ms | write, ms | whole, ms | ratio | peak, MiB |")
-        print("|---|---|---|---|---|---|---|---|")
         for count in (1, 10):
-            time_sources(ours, plain, folder, gr, chosen.vertices, count, mean, chosen.runs)
+            time_sources(ours, plain, folder, chosen.vertices, count, chosen.runs)
 
 
 if __name__ == "__main__":

@@ -15,10 +15,13 @@ use std::alloc::Global;
 use std::sync::Wait;
 use std::thread::Threads;
 
+// As many tasks take about as long as starting and joining a thread.
+const LEAST_SHARED: usize = 1000;
+
 /// The shortest-path tree from the source, or the vertex that is too far for a word of `P` bits of predecessor.
 ///
 /// `delta` is the width of a bucket, `workers` the number of threads, the leader counted. The answer is the same for
-/// each of both.
+/// each of both. Short rounds are the leader's alone.
 pub fn run_source<const P: u32, R: Threads + Wait + Sync>(
     rt: &R,
     alloc: Global,
@@ -34,10 +37,12 @@ pub fn run_source<const P: u32, R: Threads + Wait + Sync>(
     ensures tree { IfOk result (IsAnswer P graph.now source) }
     ensures refused { IfErr result (IsRefusal P graph.now source) }
 {
-    run_source_with(rt, alloc, graph, delta, workers, source, &OpenGate)
+    let (tables, caller, claimer) = Store::new(alloc, graph, delta, source)?;
+    let store = tables.sharing_from(LEAST_SHARED);
+    run_stored(rt, alloc, &store, caller, claimer, workers, &OpenGate)
 }
 
-/// The same, with a gate round every offer of its rounds.
+/// The same, with a gate round every offer of its rounds, each of which is shared among the workers.
 pub fn run_source_with<const P: u32, R: Threads + Wait + Sync, G: Gate + Sync>(
     rt: &R,
     alloc: Global,

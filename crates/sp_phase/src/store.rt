@@ -32,6 +32,7 @@ pub struct Store<'g, const P: u32> {
     rows: Rows,
     table: OfferTable<Walks<'g>, P>,
     claims: ClaimTable,
+    least: usize,
 }
 
 impl<'g, const P: u32> Model for Store<'g, P> {
@@ -96,8 +97,20 @@ impl<'g, const P: u32> Store<'g, P> {
             rows,
             table,
             claims,
+            least: 0,
         };
         Ok((store, caller, claimer))
+    }
+
+    /// The same tables, with rounds of fewer tasks left to the leader alone: starting threads takes longer than a short
+    /// round.
+    pub fn sharing_from(self, tasks: usize) -> Store<'g, P>
+        ensures { result ≡ self.entry }
+    {
+        Store {
+            least: tasks,
+            ..self
+        }
     }
 
     /// How many vertices there are.
@@ -175,6 +188,14 @@ impl<'g, const P: u32> Store<'g, P> {
         self.table.copy_words(caller, words);
     }
 
+    // How many of the workers share a round of so many tasks.
+    fn workers_for(&self, tasks: usize, workers: u32) -> u32
+        requires { (1 ≤ workers) × (workers ≤ 64) }
+        ensures { (1 ≤ result) × (result ≤ 64) }
+    {
+        if tasks < self.least { 1 } else { workers }
+    }
+
     /// Runs a round of tasks. A refusal spends the caller and the claimer.
     pub(crate) fn run_tasks<R: Threads + Wait + Sync, G: Gate + Sync>(
         &self,
@@ -201,7 +222,7 @@ impl<'g, const P: u32> Store<'g, P> {
             rows: &self.rows,
             tasks,
             number,
-            workers,
+            workers: self.workers_for(tasks.len(), workers),
         };
         match run_round(rt, alloc, &round, caller, claimer, gate) {
             Ok(out) => Ok(out),

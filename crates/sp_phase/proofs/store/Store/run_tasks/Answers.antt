@@ -17,7 +17,7 @@ run_round-requires-after_bounds g c κs within =
       (
         c.self.invariant.0.layout,
         (
-          c.requires.workers,
+          c.workers_for.ensures,
           (
             of.vertices ∙ sym rows,
             (
