@@ -5,3 +5,4 @@ pub mod Staging
 pub mod Rounds
 pub mod Sweeping
 pub mod Settled
+pub mod Tested

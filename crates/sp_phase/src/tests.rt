@@ -13,7 +13,9 @@ use std::test::Fail;
 use std::thread::Threads;
 
 mod meeting;
+mod random;
 mod settling;
+mod watching;
 
 const WORKERS: [u32; 3] = [1, 2, 64];
 

@@ -4,6 +4,7 @@ ghost use Rattle.sp_phase.specs.Progress.{IsUnspent};
 
 use super::{DIAMOND, WORKERS, graph_of};
 use crate::{Run, Store};
+use sp_claim::Claimer;
 use sp_graph::Graph;
 use sp_offer::Caller;
 use sp_task::OpenGate;
@@ -48,6 +49,88 @@ fn settle_answers(rt: HostRuntime) -> Result<(), Fail> {
         assert!(rt; told.as_slice() == [Some(0u64), Some(1), Some(2), Some(3), None].as_slice());
         let told = answers(&rt, &graph, 100, workers)?;
         assert!(rt; told.as_slice() == [Some(0u64), None].as_slice());
+    }
+    Ok(())
+}
+
+// The words of vertices 2, 3 and 4 after one more bucket.
+fn words_after(
+    rt: &(impl Abort + AllocGlobal + Threads + Wait + Sync),
+    run: &mut Run<28>,
+    bucket: u64,
+) -> Result<(Word<28>, Word<28>, Word<28>), Fail>
+    requires { 4 ≤ run.old.stage.graph.n }
+    ensures { run.new.stage ≡ run.old.stage }
+{
+    let told = run.settle(rt, &OpenGate)?;
+    assert_eq!(rt; told, Some(bucket));
+    Ok((run.read(2), run.read(3), run.read(4)))
+}
+
+// The words after the first two buckets of a run from vertex 1, two wide.
+fn settled_words(
+    rt: &(impl Abort + AllocGlobal + Threads + Wait + Sync),
+    store: &Store<28>,
+    caller: Caller,
+    claimer: Claimer,
+    workers: u32,
+) -> Result<[(Word<28>, Word<28>, Word<28>); 2], Fail>
+    requires n { 4 ≤ store.now.graph.n }
+    requires caller { caller.table ≡ store.now.table }
+    requires claimer { claimer.table ≡ store.now.claims }
+    requires workers { (1 ≤ workers) × (workers ≤ 64) }
+{
+    let mut run = Run::begin(rt.alloc(), store, caller, claimer, workers)?;
+    let first = words_after(rt, &mut run, 0)?;
+    run.heavy(rt, &OpenGate)?;
+    let second = words_after(rt, &mut run, 1)?;
+    Ok([first, second])
+}
+
+#[test]
+fn reads_after_settled_buckets(rt: HostRuntime) -> Result<(), Fail> {
+    let graph = graph_of(&rt, 4, &DIAMOND)?;
+    for workers in WORKERS {
+        assert!(rt; graph.n() == 4);
+        let (store, caller, claimer) = Store::<28>::new(rt.alloc(), &graph, 2, 1)?;
+        let [first, second] = settled_words(&rt, &store, caller, claimer, workers)?;
+        assert!(rt; first.0.is_unreached());
+        assert!(rt; second.0 == Word::pack(3, 1) && second.1 == Word::pack(3, 1));
+        assert!(rt; second.2 == Word::pack(5, 2));
+    }
+    Ok(())
+}
+
+// Offers the head of a short arc that leaves the source its length.
+fn offer_first(store: &Store<28>, caller: &mut Caller, head: u32)
+    requires { caller.old.table ≡ store.now.table }
+    ensures { caller.new.table ≡ caller.old.table }
+{
+    let _ = store.n();
+    for arc in store.arcs() {
+        if arc.tail == store.source() && arc.head == head && arc.len <= 1000 {
+            let word = Word::pack(u64::from(arc.len), arc.tail);
+            store.table().offer(caller, head, word);
+            return;
+        }
+    }
+}
+
+// Another caller, split off before the run began, offered (3, 1) to vertex 2.
+#[test]
+fn reads_beside_another_caller(rt: HostRuntime) -> Result<(), Fail> {
+    let graph = graph_of(&rt, 4, &DIAMOND)?;
+    for workers in WORKERS {
+        assert!(rt; graph.n() == 4);
+        let (store, caller, claimer) = Store::<28>::new(rt.alloc(), &graph, 2, 1)?;
+        let Ok((caller, mut other)) = store.table().split(caller) else {
+            panic!(rt; "a split was refused")
+        };
+        offer_first(&store, &mut other, 2);
+        let [first, second] = settled_words(&rt, &store, caller, claimer, workers)?;
+        assert!(rt; first.0 == Word::pack(3, 1));
+        assert!(rt; second.0 == Word::pack(3, 1) && second.1 == Word::pack(3, 1));
+        assert!(rt; second.2 == Word::pack(5, 2));
     }
     Ok(())
 }
