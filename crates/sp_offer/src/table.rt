@@ -114,6 +114,7 @@ impl<L: Lawful, const P: u32> OfferTable<L, P> {
         ensures one { M.is_one_step ≡ true → result.tries ≡ 1 }
         ensures own { own_calls caller.new.story ≡ own_calls caller.old.story ++ event caller.old.number vertex (Offer word.entry result.found result.reply) ∷ [] }
     {
+        // The word's range is known once it is read.
         let _ = word.dist();
         let (bits, tries) = M::lower(&self.words, &mut caller.seat, vertex, word.bits());
         let found = Word::from_bits(bits);
