@@ -1,5 +1,6 @@
 -- Numbers, digit by digit.
-use Rattle.std.proofs.Common.{◌≡◌, ℕ, zero, suc, ◌+◌, ◌-◌, ◌*◌, ◌<◌, ◌≤◌, ◌&&◌, Bool, true, false, List, [], ◌∷◌, ◌++◌, length, get_or, take, drop, refl, ap, subst, ◌∙◌, arith, take-append-drop}
+use Rattle.std.proofs.Common.{◌≡◌, ℕ, zero, suc, ◌+◌, ◌-◌, ◌*◌, ◌%◌, ◌^◌, ◌<◌, ◌≤◌, ◌&&◌, Bool, true, false, List, [], ◌∷◌, ◌++◌, length, get_or, take, drop, refl, ap, subst, ◌∙◌, arith, add-one, take-append-drop}
+use Rattle.std.proofs.Math.Nat.{pow-le-pow_right, pow-suc, mod-eq_of_lt}
 use Rattle.std.proofs.lemmas.List.{take_more}
 use Rattle.std.proofs.lemmas.Bool.Decides.{nat_tests}
 use Rattle.std.specs.List.{list_all}
@@ -13,6 +14,21 @@ value_after-push n (e ∷ ds) d = value_after-push (10 * n + (e - 48)) ds d
 
 pub value_more : (ds : List ℕ) (i : ℕ) → i < length ds → value (take (i + 1) ds) ≡ 10 * value (take i ds) + (get_or ds i 0 - 48)
 value_more ds i within = ap (value_after 0) (take_more ds i 0 within) ∙ value_after-push 0 (take i ds) (get_or ds i 0)
+
+digit_small : (b : ℕ) → is_ascii_digit b ≡ true → b - 48 ≤ 9
+digit_small b digit = grind (arith, nat_tests)
+
+-- One more digit, where numbers are taken modulo 2^64 and are too small for that to matter.
+pub wrapped_more : (ds : List ℕ) (i v w : ℕ) → i < length ds → i + 1 ≤ 19 → v ≡ value (take i ds) → v < 10 ^ i → is_ascii_digit (get_or ds i 0) ≡ true
+    → w ≡ (v * 10 % 2 ^ 64 + (get_or ds i 0 - 48)) % 2 ^ 64 → (w ≡ value (take (i + 1) ds)) × (w < 10 ^ (i + 1))
+wrapped_more ds i v w within few is below digit sum =
+    let small : get_or ds i 0 - 48 ≤ 9 = digit_small (get_or ds i 0) digit in
+    let power : 10 ^ i ≤ 10 ^ 18 = pow-le-pow_right {n = 10} (omega arith) {i = i} {j = 18} (omega arith) in
+    let ten : 10 ^ (i + 1) ≡ 10 ^ i * 10 = rw add-one (pow-suc 10 i) in
+    let product : v * 10 % 2 ^ 64 ≡ v * 10 = mod-eq_of_lt (omega arith) in
+    let total : (v * 10 + (get_or ds i 0 - 48)) % 2 ^ 64 ≡ v * 10 + (get_or ds i 0 - 48) = mod-eq_of_lt (omega arith) in
+    let same : w ≡ v * 10 + (get_or ds i 0 - 48) = sum ∙ rw product total in
+    (omega (arith, value_more ds i within), omega arith)
 
 -- Digits make a number no smaller.
 value_after_ge : (n : ℕ) (ds : List ℕ) → n ≤ value_after n ds

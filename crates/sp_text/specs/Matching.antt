@@ -1,5 +1,7 @@
 -- What a line was found to be.
-use Rattle.std.specs.Prelude.{◌≡◌, ℕ, List, [], ◌∷◌, ◌++◌, slice_get, slice_index, Option, Some, None}
+use Rattle.std.specs.Prelude.{◌≡◌, ℕ, true, ◌&&◌, nat_le, List, [], ◌∷◌, ◌++◌, slice_get, slice_index, Option, Some, None, Result, Ok, Err}
+use Rattle.std.specs.Borrow.{Bor}
+use Rattle.sp_text.specs.Lines.{parted}
 use Rattle.sp_text.specs.declared.layouts.Ranges.{Ranges}
 use Rattle.sp_text.specs.declared.layouts.Field.{Field}
 use Rattle.sp_text.specs.declared.matching.Numbers.{Numbers}
@@ -9,7 +11,7 @@ use Rattle.sp_text.specs.declared.matching.Spelled.TheVariants.{No, Out, Within}
 use Rattle.sp_text.specs.declared.reading.Found.{Found}
 use Rattle.sp_text.specs.declared.reading.Found.TheVariants as founds
 use Rattle.sp_text.specs.Formats.{Format, form_of, IsSmallForm}
-use Rattle.sp_text.specs.Text.{Reading, Comment, Bad, IsProblem, IsItem, Item, first_out, first_letter}
+use Rattle.sp_text.specs.Text.{Reading, Comment, Bad, IsProblem, IsItem, Item, with_number, numbers, top, first_out, first_letter}
 
 -- Of numbers of which the one with this letter is out of its range, these stand in front of it.
 abbrev pub IsFront : List Field → List ℕ → ℕ → List ℕ → Type 0
@@ -21,6 +23,14 @@ abbrev pub Spells : Ranges → List ℕ → List Field → Option (List ℕ) →
 Spells ranges ps ds found old new No = found ≡ None
 Spells ranges ps ds found old new (Out letter) = (ns part : List ℕ) × (found ≡ Some ns) × (first_out ranges ps ds ns ≡ Some letter) × (new ≡ old ++ part) × IsFront ds ns letter part
 Spells ranges ps ds found old new Within = (ns : List ℕ) × (found ≡ Some ns) × (first_out ranges ps ds ns ≡ None) × (new ≡ old ++ ns)
+
+-- The number of the first field is this one, and in its range, and the numbers of the others are what stands
+-- behind it; or the fields are not those of the form; or the first number is out of its range.
+abbrev pub NumberTaken : Ranges → List ℕ → Field → List Field → Option (List ℕ) → Result (ℕ × Bor (List ℕ)) Spelled → Type 0
+NumberTaken ranges ps d ds found (Ok (n, rest)) = (found ≡ with_number n (numbers ds (parted [] rest.now))) × ((nat_le d.least n && nat_le n (top ranges ps d.most)) ≡ true)
+NumberTaken ranges ps d ds found (Err No) = found ≡ None
+NumberTaken ranges ps d ds found (Err (Out letter)) = (letter ≡ d.letter) × (ns : List ℕ) × (found ≡ Some ns) × (first_out ranges ps (d ∷ ds) ns ≡ Some letter)
+NumberTaken ranges ps d ds found (Err Within) = ⊥
 
 abbrev pub Are : Ranges → List ℕ → List Field → List ℕ → Numbers → Type 0
 Are ranges ps ds ns (lists.Out letter values) = (first_out ranges ps ds ns ≡ Some letter) × IsFront ds ns letter values

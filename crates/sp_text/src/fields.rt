@@ -26,6 +26,7 @@ fn run(text: &[u8], blanks: bool) -> usize
 }
 
 /// A line without the CR at its end.
+#[inline(always)]
 pub(crate) fn drop_cr(line: &[u8]) -> &[u8]
     ensures { result.now ≡ without_cr line.now }
 {
@@ -36,6 +37,7 @@ pub(crate) fn drop_cr(line: &[u8]) -> &[u8]
 }
 
 /// The text without the blanks at its front.
+#[inline(always)]
 pub(crate) fn skip_blanks(text: &[u8]) -> &[u8]
     ensures { parted [] result.now ≡ parted [] text.now }
 {
@@ -56,6 +58,7 @@ pub(crate) fn next_field(text: &[u8]) -> Option<(&[u8], &[u8])>
 }
 
 /// Whether the first field begins with another byte than this one, as far as the first byte shows it.
+#[inline(always)]
 pub(crate) fn starts_otherwise(text: &[u8], byte: u8) -> bool
     ensures { result ≡ true → StartsOtherwise text.now byte }
 {

@@ -1,15 +1,16 @@
 //! A line against the forms of a file.
-ghost use Rattle.std.specs.Prelude.{◌≡◌, ◌+◌, ◌≤◌, ℕ, List, [], ◌∷◌, length, slice_index, true, None, MatchOption};
+ghost use Rattle.std.specs.Prelude.{◌≡◌, ◌+◌, ◌≤◌, ℕ, List, [], ◌∷◌, length, slice_index, true, Some, None, IfSome, MatchOption, MatchBool};
 ghost use Rattle.sp_text.specs.Lines.{parted};
 ghost use Rattle.sp_text.specs.declared.layouts.Field.{Field};
+ghost use Rattle.sp_text.specs.declared.layouts.Ranges.{Ranges};
 ghost use Rattle.sp_text.specs.Formats.{form_of};
 ghost use Rattle.sp_text.specs.Numeral.{numeral};
 ghost use Rattle.sp_text.specs.Text.{top, numbers, behind_words, of_form};
-ghost use Rattle.sp_text.specs.Matching.{Spells, Matched};
+ghost use Rattle.sp_text.specs.Matching.{NumberTaken, Spells, Matched};
 
-use crate::fields::{next_field, skip_blanks, starts_otherwise};
+use crate::fields::{next_field, parts_fields, skip_blanks, starts_otherwise};
 use crate::layouts::{Field, Form, Ranges, Top};
-use crate::numbers::{Numeral, number, quick_number, ranged, starts_number};
+use crate::numbers::{Numeral, number, quick_number, ranged, spells_number, starts_number};
 use crate::rooms::Values;
 
 /// The numbers of a line that has a form.
@@ -30,6 +31,7 @@ enum Spelled {
 }
 
 /// The greatest value of a field, where the problem line had these numbers.
+#[inline(always)]
 pub(crate) fn greatest(most: Top, ranges: &Ranges, problem: &Values) -> u64
     ensures { result ≡ top ranges.now problem.now most }
 {
@@ -55,6 +57,15 @@ impl Numbers {
 }
 
 // The first field as a number, and what stands after it.
+fn next_number(text: &[u8], least: u64, most: u64) -> Option<(Numeral, &[u8])>
+    ensures { MatchOption result (parted [] text.now ≡ []) (λ x. (field : List ℕ) × (parted [] text.now ≡ field ∷ parted [] x.1.now) × (x.0 ≡ numeral field least most)) }
+{
+    let (field, rest) = next_field(text)?;
+    Some((number(field, least, most), rest))
+}
+
+// The same, quickly where the number has few digits.
+#[inline(always)]
 fn next_numeral(text: &[u8], least: u64, most: u64) -> Option<(Numeral, &[u8])>
     ensures { MatchOption result (parted [] text.now ≡ []) (λ x. (field : List ℕ) × (parted [] text.now ≡ field ∷ parted [] x.1.now) × (x.0 ≡ numeral field least most)) }
 {
@@ -65,11 +76,67 @@ fn next_numeral(text: &[u8], least: u64, most: u64) -> Option<(Numeral, &[u8])>
             return Some((ranged(value, least, most), rest));
         }
     }
-    let (field, rest) = next_field(start)?;
-    Some((number(field, least, most), rest))
+    next_number(start, least, most)
+}
+
+// Whether the fields of the text are numbers, one for each of these, and nothing else.
+fn are_numbers(fields: &[Field], text: &[u8]) -> bool
+    ensures { MatchBool result ((ns : List ℕ) × (numbers fields.now (parted [] text.now) ≡ Some ns)) (numbers fields.now (parted [] text.now) ≡ None) }
+{
+    let [_, more @ ..] = fields else {
+        return next_field(text).is_none();
+    };
+    let Some((field, rest)) = next_field(text) else {
+        return false;
+    };
+    if !spells_number(field) {
+        return false;
+    }
+    are_numbers(more, rest)
+}
+
+// The number of the next field, which is this one, and what stands after it; or what the line is, where it is
+// none of its form, or the number is out of its range. These fields come behind.
+#[inline(always)]
+fn take_number<'a>(
+    field: &Field,
+    more: &[Field],
+    ranges: &Ranges,
+    problem: &Values,
+    text: &'a [u8],
+) -> Result<(u64, &'a [u8]), Spelled>
+    ensures { NumberTaken ranges.now problem.now field.now more.now (numbers (field.now ∷ more.now) (parted [] text.now)) result }
+{
+    let most = greatest(field.most, ranges, problem);
+    let Some((numeral, rest)) = next_numeral(text, field.least, most) else {
+        return Err(Spelled::No);
+    };
+    match numeral {
+        Numeral::Bad => Err(Spelled::No),
+        Numeral::Out => {
+            if are_numbers(more, rest) {
+                return Err(Spelled::Out(field.letter));
+            }
+            Err(Spelled::No)
+        }
+        Numeral::Value(n) => Ok((n, rest)),
+    }
+}
+
+// What a line is where no field is left, and this text is.
+#[inline(always)]
+fn end_numbers(text: &[u8]) -> Spelled
+    ensures { (ranges : Ranges) (ps values : List ℕ) → Spells ranges ps [] (numbers [] (parted [] text.now)) values values result }
+{
+    if next_field(text).is_none() {
+        Spelled::Within
+    } else {
+        Spelled::No
+    }
 }
 
 // Puts the numbers of the line behind the values, one for each field, and nothing else on the line.
+#[inline(always)]
 fn take_numbers(
     fields: &[Field],
     ranges: &Ranges,
@@ -80,32 +147,40 @@ fn take_numbers(
     requires { length values.old + length fields.now ≤ 4 }
     ensures { Spells ranges.now problem.now fields.now (numbers fields.now (parted [] text.now)) values.old values.new result }
 {
-    let [field, more @ ..] = fields else {
-        return if next_field(text).is_none() {
-            Spelled::Within
-        } else {
-            Spelled::No
-        };
-    };
-    let most = greatest(field.most, ranges, problem);
-    let Some((numeral, rest)) = next_numeral(text, field.least, most) else {
-        return Spelled::No;
-    };
-    match numeral {
-        Numeral::Bad => Spelled::No,
-        Numeral::Out => match take_numbers(more, ranges, problem, rest, &mut Values::new()) {
-            Spelled::No => Spelled::No,
-            _ => Spelled::Out(field.letter),
-        },
-        Numeral::Value(n) => {
-            values.push(n);
-            take_numbers(more, ranges, problem, rest, values)
+    let mut fields = fields;
+    let mut rest = text;
+    while let [field, more @ ..] = fields {
+        match take_number(field, more, ranges, problem, rest) {
+            Ok((n, after)) => {
+                values.push(n);
+                fields = more;
+                rest = after;
+            }
+            Err(spelled) => return spelled,
         }
     }
+    end_numbers(rest)
+}
+
+// What stands behind a letter, if the words are that letter alone, and the line begins with it and a blank.
+#[inline(always)]
+fn after_letter<'a>(words: &[u8], text: &'a [u8]) -> Option<&'a [u8]>
+    ensures { IfSome result (λ rest. (ds : List Field) → behind_words (parted [] words.now) ds (parted [] text.now) ≡ numbers ds (parted [] rest.now)) }
+{
+    let [letter] = words else {
+        return None;
+    };
+    let [first, blank, rest @ ..] = text else {
+        return None;
+    };
+    if first != letter || parts_fields(*first) || !parts_fields(*blank) {
+        return None;
+    }
+    Some(rest)
 }
 
 // What stands behind the words, if the line begins with them.
-fn after_words<'a>(words: &[u8], text: &'a [u8]) -> Option<&'a [u8]>
+fn after_fields<'a>(words: &[u8], text: &'a [u8]) -> Option<&'a [u8]>
     ensures { (ds : List Field) → MatchOption result (behind_words (parted [] words.now) ds (parted [] text.now) ≡ None)
         (λ rest. behind_words (parted [] words.now) ds (parted [] text.now) ≡ numbers ds (parted [] rest.now)) }
 {
@@ -122,7 +197,20 @@ fn after_words<'a>(words: &[u8], text: &'a [u8]) -> Option<&'a [u8]>
     Some(rest)
 }
 
+// The same, quickly where the words are a letter.
+#[inline(always)]
+fn after_words<'a>(words: &[u8], text: &'a [u8]) -> Option<&'a [u8]>
+    ensures { (ds : List Field) → MatchOption result (behind_words (parted [] words.now) ds (parted [] text.now) ≡ None)
+        (λ rest. behind_words (parted [] words.now) ds (parted [] text.now) ≡ numbers ds (parted [] rest.now)) }
+{
+    match after_letter(words, text) {
+        Some(rest) => Some(rest),
+        None => after_fields(words, text),
+    }
+}
+
 // Whether the first bytes show that the line does not begin with the words.
+#[inline(always)]
 fn begins_otherwise(words: &[u8], text: &[u8]) -> bool
     ensures { result ≡ true → (ds : List Field) → behind_words (parted [] words.now) ds (parted [] text.now) ≡ None }
 {
@@ -133,6 +221,7 @@ fn begins_otherwise(words: &[u8], text: &[u8]) -> bool
 }
 
 /// The numbers of a line of this form, where the problem line had these.
+#[inline(always)]
 #[tactic(auto, unfolding(crate::specs::Text::of_form))]
 pub(crate) fn match_form(
     form: &Form,

@@ -1,5 +1,5 @@
 //! Numbers of any number of digits.
-ghost use Rattle.std.specs.Prelude.{◌≡◌, ◌≤◌, ◌^◌, true, IfSome, MatchOption};
+ghost use Rattle.std.specs.Prelude.{◌≡◌, ◌≤◌, ◌^◌, length, take, true, IfSome, MatchOption};
 ghost use Rattle.std.specs.List.{list_all};
 ghost use Rattle.std.specs.Char.{is_ascii_digit};
 ghost use Rattle.sp_text.specs.Lines.{value, is_number};
@@ -17,8 +17,8 @@ pub enum Numeral {
     Value(u64),
 }
 
-// A value up to this has room for one more digit.
-const ROOMY: u64 = 1_844_674_407_370_955_160;
+// As many digits spell a number below 2^64, whatever they are.
+const FEW_DIGITS: usize = 19;
 
 // The number that the digits spell, if it fits.
 fn value_of(digits: &[u8]) -> Option<u64>
@@ -38,8 +38,9 @@ fn all_digits(bytes: &[u8]) -> bool
     bytes.iter().all(|b| b.is_ascii_digit())
 }
 
+/// Whether a field spells a number.
 #[tactic(auto, unfolding(crate::specs::Lines::is_number))]
-fn spells_number(field: &[u8]) -> bool
+pub(crate) fn spells_number(field: &[u8]) -> bool
     ensures { result ≡ is_number field.now }
 {
     match field {
@@ -63,6 +64,7 @@ fn long_number(field: &[u8], least: u64, most: u64) -> Numeral
 }
 
 /// The number, if it is from `least` to `most`.
+#[inline(always)]
 pub(crate) fn ranged(value: u64, least: u64, most: u64) -> Numeral
     ensures { result ≡ ranged value least most }
 {
@@ -73,25 +75,38 @@ pub(crate) fn ranged(value: u64, least: u64, most: u64) -> Numeral
     }
 }
 
-/// The number that the digits at the front spell and where they end, if a blank or nothing stands there,
-/// and the number is not large.
-pub(crate) fn quick_number(text: &[u8]) -> Option<(u64, usize)>
-    ensures { IfSome result (λ x. IsQuick text.now x.0 x.1) }
+// The number that the digits at the front spell, if they are few, and how many there are.
+#[inline(always)]
+fn front_digits(text: &[u8]) -> (u64, usize)
+    ensures within { result.1 ≤ length text.now }
+    ensures digits { list_all is_ascii_digit (take result.1 text.now) ≡ true }
+    ensures number { result.1 ≤ 19 → result.0 ≡ value (take result.1 text.now) }
 {
     let mut value: u64 = 0;
     for (end, byte) in text.iter().enumerate() {
-        if parts_fields(*byte) {
-            return Some((value, end));
+        if !byte.is_ascii_digit() {
+            return (value, end);
         }
-        if !byte.is_ascii_digit() || value > ROOMY {
-            return None;
-        }
-        value = 10 * value + (*byte - b'0') as u64;
+        value = value.wrapping_mul(10).wrapping_add((*byte - b'0') as u64);
     }
-    Some((value, text.len()))
+    (value, text.len())
+}
+
+/// The number that the digits at the front spell and where they end, if a blank or nothing stands there,
+/// and they are few.
+#[inline(always)]
+pub(crate) fn quick_number(text: &[u8]) -> Option<(u64, usize)>
+    ensures { IfSome result (λ x. IsQuick text.now x.0 x.1) }
+{
+    let (value, end) = front_digits(text);
+    if end > FEW_DIGITS || end < text.len() && !parts_fields(text[end]) {
+        return None;
+    }
+    Some((value, end))
 }
 
 /// Whether there is a byte, and no zero leads others.
+#[inline(always)]
 pub(crate) fn starts_number(field: &[u8]) -> bool
     ensures { result ≡ starts_number field.now }
 {

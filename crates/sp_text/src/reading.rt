@@ -20,6 +20,7 @@ pub enum Found {
     Item(usize, &'static Form, Numbers),
 }
 
+#[inline(always)]
 fn is_remark(text: &[u8]) -> bool
     ensures { result ≡ is_comment (parted [] text.now) }
 {
@@ -33,6 +34,7 @@ fn is_remark(text: &[u8]) -> bool
 }
 
 /// What a line is, where the problem line had these numbers.
+#[inline(always)]
 #[tactic(auto, unfolding(crate::specs::Text::reading, crate::specs::Text::reading_of, crate::specs::Lines::fields))]
 pub(crate) fn read_line(layout: &Layout, ranges: &Ranges, problem: &Values, line: &[u8]) -> Found
     requires { IsSmall layout.now }
