@@ -27,14 +27,13 @@ IsLf bytes k = eqb (get_or bytes k 0) 10 ≡ true
 pub run_whole : (waits bytes : List ℕ) → bytes ≡ waits → ((k : ℕ) → 0 ≤ k → k < length bytes → IsLf bytes k → ⊥) → HasNoLf waits
 run_whole waits bytes same none = subst HasNoLf same (no_lf bytes none)
 
-pub line_too_long : (waits bytes room : List ℕ) (left : ℕ) → bytes ≡ waits → ((k : ℕ) → 0 ≤ k → k < length bytes → IsLf bytes k → ⊥) → left + length room ≡ 1024 → left < length bytes
+pub line_too_long : (waits bytes room : List ℕ) → bytes ≡ waits → ((k : ℕ) → 0 ≤ k → k < length bytes → IsLf bytes k → ⊥) → 1024 < length (room ++ bytes)
     → (run more : List ℕ) × HasNoLf run × (waits ≡ run ++ more) × (1024 < length (room ++ run))
-line_too_long waits bytes room left same none full over = (bytes, [], no_lf bytes none, sym same ∙ sym (append-nil bytes), omega (arith, length-append room bytes))
+line_too_long waits bytes room same none over = (bytes, [], no_lf bytes none, sym same ∙ sym (append-nil bytes), over)
 
-pub run_too_long : (waits bytes room : List ℕ) (n left : ℕ) → bytes ≡ waits → n < length bytes → ((k : ℕ) → 0 ≤ k → k < n → IsLf bytes k → ⊥) → left + length room ≡ 1024 → left < n
+pub run_too_long : (waits bytes room : List ℕ) (n : ℕ) → bytes ≡ waits → ((k : ℕ) → 0 ≤ k → k < n → IsLf bytes k → ⊥) → 1024 < length (room ++ take n bytes)
     → (run more : List ℕ) × HasNoLf run × (waits ≡ run ++ more) × (1024 < length (room ++ run))
-run_too_long waits bytes room n left same within before full over =
-    (take n bytes, drop n bytes, no_lf_before bytes n before, sym same ∙ sym (take-append-drop n bytes), omega (arith, length-append room (take n bytes), length-take-le n bytes (omega arith)))
+run_too_long waits bytes room n same before over = (take n bytes, drop n bytes, no_lf_before bytes n before, sym same ∙ sym (take-append-drop n bytes), over)
 
 pub run_ended : (waits bytes room line after : List ℕ) (n : ℕ) → bytes ≡ waits → n < length bytes → ((k : ℕ) → 0 ≤ k → k < n → IsLf bytes k → ⊥) → IsLf bytes n → line ≡ room ++ take n bytes → after ≡ drop (n + 1) waits
     → (run : List ℕ) × HasNoLf run × (waits ≡ run ++ 10 ∷ after) × (line ≡ room ++ run)

@@ -1,5 +1,5 @@
 //! The lines of a text, one after the other.
-ghost use Rattle.std.specs.Prelude.{◌≡◌, ◌+◌, ◌-◌, ◌^◌, ◌≤◌, ◌++◌, ◌∷◌, [], ℕ, List, Option, Some, Err, Ok, IfOk, length, min, OnOk};
+ghost use Rattle.std.specs.Prelude.{◌≡◌, ◌+◌, ◌-◌, ◌^◌, ◌≤◌, ◌++◌, ◌∷◌, [], ℕ, List, Option, Some, Err, Ok, IfOk, IfErr, OnOk, ◌<◌, length, min};
 ghost use Rattle.sp_text.specs.declared.faults.DimacsError.{DimacsError};
 ghost use Rattle.sp_dimacs.specs.LineReading.{RunTaken, LineRead};
 
@@ -15,6 +15,19 @@ pub enum State {
     Refused(DimacsError),
 }
 
+// Puts bytes behind those of a line, if it has room for them.
+fn extend(room: &mut Room, bytes: &[u8]) -> Result<(), Kind>
+    ensures pushed { OnOk result (room.new ≡ room.old ++ bytes.now) }
+    ensures short { OnOk result (length room.new ≤ 1024) }
+    ensures long { IfErr result (λ kind. (kind ≡ Kind.LongLine) × (1024 < length (room.old ++ bytes.now))) }
+{
+    if room.room_left() < bytes.len() {
+        return Err(Kind::LongLine);
+    }
+    room.push(bytes);
+    Ok(())
+}
+
 // Moves bytes up to an LF, and takes the LF away; or all of them, where there is none. It tells whether an
 // LF came.
 fn take_run(piece: &mut Piece, room: &mut Room) -> Result<bool, Kind>
@@ -23,17 +36,15 @@ fn take_run(piece: &mut Piece, room: &mut Room) -> Result<bool, Kind>
 {
     let bytes = piece.bytes();
     let Some(end) = memchr(b'\n', bytes) else {
-        if room.room_left() < bytes.len() {
-            return Err(Kind::LongLine);
+        if let Err(kind) = extend(room, bytes) {
+            return Err(kind);
         }
-        room.push(bytes);
         piece.clear();
         return Ok(false);
     };
-    if room.room_left() < end {
-        return Err(Kind::LongLine);
+    if let Err(kind) = extend(room, &bytes[..end]) {
+        return Err(kind);
     }
-    room.push(&bytes[..end]);
     piece.skip(end + 1);
     Ok(true)
 }
