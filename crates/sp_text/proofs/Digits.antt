@@ -54,11 +54,11 @@ is_number_parts (d ∷ []) = and_true (is_ascii_digit d)
 is_number_parts (d ∷ e ∷ more) = refl
 
 -- Digits are no blanks.
-and_parts : (b c : Bool) → (b && c) ≡ true → (b ≡ true) × (c ≡ true)
+pub and_parts : (b c : Bool) → (b && c) ≡ true → (b ≡ true) × (c ≡ true)
 and_parts true c h = (refl, h)
 and_parts false c h = cc
 
-no_blank : (b : ℕ) → is_ascii_digit b ≡ true → is_blank b ≡ false
+pub no_blank : (b : ℕ) → is_ascii_digit b ≡ true → is_blank b ≡ false
 no_blank b digit = grind (arith, nat_tests)
 
 pub digits_no_blanks : (bytes : List ℕ) (k : ℕ) → list_all is_ascii_digit bytes ≡ true → k < length bytes → is_blank (get_or bytes k 0) ≡ false

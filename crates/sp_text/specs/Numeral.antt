@@ -18,6 +18,11 @@ starts_number [] = false
 starts_number (d ∷ []) = true
 starts_number (d ∷ e ∷ more) = not (d == 48)
 
+-- The first byte is a digit, and no zero.
+abbrev pub begins_number : List ℕ → Bool
+begins_number [] = false
+begins_number (d ∷ more) = not (d == 48) && is_ascii_digit d
+
 -- Digits at the front spell a small number, and a blank or nothing stands behind them.
 pub record IsQuick (text : List ℕ) (n end : ℕ) : Type 0 where
   pub within : end ≤ length text

@@ -19,6 +19,11 @@ pub record IsSending {W : Type 0} (written : W → Option (List ℕ)) (passed : 
   pub begun : printer.failed ≡ true → IsBegun text (written start) (written out)
   pub failed : printer.failed ≡ true → has_failed out ≡ true
 
+-- Behind whatever was sent before, this text is sent.
+abbrev pub Sends : {W : Type 0} → (W → Option (List ℕ)) → (W → ℕ) → (W → Bool) → List ℕ → W → Printer → W → Printer → Type 0
+Sends {W = W} written passed has_failed text old before new after =
+    (front : List ℕ) (start : W) → IsSending written passed has_failed front start old before → IsSending written passed has_failed (front ++ text) start new after
+
 -- The text was written, of so many bytes; or the writer has failed, and a beginning of the text stands.
 abbrev pub Finished : {W F : Type 0} → (W → Option (List ℕ)) → (W → Bool) → List ℕ → W → Result ℕ F → W → Type 0
 Finished written has_failed text start (Ok count) out = Appends (written start) (written out) text × (count ≡ length text)

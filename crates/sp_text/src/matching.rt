@@ -10,7 +10,7 @@ ghost use Rattle.sp_text.specs.Matching.{NumberTaken, Spells, Matched};
 
 use crate::fields::{next_field, parts_fields, skip_blanks, starts_otherwise};
 use crate::layouts::{Field, Form, Ranges, Top};
-use crate::numbers::{Numeral, number, quick_number, ranged, spells_number, starts_number};
+use crate::numbers::{Numeral, begins_number, number, quick_number, ranged, spells_number};
 use crate::rooms::Values;
 
 /// The numbers of a line that has a form.
@@ -70,9 +70,9 @@ fn next_numeral(text: &[u8], least: u64, most: u64) -> Option<(Numeral, &[u8])>
     ensures { MatchOption result (parted [] text.now ≡ []) (λ x. (field : List ℕ) × (parted [] text.now ≡ field ∷ parted [] x.1.now) × (x.0 ≡ numeral field least most)) }
 {
     let start = skip_blanks(text);
-    if let Some((value, end)) = quick_number(start) {
-        let (field, rest) = start.split_at(end);
-        if starts_number(field) {
+    if begins_number(start) {
+        if let Some((value, end)) = quick_number(start) {
+            let (_, rest) = start.split_at(end);
             return Some((ranged(value, least, most), rest));
         }
     }

@@ -24,13 +24,7 @@ impl<'a> UpTo<'a> {
         ensures passed { ⟦<UpTo<'a> as Read>⟧.passed result ≡ 0 }
         ensures going { ⟦<UpTo<'a> as Read>⟧.has_failed result ≡ false }
     {
-        UpTo {
-            bytes,
-            most: usize::MAX,
-            passed: 0,
-            fails: false,
-            failed: false,
-        }
+        UpTo::in_pieces(bytes, usize::MAX)
     }
 
     /// Passes the bytes, and then fails.
@@ -40,13 +34,9 @@ impl<'a> UpTo<'a> {
         ensures passed { ⟦<UpTo<'a> as Read>⟧.passed result ≡ 0 }
         ensures going { ⟦<UpTo<'a> as Read>⟧.has_failed result ≡ false }
     {
-        UpTo {
-            bytes,
-            most: usize::MAX,
-            passed: 0,
-            fails: true,
-            failed: false,
-        }
+        let mut device = UpTo::whole(bytes);
+        device.fails = true;
+        device
     }
 
     /// Passes the bytes, at most so many a call, and then ends.

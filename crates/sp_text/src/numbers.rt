@@ -3,7 +3,7 @@ ghost use Rattle.std.specs.Prelude.{◌≡◌, ◌≤◌, ◌^◌, length, take,
 ghost use Rattle.std.specs.List.{list_all};
 ghost use Rattle.std.specs.Char.{is_ascii_digit};
 ghost use Rattle.sp_text.specs.Lines.{value, is_number};
-ghost use Rattle.sp_text.specs.Numeral.{numeral, ranged, starts_number, IsQuick};
+ghost use Rattle.sp_text.specs.Numeral.{numeral, ranged, starts_number, begins_number, IsQuick};
 
 use crate::fields::parts_fields;
 
@@ -105,9 +105,19 @@ pub(crate) fn quick_number(text: &[u8]) -> Option<(u64, usize)>
     Some((value, end))
 }
 
-/// Whether there is a byte, and no zero leads others.
+/// Whether the first byte is a digit, and no zero.
 #[inline(always)]
-pub(crate) fn starts_number(field: &[u8]) -> bool
+pub(crate) fn begins_number(text: &[u8]) -> bool
+    ensures { result ≡ begins_number text.now }
+{
+    match text {
+        [] => false,
+        [first, ..] => *first != b'0' && first.is_ascii_digit(),
+    }
+}
+
+// Whether there is a byte, and no zero leads others.
+fn starts_number(field: &[u8]) -> bool
     ensures { result ≡ starts_number field.now }
 {
     match field {

@@ -1,6 +1,6 @@
 //! A text that is written in blocks.
 ghost use Rattle.std.specs.Prelude.{◌≡◌, ◌+◌, ◌≤◌, ℕ, List, [], ◌++◌, length, decimal, false};
-ghost use Rattle.sp_text.specs.Printing.{IsSending, Finished, Counted};
+ghost use Rattle.sp_text.specs.Printing.{IsSending, Sends, Finished, Counted};
 
 use crate::block::Block;
 use crate::devices::{Write, write_all};
@@ -61,7 +61,7 @@ fn flush<W: Write>(out: &mut W, printer: &mut Printer)
 // Writes bytes while nothing waits.
 fn write_on<W: Write>(out: &mut W, printer: &mut Printer, bytes: &[u8])
     requires { printer.old.block ≡ [] }
-    ensures { (front : List ℕ) (start : W) → IsSending W.written W.passed W.has_failed front start out.old printer.old → IsSending W.written W.passed W.has_failed (front ++ bytes.now) start out.new printer.new }
+    ensures { Sends W.written W.passed W.has_failed bytes.now out.old printer.old out.new printer.new }
 {
     if printer.failed {
         return;
@@ -85,7 +85,7 @@ pub fn make_room<W: Write>(out: &mut W, printer: &mut Printer, room: usize)
 
 /// Sends these bytes too.
 pub fn print_text<W: Write>(out: &mut W, printer: &mut Printer, bytes: &[u8])
-    ensures { (front : List ℕ) (start : W) → IsSending W.written W.passed W.has_failed front start out.old printer.old → IsSending W.written W.passed W.has_failed (front ++ bytes.now) start out.new printer.new }
+    ensures { Sends W.written W.passed W.has_failed bytes.now out.old printer.old out.new printer.new }
 {
     if bytes.len() <= ROOM {
         make_room(out, printer, bytes.len());
@@ -98,7 +98,7 @@ pub fn print_text<W: Write>(out: &mut W, printer: &mut Printer, bytes: &[u8])
 
 /// Sends a number in decimal.
 pub fn print_number<W: Write>(out: &mut W, printer: &mut Printer, n: u64)
-    ensures { (front : List ℕ) (start : W) → IsSending W.written W.passed W.has_failed front start out.old printer.old → IsSending W.written W.passed W.has_failed (front ++ decimal n) start out.new printer.new }
+    ensures { Sends W.written W.passed W.has_failed (decimal n) out.old printer.old out.new printer.new }
 {
     let mut buffer = Buffer::new();
     print_text(out, printer, buffer.format(n).as_bytes());

@@ -8,7 +8,7 @@ use crate::faults::{DimacsError, Kind};
 use crate::feeding::{Feeder, LineTaker};
 
 // As many bytes as are read at a time.
-const PIECE: usize = 16_384;
+const PIECE: usize = 65_536;
 
 // Reads to the end, and feeds what comes.
 fn read_on<R: Read, T: LineTaker + Drop>(
