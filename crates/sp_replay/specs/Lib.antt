@@ -5,4 +5,3 @@ pub mod ReplayFile
 pub mod Offers
 pub mod OfferKeeping
 pub mod ReportText
-pub mod Sending

@@ -1,9 +1,8 @@
 //! The report of a run, written to a device.
 ghost use Rattle.std.specs.Prelude.{◌++◌};
 ghost use Rattle.std.specs.List.{flat_map};
-ghost use Rattle.sp_text.specs.Printing.{IsSending, Finished as Written};
+ghost use Rattle.sp_text.specs.Printing.{IsSending, Sends, Finished as Written};
 ghost use Rattle.sp_replay.specs.ReportText.{call_text, reached_text, reached_from, totals_text, closed_text, report_text};
-ghost use Rattle.sp_replay.specs.Sending.{Sends};
 
 use crate::lines::{CALL_ROOM, END_ROOM, REACHED_ROOM, push_call, push_end, push_reached};
 use sp_machine::{Finished, Report};

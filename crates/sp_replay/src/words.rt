@@ -1,8 +1,7 @@
 //! The words that offers leave, written to a device.
 ghost use Rattle.std.specs.Prelude.{◌≡◌, ◌≤◌, ◌++◌, length};
-ghost use Rattle.sp_text.specs.Printing.{IsSending, Finished as Written};
+ghost use Rattle.sp_text.specs.Printing.{IsSending, Sends, Finished as Written};
 ghost use Rattle.sp_replay.specs.ReportText.{reached_count, count_text, words_text};
-ghost use Rattle.sp_replay.specs.Sending.{Sends};
 
 use crate::lines::{COUNT_ROOM, push_count};
 use crate::reports::send_words;

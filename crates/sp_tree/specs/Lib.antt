@@ -5,4 +5,3 @@ pub mod Fields
 pub mod Taking
 pub mod Silence
 pub mod Reading
-pub mod Sending
