@@ -8,12 +8,11 @@ use sp_dimacs::{GrFile, OfRead, OfWrite, SsFile, Write, read_gr, read_ss};
 use sp_graph::Graph;
 use sp_phase::run_source;
 use sp_tree::{Tree, write_tree};
-use std::fs;
-use std::io;
 use std::rt::Files;
 use std::sync::Wait;
 use std::thread::Threads;
 use std::time::{Clock, Duration, Instant};
+use std::{fs, io};
 
 const MOST_DELTA: u64 = 68_719_476_734;
 
