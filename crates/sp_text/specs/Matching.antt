@@ -24,8 +24,8 @@ Spells ranges ps ds found old new No = found ≡ None
 Spells ranges ps ds found old new (Out letter) = (ns part : List ℕ) × (found ≡ Some ns) × (first_out ranges ps ds ns ≡ Some letter) × (new ≡ old ++ part) × IsFront ds ns letter part
 Spells ranges ps ds found old new Within = (ns : List ℕ) × (found ≡ Some ns) × (first_out ranges ps ds ns ≡ None) × (new ≡ old ++ ns)
 
--- The number of the first field is this one, and in its range, and the numbers of the others are what stands
--- behind it; or the fields are not those of the form; or the first number is out of its range.
+-- The first number is this one, and in its range, and the rest of the line spells the others; or the line does
+-- not spell such numbers; or it does, and the first is out of its range.
 abbrev pub NumberTaken : Ranges → List ℕ → Field → List Field → Option (List ℕ) → Result (ℕ × Bor (List ℕ)) Spelled → Type 0
 NumberTaken ranges ps d ds found (Ok (n, rest)) = (found ≡ with_number n (numbers ds (parted [] rest.now))) × ((nat_le d.least n && nat_le n (top ranges ps d.most)) ≡ true)
 NumberTaken ranges ps d ds found (Err No) = found ≡ None

@@ -95,8 +95,8 @@ fn are_numbers(fields: &[Field], text: &[u8]) -> bool
     are_numbers(more, rest)
 }
 
-// The number of the next field, which is this one, and what stands after it; or what the line is, where it is
-// none of its form, or the number is out of its range. These fields come behind.
+// The number of the first field, and what stands after it; or what the line is, where that is no number or is
+// out of its range. Behind this field come `more`.
 #[inline(always)]
 fn take_number<'a>(
     field: &Field,
