@@ -114,7 +114,7 @@ impl<L: Lawful, const P: u32> OfferTable<L, P> {
         ensures one { M.is_one_step ≡ true → result.tries ≡ 1 }
         ensures own { own_calls caller.new.story ≡ own_calls caller.old.story ++ event caller.old.number vertex (Offer word.entry result.found result.reply) ∷ [] }
     {
-        // The word's range is known once it is read.
+        // The word fits its layout.
         let _ = word.dist();
         let (bits, tries) = M::lower(&self.words, &mut caller.seat, vertex, word.bits());
         let found = Word::from_bits(bits);
@@ -147,6 +147,7 @@ impl<L: Lawful, const P: u32> OfferTable<L, P> {
         ensures length { length words.new ≡ length words.old }
         ensures own { own_calls caller.new.story ≡ own_calls caller.old.story ++ reads_of caller.old.number 1 words.new }
     {
+        // There is a vertex.
         let _ = &self.words;
         for i in 0..words.len() {
             self.copy_word(caller, i, &mut words[i]);
@@ -161,6 +162,7 @@ impl<L: Lawful, const P: u32> OfferTable<L, P> {
         ensures call { Calls (lawful P (L.allows self.now.law)) (event caller.old.number (place + 1) (Read copy.new)) caller.old.story caller.new.story }
         ensures own { own_calls caller.new.story ≡ own_calls caller.old.story ++ event caller.old.number (place + 1) (Read copy.new) ∷ [] }
     {
+        // There are fewer than 2^32 vertices.
         let _ = &self.words;
         *copy = self.read(caller, place as u32 + 1);
     }
