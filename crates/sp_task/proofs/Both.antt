@@ -1,5 +1,5 @@
 -- Two groups of workers, brought together.
-use Rattle.std.proofs.Common.{◌≡◌, ℕ, ◌+◌, ◌≤◌, List, [], Result, Ok, Err, IfOk, IfErr, sym, ap, ◌∙◌, subst, arith}
+use Rattle.std.proofs.Common.{◌≡◌, ℕ, ◌+◌, ◌≤◌, List, [], Result, Ok, Err, IfOk, IfErr, refl, sym, ap, ◌∙◌, subst, arith}
 use Rattle.sp_word.specs.Word.{Word}
 use Rattle.sp_offer.specs.Order.{IsAtMost}
 use Rattle.sp_offer.specs.Story.{Story, Knowledge, known, own_calls, beside}
@@ -38,17 +38,21 @@ module _ (law : ℕ → Word → Type 0) (jobs : List Job) (number : ℕ) where
     b.claims ∙ answer_claims c h m mine p,
   )
 
-  -- the same, where the tokens come from a split
+  -- the same answer, of a group of no more workers that had the same tokens
+  pub answer_of_more : (c c' : Knowledge) (h h' : Held) (m k : ℕ) (r : Result Done RoundRefused) → c' ≡ c → h' ≡ h → m ≤ k → Answers law jobs number c' h' m r → Answers law jobs number c h k r
+  answer_of_more c c' h h' m k r same same' fit p = wider r (subst (λ (z : Knowledge × Held). Answers law jobs number z.0 z.1 m r) (λ j. (same j, same' j)) p)
+    where
+      wider : (x : Result Done RoundRefused) → Answers law jobs number c h m x → Answers law jobs number c h k x
+      wider (Ok d) q = (q.0, q.1, let o = q.2 in omega arith)
+      wider (Err e) q = q
+
+  -- the answer of two groups whose tokens come from a split
   pub after_split : (c c' d : Knowledge) (h h' i : Held) (m n k : ℕ) (mine theirs r : Result Done RoundRefused) → c' ≡ c → h' ≡ h → d.story ≡ beside c.story → i.grants ≡ [] → m + n ≤ k
       → Answers law jobs number c' h' m mine → Answers law jobs number d i n theirs → IsMerged law mine theirs r → Answers law jobs number c h k r
   after_split c c' d h h' i m n k mine theirs r same same' second bare fit p q b =
-      let p' : Answers law jobs number c h m mine = subst (λ (z : Knowledge × Held). Answers law jobs number z.0 z.1 m mine) (λ j. (same j, same' j)) p in
+      let p' = answer_of_more c c' h h' m m mine same same' (omega arith) p in
       let low : (v : ℕ) → IsAtMost (known d.story v) (known c.story v) = λ v. subst (λ (s : Story). IsAtMost (known s v) (known c.story v)) (sym second) (at_most_itself (known c.story v)) in
-      wider c h (m + n) k r fit (both_answer c d h i m n mine theirs r (ap own_calls second) low bare p' q b)
-    where
-      wider : (c : Knowledge) (h : Held) (m k : ℕ) (r : Result Done RoundRefused) → m ≤ k → Answers law jobs number c h m r → Answers law jobs number c h k r
-      wider c h m k (Ok d) fit p = (p.0, p.1, let o = p.2 in omega arith)
-      wider c h m k (Err e) fit p = p
+      answer_of_more c c h h (m + n) k r refl refl fit (both_answer c d h i m n mine theirs r (ap own_calls second) low bare p' q b)
 
 -- two groups that both ended well, brought together
 pub merged_ok : (law : ℕ → Word → Type 0) (mine theirs r : Result Done RoundRefused) (m t : Done) → mine ≡ Ok m → theirs ≡ Ok t

@@ -10,7 +10,7 @@ ghost use Rattle.sp_task.specs.Left.{RoundDone};
 use crate::gate::Gate;
 use crate::task::Round;
 use crate::work::left::{mark, run_left};
-use crate::work::stealing::{Deques, Plan, deal, run_workers};
+use crate::work::stealing::{Deques, Plan, Seat, deal, run_workers};
 use crate::work::{Done, RoundOut, RoundRefused};
 use sp_claim::Claimer;
 use sp_offer::{Caller, Lawful, Loop, Lowering};
@@ -170,6 +170,12 @@ fn run_shared<
         number: round.number,
         workers: round.workers,
     };
+    let seat = Seat {
+        worker: 0,
+        own,
+        caller,
+        claimer,
+    };
     let done = run_workers::<R, M, L, G, P>(
         rt,
         alloc,
@@ -179,12 +185,9 @@ fn run_shared<
         round.tasks,
         plan,
         gate,
-        0,
-        own,
-        owners,
         stealers.as_slice(),
-        caller,
-        claimer,
+        owners,
+        seat,
     )?;
     let Done {
         mut caller,

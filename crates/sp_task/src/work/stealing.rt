@@ -1,10 +1,11 @@
 //! Workers that take tasks from one another.
 //!
 //! What a deque hands out is a hint: nothing is known of it but that it is a number. The claim decides who runs a task.
-ghost use Rattle.std.specs.Prelude.{◌≡◌, ℕ, ◌+◌, ◌<◌, ◌≤◌, length, vec_len, IfOk};
+ghost use Rattle.std.specs.Prelude.{◌≡◌, ℕ, ◌+◌, ◌<◌, ◌≤◌, [], length, vec_len, IfOk, IfErr};
 ghost use denote.Param.Send.{IsSync, IsSend};
 ghost use Rattle.sp_word.specs.Word.{max_dist};
 ghost use Rattle.sp_offer.specs.Order.{lawful};
+ghost use Rattle.sp_offer.specs.Story.{beside};
 ghost use Rattle.sp_task.specs.Work.{IsReady, Goes, did, start, AreOf, Answers, jobs_of};
 
 use crate::gate::Gate;
@@ -35,6 +36,15 @@ pub(crate) struct Deques {
 pub(crate) struct Plan {
     pub number: u64,
     pub workers: u32,
+}
+
+/// What a worker begins with: its number, its own deque, its caller and its claimer.
+#[derive(Drop)]
+pub(crate) struct Seat {
+    pub worker: u32,
+    pub own: Worker<usize>,
+    pub caller: Caller,
+    pub claimer: Claimer,
 }
 
 /// Deals task `k` to worker `k` modulo `workers`, first in, first out. A task that a deque refuses is left to the
@@ -108,17 +118,20 @@ fn run_worker<M: Lowering, L: Lawful, G: Gate, const P: u32>(
     alloc: Global,
     round: &Round<L, P>,
     gate: &G,
-    worker: u32,
-    mut own: Worker<usize>,
     stealers: &[Stealer<usize>],
-    caller: Caller,
-    claimer: Claimer,
+    seat: Seat,
 ) -> Done
     requires ready { IsReady P (lawful P (L.allows round.now.table.now.law)) round.now.table.now.vertices round.now.claims.now.words round.now.rows.now round.now.tasks.now }
-    requires tokens { AreOf round.now.table.now.id round.now.claims.now caller claimer }
-    ensures goes { Goes (lawful P (L.allows round.now.table.now.law)) (jobs_of (max_dist P) round.now.rows.now round.now.tasks.now) round.now.number (start caller claimer) (did result) }
+    requires tokens { AreOf round.now.table.now.id round.now.claims.now seat.caller seat.claimer }
+    ensures goes { Goes (lawful P (L.allows round.now.table.now.law)) (jobs_of (max_dist P) round.now.rows.now round.now.tasks.now) round.now.number (start seat.caller seat.claimer) (did result) }
     ensures started { result.started ≡ 1 }
 {
+    let Seat {
+        worker,
+        mut own,
+        caller,
+        claimer,
+    } = seat;
     let mut done = Done {
         caller,
         claimer,
@@ -146,15 +159,12 @@ fn run_alone<M: Lowering, L: Lawful, G: Gate, const P: u32>(
     tasks: &[Task],
     plan: Plan,
     gate: &G,
-    worker: u32,
-    own: Worker<usize>,
     stealers: &[Stealer<usize>],
-    caller: Caller,
-    claimer: Claimer,
+    seat: Seat,
 ) -> Worked
     requires ready { IsReady P (lawful P (L.allows table.now.law)) table.now.vertices claims.now.words rows.now tasks.now }
-    requires tokens { AreOf table.now.id claims.now caller claimer }
-    ensures { Answers (lawful P (L.allows table.now.law)) (jobs_of (max_dist P) rows.now tasks.now) plan.number caller claimer 1 result }
+    requires tokens { AreOf table.now.id claims.now seat.caller seat.claimer }
+    ensures { Answers (lawful P (L.allows table.now.law)) (jobs_of (max_dist P) rows.now tasks.now) plan.number seat.caller seat.claimer 1 result }
 {
     let round = Round {
         table,
@@ -164,7 +174,64 @@ fn run_alone<M: Lowering, L: Lawful, G: Gate, const P: u32>(
         number: plan.number,
         workers: plan.workers,
     };
-    Ok(run_worker::<M, L, G, P>(alloc, &round, gate, worker, own, stealers, caller, claimer))
+    Ok(run_worker::<M, L, G, P>(alloc, &round, gate, stealers, seat))
+}
+
+/// A seat for the next worker, with this deque. Where a caller or a claimer can't be split, the one seat comes back.
+fn split_seat<L: Lawful, const P: u32>(
+    table: &OfferTable<L, P>,
+    claims: &ClaimTable,
+    seat: Seat,
+    own: Worker<usize>,
+) -> Result<(Seat, Seat), Seat>
+    requires slots { 0 < claims.now.words }
+    requires tokens { AreOf table.now.id claims.now seat.caller seat.claimer }
+    ensures first { IfOk result (λ two. (two.0.caller ≡ seat.caller) × (two.0.claimer ≡ seat.claimer)) }
+    ensures caller { IfOk result (λ two. (two.1.caller.table ≡ seat.caller.table) × (two.1.caller.story ≡ beside seat.caller.story)) }
+    ensures claimer { IfOk result (λ two. (two.1.claimer.table ≡ seat.claimer.table) × (two.1.claimer.grants ≡ [])) }
+    ensures refused { IfErr result (λ one. (one.caller ≡ seat.caller) × (one.claimer ≡ seat.claimer)) }
+{
+    let Seat {
+        worker,
+        own: first_own,
+        caller,
+        claimer,
+    } = seat;
+    let (caller, other_caller) = match table.split(caller) {
+        Ok(two) => two,
+        Err(refused) => {
+            return Err(Seat {
+                worker,
+                own: first_own,
+                caller: refused.caller,
+                claimer,
+            });
+        }
+    };
+    let (claimer, other_claimer) = match claims.split(claimer) {
+        Ok(two) => two,
+        Err(refused) => {
+            return Err(Seat {
+                worker,
+                own: first_own,
+                caller,
+                claimer: refused.claimer,
+            });
+        }
+    };
+    let first = Seat {
+        worker,
+        own: first_own,
+        caller,
+        claimer,
+    };
+    let second = Seat {
+        worker: worker.saturating_add(1),
+        own,
+        caller: other_caller,
+        claimer: other_claimer,
+    };
+    Ok((first, second))
 }
 
 /// A worker on this thread, and those of the other deques on threads that it starts. Where a caller or a claimer can't
@@ -185,89 +252,42 @@ pub(crate) fn run_workers<
     tasks: &[Task],
     plan: Plan,
     gate: &G,
-    worker: u32,
-    own: Worker<usize>,
-    mut others: Vec<Worker<usize>>,
     stealers: &[Stealer<usize>],
-    caller: Caller,
-    claimer: Claimer,
+    mut others: Vec<Worker<usize>>,
+    seat: Seat,
 ) -> Worked
     requires ready { IsReady P (lawful P (L.allows table.now.law)) table.now.vertices claims.now.words rows.now tasks.now }
     requires slots { 0 < claims.now.words }
-    requires tokens { AreOf table.now.id claims.now caller claimer }
-    ensures { Answers (lawful P (L.allows table.now.law)) (jobs_of (max_dist P) rows.now tasks.now) plan.number caller claimer (vec_len others + 1) result }
+    requires tokens { AreOf table.now.id claims.now seat.caller seat.claimer }
+    ensures { Answers (lawful P (L.allows table.now.law)) (jobs_of (max_dist P) rows.now tasks.now) plan.number seat.caller seat.claimer (vec_len others + 1) result }
 {
-    let Some(their_own) = others.pop() else {
+    let Some(own) = others.pop() else {
         return run_alone::<M, L, G, P>(
-            alloc, table, claims, rows, tasks, plan, gate, worker, own, stealers, caller, claimer,
+            alloc, table, claims, rows, tasks, plan, gate, stealers, seat,
         );
     };
-    let (caller, other_caller) = match table.split(caller) {
+    let (first, second) = match split_seat(table, claims, seat, own) {
         Ok(two) => two,
-        Err(refused) => {
+        Err(one) => {
             return run_alone::<M, L, G, P>(
-                alloc,
-                table,
-                claims,
-                rows,
-                tasks,
-                plan,
-                gate,
-                worker,
-                own,
-                stealers,
-                refused.caller,
-                claimer,
+                alloc, table, claims, rows, tasks, plan, gate, stealers, one,
             );
         }
     };
-    let (claimer, other_claimer) = match claims.split(claimer) {
-        Ok(two) => two,
-        Err(refused) => {
-            return run_alone::<M, L, G, P>(
-                alloc,
-                table,
-                claims,
-                rows,
-                tasks,
-                plan,
-                gate,
-                worker,
-                own,
-                stealers,
-                caller,
-                refused.claimer,
-            );
-        }
-    };
-    let next = worker.saturating_add(1);
     let theirs = move || -> Worked
-        requires { IsSync R.row × IsSync G.row × IsSync M.row × IsSend M.row × IsSync L.row × IsSend L.row × (0 < claims.now.words) × IsReady P (lawful P (L.allows table.now.law)) table.now.vertices claims.now.words rows.now tasks.now × AreOf table.now.id claims.now other_caller other_claimer }
-        ensures { Answers (lawful P (L.allows table.entry.now.law)) (jobs_of (max_dist P) rows.entry.now tasks.entry.now) plan.number other_caller other_claimer (vec_len others + 1) result }
+        requires { IsSync R.row × IsSync G.row × IsSync M.row × IsSend M.row × IsSync L.row × IsSend L.row × (0 < claims.now.words) × IsReady P (lawful P (L.allows table.now.law)) table.now.vertices claims.now.words rows.now tasks.now × AreOf table.now.id claims.now second.caller second.claimer }
+        ensures { Answers (lawful P (L.allows table.entry.now.law)) (jobs_of (max_dist P) rows.entry.now tasks.entry.now) plan.number second.caller second.claimer (vec_len others + 1) result }
     {
         run_workers::<R, M, L, G, P>(
-            rt,
-            alloc,
-            table,
-            claims,
-            rows,
-            tasks,
-            plan,
-            gate,
-            next,
-            their_own,
-            others,
-            stealers,
-            other_caller,
-            other_claimer,
+            rt, alloc, table, claims, rows, tasks, plan, gate, stealers, others, second,
         )
     };
     let mine = move || -> Worked
-        requires { IsReady P (lawful P (L.allows table.now.law)) table.now.vertices claims.now.words rows.now tasks.now × AreOf table.now.id claims.now caller claimer }
-        ensures { Answers (lawful P (L.allows table.entry.now.law)) (jobs_of (max_dist P) rows.entry.now tasks.entry.now) plan.number caller claimer 1 result }
+        requires { IsReady P (lawful P (L.allows table.now.law)) table.now.vertices claims.now.words rows.now tasks.now × AreOf table.now.id claims.now first.caller first.claimer }
+        ensures { Answers (lawful P (L.allows table.entry.now.law)) (jobs_of (max_dist P) rows.entry.now tasks.entry.now) plan.number first.caller first.claimer 1 result }
     {
         run_alone::<M, L, G, P>(
-            alloc, table, claims, rows, tasks, plan, gate, worker, own, stealers, caller, claimer,
+            alloc, table, claims, rows, tasks, plan, gate, stealers, first,
         )
     };
     let (later, sooner) = join(rt, theirs, mine);

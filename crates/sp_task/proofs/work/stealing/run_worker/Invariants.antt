@@ -8,5 +8,5 @@ abbrev pub invariant-loop : goal.invariant-loop
 invariant-loop g l =
     (l.done.caller.table ≡ l.round.table.now.id)
     × (l.done.claimer.table ≡ l.round.claims.now)
-    × Goes (lawful g.row.P (g.L.Lawful.allows l.round.table.now.law)) (jobs_of (max_dist g.row.P) l.round.rows.now l.round.tasks.now) l.round.number (start l.fn.caller l.fn.claimer) (did l.done)
+    × Goes (lawful g.row.P (g.L.Lawful.allows l.round.table.now.law)) (jobs_of (max_dist g.row.P) l.round.rows.now l.round.tasks.now) l.round.number (start l.fn.seat.caller l.fn.seat.claimer) (did l.done)
     × (l.done.started ≡ 1)
