@@ -1,16 +1,16 @@
 -- The entries that a round finds are vertices, at distances that are no less than those of its tasks.
-use Rattle.std.proofs.Common.{◌≡◌, ℕ, ◌+◌, ◌≤◌, ◌&&◌, nat_le, Bool, true, false, cond, List, [], ◌∷◌, get_or, map, refl, sym, ap, ◌∙◌, subst, arith}
+use Rattle.std.proofs.Common.{◌≡◌, ℕ, ◌+◌, ◌<◌, ◌≤◌, ⊎_elim, ◌&&◌, nat_le, Bool, true, false, cond, List, [], ◌∷◌, get_or, map, refl, sym, ap, ◌∙◌, subst, arith}
 use Rattle.std.specs.Prelude.{All, filter, flat_map, sum_by}
 use Rattle.std.proofs.lemmas.Bool.{leb-true, le-leb, and_parts}
 use Rattle.std.proofs.lemmas.List.Elements.{All-nil, All-cons, All-head, All-tail, All-append, All-map, All-filter, filter_passes}
 use Rattle.std.proofs.lemmas.List.Sums.{sum_by-cons, get_or-le-sum_by}
 use Rattle.sp_word.specs.Word.{Word, Unreached, Pair, max_dist}
-use Rattle.sp_word.specs.History.{Call, Offer, Read, Event}
+use Rattle.sp_word.specs.History.{Table, Call, Offer, Read, Event}
 use Rattle.sp_word.specs.declared.reply.Reply.{Reply}
 use Rattle.sp_word.specs.declared.reply.Reply.TheVariants.{Shorter, SmallerPred, Kept}
 use Rattle.sp_paths.specs.declared.arc.Arc.{Arc}
-use Rattle.sp_paths.specs.Paths.{IsGraph, IsVertex, IsArc}
-use Rattle.sp_paths.specs.Rows.{row_of}
+use Rattle.sp_paths.specs.Paths.{IsGraph, IsVertex, IsArc, IsAtMost}
+use Rattle.sp_paths.specs.Rows.{row_of, IsArcRelaxed}
 use Rattle.sp_bucket.specs.declared.entry.Entry.{Entry}
 use Rattle.sp_graph.specs.RowsValue.{Split}
 use Rattle.sp_task.specs.declared.task.Kind.{Kind}
@@ -134,3 +134,48 @@ found_queued P st low tasks calls found gr above same is k d lt =
     let every : All (entry_passes test) found = subst (λ xs. All (entry_passes test) xs) (sym is) all in
     let e = get_or found k d in
     queued_means st.graph.n low (max_dist P) e.vertex e.dist (every k d lt)
+
+-- ## What is known of the vertices that a round finds
+
+abbrev word_within : Word → ℕ → Bool
+word_within Unreached d = false
+word_within (Pair e q) d = nat_le e d
+
+at_most_within : (w : Word) (d p : ℕ) → IsAtMost w d p → word_within w d ≡ true
+at_most_within Unreached d p le = absurd le
+at_most_within (Pair e q) d p le =
+    le-leb e d (⊎_elim (λ (k : e < d). let h : e ≤ d = omega arith in h) (λ (k : (e ≡ d) × (q ≤ p)). let one = k.0 in let h : e ≤ d = omega arith in h) le)
+
+within_means : (w : Word) (d : ℕ) → word_within w d ≡ true → (e q : ℕ) × (w ≡ Pair e q) × (e ≤ d)
+within_means Unreached d h = absurd (cc)
+within_means (Pair e q) d h = (e, q, refl, leb-true e d h)
+
+module _ (max : ℕ) (rows : Split) (words : Table) where
+  abbrev test_known : ℕ → ℕ → Bool
+  test_known v d = word_within (words v) d
+
+  abbrev IsReached : Asked → Type 0
+  IsReached a = passes test_known a ≡ true
+
+  relaxed_along : (d : ℕ) (arcs : List Arc) → All (IsArcRelaxed max words d) arcs → All IsReached (offers_along max d arcs)
+  relaxed_along d arcs all =
+      let short : Arc → Bool = λ a. nat_le (d + a.len) max in
+      All-map IsReached (offer_along d) (filter short arcs)
+      (λ k dd lt.
+      let a = get_or (filter short arcs) k dd in
+      at_most_within (words a.head) (d + a.len) a.tail (All-filter short (IsArcRelaxed max words d) arcs all k dd lt (leb-true (d + a.len) max (filter_passes short arcs k dd lt))))
+
+  tasks_reach : (tasks : List Task) → All (λ t. All (IsArcRelaxed max words t.dist) (arcs_of rows t)) tasks → All IsReached (flat_map (offers_of max rows) tasks)
+  tasks_reach [] all = All-nil IsReached
+  tasks_reach (t ∷ ts) all =
+      let D : Task → Type 0 = λ t. All (IsArcRelaxed max words t.dist) (arcs_of rows t) in
+      All-append IsReached (offers_of max rows t) (flat_map (offers_of max rows) ts) (relaxed_along t.dist (arcs_of rows t) (All-head D t ts all)) (tasks_reach ts (All-tail D t ts all))
+
+  -- each entry's vertex is known at its distance or a lesser one
+  pub found_known : (tasks : List Task) (calls : List Event) (found : List Entry) → All (λ t. All (IsArcRelaxed max words t.dist) (arcs_of rows t)) tasks → AreSameOffers (map asked calls) (flat_map (offers_of max rows) tasks) → found ≡ entries calls
+      → All (λ e. (d p : ℕ) × (words e.vertex ≡ Pair d p) × (d ≤ e.dist)) found
+  found_known tasks calls found done same is k none lt =
+      let all = entries_pass test_known calls (same_pass test_known (map asked calls) (flat_map (offers_of max rows) tasks) same (tasks_reach tasks done)) in
+      let every : All (entry_passes test_known) found = subst (λ xs. All (entry_passes test_known) xs) (sym is) all in
+      let e = get_or found k none in
+      within_means (words e.vertex) e.dist (every k none lt)

@@ -6,3 +6,8 @@ pub mod Rounds
 pub mod Sweeping
 pub mod Settled
 pub mod Tested
+pub mod Falling
+pub mod Marked
+pub mod Rising
+pub mod Making
+pub mod Coming

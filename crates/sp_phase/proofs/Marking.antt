@@ -27,7 +27,7 @@ mark_other marks v u m at there ne = get_or-set_other marks (v - 1) (u - 1) m no
 pub some_same : (a b : ℕ) → Some a ≡ Some b → a ≡ b
 some_same a b e = cc
 
-abbrev task_of : (kind : Kind) (u d : ℕ) → Task
+abbrev pub task_of : (kind : Kind) (u d : ℕ) → Task
 task_of kind u d = record { vertex = u; dist = d; kind = kind }
 
 -- what a done task says of an arc

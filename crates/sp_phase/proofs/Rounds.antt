@@ -1,16 +1,18 @@
 -- A run before and after a round.
-use Rattle.std.proofs.Common.{◌≡◌, ℕ, zero, suc, replicate, ◌+◌, ◌-◌, ◌≤◌, inl, inr, ◌<◌, List, [], ◌∷◌, ◌++◌, length, get_or, take, append_assoc, Option, Some, None, refl, sym, ap, ◌∙◌, subst, arith}
+use Rattle.std.proofs.Common.{◌≡◌, ◌≢◌, ℕ, zero, suc, replicate, ◌+◌, ◌-◌, ◌*◌, ◌/◌, ◌≤◌, inl, inr, ⊎_elim, ◌<◌, List, [], ◌∷◌, ◌++◌, length, get_or, take, append_assoc, Option, Some, None, refl, sym, ap, ◌∙◌, subst, arith}
 use Rattle.std.specs.Prelude.{All, IfSome, option_to_list}
 use Rattle.std.specs.List.Sorted.{IsPermutation}
 use Rattle.std.proofs.lemmas.List.Elements.{All-append, All-push, All-nil, All-cons}
 use Rattle.std.proofs.lemmas.List.Sorted.{All-permutation, IsPermutation-push_more, IsPermutation-refl}
+use Rattle.std.proofs.lemmas.Bool.{cases_lt}
+use Rattle.std.proofs.lemmas.Nat.{div_below, le-div}
 use Rattle.std.proofs.lemmas.List.{take_more, append-nil, length-replicate}
 use Rattle.sp_word.specs.Word.{Word, Pair, Unreached, dist_of, max_dist}
 use Rattle.sp_word.specs.History.{Table}
 use Rattle.sp_paths.specs.Paths.{IsGraph, IsVertex}
 use Rattle.sp_offer.specs.Story.{Knowledge, known}
 use Rattle.sp_bucket.specs.declared.entry.Entry.{Entry}
-use Rattle.sp_bucket.specs.Content.{Content, Puts, Takes}
+use Rattle.sp_bucket.specs.Content.{Content, bucket_of, Puts, Takes}
 use Rattle.sp_bucket.proofs.Standing.{All-before, All-behind}
 use Rattle.sp_task.specs.declared.task.Kind.{Kind}
 use Rattle.sp_task.specs.declared.task.Task.{Task}
@@ -21,6 +23,7 @@ use Rattle.sp_phase.specs.declared.leader.Leader.{Leader}
 use Rattle.sp_phase.specs.Stage.{Stage, IsStage, Learns, law_of, rows_of}
 use Rattle.sp_phase.specs.Marks.{no_mark, mark_of, light_at, heavy_at, SameDistances, Remembers}
 use Rattle.sp_phase.specs.Running.{IsRunning, IsDue, IsQueued, KeepsRunning, Holds, Leads, TasksFrom, EntriesFrom}
+use Rattle.sp_phase.specs.Behind.{OwesHeavy, IsFinal, IsPast}
 use Rattle.sp_phase.proofs.Known.{running_falls, lawful_walk, known_pair}
 use Rattle.sp_phase.proofs.Marking.{running_same}
 use Rattle.sp_phase.proofs.Found.{found_queued}
@@ -28,6 +31,7 @@ use Rattle.sp_phase.proofs.Found.{found_queued}
 -- a caller that learns more holds what it held
 pub holds_learns : (P : ℕ) (st : Stage) (before after : Knowledge) (m : Marks) → Learns P st before after → Holds P st before m → Holds P st after m
 holds_learns P st before after m learns h = record {
+  stage = h.stage;
   table = learns.table ∙ h.table;
   running = running_falls P st (known before.story) (known after.story) m.each.items learns.falls learns.lawful h.running;
   remembered = h.remembered;
@@ -44,6 +48,7 @@ same_distances P st words before after gr same run =
 -- a vertex enters a round
 pub holds_enters : (P : ℕ) (st : Stage) (c : Knowledge) (before after : Marks) (v : ℕ) → IsGraph st.graph → IsVertex st.graph.n v → SameDistances before.each.items after.each.items → Remembers before after v → Holds P st c before → Holds P st c after
 holds_enters P st c before after v gr at same more h = record {
+  stage = h.stage;
   table = h.table;
   running = same_distances P st (known c.story) before.each.items after.each.items gr same h.running;
   remembered = remember_more st.graph.n v before after at more h.remembered;
@@ -52,6 +57,7 @@ holds_enters P st c before after v gr at same more h = record {
 -- and one is forgotten
 pub holds_forgets : (P : ℕ) (st : Stage) (c : Knowledge) (before after : Marks) → IsGraph st.graph → SameDistances before.each.items after.each.items → after.remembered.items ≡ before.remembered.items → Holds P st c before → Holds P st c after
 holds_forgets P st c before after gr same more h = record {
+  stage = h.stage;
   table = h.table;
   running = same_distances P st (known c.story) before.each.items after.each.items gr same h.running;
   remembered = subst (λ xs. All (IsVertex st.graph.n) xs) (sym more) h.remembered;
@@ -79,6 +85,7 @@ module _ (P : ℕ) (st : Stage) (stage : IsStage P st) (tasks : List Task) (befo
 
   pub round_holds : (m m' : Marks) → Holds P st before m → KeepsRunning tasks m.each.items m'.each.items → m'.remembered.items ≡ m.remembered.items → Holds P st after m'
   round_holds m m' h keeps same = record {
+    stage = stage;
     table = done.later.table ∙ h.table;
     running = keeps P st (known after.story) stage.graph done.relaxed (running_falls P st (known before.story) (known after.story) m.each.items done.later.falls (done.later.stays h.running.lawful) h.running);
     remembered = subst (λ xs. All (IsVertex st.graph.n) xs) (sym same) h.remembered;
@@ -104,6 +111,7 @@ put_none old xs = let e : old ++ take 0 xs ≡ old = append-nil old in subst (λ
 -- what is remembered was handed out
 pub holds_recalls : (P : ℕ) (st : Stage) (c : Knowledge) (before after : Marks) → after.each ≡ before.each → after.remembered.items ≡ [] → Holds P st c before → Holds P st c after
 holds_recalls P st c before after same none h = record {
+  stage = h.stage;
   table = h.table;
   running = subst (λ e. IsRunning P st (known c.story) e.items) (sym same) h.running;
   remembered = subst (λ xs. All (IsVertex st.graph.n) xs) (sym none) (All-nil (IsVertex st.graph.n));
@@ -112,6 +120,7 @@ holds_recalls P st c before after same none h = record {
 -- a round begins
 pub holds_begins : (P : ℕ) (st : Stage) (c : Knowledge) (before after : Marks) → after.each ≡ before.each → after.remembered ≡ before.remembered → Holds P st c before → Holds P st c after
 holds_begins P st c before after same too h = record {
+  stage = h.stage;
   table = h.table;
   running = subst (λ e. IsRunning P st (known c.story) e.items) (sym same) h.running;
   remembered = subst (λ r. All (IsVertex st.graph.n) r.items) (sym too) h.remembered;
@@ -161,7 +170,7 @@ round_leads P st tasks l l' found stage h done claimer keeps same width moved = 
   entries = round_entries P st stage tasks l.caller l'.caller found done l.buckets.entries l'.buckets.entries moved h.entries;
 }
 
-replicate_at : (k i : ℕ) → get_or (replicate k no_mark) i no_mark ≡ no_mark
+pub replicate_at : (k i : ℕ) → get_or (replicate k no_mark) i no_mark ≡ no_mark
 replicate_at zero i = refl
 replicate_at (suc k) zero = refl
 replicate_at (suc k) (suc i) = replicate_at k i
@@ -171,6 +180,7 @@ pub first_leads : (P : ℕ) (st : Stage) (before : Knowledge) (l : Leader) (n : 
     → n ≡ st.graph.n → l.marks.each.items ≡ replicate n no_mark → l.marks.remembered.items ≡ [] → old.delta ≡ st.delta → old.entries ≡ [] → Puts (record { vertex = st.source; dist = 0 }) old l.buckets → Leads P st l
 first_leads P st before l n old stage caller claimer learns source size marks remembered width empty puts = record {
   holds = record {
+    stage = stage;
     table = learns.table ∙ caller;
     running = record {
       source = source;
@@ -197,3 +207,31 @@ first_leads P st before l n old stage caller claimer learns source size marks re
 
     heavy_none : (u : ℕ) → heavy_at l.marks.each.items u ≡ None
     heavy_none u = ap (λ ms. heavy_at ms u) marks ∙ ap (λ m. m.heavy) (blank n u)
+
+-- a bucket is taken out of a leader that is past some distances
+pub takes_past : (P : ℕ) (st : Stage) (light heavy : ℕ) (l l' : Leader) (i : ℕ) (taken : List Entry) → Takes i taken l.buckets l'.buckets → l'.caller ≡ l.caller → l'.marks ≡ l.marks → IsPast P st light heavy l → IsPast P st light heavy l'
+takes_past P st light heavy l l' i taken takes caller marks past = record {
+  owes = subst (λ c. OwesHeavy st.graph.n (known c.story) l'.marks) (sym caller) (subst (λ m. OwesHeavy st.graph.n (known l.caller.story) m) (sym marks) past.owes);
+  final = subst (λ c. IsFinal P st light heavy (known c.story) l'.marks.each.items) (sym caller) (subst (λ m. IsFinal P st light heavy (known l.caller.story) m.each.items) (sym marks) past.final);
+  entries = All-behind (λ e. light ≤ e.dist) taken l'.buckets.entries (All-permutation (λ e. light ≤ e.dist) l.buckets.entries (taken ++ l'.buckets.entries) takes.entries past.entries);
+}
+
+pub takes_from : (low i : ℕ) (taken : List Entry) (old new : Content) → Takes i taken old new → EntriesFrom low old.entries → EntriesFrom low taken × EntriesFrom low new.entries
+takes_from low i taken old new takes from =
+    let all = All-permutation (λ e. low ≤ e.dist) old.entries (taken ++ new.entries) takes.entries from in
+    (All-before (λ e. low ≤ e.dist) taken new.entries all, All-behind (λ e. low ≤ e.dist) taken new.entries all)
+
+-- what is in no bucket up to i lies behind it
+pub bucket_next : (delta i : ℕ) (entries : List Entry) → 1 ≤ delta → All (λ e. bucket_of delta e ≢ i) entries → EntriesFrom (i * delta) entries → EntriesFrom ((i + 1) * delta) entries
+bucket_next delta i entries wide others from k none inside =
+    let e = get_or entries k none in
+    let here : i * delta ≤ e.dist = from k none inside in
+    let ne = others k none inside in
+    let positive : 0 < delta = omega arith in
+    ⊎_elim {C = (i + 1) * delta ≤ e.dist}
+    (λ (below : e.dist < (i + 1) * delta).
+    let less : e.dist / delta < i + 1 = div_below e.dist delta (i + 1) positive below in
+    let more : i ≤ e.dist / delta = le-div i e.dist delta positive here in
+    let same : e.dist / delta ≡ i = omega arith in
+    absurd (ne same))
+    (λ (above : (i + 1) * delta ≤ e.dist). above) (cases_lt e.dist ((i + 1) * delta))

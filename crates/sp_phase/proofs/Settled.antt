@@ -50,13 +50,16 @@ module _ (P : ℕ) (st : Stage) (stage : IsStage P st) (c : Knowledge) (marks : 
   }
 
   -- the test of a bucket passed
-  pub test_told : TestedIsSettled → (i : ℕ) (b : Bounds) → b.light ≡ (i + 1) * st.delta → b.heavy ≡ i * st.delta → AreRelaxed words marks b (length words) → IsTold P st (Some i) c
-  test_told law i b light heavy all =
+  pub test_settled : TestedIsSettled → (i : ℕ) (b : Bounds) → b.light ≡ (i + 1) * st.delta → b.heavy ≡ i * st.delta → AreRelaxed words marks b (length words) → IsSettled st.graph st.source (max_dist P) ((i + 1) * st.delta) (word_at words)
+  test_settled law i b light heavy all =
       let at : (u : ℕ) → IsVertex st.graph.n u → IsVertex (length words) u = λ u h. subst (λ k. IsVertex k u) (sym copy.size) h in
-      settled_known ((i + 1) * st.delta) (law st.graph st.source (max_dist P) st.delta i copy.words (word_at words) (light_at marks) (heavy_at marks) copy.of (record {
+      law st.graph st.source (max_dist P) st.delta i copy.words (word_at words) (light_at marks) (heavy_at marks) copy.of (record {
         light_below = λ u d p h is lt. (all u d p (at u h) is).0 (subst (λ k. d < k) (sym light) lt);
         heavy_below = λ u d p h is lt. (all u d p (at u h) is).1 (subst (λ k. d < k) (sym heavy) lt);
-      }))
+      })
+
+  pub test_told : TestedIsSettled → (i : ℕ) (b : Bounds) → b.light ≡ (i + 1) * st.delta → b.heavy ≡ i * st.delta → AreRelaxed words marks b (length words) → IsTold P st (Some i) c
+  test_told law i b light heavy all = settled_known ((i + 1) * st.delta) (test_settled law i b light heavy all)
 
 -- a sweep found no open vertex
 pub sweep_told : (P : ℕ) (st : Stage) → IsStage P st → (c : Knowledge) (marks : List Mark) (words : List Word) → IsSwept P st c marks words → ((v : ℕ) → IsKnownWord (law_of P st) v (known c.story v)) → SweptEndsInTree → IsTold P st None c
@@ -65,23 +68,24 @@ sweep_told P st stage c marks words swept lawful law =
 
 -- ## What was told stays true
 
-module _ (P : ℕ) (st : Stage) (stage : IsStage P st) (before after : Knowledge) (falls : Falls (known before.story) (known after.story)) (lawful : (v : ℕ) → IsKnownWord (law_of P st) v (known after.story v)) where
+module _ (P : ℕ) (st : Stage) (before after : Table) (falls : Falls before after) (lawful : (v : ℕ) → IsKnownWord (law_of P st) v (after v)) where
   -- a word of the tree falls no further
-  pub word_stays : (v : ℕ) → IsTreeWord st.graph st.source v (known before.story v) → known after.story v ≡ known before.story v
-  word_stays v tree = tree_known P st v (known before.story v) (known after.story v) tree (lawful v) (falls v)
+  pub word_stays : (v : ℕ) → IsTreeWord st.graph st.source v (before v) → after v ≡ before v
+  word_stays v tree = tree_known P st v (before v) (after v) tree (lawful v) (falls v)
 
-  tree_stays : (v : ℕ) → IsTreeWord st.graph st.source v (known before.story v) → IsTreeWord st.graph st.source v (known after.story v)
+  pub tree_stays : (v : ℕ) → IsTreeWord st.graph st.source v (before v) → IsTreeWord st.graph st.source v (after v)
   tree_stays v tree = subst (IsTreeWord st.graph st.source v) (sym (word_stays v tree)) tree
 
-  pub settled_stays : (bound : ℕ) → IsSettled st.graph st.source (max_dist P) bound (known before.story) → IsSettled st.graph st.source (max_dist P) bound (known after.story)
+  pub settled_stays : (bound : ℕ) → IsSettled st.graph st.source (max_dist P) bound before → IsSettled st.graph st.source (max_dist P) bound after
   settled_stays bound settled v d least below fits = tree_stays v (settled v d least below fits)
 
+module _ (P : ℕ) (st : Stage) (stage : IsStage P st) (before after : Knowledge) (falls : Falls (known before.story) (known after.story)) (lawful : (v : ℕ) → IsKnownWord (law_of P st) v (known after.story v)) where
   pub told_stays : (bucket : Option ℕ) → IsTold P st bucket before → IsTold P st bucket after
   told_stays None ends = record {
-    near = λ v near. tree_stays v (ends.near v near);
+    near = λ v near. tree_stays P st (known before.story) (known after.story) falls lawful v (ends.near v near);
     others = λ v at far. far_unknown P st stage (known after.story) lawful v (known after.story v) refl far;
   }
-  told_stays (Some i) settled = settled_stays ((i + 1) * st.delta) settled
+  told_stays (Some i) settled = settled_stays P st (known before.story) (known after.story) falls lawful ((i + 1) * st.delta) settled
 
 -- ## The end of a bucket fits 64 bits
 

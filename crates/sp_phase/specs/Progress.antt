@@ -7,6 +7,7 @@ use Rattle.sp_phase.specs.declared.answers.RunError.TheVariants.{Memory, TooFar,
 use Rattle.sp_phase.specs.declared.leader.Leader.{Leader}
 use Rattle.sp_phase.specs.Stage.{Stage}
 use Rattle.sp_phase.specs.Running.{Leads}
+use Rattle.sp_phase.specs.Behind.{HasCome}
 
 -- The store's stage, and the caller of a run that isn't spent. `settled` is the bucket of the last answer that no round
 -- of heavy arcs has followed yet, `closed` the last bucket that was settled and then relaxed heavy.
@@ -20,9 +21,9 @@ abbrev pub caller_of : Option Leader → Option Knowledge
 caller_of None = None
 caller_of (Some l) = Some l.caller
 
-abbrev pub MayLead : (P : ℕ) → Stage → Option Leader → Type 0
-MayLead P st None = Unit {0}
-MayLead P st (Some l) = Leads P st l
+abbrev pub MayLead : (P : ℕ) → Stage → (settled closed : Option ℕ) → Option Leader → Type 0
+MayLead P st settled closed None = Unit {0}
+MayLead P st settled closed (Some l) = Leads P st l × HasCome P st settled closed l
 
 abbrev pub IsUnspent : Progress → Type 0
 IsUnspent run = IsSome run.caller

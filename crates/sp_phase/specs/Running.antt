@@ -13,7 +13,7 @@ use Rattle.sp_paths.specs.Rows.{IsArcRelaxed}
 use Rattle.sp_phase.specs.declared.marks.Mark.{Mark}
 use Rattle.sp_phase.specs.declared.marks.Marks.{Marks}
 use Rattle.sp_phase.specs.declared.leader.Leader.{Leader}
-use Rattle.sp_phase.specs.Stage.{Stage, law_of, rows_of}
+use Rattle.sp_phase.specs.Stage.{Stage, IsStage, law_of, rows_of}
 use Rattle.sp_phase.specs.Marks.{light_at, heavy_at}
 
 -- What the leader knows is lawful, and the source has its pair. The marks say at which distances arcs were relaxed.
@@ -41,6 +41,7 @@ KeepsRunning tasks before after = (P : ℕ) (st : Stage) (words : Table) → IsG
 
 -- a caller of the stage's table, and the marks that it made
 pub record Holds (P : ℕ) (st : Stage) (c : Knowledge) (m : Marks) : Type 0 where
+  pub stage : IsStage P st
   pub table : c.table ≡ st.table
   pub running : IsRunning P st (known c.story) m.each.items
   pub remembered : All (IsVertex st.graph.n) m.remembered.items

@@ -1,8 +1,9 @@
 //! What the leader writes down of each vertex.
-ghost use Rattle.std.specs.Prelude.{◌≡◌, [], vec_len, replicate, All, IfOk};
+ghost use Rattle.std.specs.Prelude.{◌≡◌, [], false, vec_len, replicate, All, IsTrue, IfOk};
 ghost use Rattle.sp_paths.specs.Paths.{IsVertex};
 ghost use Rattle.sp_phase.specs.Marks.{no_mark, marked, SameDistances, Remembers};
 ghost use Rattle.sp_phase.specs.Running.{KeepsRunning};
+ghost use Rattle.sp_phase.specs.Behind.{AreMarked, Enters, Forgets};
 
 use sp_task::{Kind, Task};
 use std::alloc::{AllocError, Global};
@@ -71,6 +72,8 @@ impl Marks {
         requires { IsVertex (vec_len self.old.each) vertex }
         ensures distances { SameDistances self.old.each.items self.new.each.items }
         ensures remembered { Remembers self.old self.new vertex }
+        ensures entered { IfOk result (λ entered. IsTrue entered → Enters self.old self.new vertex) }
+        ensures stayed { IfOk result (λ entered. entered ≡ false → self.new ≡ self.old) }
     {
         let place = (vertex - 1) as usize;
         let mark = self.each[place];
@@ -80,8 +83,12 @@ impl Marks {
         if !mark.remembered {
             self.remembered.push(vertex)?;
         }
-        self.each[place].round = self.round;
-        self.each[place].remembered = true;
+        self.each[place] = Mark {
+            light: mark.light,
+            heavy: mark.heavy,
+            round: self.round,
+            remembered: true,
+        };
         Ok(true)
     }
 
@@ -99,6 +106,7 @@ impl Marks {
         requires { IsVertex (vec_len self.old.each) vertex }
         ensures distances { SameDistances self.old.each.items self.new.each.items }
         ensures remembered { self.new.remembered ≡ self.old.remembered }
+        ensures forgets { Forgets self.old.each.items self.new.each.items vertex }
     {
         self.each[(vertex - 1) as usize].remembered = false;
     }
@@ -107,6 +115,7 @@ impl Marks {
     pub(crate) fn write(&mut self, tasks: &[Task])
         requires { All (λ t. IsVertex (vec_len self.old.each) t.vertex) tasks.now }
         ensures running { KeepsRunning tasks.now self.old.each.items self.new.each.items }
+        ensures marked { AreMarked tasks.now self.old.each.items self.new.each.items }
         ensures remembered { self.new.remembered ≡ self.old.remembered }
     {
         mark_tasks(&mut self.each, tasks);
@@ -130,6 +139,7 @@ fn mark_tasks(marks: &mut Vec<Mark>, tasks: &[Task])
     requires { All (λ t. IsVertex (vec_len marks.old) t.vertex) tasks.now }
     ensures length { vec_len marks.new ≡ vec_len marks.old }
     ensures running { KeepsRunning tasks.now marks.old.items marks.new.items }
+    ensures marked { AreMarked tasks.now marks.old.items marks.new.items }
 {
     for task in tasks {
         mark_task(marks, *task);

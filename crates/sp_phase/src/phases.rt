@@ -1,8 +1,9 @@
 //! Phases: buckets are emptied in rising order, each by light rounds and one heavy round.
 //! (U. Meyer and P. Sanders, "Delta-stepping: a parallelizable shortest path algorithm", Journal of Algorithms 49, 2003,
 //! section 2.)
-ghost use Rattle.std.specs.Prelude.{◌≤◌, All, IfOk};
-ghost use Rattle.sp_phase.specs.Running.{Leads, IsQueued};
+ghost use Rattle.std.specs.Prelude.{ℕ, ◌+◌, ◌*◌, ◌≤◌, All, IfOk};
+ghost use Rattle.sp_phase.specs.Running.{Leads, IsQueued, EntriesFrom};
+ghost use Rattle.sp_phase.specs.Behind.{IsPast};
 
 use crate::leader::Leader;
 use crate::round::{run_tasks, take_bucket};
@@ -28,6 +29,8 @@ fn light_round<R: Threads + Wait + Sync, G: Gate + Sync, const P: u32>(
     requires leads { Leads P store.now leader }
     requires entries { All (IsQueued P store.now 0) entries.now }
     ensures leads { IfOk result (Leads P store.now) }
+    ensures past { IfOk result (λ l. (light heavy : ℕ) → IsPast P store.now light heavy leader → IsPast P store.now light heavy l) }
+    ensures from { IfOk result (λ l. (low : ℕ) → EntriesFrom low leader.buckets.entries → EntriesFrom low entries.now → EntriesFrom low l.buckets.entries) }
 {
     let tasks = light_tasks(alloc, store, &mut leader.caller, &mut leader.marks, entries)?;
     run_tasks(rt, alloc, store, workers, leader, tasks.as_slice(), gate)
@@ -46,6 +49,8 @@ pub(crate) fn empty_bucket<R: Threads + Wait + Sync, G: Gate + Sync, const P: u3
     requires workers { (1 ≤ workers) × (workers ≤ 64) }
     requires leads { Leads P store.now leader }
     ensures leads { IfOk result (Leads P store.now) }
+    ensures past { IfOk result (λ l. (light heavy : ℕ) → IsPast P store.now light heavy leader → IsPast P store.now light heavy l) }
+    ensures emptied { IfOk result (λ l. EntriesFrom (bucket * store.now.delta) leader.buckets.entries → EntriesFrom ((bucket + 1) * store.now.delta) l.buckets.entries) }
 {
     for _ in rt.forever() {
         let taken = take_bucket(store, &mut leader, bucket);
@@ -69,6 +74,7 @@ pub(crate) fn heavy_round<R: Threads + Wait + Sync, G: Gate + Sync, const P: u32
     requires workers { (1 ≤ workers) × (workers ≤ 64) }
     requires leads { Leads P store.now leader }
     ensures leads { IfOk result (Leads P store.now) }
+    ensures past { IfOk result (λ l. (light heavy : ℕ) → IsPast P store.now light heavy leader → IsPast P store.now light light l) }
 {
     let tasks = heavy_tasks(alloc, store, &mut leader.caller, &mut leader.marks)?;
     run_tasks(rt, alloc, store, workers, leader, tasks.as_slice(), gate)

@@ -1,7 +1,9 @@
 //! Rounds of a run.
-ghost use Rattle.std.specs.Prelude.{◌≡◌, ℕ, ◌≤◌, ◌++◌, All, IfOk, OnOk};
+ghost use Rattle.std.specs.Prelude.{◌≡◌, ◌≢◌, ℕ, ◌≤◌, ◌++◌, All, IfOk, OnOk};
 ghost use Rattle.std.specs.List.Sorted.{IsPermutation};
+ghost use Rattle.sp_bucket.specs.Content.{bucket_of};
 ghost use Rattle.sp_phase.specs.Running.{Leads, IsDue, IsQueued, TasksFrom, EntriesFrom};
+ghost use Rattle.sp_phase.specs.Behind.{IsPast, HasRun};
 
 use crate::leader::Leader;
 use crate::store::Store;
@@ -37,6 +39,7 @@ pub(crate) fn run_tasks<R: Threads + Wait + Sync, G: Gate + Sync, const P: u32>(
     requires tasks { All (IsDue P store.now) tasks.now }
     ensures leads { IfOk result (Leads P store.now) }
     ensures from { IfOk result (λ l. (low : ℕ) → EntriesFrom low leader.buckets.entries → TasksFrom low tasks.now → EntriesFrom low l.buckets.entries) }
+    ensures ran { IfOk result (HasRun P store.now tasks.now leader) }
 {
     let Leader {
         caller,
@@ -72,6 +75,9 @@ pub(crate) fn take_bucket<const P: u32>(
     requires { Leads P store.now leader.old }
     ensures leads { Leads P store.now leader.new }
     ensures queued { All (IsQueued P store.now 0) result.items }
+    ensures past { (light heavy : ℕ) → IsPast P store.now light heavy leader.old → IsPast P store.now light heavy leader.new }
+    ensures from { (low : ℕ) → EntriesFrom low leader.old.buckets.entries → EntriesFrom low result.items × EntriesFrom low leader.new.buckets.entries }
+    ensures others { All (λ entry. bucket_of store.now.delta entry ≢ bucket) leader.new.buckets.entries }
 {
     let _ = store;
     leader.buckets.take(bucket)

@@ -8,6 +8,7 @@ ghost use Rattle.sp_phase.specs.Running.{Leads};
 ghost use Rattle.sp_phase.specs.Sweep.{HasWords};
 ghost use Rattle.sp_phase.specs.Progress.{IsMemory, IsUnspent, IsSpent, IsAsFar, HasRead};
 ghost use Rattle.sp_phase.specs.Settling.{IsTold, IsToldBy, IsLater};
+ghost use Rattle.sp_phase.specs.Behind.{HasCome};
 
 use crate::answers::RunError;
 use crate::finish::finish;
@@ -51,7 +52,7 @@ impl<'a, 'g, const P: u32> Model for Run<'a, 'g, P> {
 
     ghost view = { λ r. record { stage = r.store.now; caller = caller_of r.leader; settled = r.settled; closed = r.closed } };
 
-    ghost invariant = { λ r. (1 ≤ r.workers) × (r.workers ≤ 64) × (vec_len r.words ≡ r.store.now.graph.n) × MayLead P r.store.now r.leader };
+    ghost invariant = { λ r. (1 ≤ r.workers) × (r.workers ≤ 64) × (vec_len r.words ≡ r.store.now.graph.n) × MayLead P r.store.now r.settled r.closed r.leader };
 }
 
 // The leader of a run that begins: the source has its pair, and is queued.
@@ -63,7 +64,8 @@ fn first_leader<const P: u32>(
 ) -> Result<Leader, AllocError>
     requires caller { caller.table ≡ store.now.table }
     requires claimer { claimer.table ≡ store.now.claims }
-    ensures { IfOk result (Leads P store.now) }
+    ensures leads { IfOk result (Leads P store.now) }
+    ensures come { IfOk result (HasCome P store.now None None) }
 {
     let n = store.n();
     let mut buckets = Buckets::with_longest(alloc, store.delta(), u64::from(store.longest()))?;
@@ -88,6 +90,7 @@ fn read_word<const P: u32>(store: &Store<P>, leader: &mut Leader, vertex: u32) -
     ensures leads { Leads P store.now leader.new }
     ensures word { known leader.new.caller.story vertex ≡ result }
     ensures stays { (bucket : Option ℕ) → IsTold P store.now bucket leader.old.caller → IsTold P store.now bucket leader.new.caller }
+    ensures come { (settled closed : Option ℕ) → HasCome P store.now settled closed leader.old → HasCome P store.now settled closed leader.new }
 {
     let _ = store.n();
     store.read(&mut leader.caller, vertex)
@@ -156,7 +159,6 @@ impl<'a, 'g, const P: u32> Run<'a, 'g, P> {
             self.workers,
             leader,
             &mut self.words,
-            self.closed,
             gate,
         );
         match settled {

@@ -1,11 +1,12 @@
 //! One bucket after the other, each with its test.
-ghost use Rattle.std.specs.Prelude.{◌≡◌, ◌+◌, ◌*◌, ◌<◌, ◌≤◌, Some, None, IsTrue, vec_len, IfOk, IfSome};
+ghost use Rattle.std.specs.Prelude.{◌≡◌, ℕ, Option, ◌+◌, ◌*◌, ◌<◌, ◌≤◌, Some, None, IsTrue, vec_len, IfOk, IfSome};
 ghost use Rattle.sp_bucket.specs.Content.{IsLowest};
 ghost use Rattle.sp_phase.specs.Running.{Leads};
-ghost use Rattle.sp_phase.specs.Settling.{IsTold, IsLater};
+ghost use Rattle.sp_phase.specs.Settling.{IsTold};
+ghost use Rattle.sp_phase.specs.Behind.{HasCome};
 
 use crate::leader::Leader;
-use crate::phases::{empty_bucket, heavy_round};
+use crate::phases::empty_bucket;
 use crate::store::Store;
 use crate::sweep::{Bounds, queue_open, sweep};
 use sp_paths::{swept_copy, tested_copy};
@@ -47,6 +48,7 @@ fn settle_bucket<R: Threads + Wait + Sync, G: Gate + Sync, const P: u32>(
     ensures leads { IfOk result (λ done. Leads P store.now done.0) }
     ensures size { vec_len words.new ≡ store.now.graph.n }
     ensures told { IfOk result (λ done. IsTrue done.1 → IsTold P store.now (Some bucket) done.0.caller) }
+    ensures come { IfOk result (λ done. (closed : Option ℕ) → HasCome P store.now None closed leader → HasCome P store.now None closed done.0 × (IsTrue done.1 → HasCome P store.now (Some bucket) closed done.0)) }
 {
     tested_copy();
     let _ = store.n();
@@ -68,6 +70,7 @@ fn settle_rest<const P: u32>(
     ensures leads { IfOk result (λ done. Leads P store.now done.0) }
     ensures size { vec_len words.new ≡ store.now.graph.n }
     ensures told { IfOk result (λ done. IsTrue done.1 → IsTold P store.now None done.0.caller) }
+    ensures come { IfOk result (λ done. (closed : Option ℕ) → HasCome P store.now None closed leader → HasCome P store.now None closed done.0) }
 {
     swept_copy();
     let _ = store.n();
@@ -93,20 +96,11 @@ fn settle_once<R: Threads + Wait + Sync, G: Gate + Sync, const P: u32>(
     ensures leads { IfOk result (λ done. Leads P store.now done.0) }
     ensures size { vec_len words.new ≡ store.now.graph.n }
     ensures told { IfOk result (λ done. IsTrue done.1 → IsTold P store.now bucket done.0.caller) }
+    ensures come { IfOk result (λ done. (closed : Option ℕ) → HasCome P store.now None closed leader → HasCome P store.now None closed done.0 × (IsTrue done.1 → HasCome P store.now bucket closed done.0)) }
 {
     match bucket {
         Some(number) => settle_bucket(rt, alloc, store, workers, leader, words, number, gate),
         None => settle_rest(alloc, store, leader, words),
-    }
-}
-
-// Whether a bucket is later than the closed one; none is later than all.
-fn is_later(closed: Option<u64>, bucket: Option<u64>) -> bool
-    ensures { IsTrue result → IsLater closed bucket }
-{
-    match (closed, bucket) {
-        (Some(closed), Some(number)) => closed < number,
-        _ => true,
     }
 }
 
@@ -117,8 +111,7 @@ pub(crate) struct Settled {
     pub bucket: Option<u64>,
 }
 
-/// Empties the lowest bucket until its test passes, or, where no entry is queued, sweeps until no vertex is open. A bucket
-/// that isn't later than the closed one is relaxed heavy at once, and not told.
+/// Empties the lowest bucket until its test passes, or, where no entry is queued, sweeps until no vertex is open.
 pub(crate) fn settle<R: Threads + Wait + Sync, G: Gate + Sync, const P: u32>(
     rt: &R,
     alloc: Global,
@@ -126,7 +119,6 @@ pub(crate) fn settle<R: Threads + Wait + Sync, G: Gate + Sync, const P: u32>(
     workers: u32,
     mut leader: Leader,
     words: &mut Vec<Word<P>>,
-    closed: Option<u64>,
     gate: &G,
 ) -> Result<Settled, AllocError>
     requires workers { (1 ≤ workers) × (workers ≤ 64) }
@@ -135,17 +127,14 @@ pub(crate) fn settle<R: Threads + Wait + Sync, G: Gate + Sync, const P: u32>(
     ensures leads { IfOk result (λ s. Leads P store.now s.leader) }
     ensures size { vec_len words.new ≡ store.now.graph.n }
     ensures told { IfOk result (λ s. IsTold P store.now s.bucket s.leader.caller) }
-    ensures later { IfOk result (λ s. IsLater closed s.bucket) }
+    ensures come { IfOk result (λ s. (closed : Option ℕ) → HasCome P store.now None closed leader → HasCome P store.now s.bucket closed s.leader) }
 {
     for _ in rt.forever() {
         let bucket = leader.buckets.lowest();
         let (after, passed) = settle_once(rt, alloc, store, workers, leader, words, bucket, gate)?;
         leader = after;
         if passed {
-            if is_later(closed, bucket) {
-                return Ok(Settled { leader, bucket });
-            }
-            leader = heavy_round(rt, alloc, store, workers, leader, gate)?;
+            return Ok(Settled { leader, bucket });
         }
     }
     unreachable!()

@@ -1,8 +1,12 @@
 //! What a copy of all words shows: vertices whose arcs weren't relaxed at their distances, and vertices left out.
-ghost use Rattle.std.specs.Prelude.{◌≡◌, ◌<◌, ◌↔◌, [], ◌++◌, Some, length, vec_len, option_to_list, All, IsTrue, IfOk, IfSome, IfNone, OnOk};
-ghost use Rattle.sp_paths.specs.Paths.{IsVertex};
+ghost use Rattle.std.specs.Prelude.{◌≡◌, ℕ, ◌<◌, ◌↔◌, [], ◌++◌, Some, length, vec_len, option_to_list, All, IsTrue, IfOk, IfSome, IfNone, OnOk};
+ghost use Rattle.sp_paths.specs.Paths.{IsVertex, word_at};
 ghost use Rattle.sp_phase.specs.Marks.{mark_of};
-ghost use Rattle.sp_phase.specs.Running.{Holds, Leads};
+ghost use Rattle.sp_offer.specs.Order.{IsAtMost as IsNoMore};
+ghost use Rattle.sp_offer.specs.Story.{known};
+ghost use Rattle.sp_phase.specs.Stage.{Learns};
+ghost use Rattle.sp_phase.specs.Running.{Holds, Leads, EntriesFrom};
+ghost use Rattle.sp_phase.specs.Behind.{IsPast};
 ghost use Rattle.sp_phase.specs.Sweep.{AreRelaxed, IsRelaxedHere, IsOpen, IsCopied, IsSwept};
 
 use crate::leader::Leader;
@@ -111,6 +115,8 @@ pub(crate) fn copy_words<const P: u32>(
     requires size { vec_len words.old ≡ store.now.graph.n }
     ensures holds { Holds P store.now caller.new marks.now }
     ensures copied { IsCopied P store.now caller.new marks.now.each.items words.new.items }
+    ensures below { (v : ℕ) → IsVertex store.now.graph.n v → IsNoMore (word_at words.new.items v) (known caller.old.story v) }
+    ensures learns { Learns P store.now caller.old caller.new }
     ensures size { vec_len words.new ≡ store.now.graph.n }
 {
     let _ = marks;
@@ -132,6 +138,8 @@ pub(crate) fn queue_open<const P: u32>(
     ensures size { vec_len words.new ≡ store.now.graph.n }
     ensures copied { OnOk result (IsCopied P store.now leader.new.caller leader.new.marks.each.items words.new.items) }
     ensures none { IfOk result (λ none. IsTrue none → AreRelaxed words.new.items leader.new.marks.each.items bounds (length words.new.items)) }
+    ensures past { OnOk result ((low : ℕ) → IsPast P store.now low low leader.old → IsPast P store.now low low leader.new) }
+    ensures kept { IfOk result (λ none. IsTrue none → (low : ℕ) → EntriesFrom low leader.old.buckets.entries → EntriesFrom low leader.new.buckets.entries) }
 {
     let _ = store.n();
     copy_words(store, &mut leader.caller, &leader.marks, words);
@@ -157,6 +165,7 @@ pub(crate) fn sweep<const P: u32>(
     ensures leads { OnOk result (Leads P store.now leader.new) }
     ensures size { vec_len words.new ≡ store.now.graph.n }
     ensures swept { IfOk result (λ none. IsTrue none → IsSwept P store.now leader.new.caller leader.new.marks.each.items words.new.items) }
+    ensures past { OnOk result ((low : ℕ) → IsPast P store.now low low leader.old → IsPast P store.now low low leader.new) }
 {
     let _ = store.n();
     let every = Bounds {

@@ -1,7 +1,8 @@
 //! The tasks of a round.
-ghost use Rattle.std.specs.Prelude.{◌≡◌, ℕ, ◌++◌, All, IfOk, IfSome, OnOk, option_to_list};
+ghost use Rattle.std.specs.Prelude.{◌≡◌, ℕ, [], ◌++◌, All, IfOk, IfSome, OnOk, option_to_list};
 ghost use Rattle.sp_paths.specs.Paths.{IsVertex};
 ghost use Rattle.sp_phase.specs.Running.{Holds, IsDue, TasksFrom, EntriesFrom};
+ghost use Rattle.sp_phase.specs.Behind.{MakesLight, MakesHeavy, HandsOver};
 
 use crate::marks::Marks;
 use crate::store::Store;
@@ -22,6 +23,7 @@ fn light_task<const P: u32>(
     ensures holds { OnOk result (Holds P store.now caller.new marks.new) }
     ensures due { IfOk result (λ found. IfSome found (IsDue P store.now)) }
     ensures dist { IfOk result (λ found. IfSome found (λ task. task.dist ≡ entry.now.dist)) }
+    ensures makes { IfOk result (λ found. MakesLight P store.now caller.old caller.new marks.old marks.new (option_to_list found)) }
 {
     // arcs lead from vertices
     let _ = store.n();
@@ -62,6 +64,7 @@ pub(crate) fn light_tasks<const P: u32>(
     ensures holds { OnOk result (Holds P store.now caller.new marks.new) }
     ensures due { IfOk result (λ tasks. All (IsDue P store.now) tasks.items) }
     ensures from { IfOk result (λ tasks. (low : ℕ) → EntriesFrom low entries.now → TasksFrom low tasks.items) }
+    ensures makes { IfOk result (λ tasks. MakesLight P store.now caller.old caller.new marks.old marks.new tasks.items) }
 {
     marks.begin_round();
     let mut tasks = Vec::new(alloc);
@@ -83,6 +86,8 @@ fn heavy_task<const P: u32>(
     requires vertex { IsVertex store.now.graph.n vertex }
     ensures holds { Holds P store.now caller.new marks.new }
     ensures due { IfSome result (IsDue P store.now) }
+    ensures hands { HandsOver P store.now caller.old caller.new marks.old marks.new vertex result }
+    ensures remembered { marks.new.remembered ≡ marks.old.remembered }
 {
     // arcs lead from vertices
     let _ = store.n();
@@ -105,6 +110,8 @@ pub(crate) fn heavy_tasks<const P: u32>(
     requires holds { Holds P store.now caller.old marks.old }
     ensures holds { OnOk result (Holds P store.now caller.new marks.new) }
     ensures due { IfOk result (λ tasks. All (IsDue P store.now) tasks.items) }
+    ensures makes { IfOk result (λ tasks. MakesHeavy P store.now caller.old caller.new marks.old marks.new tasks.items) }
+    ensures none { OnOk result (marks.new.remembered.items ≡ []) }
 {
     marks.begin_round();
     let vertices = marks.recall(alloc);

@@ -1,10 +1,14 @@
 use Rattle.std.proofs.Common.{ℕ, ap, subst, ◌∙◌}
 use Rattle.sp_bucket.specs.Content.{Puts}
 use Rattle.sp_phase.proofs.Rounds.{first_leads}
+use Rattle.sp_phase.proofs.Coming.{first_past}
 use Rattle.sp_phase.proofs.run.first_leader.Goals as goal
 
-pub returns : goal.returns
-returns g c =
+pub returns-clause-leads : goal.returns-clause-leads
+returns-clause-leads g c =
     let W : ℕ → Type 0 = λ v. Puts (record { vertex = v; dist = 0 }) c.in_ok-buckets.buckets c.put.new.self in
     first_leads g.row.P c.args.store.now c.args.caller _ _ c.in_ok-buckets.buckets c.n-n.ensures.stage c.requires.caller c.requires.claimer c.open.ensures.caller c.open.ensures.source c.n-n.ensures.n c.in_ok-marks.ensures.each c.in_ok-marks.ensures.remembered
     (ap (λ b. b.delta) c.in_ok-buckets.ensures ∙ c.delta.ensures) (ap (λ b. b.entries) c.in_ok-buckets.ensures) (subst W c.source.ensures c.in_ok-put.ensures.put)
+
+pub returns-clause-come : goal.returns-clause-come
+returns-clause-come g c = first_past g.row.P c.args.store.now c.n-n.result _ c.in_ok-marks.ensures.each

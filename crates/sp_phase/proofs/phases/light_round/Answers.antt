@@ -1,0 +1,25 @@
+use Rattle.std.proofs.Common.{List, sym, subst}
+use Rattle.std.proofs.lemmas.Result.{IfOk-weaker}
+use Rattle.sp_task.specs.declared.task.Task.{Task}
+use Rattle.sp_phase.specs.declared.leader.Leader.{Leader}
+use Rattle.sp_phase.specs.Running.{TasksFrom}
+use Rattle.sp_phase.specs.Behind.{HasRun, MakesLight}
+use Rattle.sp_phase.proofs.Rising.{light_past}
+use Rattle.sp_phase.proofs.phases.light_round.Goals as goal
+
+pub returns-clause-past : goal.returns-clause-past
+returns-clause-past g c =
+    let st = c.args.store.now in
+    let l = c.args.leader in
+    let then : Leader = record { caller = c.light_tasks.new.caller; claimer = l.claimer; marks = c.light_tasks.new.marks; buckets = l.buckets } in
+    let M : List Task → Type 0 = λ ts. MakesLight g.row.P st l.caller then.caller l.marks then.marks ts in
+    let makes = subst M (sym c.as_slice.ensures.value) c.in_ok-tasks.ensures.makes in
+    IfOk-weaker c.run_tasks.result (HasRun g.row.P st c.as_slice.result.now then) _
+    (λ done ran light heavy past. light_past g.row.P st c.requires.leads.holds.stage l.caller l.marks then done c.as_slice.result.now c.requires.leads.holds ran light heavy past.entries past.final makes past.owes)
+    c.run_tasks.ensures.ran
+
+pub returns-clause-from : goal.returns-clause-from
+returns-clause-from g c =
+    IfOk-weaker c.run_tasks.result _ _
+    (λ done from low old new. from low old (subst (TasksFrom low) (sym c.as_slice.ensures.value) (c.in_ok-tasks.ensures.from low new)))
+    c.run_tasks.ensures.from
