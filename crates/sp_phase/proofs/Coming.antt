@@ -1,5 +1,5 @@
 -- How far a run has come: through copies, tests and reads.
-use Rattle.std.proofs.Common.{◌≡◌, ℕ, ◌+◌, ◌-◌, ◌*◌, ◌/◌, ◌<◌, ◌≤◌, List, [], ◌∷◌, ◌++◌, length, get_or, replicate, Bool, true, false, Option, Some, None, refl, sym, ap, ◌∙◌, subst, arith, ⊎_elim}
+use Rattle.std.proofs.Common.{◌≡◌, ℕ, ◌+◌, ◌-◌, ◌*◌, ◌/◌, ◌<◌, ◌≤◌, List, [], ◌++◌, length, get_or, replicate, Bool, true, false, Option, Some, None, sym, ap, ◌∙◌, subst, arith, ⊎_elim}
 use Rattle.std.specs.Prelude.{All, IfSome, IsTrue}
 use Rattle.std.specs.Option.{option_or}
 use Rattle.std.specs.List.Sorted.{IsPermutation}
@@ -22,8 +22,8 @@ use Rattle.sp_phase.specs.declared.marks.Mark.{Mark}
 use Rattle.sp_phase.specs.declared.marks.Marks.{Marks}
 use Rattle.sp_phase.specs.declared.leader.Leader.{Leader}
 use Rattle.sp_phase.specs.declared.sweep.Bounds.{Bounds}
-use Rattle.sp_phase.specs.Stage.{Stage, IsStage, Falls, Learns, law_of}
-use Rattle.sp_phase.specs.Marks.{no_mark, mark_of, light_at}
+use Rattle.sp_phase.specs.Stage.{Stage, IsStage, Learns, law_of}
+use Rattle.sp_phase.specs.Marks.{no_mark, light_at}
 use Rattle.sp_phase.specs.Running.{EntriesFrom}
 use Rattle.sp_phase.specs.Sweep.{AreRelaxed, IsOpen, IsCopied}
 use Rattle.sp_phase.specs.Settling.{IsLater}

@@ -1,5 +1,5 @@
 -- What is final stays so as words fall.
-use Rattle.std.proofs.Common.{◌≡◌, ℕ, ◌+◌, ◌<◌, ◌≤◌, ◌⊎◌, inl, inr, List, length, Some, refl, sym, ap, ◌∙◌, subst, arith, ⊎_elim}
+use Rattle.std.proofs.Common.{◌≡◌, ℕ, ◌<◌, ◌≤◌, ◌⊎◌, inl, inr, List, length, Some, refl, sym, ◌∙◌, subst, arith, ⊎_elim}
 use Rattle.sp_word.specs.Word.{Word, Unreached, Pair, max_dist}
 use Rattle.sp_word.specs.History.{Table}
 use Rattle.sp_paths.specs.Paths.{IsVertex, IsTreeWord, IsSettled}
@@ -8,10 +8,9 @@ use Rattle.sp_offer.specs.Order.{IsKnownWord, IsAtMost as IsNoMore}
 use Rattle.sp_offer.specs.Story.{Knowledge, known}
 use Rattle.sp_offer.proofs.Orders.{at_most-refl, at_most-trans}
 use Rattle.sp_phase.specs.declared.marks.Mark.{Mark}
-use Rattle.sp_phase.specs.declared.marks.Marks.{Marks}
 use Rattle.sp_phase.specs.Stage.{Stage, IsStage, Falls, Learns, law_of}
-use Rattle.sp_phase.specs.Marks.{light_at, heavy_at, SameDistances}
-use Rattle.sp_phase.specs.Behind.{IsCarried, AreCarried, IsFinal}
+use Rattle.sp_phase.specs.Marks.{heavy_at, SameDistances}
+use Rattle.sp_phase.specs.Behind.{IsCarried, IsFinal}
 use Rattle.sp_phase.proofs.Known.{known_pair, lawful_walk}
 use Rattle.sp_phase.proofs.Settled.{word_stays, settled_stays}
 

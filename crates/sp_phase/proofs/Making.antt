@@ -1,8 +1,8 @@
 -- Tasks that are made of vertices.
-use Rattle.std.proofs.Common.{◌≡◌, ℕ, ◌+◌, ◌-◌, ◌<◌, ◌≤◌, ◌⊎◌, inl, inr, List, [], ◌∷◌, ◌++◌, length, set, get_or, slice_index, true, false, Option, Some, None, refl, sym, ap, ◌∙◌, subst, arith, ⊎_elim}
+use Rattle.std.proofs.Common.{◌≡◌, ℕ, ◌+◌, ◌-◌, ◌<◌, ◌≤◌, ◌⊎◌, inl, inr, List, [], ◌∷◌, ◌++◌, length, set, slice_index, true, false, Option, Some, None, refl, sym, ap, ◌∙◌, subst, arith, ⊎_elim}
 use Rattle.std.specs.Prelude.{All, Contains, IfSome, IfNone, option_to_list}
 use Rattle.std.proofs.lemmas.Bool.{cases_eq, cases_lt}
-use Rattle.std.proofs.lemmas.List.{get_or_default, append-nil}
+use Rattle.std.proofs.lemmas.List.{get_or_default}
 use Rattle.std.proofs.lemmas.List.Elements.{All-nil, All-cons, Contains-append_left, Contains-append_right, Contains-push}
 use Rattle.sp_word.specs.Word.{Word, Unreached, Pair, dist_of}
 use Rattle.sp_paths.specs.Paths.{IsVertex}
@@ -14,8 +14,8 @@ use Rattle.sp_task.specs.declared.task.Task.{Task}
 use Rattle.sp_phase.specs.declared.marks.Mark.{Mark}
 use Rattle.sp_phase.specs.declared.marks.Marks.{Marks}
 use Rattle.sp_phase.specs.Stage.{Stage, Learns, law_of}
-use Rattle.sp_phase.specs.Marks.{mark_of, light_at, heavy_at, SameDistances}
-use Rattle.sp_phase.specs.Behind.{is_remembered, IsCarried, AreCarried, OwesHeavy, HasTask, WasKnown, MakesTasks, MakesLight, MakesHeavy, Enters, Forgets, HandsOver, IsFrom, HandsSome}
+use Rattle.sp_phase.specs.Marks.{SameDistances}
+use Rattle.sp_phase.specs.Behind.{is_remembered, AreCarried, OwesHeavy, HasTask, WasKnown, MakesTasks, MakesLight, MakesHeavy, Enters, Forgets, HandsOver, IsFrom, HandsSome}
 use Rattle.sp_phase.proofs.Marking.{mark_here, mark_other, task_of}
 use Rattle.sp_phase.proofs.Rounds.{dist_pair}
 use Rattle.sp_phase.proofs.Falling.{falls_refl, learns_none, same_refl, carried_falls, carried_as}

@@ -1,11 +1,10 @@
 -- A run leaves distances behind for good: through reads, rounds and copies.
-use Rattle.std.proofs.Common.{◌≡◌, ℕ, ◌+◌, ◌*◌, ◌<◌, ◌≤◌, ◌⊎◌, inl, inr, List, [], ◌∷◌, ◌++◌, length, get_or, true, Option, Some, None, refl, sym, ap, ◌∙◌, subst, arith, ⊎_elim}
-use Rattle.std.specs.Prelude.{All, Contains, IfSome}
-use Rattle.std.specs.List.Sorted.{IsPermutation}
+use Rattle.std.proofs.Common.{◌≡◌, ℕ, ◌<◌, ◌≤◌, ◌⊎◌, inl, inr, List, [], ◌++◌, length, get_or, true, Option, Some, sym, ap, ◌∙◌, subst, arith, ⊎_elim}
+use Rattle.std.specs.Prelude.{All, Contains}
 use Rattle.std.proofs.lemmas.Bool.{cases_lt}
-use Rattle.std.proofs.lemmas.List.Elements.{All-contains, All-append, All-weaker, All-nil, All-cons}
+use Rattle.std.proofs.lemmas.List.Elements.{All-contains, All-append, All-weaker}
 use Rattle.std.proofs.lemmas.List.Sorted.{All-permutation}
-use Rattle.sp_word.specs.Word.{Word, Unreached, Pair, max_dist}
+use Rattle.sp_word.specs.Word.{Pair, max_dist}
 use Rattle.sp_word.specs.History.{Table}
 use Rattle.sp_paths.specs.Paths.{IsVertex, IsSettled}
 use Rattle.sp_offer.specs.Order.{IsKnownWord}
@@ -14,12 +13,11 @@ use Rattle.sp_bucket.specs.declared.entry.Entry.{Entry}
 use Rattle.sp_task.specs.declared.task.Kind.{Kind}
 use Rattle.sp_task.specs.declared.task.Kind.TheVariants.{Light, Heavy}
 use Rattle.sp_task.specs.declared.task.Task.{Task}
-use Rattle.sp_task.specs.Calls.{IsNearer}
 use Rattle.sp_task.specs.Left.{RoundDone}
 use Rattle.sp_phase.specs.declared.marks.Mark.{Mark}
 use Rattle.sp_phase.specs.declared.marks.Marks.{Marks}
 use Rattle.sp_phase.specs.declared.leader.Leader.{Leader}
-use Rattle.sp_phase.specs.Stage.{Stage, IsStage, Falls, Learns, law_of, rows_of}
+use Rattle.sp_phase.specs.Stage.{Stage, IsStage, Falls, law_of, rows_of}
 use Rattle.sp_phase.specs.Marks.{light_at, heavy_at, SameDistances}
 use Rattle.sp_phase.specs.Running.{EntriesFrom, Holds}
 use Rattle.sp_phase.specs.Behind.{is_remembered, IsCarried, AreCarried, OwesHeavy, IsFinal, IsPast, HasTask, IsMarkedBy, AreMarked, WasKnown, MakesTasks, MakesLight, MakesHeavy, HasRun}

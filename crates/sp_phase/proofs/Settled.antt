@@ -1,20 +1,20 @@
 -- From a copy's words to what is known, and what stays known.
-use Rattle.std.proofs.Common.{◌≡◌, ℕ, true, refl, ◌+◌, ◌*◌, ◌/◌, ◌%◌, ◌<◌, ◌≤◌, List, length, get_or, Option, Some, None, sym, ap, subst, arith}
+use Rattle.std.proofs.Common.{◌≡◌, ℕ, true, refl, ◌+◌, ◌*◌, ◌/◌, ◌%◌, ◌<◌, ◌≤◌, List, length, Option, Some, None, sym, subst, arith}
 use Rattle.std.specs.Prelude.{All}
 use Rattle.std.proofs.lemmas.Nat.{div-add-mod'}
 use Rattle.sp_word.specs.Word.{Word, Unreached, Pair, max_dist, is_layout}
 use Rattle.sp_word.specs.History.{Table}
 use Rattle.sp_word.proofs.Layouts.{by_layout}
-use Rattle.sp_paths.specs.Paths.{IsVertex, IsLeast, IsNear, IsTreeWord, IsSettled, EndsInTree, word_at}
+use Rattle.sp_paths.specs.Paths.{IsVertex, IsNear, IsTreeWord, IsSettled, EndsInTree, word_at}
 use Rattle.sp_paths.specs.Phase.{TestedIsSettled, SweptEndsInTree}
 use Rattle.sp_paths.proofs.Least.{least_exists}
-use Rattle.sp_offer.specs.Order.{IsKnownWord, IsAtMost as IsNoMore}
+use Rattle.sp_offer.specs.Order.{IsKnownWord}
 use Rattle.sp_offer.specs.Story.{Knowledge, known}
 use Rattle.sp_bucket.specs.declared.entry.Entry.{Entry}
-use Rattle.sp_bucket.specs.Content.{Content, bucket_of, IsLowest}
+use Rattle.sp_bucket.specs.Content.{Content, IsLowest}
 use Rattle.sp_phase.specs.declared.marks.Mark.{Mark}
 use Rattle.sp_phase.specs.declared.sweep.Bounds.{Bounds}
-use Rattle.sp_phase.specs.Stage.{Stage, IsStage, Falls, Learns, law_of}
+use Rattle.sp_phase.specs.Stage.{Stage, IsStage, Falls, law_of}
 use Rattle.sp_phase.specs.Marks.{light_at, heavy_at}
 use Rattle.sp_phase.specs.Running.{IsQueued}
 use Rattle.sp_phase.specs.Sweep.{AreRelaxed, IsCopied, IsSwept}

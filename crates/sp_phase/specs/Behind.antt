@@ -1,7 +1,7 @@
 -- What a run has left behind: distances below which all is final, and no entry is queued.
 use Rattle.std.specs.Prelude.{◌≡◌, ℕ, ◌+◌, ◌*◌, ◌<◌, ◌≤◌, ◌⊎◌, List, [], ◌∷◌, ◌++◌, length, Bool, true, All, Contains, Option, Some, None, IfSome, IfNone, option_to_list, slice_index}
 use Rattle.std.specs.List.Sorted.{IsPermutation}
-use Rattle.sp_word.specs.Word.{Word, Pair, Unreached, max_dist}
+use Rattle.sp_word.specs.Word.{Pair, Unreached, max_dist}
 use Rattle.sp_word.specs.History.{Table}
 use Rattle.sp_paths.specs.Paths.{IsVertex, IsSettled}
 use Rattle.sp_offer.specs.Order.{IsKnownWord}

@@ -67,16 +67,17 @@ fn tree_of<const P: u32>(
     Ok(tree)
 }
 
-// The answer of a copy of the words in which no vertex is open.
+// The answer of a copy of the words in which no vertex is open. The leader knows the tree's words.
 fn answer_of<const P: u32>(
     alloc: Global,
     store: &Store<P>,
     leader: &Leader,
     words: &[Word<P>],
 ) -> Result<Tree<P>, RunError>
+    requires leads { Leads P store.now leader.now }
     requires swept { IsSwept P store.now leader.now.caller leader.now.marks.each.items words.now }
     ensures tree { IfOk result (IsAnswer P store.now.graph store.now.source) }
-    ensures words { IfOk result (λ t. HasWords t store.now.graph.n (word_at words.now)) }
+    ensures known { IfOk result (λ t. HasWords t store.now.graph.n (known leader.now.caller.story)) }
     ensures refused { IfErr result (IsRefusal P store.now.graph store.now.source) }
 {
     swept_copy();

@@ -83,6 +83,13 @@ fn first_leader<const P: u32>(
     })
 }
 
+// The last bucket that is closed, once heavy arcs were relaxed after the one that was settled.
+fn closed_after(settled: Option<u64>, closed: Option<u64>) -> Option<u64>
+    ensures { result ≡ option_or settled closed }
+{
+    settled.or(closed)
+}
+
 // The word of a vertex, as the leader reads it.
 fn read_word<const P: u32>(store: &Store<P>, leader: &mut Leader, vertex: u32) -> Word<P>
     requires vertex { IsVertex store.now.graph.n vertex }
@@ -193,7 +200,7 @@ impl<'a, 'g, const P: u32> Run<'a, 'g, P> {
             Err(_) => Err(RunError::Memory),
             Ok(leader) => {
                 self.leader = Some(leader);
-                self.closed = self.settled.or(self.closed);
+                self.closed = closed_after(self.settled, self.closed);
                 self.settled = None;
                 Ok(())
             }

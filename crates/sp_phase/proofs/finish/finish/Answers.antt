@@ -1,14 +1,10 @@
-use Rattle.std.proofs.Common.{List, subst}
+use Rattle.std.proofs.Common.{List, subst, sym, arith}
 use Rattle.sp_word.specs.Word.{Word}
-use Rattle.sp_paths.specs.Paths.{word_at}
-use Rattle.sp_phase.specs.Sweep.{HasWords}
-use Rattle.sp_phase.proofs.Sweeping.{known_words}
+use Rattle.sp_phase.specs.Sweep.{IsSwept}
 use Rattle.sp_phase.proofs.finish.finish.Goals as goal
 
-pub returns-clause-known : goal.returns-clause-known
-returns-clause-known g c =
-    let st = c.args.store.now in
+pub answer_of-requires : goal.answer_of-requires
+answer_of-requires g c =
     let l = c.in-Ok.leader in
-    let t = c.in_ok-tree-in-Ok.tree in
-    let H : List Word → Type 0 = λ w. HasWords t st.graph.n (word_at w) in
-    known_words g.row.P st l.caller l.marks.each.items c.sweep_all.new.words.items t c.in-Ok.ensures.swept.0 c.in-Ok.ensures.leads.holds.running.lawful c.in_ok-tree-in-Ok.ensures.tree.tree (subst H c.as_slice.ensures.value c.in_ok-tree-in-Ok.ensures.words)
+    let S : List Word → Type 0 = λ w. IsSwept g.row.P c.args.store.now l.caller l.marks.each.items w in
+    (omega arith, (omega arith, (omega arith, (c.in-Ok.ensures.leads, subst S (sym c.as_slice.ensures.value) c.in-Ok.ensures.swept))))

@@ -1,4 +1,4 @@
-use Rattle.std.proofs.Common.{ℕ, ◌*◌, subst, sym}
+use Rattle.std.proofs.Common.{◌*◌, subst, sym}
 use Rattle.sp_phase.specs.Running.{EntriesFrom}
 use Rattle.sp_phase.proofs.Rounds.{bucket_next}
 use Rattle.sp_phase.proofs.phases.empty_bucket.Goals as goal

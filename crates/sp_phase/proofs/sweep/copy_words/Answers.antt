@@ -1,4 +1,4 @@
-use Rattle.std.proofs.Common.{sym, ◌∙◌, ◌≤◌, arith}
+use Rattle.std.proofs.Common.{sym, ◌∙◌, arith}
 use Rattle.sp_phase.proofs.Rounds.{holds_learns}
 use Rattle.sp_phase.proofs.Sweeping.{copied}
 use Rattle.sp_phase.proofs.sweep.copy_words.Goals as goal

@@ -1,4 +1,4 @@
-use Rattle.std.proofs.Common.{◌≡◌, false, true, Some, refl, ap, subst, rules}
+use Rattle.std.proofs.Common.{◌≡◌, false, true, Some, refl, ap, rules}
 use Rattle.sp_word.specs.Word.{dist_of}
 use Rattle.sp_phase.proofs.Rounds.{holds_learns, holds_enters}
 use Rattle.sp_phase.proofs.Making.{light_none, light_one}

@@ -10,4 +10,4 @@ invariant_of-self-in-Ok g c =
     let i = c.self.invariant in
     let come = led g.row.P st r.settled r.closed r.leader c.in-Some.leader c.in-Some.ensures.value i.3 in
     let H : Option ℕ → Type 0 = λ closed. HasCome g.row.P st None closed c.in-Ok.leader in
-    (i.0, i.1, i.2, (c.in-Ok.ensures.leads, subst H (sym c.or-self-inside.ensures) (come_on g.row.P st r.settled r.closed c.in-Some.leader c.in-Ok.leader c.in-Ok.ensures.past come)))
+    (i.0, i.1, i.2, (c.in-Ok.ensures.leads, subst H (sym c.closed_after-self-inside.ensures) (come_on g.row.P st r.settled r.closed c.in-Some.leader c.in-Ok.leader c.in-Ok.ensures.past come)))

@@ -1,4 +1,4 @@
-use Rattle.std.proofs.Common.{ℕ, Option, ap, subst, sym}
+use Rattle.std.proofs.Common.{ℕ, Option, ap, subst}
 use Rattle.sp_phase.specs.Settling.{IsLater}
 use Rattle.sp_phase.proofs.Coming.{led, come_back, come_later}
 use Rattle.sp_phase.proofs.run.Run.settle.Goals as goal
