@@ -2,9 +2,10 @@
 ghost use Rattle.std.specs.Prelude.{◌≡◌, ◌≤◌, true, IfOk};
 ghost use Rattle.sp_word.specs.Word.{is_layout, max_pred};
 
-use crate::{RunError, run_source};
+use crate::{RunError, run_source, run_source_with};
 use sp_graph::Graph;
 use sp_paths::Arc;
+use sp_task::OpenGate;
 use sp_tree::Tree;
 use sp_word::Word;
 use std::process::Abort;
@@ -41,7 +42,7 @@ fn graph_of(
     Ok(Graph::build(rt.alloc(), n, &list)?)
 }
 
-// What a run tells.
+// What a run tells, every round of which is shared among the workers.
 fn run<const P: u32>(
     rt: &(impl Abort + AllocGlobal + Threads + Wait + Sync),
     graph: &Graph,
@@ -54,7 +55,7 @@ fn run<const P: u32>(
     assert!(rt; graph.n() <= Word::<P>::max_pred());
     assert!(rt; 1 <= delta && delta <= Word::<P>::max_dist());
     assert!(rt; 1 <= workers && workers <= 64);
-    run_source(rt, rt.alloc(), graph, delta, workers, source)
+    run_source_with(rt, rt.alloc(), graph, delta, workers, source, &OpenGate)
 }
 
 // The same for the graph of these arcs, in words of 28 bits of predecessor.
@@ -97,6 +98,16 @@ fn diamond(rt: HostRuntime) -> Result<(), Fail> {
             let tree = answer(&rt, 4, &DIAMOND, delta, workers, 1)??;
             assert!(rt; has_rows(&tree, &[(1, 0, 0), (2, 3, 1), (3, 3, 1), (4, 5, 2)]));
         }
+    }
+    Ok(())
+}
+
+#[test]
+fn short_rounds_alone(rt: HostRuntime) -> Result<(), Fail> {
+    let graph = graph_of(&rt, 4, &DIAMOND)?;
+    for workers in WORKERS {
+        let tree: Tree<28> = run_source(&rt, rt.alloc(), &graph, 2, workers, 1)?;
+        assert!(rt; has_rows(&tree, &[(1, 0, 0), (2, 3, 1), (3, 3, 1), (4, 5, 2)]));
     }
     Ok(())
 }
