@@ -70,13 +70,13 @@ def build_ours():
     return program
 
 
-def build_reference(folder):
-    """The C++ program, or None where there is no compiler."""
+def build_plain(folder, name):
+    """A C++ program of this folder, or None where there is no compiler."""
     compiler = shutil.which("g++") or shutil.which("c++")
     if compiler is None:
         return None
-    program = os.path.join(folder, "reference")
-    source = os.path.join(HOME, "bench", "reference.cpp")
+    program = os.path.join(folder, name)
+    source = os.path.join(HOME, "bench", name + ".cpp")
     subprocess.run([compiler, "-O3", "-std=c++17", "-pthread", "-o", program, source], check=True)
     return program
 
@@ -185,7 +185,7 @@ def main():
     options.add_argument("--built", metavar="PROGRAM", help="this spt_bench, as it is, in place of a build")
     chosen = options.parse_args()
     with tempfile.TemporaryDirectory() as folder:
-        programs = [chosen.built or build_ours(), build_reference(folder)]
+        programs = [chosen.built or build_ours(), build_plain(folder, "reference")]
         if programs[1] is None:
             print("parts: no C++ compiler: ours alone", file=sys.stderr)
         print(f"{'part':<34} {'ours':>10} {'C++':>10} {'ratio':>6}  unit")

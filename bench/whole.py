@@ -13,7 +13,6 @@ import filecmp
 import importlib.util
 import os
 import re
-import shutil
 import subprocess
 import sys
 import tempfile
@@ -37,17 +36,6 @@ def make_graph(gr, ss, vertices, count):
     words = [sys.executable, os.path.join(HOME, "bench", "graphs.py"), "roads", str(vertices), gr, ss]
     done = subprocess.run([*words, "--seed", str(SEED), "--sources", str(count)], stdout=subprocess.PIPE, text=True, check=True)
     return done.stdout.strip()
-
-
-def build_reference(folder):
-    """The C++ program, or None where there is no compiler."""
-    compiler = shutil.which("g++") or shutil.which("c++")
-    if compiler is None:
-        return None
-    program = os.path.join(folder, "dijkstra")
-    source = os.path.join(HOME, "bench", "dijkstra.cpp")
-    subprocess.run([compiler, "-O3", "-std=c++17", "-o", program, source], check=True)
-    return program
 
 
 def run(words):
@@ -113,7 +101,7 @@ def main():
     chosen = options.parse_args()
     ours = chosen.built or module("parts").build_ours()
     with tempfile.TemporaryDirectory() as folder:
-        plain = build_reference(folder)
+        plain = module("parts").build_plain(folder, "dijkstra")
         if plain is None:
             print("whole: no C++ compiler: ours alone", file=sys.stderr)
         for count in (1, 10):
