@@ -1,0 +1,173 @@
+#!/usr/bin/env python3
+"""Compares `spt tree` and `spt check` with a plain Dijkstra and a plain checker, on graphs of each kind of bench/graphs.py.
+
+Usage: python3 tests/trees.py [--vertices N] [--sources K] [--seed S]
+
+For each kind, each width of a bucket and each number of workers the program must write the bytes that Dijkstra's
+algorithm gives. For each block that it writes, `spt check` must say yes, and no with the least vertex and rule once
+a digit is edited. The last line is 'N passed, M failed'.
+"""
+
+import argparse
+import heapq
+import os
+import random
+import subprocess
+import sys
+import tempfile
+
+HOME = os.path.dirname(os.path.dirname(os.path.realpath(__file__)))
+sys.dont_write_bytecode = True
+sys.path.insert(0, f"{HOME}/bench")
+import graphs  # noqa: E402
+
+# the greatest distance of a word with 28 bits of predecessor, as --pred-bits is where it isn't given
+MAX = 2**36 - 2
+WORKERS = (1, 4, 64)
+EDITS = 5
+
+
+def dijkstra(rows, source):
+    """The least distance and smallest-numbered predecessor of each reached vertex, and the least vertex that is too far."""
+    words, far, queue = {source: (0, 0)}, None, [(0, source)]
+    while queue:
+        distance, tail = heapq.heappop(queue)
+        if distance > words[tail][0]:
+            continue
+        for head, length in rows[tail]:
+            offer = (distance + length, tail)
+            if offer[0] > MAX:
+                continue
+            if head not in words or offer < words[head]:
+                if head not in words or offer[0] < words[head][0]:
+                    heapq.heappush(queue, (offer[0], head))
+                words[head] = offer
+    for tail, word in words.items():
+        for head, length in rows[tail]:
+            if head not in words and word[0] + length > MAX:
+                far = head if far is None else min(far, head)
+    return words, far
+
+
+def block(n, source, words, far):
+    if far is not None:
+        return f"x {source} {far}\n"
+    rows = "".join(f"v {vertex} {distance} {tail}\n" for vertex, (distance, tail) in sorted(words.items()))
+    return f"p spt {n} {source}\n{rows}e {len(words)}\n"
+
+
+def fault(arcs, source, words):
+    """The lowest vertex at which a rule of the checker fails, and its lowest such rule."""
+    faults, held = [], {}
+    if words.get(source) != (0, 0):
+        faults.append((source, 2))
+    for tail, head, length in arcs:
+        if tail not in words:
+            continue
+        total = words[tail][0] + length
+        if total <= MAX and (head not in words or (total, tail) < words[head]):
+            faults.append((head, 3))
+        if head in words and words[head] == (total, tail):
+            held[head] = True
+        if head not in words and total > MAX:
+            faults.append((head, 5))
+    faults += [(vertex, 4) for vertex in words if vertex != source and vertex not in held]
+    return min(faults, default=None)
+
+
+def edited(words, draw):
+    """The words with one digit of one row changed, of a row with a predecessor."""
+    vertex = draw.choice(sorted(words))
+    distance, tail = words[vertex]
+    if draw.random() < 0.5:
+        distance = with_another_digit(distance, draw)
+    else:
+        tail = with_another_digit(tail, draw)
+    return {**words, vertex: (distance, tail)}
+
+
+def with_another_digit(number, draw):
+    """Another number of as many digits, canonical and no greater than a vertex may be."""
+    digits = list(str(number))
+    place = draw.randrange(len(digits))
+    digit = draw.choice([it for it in "0123456789" if it != digits[place] and (it != "0" or len(digits) == 1 or place > 0)])
+    return int("".join([*digits[:place], digit, *digits[place + 1 :]]))
+
+
+class Count:
+    def __init__(self):
+        self.passed = self.failed = 0
+
+    def of(self, name, holds):
+        self.passed += holds
+        self.failed += not holds
+        if not holds:
+            print(f"failed: {name}")
+
+
+def run(*words):
+    done = subprocess.run([f"{HOME}/spt", *words], stdout=subprocess.PIPE, stderr=subprocess.PIPE, text=True)
+    return done.returncode, done.stdout, done.stderr
+
+
+def compare_trees(count, kind, files, mean, wanted, status):
+    for delta in (max(1, mean // 3), mean, 3 * mean, MAX):
+        for workers in WORKERS:
+            told = run("tree", *files, "--delta", str(delta), "--workers", str(workers))
+            count.of(f"tree of {kind}, delta {delta}, {workers} workers", told == (status, wanted, ""))
+
+
+def compare_checks(count, kind, folder, graph, arcs, n, source, words, draw):
+    file = f"{folder}/tree"
+
+    def said(rows):
+        with open(file, "w") as it:
+            it.write(block(n, source, rows, None))
+        return run("check", graph, file)
+
+    count.of(f"check of {kind}, source {source}", said(words) == (0, "yes\n", ""))
+    for _ in range(EDITS):
+        wrong = edited(words, draw)
+        if any(distance > MAX or tail > n for distance, tail in wrong.values()):
+            continue
+        vertex, rule = fault(arcs, source, wrong)
+        count.of(f"check of {kind}, source {source}, an edited digit", said(wrong) == (3, f"no {vertex} {rule}\n", ""))
+
+
+def compare(count, kind, chosen, folder):
+    graph, list_of_sources = f"{folder}/{kind}.gr", f"{folder}/{kind}.ss"
+    _, mean = graphs.write_graph(graph, kind, chosen.vertices, chosen.seed)
+    graphs.write_sources(list_of_sources, chosen.vertices, chosen.sources, chosen.seed)
+    with open(graph) as it:
+        arcs = [tuple(map(int, line.split()[1:])) for line in it if line.startswith("a ")]
+    with open(list_of_sources) as it:
+        sources = [int(line.split()[1]) for line in it if line.startswith("s ")]
+    rows = {vertex: [] for vertex in range(1, chosen.vertices + 1)}
+    for tail, head, length in arcs:
+        rows[tail].append((head, length))
+    trees = [(source, *dijkstra(rows, source)) for source in sources]
+    wanted = "".join(block(chosen.vertices, source, words, far) for source, words, far in trees)
+    status = 4 if any(far for _, _, far in trees) else 0
+    compare_trees(count, kind, (graph, list_of_sources), min(mean, MAX // 3), wanted, status)
+    draw = random.Random(chosen.seed)
+    for source, words, far in trees:
+        if far is None:
+            compare_checks(count, kind, folder, graph, arcs, chosen.vertices, source, words, draw)
+
+
+def main():
+    options = argparse.ArgumentParser(description=__doc__, formatter_class=argparse.RawDescriptionHelpFormatter)
+    options.add_argument("--vertices", type=int, default=10000)
+    options.add_argument("--sources", type=int, default=3)
+    options.add_argument("--seed", type=int, default=1)
+    chosen = options.parse_args()
+    count = Count()
+    with tempfile.TemporaryDirectory() as folder:
+        for kind in sorted(graphs.KINDS):
+            compare(count, kind, chosen, folder)
+    print(f"{count.passed} passed, {count.failed} failed")
+    return 1 if count.failed else 0
+
+
+if __name__ == "__main__":
+    sys.exit(main())
