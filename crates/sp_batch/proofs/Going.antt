@@ -5,8 +5,8 @@ use Rattle.std.specs.Io.KnownBytes.{Appends}
 use Rattle.std.proofs.KnownBytes.{Appends-nil, Appends-trans}
 use Rattle.std.proofs.lemmas.List.{append-nil}
 use Rattle.std.proofs.lemmas.List.Sums.{sum_by_push, count_by-le-length}
-use Rattle.sp_text.specs.Devices.{IsBegun}
-use Rattle.sp_text.proofs.Printed.{begun_behind}
+use Rattle.sp_device.specs.Devices.{IsBegun}
+use Rattle.sp_device.proofs.Printed.{begun_behind}
 use Rattle.sp_paths.specs.Paths.{Graph}
 use Rattle.sp_batch.specs.declared.answers.Summary.{Summary}
 use Rattle.sp_batch.specs.declared.answers.BatchError.{BatchError}

@@ -2,7 +2,7 @@
 use Rattle.std.specs.Prelude.{◌≡◌, ◌<◌, ◌≤◌, ℕ, Bool, true, false, List, [], ◌∷◌, ◌++◌, length, slice_get, Option, Some, None}
 use Rattle.std.specs.List.{flat_map, count_by}
 use Rattle.sp_word.specs.Word.{max_dist}
-use Rattle.sp_text.specs.Devices.{IsBegun}
+use Rattle.sp_device.specs.Devices.{IsBegun}
 use Rattle.sp_paths.specs.Paths.{Graph, IsFar}
 use Rattle.sp_tree.specs.Table.{TreeTable, IsTable}
 use Rattle.sp_tree.specs.TreeText.{tree_text, far_text}

@@ -1,7 +1,7 @@
 -- One source after the other.
 use Rattle.std.specs.Prelude.{◌≡◌, ◌+◌, ◌<◌, ◌≤◌, ◌^◌, ℕ, Bool, true, cond, List, length, Option, Result, Ok, Err}
 use Rattle.std.specs.Io.KnownBytes.{Appends}
-use Rattle.sp_text.specs.Devices.{IsBegun}
+use Rattle.sp_device.specs.Devices.{IsBegun}
 use Rattle.sp_paths.specs.Paths.{Graph}
 use Rattle.sp_batch.specs.declared.answers.Summary.{Summary}
 use Rattle.sp_batch.specs.declared.answers.BatchError.{BatchError}

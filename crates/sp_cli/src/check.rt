@@ -1,7 +1,7 @@
 //! `spt check`: whether a tree file holds the shortest-path tree of its source.
 ghost use Rattle.std.specs.Prelude.{◌≡◌, ◌≢◌, ℕ, List, ◌++◌, true, IfOk, IfErr};
 ghost use Rattle.sp_word.specs.Word.{is_layout};
-ghost use Rattle.sp_text.specs.Printing.{IsSending, Finished};
+ghost use Rattle.sp_device.specs.Printing.{IsSending, Finished};
 ghost use Rattle.sp_cli.specs.Faults.{is_done};
 ghost use Rattle.sp_cli.specs.Ends.{IsVerdict, verdict_text, verdict_end};
 
@@ -9,9 +9,9 @@ use crate::faults::{Fault, FileKind, Status};
 use crate::inputs::Inputs;
 use crate::words::PredBits;
 use sp_cert::{CheckError, Rule};
+use sp_device::{Printer, Read, Write, WriteFault, finish, print_number, print_text};
 use sp_dimacs::read_gr;
 use sp_graph::Graph;
-use sp_text::{Printer, Read, Write, WriteFault, finish, print_number, print_text};
 use sp_tree::{Tree, read_tree};
 use std::alloc::{AllocError, Global};
 use std::thread::Threads;

@@ -3,7 +3,8 @@ ghost use Rattle.std.specs.Prelude.{◌≡◌, ◌≤◌, false};
 ghost use Rattle.sp_cli.specs.Faults.{code_of, is_done, status_of};
 ghost use Rattle.sp_cli.specs.declared.faults.Fault.TheVariants.{Memory, WriteFailed};
 
-use sp_text::{DimacsError, Kind, WriteFault};
+use sp_device::WriteFault;
+use sp_text::{DimacsError, Kind};
 use std::alloc::AllocError;
 use std::fmt;
 use thiserror::Error;

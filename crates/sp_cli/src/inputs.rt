@@ -1,7 +1,7 @@
 //! Where the files of a command line come from.
 ghost use Rattle.std.specs.Prelude.{◌≡◌, IfSome};
 
-use sp_text::Read;
+use sp_device::Read;
 
 /// The files that a command line names.
 pub trait Inputs {

@@ -6,7 +6,7 @@ ghost use Rattle.sp_cli.specs.declared.faults.Status.TheVariants.{Done};
 use crate::faults::{Fault, FileKind, Status};
 use crate::inputs::Inputs;
 use crate::words::PredBits;
-use sp_text::{Read, Write};
+use sp_device::{Read, Write};
 use std::alloc::Global;
 
 /// Runs the steps of the file at `path`, and writes the report.

@@ -11,7 +11,7 @@ use crate::replay::replay;
 use crate::text::print;
 use crate::tree::tree;
 use crate::words::read_order;
-use sp_text::Write;
+use sp_device::Write;
 use std::alloc::Global;
 use std::sync::Wait;
 use std::thread::Threads;

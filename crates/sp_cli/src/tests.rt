@@ -10,7 +10,7 @@ mod tree;
 mod usage;
 
 use crate::{Inputs, run_command};
-use sp_text::{Read, UpTo, UpToWriter};
+use sp_device::{Read, UpTo, UpToWriter};
 use std::alloc::Global;
 use std::process::Abort;
 use std::str::from_utf8;

@@ -1,5 +1,5 @@
 //! Text on a device.
-use sp_text::{Write, WriteFault, write_all};
+use sp_device::{Write, WriteFault, write_all};
 use std::fmt;
 use std::fmt::Write as _;
 

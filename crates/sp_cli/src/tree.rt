@@ -9,7 +9,7 @@ use crate::inputs::Inputs;
 use crate::orders::TreeOrder;
 use crate::words::PredBits;
 use sp_batch::{BatchError, Summary, run_batch};
-use sp_text::Write;
+use sp_device::Write;
 use sp_word::Word;
 use std::alloc::Global;
 use std::sync::Wait;

@@ -12,7 +12,7 @@ pub use Rattle.sp_text.specs.First
 pub use Rattle.sp_text.specs.Text
 pub use Rattle.sp_text.specs.Feeding
 pub use Rattle.sp_text.specs.Collecting
-pub use Rattle.sp_text.specs.Devices
+pub use Rattle.sp_device.specs.Devices
 pub use Rattle.sp_text.specs.Whole
 pub use Rattle.sp_text.specs.Meaning
 pub use Rattle.sp_text.specs.Accepted

@@ -8,10 +8,9 @@ ghost use Rattle.sp_dimacs.specs.Graph.{arc_of, IsGraph, SpellsGraph, GraphRead,
 
 use crate::formats::{gr_layout, ranges_of};
 use crate::readers::TextReader;
+use sp_device::Read;
 use sp_paths::Arc;
-use sp_text::{
-    Collector, DimacsError, Keep, Kind, Layout, LineTaker, Ranges, Read, Values, read_text,
-};
+use sp_text::{Collector, DimacsError, Keep, Kind, Layout, LineTaker, Ranges, Values, read_text};
 use std::alloc::{AllocError, Global};
 use std::mem;
 

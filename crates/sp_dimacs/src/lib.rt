@@ -17,11 +17,11 @@ pub use lines::Lines;
 pub use pairs::{PairsFile, PairsReader, read_pairs};
 pub use readers::TextReader;
 pub use sources::{SsFile, SsReader, read_ss};
-pub use sp_paths::Arc;
-pub use sp_text::{
-    DimacsError, Failed, Kind, Numeral, OfRead, OfWrite, Read, UpTo, UpToWriter, Write, WriteFault,
-    number, write_all,
+pub use sp_device::{
+    Failed, OfRead, OfWrite, Read, UpTo, UpToWriter, Write, WriteFault, write_all,
 };
+pub use sp_paths::Arc;
+pub use sp_text::{DimacsError, Kind, Numeral, number};
 
 #[cfg(test)]
 mod tests;

@@ -5,7 +5,8 @@ ghost use Rattle.sp_dimacs.specs.LineReading.{RunTaken, LineRead};
 
 use crate::piece::Piece;
 use memchr::memchr;
-use sp_text::{DimacsError, Kind, Read, Room};
+use sp_device::Read;
+use sp_text::{DimacsError, Kind, Room};
 
 // Whether lines may come, and otherwise why there are no more.
 #[derive(Clone, Copy)]

@@ -8,9 +8,8 @@ ghost use Rattle.sp_dimacs.specs.Pairs.{pair_of, ArePairs, SpellsPairs, PairsRea
 
 use crate::formats::{pairs_layout, ranges_of};
 use crate::readers::TextReader;
-use sp_text::{
-    Collector, DimacsError, Keep, Kind, Layout, LineTaker, Ranges, Read, Values, read_text,
-};
+use sp_device::Read;
+use sp_text::{Collector, DimacsError, Keep, Kind, Layout, LineTaker, Ranges, Values, read_text};
 use std::alloc::{AllocError, Global};
 use std::mem;
 

@@ -2,7 +2,7 @@
 ghost use Rattle.std.specs.Prelude.{◌≡◌, ◌+◌, ◌≤◌, ◌^◌, [], drop, length, OnOk, OnErr, true};
 ghost use Rattle.std.specs.Io.KnownBytes.{Consumes, Keeps, IsAtEnd};
 
-use sp_text::{Failed, Read};
+use sp_device::{Failed, Read};
 use std::marker::Model;
 
 // As many bytes as are taken from a device at a time.

@@ -8,9 +8,8 @@ ghost use Rattle.sp_dimacs.specs.Sources.{source_of, AreSources, SpellsSources, 
 
 use crate::formats::{ranges_of, ss_layout};
 use crate::readers::TextReader;
-use sp_text::{
-    Collector, DimacsError, Keep, Kind, Layout, LineTaker, Ranges, Read, Values, read_text,
-};
+use sp_device::Read;
+use sp_text::{Collector, DimacsError, Keep, Kind, Layout, LineTaker, Ranges, Values, read_text};
 use std::alloc::{AllocError, Global};
 use std::mem;
 

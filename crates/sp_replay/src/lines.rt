@@ -2,8 +2,8 @@
 ghost use Rattle.std.specs.Prelude.{◌≡◌, ◌+◌, ◌≤◌, ◌++◌, length};
 ghost use Rattle.sp_replay.specs.ReportText.{number_text, word_text, reply_text, asked_text, call_text, reached_text, count_text, totals_text, closed_text};
 
+use sp_device::Block;
 use sp_machine::{Call, Finished};
-use sp_text::Block;
 use sp_word::{Reply, Word};
 
 /// As many bytes as the line of a finished call has at most.

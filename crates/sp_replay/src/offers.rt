@@ -7,10 +7,9 @@ ghost use Rattle.sp_replay.specs.Offers.{IsOffersFile, OffersRead};
 use crate::keeper::offer_at;
 use crate::layout::{limits, offers_layout};
 use crate::rows::Rows;
+use sp_device::Read;
 use sp_machine::{Item, Programme};
-use sp_text::{
-    Collector, DimacsError, Feeder, Keep, Kind, Layout, Ranges, Read, Values, read_text,
-};
+use sp_text::{Collector, DimacsError, Feeder, Keep, Kind, Layout, Ranges, Values, read_text};
 use std::alloc::{AllocError, Global};
 
 /// The offers so far.

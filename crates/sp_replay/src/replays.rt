@@ -6,8 +6,9 @@ ghost use Rattle.sp_replay.specs.Keeping.{plan_of};
 ghost use Rattle.sp_replay.specs.ReplayFile.{IsReplayFile, ReplayRead};
 
 use crate::keeper::{Keeper, ReplayParts};
+use sp_device::Read;
 use sp_machine::Programme;
-use sp_text::{Collector, DimacsError, Feeder, Kind, Read, read_text};
+use sp_text::{Collector, DimacsError, Feeder, Kind, read_text};
 use std::alloc::Global;
 
 /// What a replay file says.

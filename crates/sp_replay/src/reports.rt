@@ -1,12 +1,12 @@
 //! The report of a run, written to a device.
 ghost use Rattle.std.specs.Prelude.{◌++◌};
 ghost use Rattle.std.specs.List.{flat_map};
-ghost use Rattle.sp_text.specs.Printing.{IsSending, Sends, Finished as Written};
+ghost use Rattle.sp_device.specs.Printing.{IsSending, Sends, Finished as Written};
 ghost use Rattle.sp_replay.specs.ReportText.{call_text, reached_text, reached_from, totals_text, closed_text, report_text};
 
 use crate::lines::{CALL_ROOM, END_ROOM, REACHED_ROOM, push_call, push_end, push_reached};
+use sp_device::{Printer, Write, WriteFault, finish, make_room};
 use sp_machine::{Finished, Report};
-use sp_text::{Printer, Write, WriteFault, finish, make_room};
 use sp_word::Word;
 
 fn send_call<const P: u32, W: Write>(out: &mut W, printer: &mut Printer, call: &Finished<P>)

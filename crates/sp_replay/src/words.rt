@@ -1,11 +1,11 @@
 //! The words that offers leave, written to a device.
 ghost use Rattle.std.specs.Prelude.{◌≡◌, ◌≤◌, ◌++◌, length};
-ghost use Rattle.sp_text.specs.Printing.{IsSending, Sends, Finished as Written};
+ghost use Rattle.sp_device.specs.Printing.{IsSending, Sends, Finished as Written};
 ghost use Rattle.sp_replay.specs.ReportText.{reached_count, count_text, words_text};
 
 use crate::lines::{COUNT_ROOM, push_count};
 use crate::reports::send_words;
-use sp_text::{Printer, Write, WriteFault, finish, make_room};
+use sp_device::{Printer, Write, WriteFault, finish, make_room};
 use sp_word::Word;
 
 // How many of the words are reached.

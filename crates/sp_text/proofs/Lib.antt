@@ -9,7 +9,6 @@ pub mod LineForms
 pub mod Collected
 pub mod Lasting
 pub mod Allowed
-pub mod Printed
 pub mod Silent
 pub mod Taken
 mod Examples

@@ -7,8 +7,6 @@ pub mod Feeding
 pub mod Matching
 pub mod Keeping
 pub mod Collecting
-pub mod Devices
-pub mod Printing
 pub mod Whole
 pub mod Meaning
 pub mod Accepted

@@ -1,4 +1,4 @@
-//! What can be wrong with a text, and with a writer.
+//! What can be wrong with a text.
 use thiserror::Error;
 
 /// What is wrong with a line. Within one line the lowest number is told.
@@ -41,8 +41,3 @@ pub struct DimacsError {
     pub line: u64,
     pub kind: Kind,
 }
-
-/// The writer failed.
-#[derive(Clone, Copy, Debug, PartialEq, Eq, Error)]
-#[error("the writer failed")]
-pub struct WriteFault;

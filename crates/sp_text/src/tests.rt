@@ -1,5 +1,4 @@
 mod answers;
 mod devices;
 mod pieces;
-mod printed;
 mod samples;

@@ -3,9 +3,9 @@ ghost use Rattle.std.specs.Prelude.{◌≡◌, ℕ, List, [], true, Some, IfOk, 
 ghost use Rattle.sp_text.specs.Whole.{AllRead, IsSpelled, ReadOn};
 ghost use Rattle.sp_text.specs.Feeding.{IsBehind};
 
-use crate::devices::Read;
 use crate::faults::{DimacsError, Kind};
 use crate::feeding::{Feeder, LineTaker};
+use sp_device::Read;
 
 // As many bytes as are read at a time.
 const PIECE: usize = 65_536;

@@ -8,7 +8,8 @@ ghost use Rattle.sp_tree.specs.Reading.{IsBehindTree, IsSpentTree, TreeFed, Tree
 
 use crate::taking::TreeLines;
 use crate::tree::Tree;
-use sp_text::{DimacsError, Feeder, Kind, Read};
+use sp_device::Read;
+use sp_text::{DimacsError, Feeder, Kind};
 use std::alloc::Global;
 
 // As many bytes as are read at a time.

@@ -1,11 +1,11 @@
 //! Trees, written to a device.
 ghost use Rattle.std.specs.Prelude.{◌++◌, ◌≡◌, ◌≤◌, ◌+◌, length};
 ghost use Rattle.std.specs.List.{flat_map};
-ghost use Rattle.sp_text.specs.Printing.{Sends, Finished as Written, Counted};
+ghost use Rattle.sp_device.specs.Printing.{Sends, Finished as Written, Counted};
 ghost use Rattle.sp_tree.specs.TreeText.{number_text, problem_text, reached_text, row_text, end_text, tree_text, far_text};
 
 use crate::tree::Tree;
-use sp_text::{Block, Printer, Write, WriteFault, finish, make_room};
+use sp_device::{Block, Printer, Write, WriteFault, finish, make_room};
 use sp_word::Word;
 
 // As many bytes as a line has at most.

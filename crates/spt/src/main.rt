@@ -2,7 +2,7 @@
 #![tactic(auto)]
 
 use sp_cli::{Inputs, run_command};
-use sp_text::{OfRead, OfWrite, Write};
+use sp_device::{OfRead, OfWrite, Write};
 use std::process::ExitCode;
 use std::rt::{Env, Files};
 use std::sync::Wait;

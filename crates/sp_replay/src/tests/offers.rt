@@ -2,7 +2,8 @@ ghost use Rattle.std.specs.Prelude.{◌≡◌, ◌≤◌, ◌^◌, length, true}
 ghost use Rattle.sp_word.specs.Word.{is_layout};
 
 use crate::{Item, read_offers};
-use sp_text::{DimacsError, Kind, UpTo};
+use sp_device::UpTo;
+use sp_text::{DimacsError, Kind};
 use sp_word::Word;
 use std::alloc::Global;
 use std::test::Fail;

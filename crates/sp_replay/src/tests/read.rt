@@ -1,5 +1,5 @@
 use crate::{Item, read_replay};
-use sp_text::UpTo;
+use sp_device::UpTo;
 use sp_word::Word;
 use std::test::Fail;
 

@@ -3,7 +3,8 @@ ghost use Rattle.sp_word.specs.Word.{is_layout};
 
 use super::samples::LOST_EXCHANGE;
 use crate::read_replay;
-use sp_text::{DimacsError, Kind, UpTo};
+use sp_device::UpTo;
+use sp_text::{DimacsError, Kind};
 use std::alloc::Global;
 use std::test::Fail;
 

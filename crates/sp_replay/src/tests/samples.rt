@@ -3,7 +3,7 @@ ghost use Rattle.std.specs.Prelude.{◌≡◌, ◌≤◌, ◌^◌, length, true}
 ghost use Rattle.sp_word.specs.Word.{is_layout};
 
 use crate::{read_replay, replay, write_report};
-use sp_text::{UpTo, UpToWriter};
+use sp_device::{UpTo, UpToWriter};
 use std::alloc::Global;
 use std::process::Abort;
 use std::test::Fail;

@@ -1,6 +1,6 @@
 use super::samples::{LOST_EXCHANGE, LOST_EXCHANGE_REPORT};
 use crate::{read_replay, replay, write_report};
-use sp_text::{UpTo, UpToWriter, WriteFault};
+use sp_device::{UpTo, UpToWriter, WriteFault};
 use std::test::Fail;
 
 #[test]

@@ -1,5 +1,5 @@
 use super::samples::{DIAMOND, items, told};
-use crate::faults::{DimacsError, Kind, WriteFault};
+use crate::faults::{DimacsError, Kind};
 use std::test::Fail;
 
 #[test]
@@ -122,9 +122,5 @@ fn printed_faults(rt: HostRuntime) -> Result<(), Fail> {
     assert_eq!(rt; shown(3, Kind::TooFew)?.as_str(), "line 3: 7 TooFew");
     assert_eq!(rt; shown(4, Kind::Memory)?.as_str(), "line 4: 8 Memory");
     assert_eq!(rt; shown(1, Kind::Read)?.as_str(), "line 1: 9 Read");
-    assert_eq!(rt;
-        format!(in alloc; "{WriteFault}")?.as_str(),
-        "the writer failed"
-    );
     Ok(())
 }

@@ -2,7 +2,7 @@ ghost use Rattle.std.specs.Prelude.{◌<◌, ◌≤◌, ◌^◌, length};
 
 use super::samples::{DIAMOND, Entry, new_reader, read_entries, told};
 use crate::faults::{DimacsError, Kind};
-use crate::memory::UpTo;
+use sp_device::UpTo;
 use std::alloc::Global;
 use std::test::Fail;
 

@@ -6,13 +6,12 @@ ghost use Rattle.sp_text.specs.Samples.{sample, usual, AreEntries};
 ghost use Rattle.sp_text.specs.Text.{Item};
 
 use crate::collecting::{Collector, Keep};
-use crate::devices::Read;
 use crate::faults::{DimacsError, Kind};
 use crate::feeding::Feeder;
 use crate::layouts::{Field, Form, Layout, Ranges, Top};
-use crate::memory::UpTo;
 use crate::rooms::Values;
 use crate::whole::read_text;
+use sp_device::{Read, UpTo};
 use std::alloc::{AllocError, Global};
 use std::mem;
 

@@ -3,7 +3,8 @@ ghost use Rattle.sp_word.specs.Word.{is_layout};
 
 use super::samples::{rows, told};
 use crate::read_tree;
-use sp_text::{Kind, UpTo};
+use sp_device::UpTo;
+use sp_text::Kind;
 use sp_word::Word;
 use std::test::Fail;
 

@@ -3,7 +3,8 @@ ghost use Rattle.std.specs.Prelude.{◌≡◌, ◌≤◌, ◌<◌, ◌^◌, true
 ghost use Rattle.sp_word.specs.Word.{is_layout};
 
 use crate::{Tree, TreeReader, read_tree};
-use sp_text::{DimacsError, Kind, UpTo};
+use sp_device::UpTo;
+use sp_text::{DimacsError, Kind};
 use sp_word::Word;
 use std::alloc::{AllocError, Global};
 

@@ -1,6 +1,6 @@
 use super::samples::{ALONE, DIAMOND, diamond};
 use crate::{Tree, read_tree, tree_text_is_exact, tree_texts_are_accepted};
-use sp_text::UpTo;
+use sp_device::UpTo;
 use sp_word::Word;
 use std::test::Fail;
 

@@ -1,6 +1,6 @@
 use super::samples::{ALONE, DIAMOND, diamond};
 use crate::{Tree, write_far, write_tree};
-use sp_text::{UpToWriter, WriteFault};
+use sp_device::{UpToWriter, WriteFault};
 use sp_word::Word;
 use std::test::Fail;
 

@@ -1,5 +1,5 @@
 use Rattle.std.proofs.Common.{[]}
-use Rattle.sp_text.proofs.Printed.{unsent}
+use Rattle.sp_device.proofs.Printed.{unsent}
 use Rattle.sp_replay.proofs.Sent.{report_is}
 use Rattle.sp_replay.proofs.reports.print_report.Goals as goal
 

@@ -1,6 +1,6 @@
 use Rattle.std.proofs.Common.{take}
 use Rattle.sp_replay.specs.ReportText.{reached_from}
-use Rattle.sp_text.specs.Printing.{Sends}
+use Rattle.sp_device.specs.Printing.{Sends}
 use Rattle.sp_replay.proofs.reports.send_words.Given as goal
 
 abbrev pub invariant-loop-place : goal.invariant-loop-place

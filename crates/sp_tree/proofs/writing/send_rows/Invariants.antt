@@ -1,7 +1,7 @@
 use Rattle.std.proofs.Common.{take}
 use Rattle.std.specs.List.{flat_map}
 use Rattle.sp_tree.specs.TreeText.{row_text}
-use Rattle.sp_text.specs.Printing.{Sends}
+use Rattle.sp_device.specs.Printing.{Sends}
 use Rattle.sp_tree.proofs.writing.send_rows.Given as goal
 
 abbrev pub invariant-loop-vertex : goal.invariant-loop-vertex

@@ -1,7 +1,7 @@
 //! Readers and writers as contracts see them.
 ghost use Rattle.std.specs.Prelude.{◌≡◌, ◌+◌, ◌<◌, ◌≤◌, ◌^◌, ℕ, Bool, true, false, List, length, take, Option, OnOk, OnErr, IfOk};
 ghost use Rattle.std.specs.Io.KnownBytes.{Consumes, Appends, Keeps, IsAtEnd};
-ghost use Rattle.sp_text.specs.Devices.{IsBegun};
+ghost use Rattle.sp_device.specs.Devices.{IsBegun};
 
 use crate::faults::WriteFault;
 

@@ -1,7 +1,7 @@
 use Rattle.std.proofs.Common.{◌++◌, ap, refl, ◌∙◌}
 use Rattle.std.proofs.lemmas.List.{append-nil}
-use Rattle.sp_text.proofs.Printed.{begun_behind, written_on, sends_ok, sends_failed}
-use Rattle.sp_text.proofs.printing.write_on.Goals as goal
+use Rattle.sp_device.proofs.Printed.{begun_behind, written_on, sends_ok, sends_failed}
+use Rattle.sp_device.proofs.printing.write_on.Goals as goal
 
 pub returns-in-Ok : goal.returns-in-Ok
 returns-in-Ok g c = λ front start h.

@@ -4,9 +4,9 @@ use Rattle.std.proofs.lemmas.List.{append-nil}
 use Rattle.std.proofs.lemmas.Bool.{false≢true}
 use Rattle.std.proofs.KnownBytes.{Appends-nil, Appends-trans}
 use Rattle.std.specs.Io.KnownBytes.{Appends}
-use Rattle.sp_text.specs.declared.printing.Printer.{Printer}
-use Rattle.sp_text.specs.Devices.{IsBegun}
-use Rattle.sp_text.specs.Printing.{IsSent, IsSending}
+use Rattle.sp_device.specs.declared.printing.Printer.{Printer}
+use Rattle.sp_device.specs.Devices.{IsBegun}
+use Rattle.sp_device.specs.Printing.{IsSent, IsSending}
 
 pub split_on : (bytes front rest after : List ℕ) (n : ℕ) → bytes ≡ front ++ rest → after ≡ drop n rest → bytes ≡ (front ++ take n rest) ++ after
 split_on bytes front rest after n whole is =

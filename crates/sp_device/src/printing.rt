@@ -1,6 +1,6 @@
 //! A text that is written in blocks.
 ghost use Rattle.std.specs.Prelude.{◌≡◌, ◌+◌, ◌≤◌, ℕ, List, [], ◌++◌, length, decimal, false};
-ghost use Rattle.sp_text.specs.Printing.{IsSending, Sends, Finished, Counted};
+ghost use Rattle.sp_device.specs.Printing.{IsSending, Sends, Finished, Counted};
 
 use crate::block::Block;
 use crate::devices::{Write, write_all};

@@ -1,8 +1,8 @@
 -- A text that is sent to a writer in blocks.
 use Rattle.std.specs.Prelude.{◌≡◌, ◌+◌, ◌<◌, ◌≤◌, ◌^◌, ℕ, Bool, true, false, List, ◌++◌, length, Option, Result, Ok, Err}
 use Rattle.std.specs.Io.KnownBytes.{Appends}
-use Rattle.sp_text.specs.declared.printing.Printer.{Printer}
-use Rattle.sp_text.specs.Devices.{IsBegun}
+use Rattle.sp_device.specs.declared.printing.Printer.{Printer}
+use Rattle.sp_device.specs.Devices.{IsBegun}
 
 -- Since `start` this text was sent: some of it was written, and the rest waits.
 pub record IsSent {W : Type 0} (written : W → Option (List ℕ)) (passed : W → ℕ) (text : List ℕ) (start out : W) (printer : Printer) : Type 0 where

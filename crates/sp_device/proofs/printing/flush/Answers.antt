@@ -1,6 +1,6 @@
 use Rattle.std.proofs.Common.{◌≡◌, ◌+◌, ◌-◌, ◌^◌, length, min, refl, arith, ap}
-use Rattle.sp_text.proofs.Printed.{begun_behind, flushed, sends_ok, sends_failed}
-use Rattle.sp_text.proofs.printing.flush.Goals as goal
+use Rattle.sp_device.proofs.Printed.{begun_behind, flushed, sends_ok, sends_failed}
+use Rattle.sp_device.proofs.printing.flush.Goals as goal
 
 pub returns-in-Ok-clause-sends : goal.returns-in-Ok-clause-sends
 returns-in-Ok-clause-sends g c = λ front start h.

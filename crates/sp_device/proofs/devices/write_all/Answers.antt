@@ -1,8 +1,8 @@
 use Rattle.std.proofs.Common.{◌++◌, ◌+◌, ◌≡◌, length, take, length-append, arith}
 use Rattle.std.proofs.lemmas.List.{length-take-le}
 use Rattle.std.proofs.KnownBytes.{Appends-trans}
-use Rattle.sp_text.proofs.Printed.{split_on}
-use Rattle.sp_text.proofs.devices.write_all.Goals as goal
+use Rattle.sp_device.proofs.Printed.{split_on}
+use Rattle.sp_device.proofs.devices.write_all.Goals as goal
 
 pub loop-rest-preserved : goal.loop-rest-preserved
 loop-rest-preserved g c =

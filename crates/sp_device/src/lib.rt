@@ -1,0 +1,19 @@
+//! Devices that bytes are read from and written to, and printing through a block of memory.
+#![tactic(auto)]
+
+mod block;
+mod devices;
+mod faults;
+mod memory;
+mod printing;
+mod streams;
+
+pub use block::Block;
+pub use devices::{Failed, Read, Write, write_all};
+pub use faults::WriteFault;
+pub use memory::{UpTo, UpToWriter};
+pub use printing::{Printer, finish, make_room, print_number, print_text};
+pub use streams::{OfRead, OfWrite};
+
+#[cfg(test)]
+mod tests;
