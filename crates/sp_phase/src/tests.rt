@@ -1,9 +1,11 @@
 //! Runs on small graphs, for several numbers of workers and widths of a bucket.
 ghost use Rattle.std.specs.Prelude.{◌≡◌, ◌≤◌, true, IfOk};
-ghost use Rattle.sp_word.specs.Word.{is_layout, max_pred};
+ghost use Rattle.sp_word.specs.Word.{is_layout};
+ghost use Rattle.sp_paths.specs.Paths.{IsArc};
 
-use crate::{RunError, run_source, run_source_with};
+use crate::{RunError, Store, run_source, run_source_with};
 use sp_graph::Graph;
+use sp_offer::Caller;
 use sp_paths::Arc;
 use sp_task::OpenGate;
 use sp_tree::Tree;
@@ -13,8 +15,10 @@ use std::sync::Wait;
 use std::test::Fail;
 use std::thread::Threads;
 
+mod compare;
 mod meeting;
 mod random;
+mod roads;
 mod settling;
 mod watching;
 
@@ -22,23 +26,33 @@ const WORKERS: [u32; 3] = [1, 2, 64];
 
 const DIAMOND: [(u32, u32, u32); 5] = [(1, 2, 3), (1, 3, 3), (2, 4, 2), (3, 4, 2), (1, 4, 6)];
 
-// The graph of arcs that are given by tail, head and length.
+// Vertex, distance, predecessor.
+const DIAMOND_TREE: [(u32, u64, u32); 4] = [(1, 0, 0), (2, 3, 1), (3, 3, 1), (4, 5, 2)];
+
+// An arc between two of `n` vertices, given by tail, head and length.
+fn arc_of(rt: &impl Abort, n: u32, arc: &(u32, u32, u32)) -> Arc
+    ensures { IsArc n result }
+{
+    let (tail, head, len) = *arc;
+    assert!(rt; 1 <= tail && tail <= n);
+    assert!(rt; 1 <= head && head <= n);
+    assert!(rt; 1 <= len);
+    Arc { tail, head, len }
+}
+
+// The graph of such arcs.
 fn graph_of(
     rt: &(impl Abort + AllocGlobal),
     n: u32,
     arcs: &[(u32, u32, u32)],
 ) -> Result<Graph, Fail>
-    ensures { IfOk result (λ graph. graph.n ≤ 1000) }
+    ensures { IfOk result (λ graph. graph.n ≤ 10000) }
 {
     let mut list = Vec::new(rt.alloc());
-    for (tail, head, len) in arcs {
-        let (tail, head, len) = (*tail, *head, *len);
-        assert!(rt; 1 <= tail && tail <= n);
-        assert!(rt; 1 <= head && head <= n);
-        assert!(rt; 1 <= len);
-        list.push(Arc { tail, head, len })?;
+    for arc in arcs {
+        list.push(arc_of(rt, n, arc))?;
     }
-    assert!(rt; 1 <= n && n <= 1000);
+    assert!(rt; 1 <= n && n <= 10_000);
     Ok(Graph::build(rt.alloc(), n, &list)?)
 }
 
@@ -58,7 +72,35 @@ fn run<const P: u32>(
     run_source_with(rt, rt.alloc(), graph, delta, workers, source, &OpenGate)
 }
 
-// The same for the graph of these arcs, in words of 28 bits of predecessor.
+// The same, with short rounds left to the leader.
+fn run_sharing_long<const P: u32>(
+    rt: &(impl Abort + AllocGlobal + Threads + Wait + Sync),
+    graph: &Graph,
+    delta: u64,
+    workers: u32,
+    source: u32,
+) -> Result<Tree<P>, RunError>
+    requires { is_layout P ≡ true }
+{
+    assert!(rt; graph.n() <= Word::<P>::max_pred());
+    assert!(rt; 1 <= delta && delta <= Word::<P>::max_dist());
+    assert!(rt; 1 <= workers && workers <= 64);
+    run_source(rt, rt.alloc(), graph, delta, workers, source)
+}
+
+// The first caller of a store, and another.
+fn split(rt: &impl Abort, store: &Store<28>, caller: Caller) -> (Caller, Caller)
+    requires { caller.table ≡ store.now.table }
+    ensures first { result.0.table ≡ store.now.table }
+    ensures second { result.1.table ≡ store.now.table }
+{
+    match store.table().split(caller) {
+        Ok(both) => both,
+        Err(_) => panic!(rt; "a split was refused"),
+    }
+}
+
+// What a run of every round shared tells of the graph of these arcs, in words of 28 bits of predecessor.
 fn answer(
     rt: &(impl Abort + AllocGlobal + Threads + Wait + Sync),
     n: u32,
@@ -96,7 +138,7 @@ fn diamond(rt: HostRuntime) -> Result<(), Fail> {
     for workers in WORKERS {
         for delta in [1u64, 2, 100] {
             let tree = answer(&rt, 4, &DIAMOND, delta, workers, 1)??;
-            assert!(rt; has_rows(&tree, &[(1, 0, 0), (2, 3, 1), (3, 3, 1), (4, 5, 2)]));
+            assert!(rt; has_rows(&tree, &DIAMOND_TREE));
         }
     }
     Ok(())
@@ -106,8 +148,8 @@ fn diamond(rt: HostRuntime) -> Result<(), Fail> {
 fn short_rounds_alone(rt: HostRuntime) -> Result<(), Fail> {
     let graph = graph_of(&rt, 4, &DIAMOND)?;
     for workers in WORKERS {
-        let tree: Tree<28> = run_source(&rt, rt.alloc(), &graph, 2, workers, 1)?;
-        assert!(rt; has_rows(&tree, &[(1, 0, 0), (2, 3, 1), (3, 3, 1), (4, 5, 2)]));
+        let tree = run_sharing_long(&rt, &graph, 2, workers, 1)?;
+        assert!(rt; has_rows(&tree, &DIAMOND_TREE));
     }
     Ok(())
 }
@@ -166,13 +208,19 @@ fn at_the_limit(rt: HostRuntime) -> Result<(), Fail> {
 
 #[test]
 fn beyond_the_limit(rt: HostRuntime) -> Result<(), Fail> {
-    let mut arcs = long_path(&rt, 15)?;
+    let arcs = long_path(&rt, 15)?;
     for workers in WORKERS {
         for delta in WIDE {
             let told = answer(&rt, 18, &arcs, delta, workers, 1)?;
             assert!(rt; matches!(&told, Err(RunError::TooFar(18))));
         }
     }
+    Ok(())
+}
+
+#[test]
+fn short_way_round(rt: HostRuntime) -> Result<(), Fail> {
+    let mut arcs = long_path(&rt, 15)?;
     arcs.push((1, 18, 9))?;
     for workers in WORKERS {
         for delta in WIDE {

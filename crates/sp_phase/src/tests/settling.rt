@@ -1,8 +1,8 @@
 //! Answers of `settle`, and what the run's caller then reads.
-ghost use Rattle.std.specs.Prelude.{◌≡◌, ◌≤◌};
+ghost use Rattle.std.specs.Prelude.{◌≡◌, ◌≤◌, OnOk};
 ghost use Rattle.sp_phase.specs.Progress.{IsUnspent};
 
-use super::{DIAMOND, WORKERS, graph_of};
+use super::{DIAMOND, WORKERS, graph_of, split};
 use crate::{Run, Store};
 use sp_claim::Claimer;
 use sp_graph::Graph;
@@ -14,29 +14,49 @@ use std::sync::Wait;
 use std::test::Fail;
 use std::thread::Threads;
 
-// The answers of `settle`, each followed by `heavy`, up to the one that tells no bucket.
+// One more answer of `settle`, followed by `heavy` where it tells a bucket.
+fn push_answer(
+    rt: &(impl Abort + AllocGlobal + Threads + Wait + Sync),
+    run: &mut Run<28>,
+    told: &mut Vec<Option<u64>>,
+) -> Result<(), Fail> {
+    let answer = run.settle(rt, &OpenGate)?;
+    told.push(answer)?;
+    if answer.is_some() {
+        run.heavy(rt, &OpenGate)?;
+    }
+    Ok(())
+}
+
+// The answers up to the one that tells no bucket.
+fn answers_of(
+    rt: &(impl Abort + AllocGlobal + Threads + Wait + Sync),
+    mut run: Run<28>,
+) -> Result<Vec<Option<u64>>, Fail> {
+    let mut told = Vec::new(rt.alloc());
+    for _ in 0..10 {
+        push_answer(rt, &mut run, &mut told)?;
+        if told.last() == Some(&None) {
+            break;
+        }
+    }
+    Ok(told)
+}
+
+// The same for a run from vertex 1.
 fn answers(
     rt: &(impl Abort + AllocGlobal + Threads + Wait + Sync),
     graph: &Graph,
     delta: u64,
     workers: u32,
 ) -> Result<Vec<Option<u64>>, Fail>
-    requires n { graph.now.n ≤ 1000 }
+    requires n { graph.now.n ≤ 10000 }
 {
     assert!(rt; 1 <= delta && delta <= 1000);
     assert!(rt; 1 <= workers && workers <= 64);
     let (store, caller, claimer) = Store::<28>::new(rt.alloc(), graph, delta, 1)?;
-    let mut run = Run::begin(rt.alloc(), &store, caller, claimer, workers)?;
-    let mut told = Vec::new(rt.alloc());
-    for _ in 0..10 {
-        let answer = run.settle(rt, &OpenGate)?;
-        told.push(answer)?;
-        if answer.is_none() {
-            break;
-        }
-        run.heavy(rt, &OpenGate)?;
-    }
-    Ok(told)
+    let run = Run::begin(rt.alloc(), &store, caller, claimer, workers)?;
+    answers_of(rt, run)
 }
 
 #[test]
@@ -53,6 +73,29 @@ fn settle_answers(rt: HostRuntime) -> Result<(), Fail> {
     Ok(())
 }
 
+// Settles one more bucket, which is this one.
+fn settle_next(
+    rt: &(impl Abort + AllocGlobal + Threads + Wait + Sync),
+    run: &mut Run<28>,
+    bucket: u64,
+) -> Result<(), Fail>
+    ensures stage { run.new.stage ≡ run.old.stage }
+    ensures unspent { OnOk result (IsUnspent run.new) }
+{
+    let told = run.settle(rt, &OpenGate)?;
+    assert_eq!(rt; told, Some(bucket));
+    Ok(())
+}
+
+// The words of vertices 2, 3 and 4.
+fn read_words(run: &mut Run<28>) -> (Word<28>, Word<28>, Word<28>)
+    requires n { 4 ≤ run.old.stage.graph.n }
+    requires unspent { IsUnspent run.old }
+    ensures { run.new.stage ≡ run.old.stage }
+{
+    (run.read(2), run.read(3), run.read(4))
+}
+
 // The words of vertices 2, 3 and 4 after one more bucket.
 fn words_after(
     rt: &(impl Abort + AllocGlobal + Threads + Wait + Sync),
@@ -62,9 +105,8 @@ fn words_after(
     requires { 4 ≤ run.old.stage.graph.n }
     ensures { run.new.stage ≡ run.old.stage }
 {
-    let told = run.settle(rt, &OpenGate)?;
-    assert_eq!(rt; told, Some(bucket));
-    Ok((run.read(2), run.read(3), run.read(4)))
+    settle_next(rt, run, bucket)?;
+    Ok(read_words(run))
 }
 
 // The words after the first two buckets of a run from vertex 1, two wide.
@@ -123,9 +165,7 @@ fn reads_beside_another_caller(rt: HostRuntime) -> Result<(), Fail> {
     for workers in WORKERS {
         assert!(rt; graph.n() == 4);
         let (store, caller, claimer) = Store::<28>::new(rt.alloc(), &graph, 2, 1)?;
-        let Ok((caller, mut other)) = store.table().split(caller) else {
-            panic!(rt; "a split was refused")
-        };
+        let (caller, mut other) = split(&rt, &store, caller);
         offer_first(&store, &mut other, 2);
         let [first, second] = settled_words(&rt, &store, caller, claimer, workers)?;
         assert!(rt; first.0 == Word::pack(3, 1));

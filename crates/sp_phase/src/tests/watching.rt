@@ -1,12 +1,14 @@
 //! A caller that watches a run.
-ghost use Rattle.std.specs.Prelude.{◌≡◌, ◌≤◌};
+ghost use Rattle.std.specs.Prelude.{◌≡◌, ◌≤◌, IfOk};
 
-use super::{DIAMOND, graph_of, has_rows};
+use super::{DIAMOND, DIAMOND_TREE, graph_of, has_rows, split};
 use crate::{Run, RunError, Store};
+use sp_claim::Claimer;
 use sp_offer::{Caller, Lawful, OfferTable};
 use sp_task::OpenGate;
 use sp_tree::Tree;
 use sp_word::Word;
+use std::process::Abort;
 use std::sync::Wait;
 use std::test::Fail;
 use std::thread::{Threads, join};
@@ -66,34 +68,52 @@ fn finish_watched<L: Lawful + Send + Sync, R: Threads + Wait + Sync>(
     )
 }
 
+// The words of the diamond's tree.
+fn diamond_words() -> [Word<28>; 4] {
+    [
+        Word::pack(0, 0),
+        Word::pack(3, 1),
+        Word::pack(3, 1),
+        Word::pack(5, 2),
+    ]
+}
+
+// Whether a caller reads them, none greater or less.
+fn reads_the_tree(store: &Store<28>, caller: &mut Caller) -> bool
+    requires n { 4 ≤ store.now.graph.n }
+    requires caller { caller.old.table ≡ store.now.table }
+{
+    let mut words = diamond_words();
+    read_four(store.table(), caller, &mut words) && words == diamond_words()
+}
+
+// A whole run, and the watcher that read beside it: it saw no word rise.
+fn watched(
+    rt: &(impl Abort + AllocGlobal + Threads + Wait + Sync),
+    store: &Store<28>,
+    caller: Caller,
+    claimer: Claimer,
+) -> Result<Caller, Fail>
+    requires n { 4 ≤ store.now.graph.n }
+    requires caller { caller.table ≡ store.now.table }
+    requires claimer { claimer.table ≡ store.now.claims }
+    ensures { IfOk result (λ watcher. watcher.table ≡ store.now.table) }
+{
+    let (caller, watcher) = split(rt, store, caller);
+    let run = Run::begin(rt.alloc(), store, caller, claimer, 2)?;
+    let (done, (watcher, falls)) = finish_watched(rt, run, store.table(), watcher);
+    let (tree, _) = done?;
+    assert!(rt; has_rows(&tree, &DIAMOND_TREE));
+    assert!(rt; falls);
+    Ok(watcher)
+}
+
 #[test]
 fn watcher_sees_falling_words(rt: HostRuntime) -> Result<(), Fail> {
     let graph = graph_of(&rt, 4, &DIAMOND)?;
     assert!(rt; graph.n() == 4);
     let (store, caller, claimer) = Store::<28>::new(rt.alloc(), &graph, 2, 1)?;
-    let Ok((caller, watcher)) = store.table().split(caller) else {
-        panic!(rt; "a split was refused")
-    };
-    let run = Run::begin(rt.alloc(), &store, caller, claimer, 2)?;
-    let (done, (mut watcher, falls)) = finish_watched(&rt, run, store.table(), watcher);
-    let (tree, _) = done?;
-    let want = [(1, 0, 0), (2, 3, 1), (3, 3, 1), (4, 5, 2)];
-    assert!(rt; has_rows(&tree, &want));
-    assert!(rt; falls);
-    let mut last = [
-        Word::pack(0, 0),
-        Word::pack(3, 1),
-        Word::pack(3, 1),
-        Word::pack(5, 2),
-    ];
-    assert!(rt; read_four(store.table(), &mut watcher, &mut last));
-    assert!(rt;
-        last == [
-            Word::pack(0, 0),
-            Word::pack(3, 1),
-            Word::pack(3, 1),
-            Word::pack(5, 2)
-        ]
-    );
+    let mut watcher = watched(&rt, &store, caller, claimer)?;
+    assert!(rt; reads_the_tree(&store, &mut watcher));
     Ok(())
 }
