@@ -81,7 +81,6 @@ fn answer_of<const P: u32>(
     ensures refused { IfErr result (IsRefusal P store.now.graph store.now.source) }
 {
     swept_copy();
-    let _ = store.n();
     match left_out(words, store.arcs()) {
         Some(vertex) => Err(RunError::TooFar(vertex)),
         None => match tree_of(alloc, store, leader, words) {
@@ -109,7 +108,6 @@ pub(crate) fn finish<R: Threads + Wait + Sync, G: Gate + Sync, const P: u32>(
     ensures known { IfOk result (λ done. HasWords done.0 store.now.graph.n (known done.1.story)) }
     ensures refused { IfErr result (IsRefusal P store.now.graph store.now.source) }
 {
-    let _ = store.n();
     match sweep_all(rt, alloc, store, workers, leader, &mut words, gate) {
         Err(_) => Err(RunError::Memory),
         Ok(leader) => {

@@ -84,10 +84,9 @@ impl Marks {
             self.remembered.push(vertex)?;
         }
         self.each[place] = Mark {
-            light: mark.light,
-            heavy: mark.heavy,
             round: self.round,
             remembered: true,
+            ..mark
         };
         Ok(true)
     }

@@ -1,5 +1,5 @@
 //! Rounds of a run.
-ghost use Rattle.std.specs.Prelude.{◌≡◌, ◌≢◌, ℕ, ◌≤◌, ◌++◌, All, IfOk, OnOk};
+ghost use Rattle.std.specs.Prelude.{◌≡◌, ◌≢◌, ℕ, ◌≤◌, ◌++◌, All, IfOk, OnOk, option_to_list};
 ghost use Rattle.std.specs.List.Sorted.{IsPermutation};
 ghost use Rattle.sp_bucket.specs.Content.{bucket_of};
 ghost use Rattle.sp_phase.specs.Running.{Leads, IsDue, IsQueued, TasksFrom, EntriesFrom};
@@ -8,10 +8,20 @@ ghost use Rattle.sp_phase.specs.Behind.{IsPast, HasRun};
 use crate::leader::Leader;
 use crate::store::Store;
 use sp_bucket::{Buckets, Entry};
-use sp_task::{Gate, RoundOut, Task};
+use sp_task::{Gate, Task};
 use std::alloc::{AllocError, Global};
 use std::sync::Wait;
 use std::thread::Threads;
+
+/// One element more, if there is one.
+pub(crate) fn push_some<T: Copy>(list: &mut Vec<T>, item: Option<T>) -> Result<(), AllocError>
+    ensures { OnOk result (list.new.items ≡ list.old.items ++ option_to_list item) }
+{
+    if let Some(item) = item {
+        list.push(item)?;
+    }
+    Ok(())
+}
 
 /// Puts entries into their buckets.
 pub(crate) fn put_all(buckets: &mut Buckets, entries: &[Entry]) -> Result<(), AllocError>
@@ -47,20 +57,13 @@ pub(crate) fn run_tasks<R: Threads + Wait + Sync, G: Gate + Sync, const P: u32>(
         mut marks,
         mut buckets,
     } = leader;
-    let _ = store.n();
     let number = marks.round;
     let out = store.run_tasks(rt, alloc, tasks, number, workers, caller, claimer, gate)?;
-    let RoundOut {
-        caller,
-        claimer,
-        found,
-        started: _,
-    } = out;
     marks.write(tasks);
-    put_all(&mut buckets, found.as_slice())?;
+    put_all(&mut buckets, out.found.as_slice())?;
     Ok(Leader {
-        caller,
-        claimer,
+        caller: out.caller,
+        claimer: out.claimer,
         marks,
         buckets,
     })

@@ -99,7 +99,6 @@ fn read_word<const P: u32>(store: &Store<P>, leader: &mut Leader, vertex: u32) -
     ensures stays { (bucket : Option ℕ) → IsTold P store.now bucket leader.old.caller → IsTold P store.now bucket leader.new.caller }
     ensures come { (settled closed : Option ℕ) → HasCome P store.now settled closed leader.old → HasCome P store.now settled closed leader.new }
 {
-    let _ = store.n();
     store.read(&mut leader.caller, vertex)
 }
 

@@ -51,7 +51,6 @@ fn settle_bucket<R: Threads + Wait + Sync, G: Gate + Sync, const P: u32>(
     ensures come { IfOk result (λ done. (closed : Option ℕ) → HasCome P store.now None closed leader → HasCome P store.now None closed done.0 × (IsTrue done.1 → HasCome P store.now (Some bucket) closed done.0)) }
 {
     tested_copy();
-    let _ = store.n();
     let bounds = bounds_of(bucket, store.delta());
     let mut leader = empty_bucket(rt, alloc, store, workers, leader, bucket, gate)?;
     let passed = queue_open(alloc, store, &mut leader, words, bounds)?;
@@ -73,7 +72,6 @@ fn settle_rest<const P: u32>(
     ensures come { IfOk result (λ done. (closed : Option ℕ) → HasCome P store.now None closed leader → HasCome P store.now None closed done.0) }
 {
     swept_copy();
-    let _ = store.n();
     let passed = sweep(alloc, store, &mut leader, words)?;
     Ok((leader, passed))
 }

@@ -1,5 +1,5 @@
 //! What a copy of all words shows: vertices whose arcs weren't relaxed at their distances, and vertices left out.
-ghost use Rattle.std.specs.Prelude.{◌≡◌, ℕ, ◌<◌, ◌↔◌, [], ◌++◌, Some, length, vec_len, option_to_list, All, IsTrue, IfOk, IfSome, IfNone, OnOk};
+ghost use Rattle.std.specs.Prelude.{◌≡◌, ℕ, ◌<◌, ◌↔◌, [], Some, length, vec_len, All, IsTrue, IfOk, IfSome, IfNone, OnOk};
 ghost use Rattle.sp_paths.specs.Paths.{IsVertex, word_at};
 ghost use Rattle.sp_phase.specs.Marks.{mark_of};
 ghost use Rattle.sp_offer.specs.Order.{IsAtMost as IsNoMore};
@@ -11,7 +11,7 @@ ghost use Rattle.sp_phase.specs.Sweep.{AreRelaxed, IsRelaxedHere, IsOpen, IsCopi
 
 use crate::leader::Leader;
 use crate::marks::{Mark, Marks};
-use crate::round::put_all;
+use crate::round::{push_some, put_all};
 use crate::store::Store;
 use sp_bucket::Entry;
 use sp_graph::look_up;
@@ -74,16 +74,6 @@ fn open_entry<const P: u32>(
     }
 }
 
-// One entry more, if there is one.
-fn push_entry(entries: &mut Vec<Entry>, entry: Option<Entry>) -> Result<(), AllocError>
-    ensures { OnOk result (entries.new.items ≡ entries.old.items ++ option_to_list entry) }
-{
-    if let Some(entry) = entry {
-        entries.push(entry)?;
-    }
-    Ok(())
-}
-
 /// An entry for each vertex that wasn't relaxed at its distance.
 pub(crate) fn open_entries<const P: u32>(
     alloc: Global,
@@ -99,7 +89,7 @@ pub(crate) fn open_entries<const P: u32>(
     let mut open = Vec::new(alloc);
     for place in 0..words.len() {
         let entry = open_entry(words, marks, bounds, place as u32 + 1);
-        push_entry(&mut open, entry)?;
+        push_some(&mut open, entry)?;
     }
     Ok(open)
 }
@@ -120,7 +110,6 @@ pub(crate) fn copy_words<const P: u32>(
     ensures size { vec_len words.new ≡ store.now.graph.n }
 {
     let _ = marks;
-    let _ = store.n();
     store.copy_words(caller, words);
 }
 
@@ -141,7 +130,6 @@ pub(crate) fn queue_open<const P: u32>(
     ensures past { OnOk result ((low : ℕ) → IsPast P store.now low low leader.old → IsPast P store.now low low leader.new) }
     ensures kept { IfOk result (λ none. IsTrue none → (low : ℕ) → EntriesFrom low leader.old.buckets.entries → EntriesFrom low leader.new.buckets.entries) }
 {
-    let _ = store.n();
     copy_words(store, &mut leader.caller, &leader.marks, words);
     let open = open_entries(
         alloc,
@@ -167,7 +155,6 @@ pub(crate) fn sweep<const P: u32>(
     ensures swept { IfOk result (λ none. IsTrue none → IsSwept P store.now leader.new.caller leader.new.marks.each.items words.new.items) }
     ensures past { OnOk result ((low : ℕ) → IsPast P store.now low low leader.old → IsPast P store.now low low leader.new) }
 {
-    let _ = store.n();
     let every = Bounds {
         light: u64::MAX,
         heavy: u64::MAX,

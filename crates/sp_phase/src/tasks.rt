@@ -1,10 +1,11 @@
 //! The tasks of a round.
-ghost use Rattle.std.specs.Prelude.{◌≡◌, ℕ, [], ◌++◌, All, IfOk, IfSome, OnOk, option_to_list};
+ghost use Rattle.std.specs.Prelude.{◌≡◌, ℕ, [], All, IfOk, IfSome, OnOk, option_to_list};
 ghost use Rattle.sp_paths.specs.Paths.{IsVertex};
 ghost use Rattle.sp_phase.specs.Running.{Holds, IsDue, TasksFrom, EntriesFrom};
 ghost use Rattle.sp_phase.specs.Behind.{MakesLight, MakesHeavy, HandsOver};
 
 use crate::marks::Marks;
+use crate::round::push_some;
 use crate::store::Store;
 use sp_bucket::Entry;
 use sp_offer::Caller;
@@ -25,8 +26,6 @@ fn light_task<const P: u32>(
     ensures dist { IfOk result (λ found. IfSome found (λ task. task.dist ≡ entry.now.dist)) }
     ensures makes { IfOk result (λ found. MakesLight P store.now caller.old caller.new marks.old marks.new (option_to_list found)) }
 {
-    // arcs lead from vertices
-    let _ = store.n();
     let word = store.read(caller, entry.vertex);
     if word.dist() != Some(entry.dist) {
         return Ok(None);
@@ -39,16 +38,6 @@ fn light_task<const P: u32>(
         dist: entry.dist,
         kind: Kind::Light,
     }))
-}
-
-// One task more, if there is one.
-fn push_task(tasks: &mut Vec<Task>, task: Option<Task>) -> Result<(), AllocError>
-    ensures { OnOk result (tasks.new.items ≡ tasks.old.items ++ option_to_list task) }
-{
-    if let Some(task) = task {
-        tasks.push(task)?;
-    }
-    Ok(())
 }
 
 /// The next round begins with the light tasks of the live ones among entries, whose vertices are remembered.
@@ -70,7 +59,7 @@ pub(crate) fn light_tasks<const P: u32>(
     let mut tasks = Vec::new(alloc);
     for entry in entries {
         let task = light_task(store, caller, marks, entry)?;
-        push_task(&mut tasks, task)?;
+        push_some(&mut tasks, task)?;
     }
     Ok(tasks)
 }
@@ -89,8 +78,6 @@ fn heavy_task<const P: u32>(
     ensures hands { HandsOver P store.now caller.old caller.new marks.old marks.new vertex result }
     ensures remembered { marks.new.remembered ≡ marks.old.remembered }
 {
-    // arcs lead from vertices
-    let _ = store.n();
     marks.forget(vertex);
     let dist = store.read(caller, vertex).dist()?;
     Some(Task {
@@ -118,7 +105,7 @@ pub(crate) fn heavy_tasks<const P: u32>(
     let mut tasks = Vec::new(alloc);
     for vertex in vertices.as_slice() {
         let task = heavy_task(store, caller, marks, *vertex);
-        push_task(&mut tasks, task)?;
+        push_some(&mut tasks, task)?;
     }
     Ok(tasks)
 }

@@ -7,7 +7,7 @@ pub returns-in-Some-clause-refused : goal.returns-in-Some-clause-refused
 returns-in-Some-clause-refused g c =
     let st = c.args.store.now in
     let l = c.args.leader.now in
-    told_far g.row.P st l.caller l.marks.each.items c.args.words.now c.in-Some.vertex c.n.ensures.stage c.swept_copy.ensures.is_far c.requires.swept
+    told_far g.row.P st l.caller l.marks.each.items c.args.words.now c.in-Some.vertex c.requires.leads.holds.stage c.swept_copy.ensures.is_far c.requires.swept
     (left_of_graph st.graph (length c.args.words.now) c.arcs.result.now (word_at c.args.words.now) (Some c.in-Some.vertex) c.requires.swept.0.size c.arcs.ensures.arcs c.in-Some.ensures)
 
 pub tree_of-requires : goal.tree_of-requires

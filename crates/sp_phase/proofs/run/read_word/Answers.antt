@@ -10,7 +10,7 @@ returns-clause-leads g c =
 
 pub returns-clause-stays : goal.returns-clause-stays
 returns-clause-stays g c bucket told =
-    told_stays g.row.P c.args.store.now c.n.ensures.stage c.args.leader.now.caller c.read.new.caller c.read.ensures.caller.falls c.read.ensures.caller.lawful bucket told
+    told_stays g.row.P c.args.store.now c.requires.leads.holds.stage c.args.leader.now.caller c.read.new.caller c.read.ensures.caller.falls c.read.ensures.caller.lawful bucket told
 
 pub returns-clause-come : goal.returns-clause-come
-returns-clause-come g c settled closed come = come_learns g.row.P c.args.store.now c.n.ensures.stage settled closed c.args.leader.now _ c.read.ensures.caller refl refl come
+returns-clause-come g c settled closed come = come_learns g.row.P c.args.store.now c.requires.leads.holds.stage settled closed c.args.leader.now _ c.read.ensures.caller refl refl come

@@ -11,6 +11,6 @@ loop-place-init g c = (λ _ u d p at is. absurd (let h = at in omega (arith, h.0
 
 pub loop-place-preserved : goal.loop-place-preserved
 loop-place-preserved g c = (
-  open_more c.args.words.now c.args.marks.now c.args.bounds c.loop-place.place _ _ _ c.in_ok-push_entry.ensures c.loop-place.invariant.0 c.open_entry-entry.ensures.none,
-  entries_more (IsOpen c.args.words.now c.args.marks.now c.args.bounds) _ _ _ c.in_ok-push_entry.ensures c.loop-place.invariant.1 c.open_entry-entry.ensures.open,
+  open_more c.args.words.now c.args.marks.now c.args.bounds c.loop-place.place _ _ _ c.in_ok-push_some.ensures c.loop-place.invariant.0 c.open_entry-entry.ensures.none,
+  entries_more (IsOpen c.args.words.now c.args.marks.now c.args.bounds) _ _ _ c.in_ok-push_some.ensures c.loop-place.invariant.1 c.open_entry-entry.ensures.open,
 )

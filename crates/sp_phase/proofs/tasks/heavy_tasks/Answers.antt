@@ -29,8 +29,8 @@ heavy_task-task-requires g c =
 pub loop-vertex-preserved : goal.loop-vertex-preserved
 loop-vertex-preserved g c = (
   c.heavy_task-task.ensures.holds,
-  all_pushed (IsDue g.row.P c.args.store.now) _ _ _ c.in_ok-push_task.ensures c.loop-vertex.invariant.1 c.heavy_task-task.ensures.due,
-  hands_more g.row.P c.args.store.now c.args.caller.now c.loop-vertex.caller _ c.args.marks.now c.loop-vertex.marks _ c.loop-vertex.tasks.items _ c.as_slice-vertex-items.result.now c.loop-vertex.vertex-index _ _ c.requires.holds.running.size refl c.in_ok-push_task.ensures c.loop-vertex.invariant.2 c.heavy_task-task.ensures.hands,
+  all_pushed (IsDue g.row.P c.args.store.now) _ _ _ c.in_ok-push_some.ensures c.loop-vertex.invariant.1 c.heavy_task-task.ensures.due,
+  hands_more g.row.P c.args.store.now c.args.caller.now c.loop-vertex.caller _ c.args.marks.now c.loop-vertex.marks _ c.loop-vertex.tasks.items _ c.as_slice-vertex-items.result.now c.loop-vertex.vertex-index _ _ c.requires.holds.running.size refl c.in_ok-push_some.ensures c.loop-vertex.invariant.2 c.heavy_task-task.ensures.hands,
   ap (λ r. r.items) c.heavy_task-task.ensures.remembered ∙ c.loop-vertex.invariant.3,
 )
 

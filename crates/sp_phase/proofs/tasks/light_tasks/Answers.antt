@@ -28,8 +28,8 @@ loop-entry-preserved g c =
     let none : Entry = record { vertex = 0; dist = 0 } in
     let inside : i < length xs = c.loop-entry-test.true in (
       c.in_ok-task.ensures.holds,
-      all_pushed (IsDue g.row.P c.args.store.now) _ _ _ c.in_ok-push_task.ensures c.loop-entry.invariant.1 c.in_ok-task.ensures.due,
-      from_pushed xs (get_or xs i none) none i _ _ _ inside refl c.in_ok-push_task.ensures c.in_ok-task.ensures.dist c.loop-entry.invariant.2,
+      all_pushed (IsDue g.row.P c.args.store.now) _ _ _ c.in_ok-push_some.ensures c.loop-entry.invariant.1 c.in_ok-task.ensures.due,
+      from_pushed xs (get_or xs i none) none i _ _ _ inside refl c.in_ok-push_some.ensures c.in_ok-task.ensures.dist c.loop-entry.invariant.2,
       (let M : List Task → Type 0 = λ xs. MakesLight g.row.P c.args.store.now c.args.caller.now c.light_task.new.caller c.args.marks.now c.light_task.new.marks xs in
-          subst M (sym c.in_ok-push_task.ensures) (light_more g.row.P c.args.store.now c.args.caller.now c.loop-entry.caller c.light_task.new.caller c.args.marks.now c.loop-entry.marks c.light_task.new.marks c.loop-entry.tasks.items _ c.loop-entry.invariant.3 c.in_ok-task.ensures.makes)),
+          subst M (sym c.in_ok-push_some.ensures) (light_more g.row.P c.args.store.now c.args.caller.now c.loop-entry.caller c.light_task.new.caller c.args.marks.now c.loop-entry.marks c.light_task.new.marks c.loop-entry.tasks.items _ c.loop-entry.invariant.3 c.in_ok-task.ensures.makes)),
     )
