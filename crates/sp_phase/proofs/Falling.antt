@@ -7,10 +7,12 @@ use Rattle.sp_paths.proofs.Least.{least_exists}
 use Rattle.sp_offer.specs.Order.{IsKnownWord, IsAtMost as IsNoMore}
 use Rattle.sp_offer.specs.Story.{Knowledge, known}
 use Rattle.sp_offer.proofs.Orders.{at_most-refl, at_most-trans}
+use Rattle.sp_task.specs.declared.task.Task.{Task}
+use Rattle.sp_phase.specs.declared.leader.Leader.{Leader}
 use Rattle.sp_phase.specs.declared.marks.Mark.{Mark}
 use Rattle.sp_phase.specs.Stage.{Stage, IsStage, Falls, Learns, law_of}
 use Rattle.sp_phase.specs.Marks.{heavy_at, SameDistances}
-use Rattle.sp_phase.specs.Behind.{IsCarried, IsFinal}
+use Rattle.sp_phase.specs.Behind.{IsCarried, IsFinal, HasRun}
 use Rattle.sp_phase.proofs.Known.{known_pair, lawful_walk}
 use Rattle.sp_phase.proofs.Settled.{word_stays, settled_stays}
 
@@ -36,6 +38,12 @@ learns_trans P st a b c one two = record {
   falls = falls_trans (known a.story) (known b.story) (known c.story) one.falls two.falls;
   lawful = two.lawful;
 }
+
+-- a round of tasks was run after
+pub learns_round : (P : ℕ) (st : Stage) (c : Knowledge) (tasks : List Task) (l l' : Leader) → Learns P st c l.caller → HasRun P st tasks l l' → Learns P st c l'.caller
+learns_round P st c tasks l l' learns ran =
+    let later = ran.done.later in
+    learns_trans P st c l.caller l'.caller learns (record { table = later.table; falls = later.falls; lawful = later.stays learns.lawful })
 
 pub learns_none : (P : ℕ) (st : Stage) (c : Knowledge) → ((v : ℕ) → IsKnownWord (law_of P st) v (known c.story v)) → Learns P st c c
 learns_none P st c lawful = record { table = refl; falls = falls_refl (known c.story); lawful = lawful }

@@ -2,6 +2,7 @@
 //! (U. Meyer and P. Sanders, "Delta-stepping: a parallelizable shortest path algorithm", Journal of Algorithms 49, 2003,
 //! section 2.)
 ghost use Rattle.std.specs.Prelude.{ℕ, ◌+◌, ◌*◌, ◌≤◌, All, IfOk};
+ghost use Rattle.sp_phase.specs.Stage.{Learns};
 ghost use Rattle.sp_phase.specs.Running.{Leads, IsQueued, EntriesFrom};
 ghost use Rattle.sp_phase.specs.Behind.{IsPast};
 
@@ -74,6 +75,7 @@ pub(crate) fn heavy_round<R: Threads + Wait + Sync, G: Gate + Sync, const P: u32
     requires workers { (1 ≤ workers) × (workers ≤ 64) }
     requires leads { Leads P store.now leader }
     ensures leads { IfOk result (Leads P store.now) }
+    ensures learns { IfOk result (λ l. Learns P store.now leader.caller l.caller) }
     ensures past { IfOk result (λ l. (light heavy : ℕ) → IsPast P store.now light heavy leader → IsPast P store.now light light l) }
 {
     let tasks = heavy_tasks(alloc, store, &mut leader.caller, &mut leader.marks)?;

@@ -178,8 +178,8 @@ impl<'a, 'g, const P: u32> Run<'a, 'g, P> {
         }
     }
 
-    /// One round of the heavy arcs of the vertices that were in a light round since the last such round. A refusal
-    /// spends the run.
+    /// One round of the heavy arcs of the vertices that were in a light round since the last such round. What `settle`
+    /// told stays true. A refusal spends the run.
     pub fn heavy<R: Threads + Wait + Sync, G: Gate + Sync>(
         &mut self,
         rt: &R,
@@ -189,6 +189,7 @@ impl<'a, 'g, const P: u32> Run<'a, 'g, P> {
         ensures unspent { OnOk result (IsUnspent self.new) }
         ensures settled { OnOk result (self.new.settled ≡ None) }
         ensures closed { OnOk result (self.new.closed ≡ option_or self.old.settled self.old.closed) }
+        ensures stays { OnOk result ((bucket : Option ℕ) → IsToldBy P bucket self.old → IsToldBy P bucket self.new) }
         ensures refused { IfErr result (λ e. IsMemory e × IsSpent self.new) }
         ensures spent { IsSpent self.old → IsErrAnd result IsMemory × (self.new ≡ self.old) }
     {
