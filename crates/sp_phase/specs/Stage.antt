@@ -9,13 +9,15 @@ use Rattle.sp_offer.specs.Order.{IsAtMost, IsKnownWord, lawful}
 use Rattle.sp_offer.specs.Story.{Knowledge, known}
 use Rattle.sp_task.specs.Walking.{WalksFrom}
 
--- a graph, a source in it, the width of a bucket, and which tables the run has for words and for claims
+-- a graph, a source in it, the width of a bucket, which tables the run has for words and for claims, and from how many
+-- tasks on a round is shared
 pub record Stage : Type 0 where
   pub graph : Graph
   pub source : ℕ
   pub delta : ℕ
   pub table : TableId
   pub claims : TableId
+  pub least : ℕ
 
 -- the words that the table takes
 abbrev pub law_of : (P : ℕ) → Stage → ℕ → Word → Type 0

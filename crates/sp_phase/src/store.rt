@@ -1,5 +1,5 @@
 //! What a run works on: rows, the table of words, the table of claims.
-ghost use Rattle.std.specs.Prelude.{◌≡◌, ◌≤◌, [], true, vec_len, All, IfOk, IfErr};
+ghost use Rattle.std.specs.Prelude.{◌≡◌, ◌<◌, ◌≤◌, [], true, length, vec_len, All, IfOk, IfErr};
 ghost use Rattle.sp_word.specs.Word.{Pair, is_layout, max_dist, max_pred};
 ghost use Rattle.sp_paths.specs.Paths.{IsVertex, IsArc};
 ghost use Rattle.sp_offer.specs.Story.{fresh, known, IsCopy};
@@ -23,7 +23,7 @@ use std::thread::Threads;
 /// The tables of a run from one source of a graph: its rows, parted at `delta`, a word and a claim for each vertex.
 /// Callers of its table may read and offer while a run goes on.
 ///
-/// Contracts see the graph, the source, `delta`, and which tables these are.
+/// Contracts see the graph, the source, `delta`, which tables these are, and from how many tasks on a round is shared.
 #[derive(Drop)]
 pub struct Store<'g, const P: u32> {
     graph: &'g Graph,
@@ -40,13 +40,13 @@ impl<'g, const P: u32> Model for Store<'g, P> {
 
     ghost Value = { Stage };
 
-    ghost view = { λ s. record { graph = s.graph.now; source = s.source; delta = s.delta; table = s.table.id; claims = s.claims } };
+    ghost view = { λ s. record { graph = s.graph.now; source = s.source; delta = s.delta; table = s.table.id; claims = s.claims; least = s.least } };
 
-    ghost invariant = { λ s. let st : Stage = record { graph = s.graph.now; source = s.source; delta = s.delta; table = s.table.id; claims = s.claims } in IsStage P st × AreOfStage st s.rows s.table.law s.table.vertices s.claims.words };
+    ghost invariant = { λ s. let st : Stage = record { graph = s.graph.now; source = s.source; delta = s.delta; table = s.table.id; claims = s.claims; least = s.least } in IsStage P st × AreOfStage st s.rows s.table.law s.table.vertices s.claims.words };
 }
 
 impl<'g, const P: u32> Store<'g, P> {
-    /// The tables for a run from `source`, with their first caller and their first claimer.
+    /// The tables for a run from `source`, with their first caller and their first claimer. Every round is shared.
     pub fn new(
         alloc: Global,
         graph: &'g Graph,
@@ -58,6 +58,7 @@ impl<'g, const P: u32> Store<'g, P> {
         requires delta { (1 ≤ delta) × (delta ≤ max_dist P) }
         ensures store { IfOk result (λ made. IsOf graph.entry.now delta source made.0) }
         ensures range { IfOk result (λ made. IsStage P made.0) }
+        ensures least { IfOk result (λ made. made.0.least ≡ 0) }
         ensures caller { IfOk result (λ made. (made.1.table ≡ made.0.table) × (made.1.story ≡ fresh)) }
         ensures claimer { IfOk result (λ made. (made.2.table ≡ made.0.claims) × (made.2.grants ≡ [])) }
         ensures refused { IfErr result (IsUnstored graph.entry.now source) }
@@ -83,6 +84,7 @@ impl<'g, const P: u32> Store<'g, P> {
         requires source { (1 ≤ source) × (source ≤ n) }
         ensures store { IfOk result (λ made. IsOf graph.entry.now delta source made.0) }
         ensures range { IfOk result (λ made. IsStage P made.0) }
+        ensures least { IfOk result (λ made. made.0.least ≡ 0) }
         ensures caller { IfOk result (λ made. (made.1.table ≡ made.0.table) × (made.1.story ≡ fresh)) }
         ensures claimer { IfOk result (λ made. (made.2.table ≡ made.0.claims) × (made.2.grants ≡ [])) }
     {
@@ -105,7 +107,7 @@ impl<'g, const P: u32> Store<'g, P> {
     /// The same tables, with rounds of fewer tasks left to the leader alone: starting threads takes longer than a short
     /// round.
     pub fn sharing_from(self, tasks: usize) -> Store<'g, P>
-        ensures { result ≡ self.entry }
+        ensures { result ≡ record self.entry { least = tasks } }
     {
         Store {
             least: tasks,
@@ -191,7 +193,8 @@ impl<'g, const P: u32> Store<'g, P> {
     // How many of the workers share a round of so many tasks.
     fn workers_for(&self, tasks: usize, workers: u32) -> u32
         requires { (1 ≤ workers) × (workers ≤ 64) }
-        ensures { (1 ≤ result) × (result ≤ 64) }
+        ensures range { (1 ≤ result) × (result ≤ 64) }
+        ensures few { tasks < self.now.least → result ≡ 1 }
     {
         if tasks < self.least { 1 } else { workers }
     }
@@ -214,6 +217,7 @@ impl<'g, const P: u32> Store<'g, P> {
         requires tasks { All (IsDue P self.now) tasks.now }
         ensures done { IfOk result (λ o. RoundDone (law_of P self.now) (max_dist P) (rows_of self.now) tasks.now caller o.caller o.found.items) }
         ensures claimer { IfOk result (λ o. o.claimer.table ≡ claimer.table) }
+        ensures alone { IfOk result (λ o. length tasks.now < self.now.least → o.started ≡ 1) }
     {
         walks_allow_arcs();
         let round = Round {
