@@ -17,7 +17,7 @@ pub record Stage : Type 0 where
   pub delta : ℕ
   pub table : TableId
   pub claims : TableId
-  pub least : ℕ
+  pub shared_from : ℕ
 
 -- the words that the table takes
 abbrev pub law_of : (P : ℕ) → Stage → ℕ → Word → Type 0

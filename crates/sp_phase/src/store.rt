@@ -32,7 +32,7 @@ pub struct Store<'g, const P: u32> {
     rows: Rows,
     table: OfferTable<Walks<'g>, P>,
     claims: ClaimTable,
-    least: usize,
+    shared_from: usize,
 }
 
 impl<'g, const P: u32> Model for Store<'g, P> {
@@ -40,9 +40,9 @@ impl<'g, const P: u32> Model for Store<'g, P> {
 
     ghost Value = { Stage };
 
-    ghost view = { λ s. record { graph = s.graph.now; source = s.source; delta = s.delta; table = s.table.id; claims = s.claims; least = s.least } };
+    ghost view = { λ s. record { graph = s.graph.now; source = s.source; delta = s.delta; table = s.table.id; claims = s.claims; shared_from = s.shared_from } };
 
-    ghost invariant = { λ s. let st : Stage = record { graph = s.graph.now; source = s.source; delta = s.delta; table = s.table.id; claims = s.claims; least = s.least } in IsStage P st × AreOfStage st s.rows s.table.law s.table.vertices s.claims.words };
+    ghost invariant = { λ s. let st : Stage = record { graph = s.graph.now; source = s.source; delta = s.delta; table = s.table.id; claims = s.claims; shared_from = s.shared_from } in IsStage P st × AreOfStage st s.rows s.table.law s.table.vertices s.claims.words };
 }
 
 impl<'g, const P: u32> Store<'g, P> {
@@ -58,7 +58,7 @@ impl<'g, const P: u32> Store<'g, P> {
         requires delta { (1 ≤ delta) × (delta ≤ max_dist P) }
         ensures store { IfOk result (λ made. IsOf graph.entry.now delta source made.0) }
         ensures range { IfOk result (λ made. IsStage P made.0) }
-        ensures least { IfOk result (λ made. made.0.least ≡ 0) }
+        ensures shared_from { IfOk result (λ made. made.0.shared_from ≡ 0) }
         ensures caller { IfOk result (λ made. (made.1.table ≡ made.0.table) × (made.1.story ≡ fresh)) }
         ensures claimer { IfOk result (λ made. (made.2.table ≡ made.0.claims) × (made.2.grants ≡ [])) }
         ensures refused { IfErr result (IsUnstored graph.entry.now source) }
@@ -84,7 +84,7 @@ impl<'g, const P: u32> Store<'g, P> {
         requires source { (1 ≤ source) × (source ≤ n) }
         ensures store { IfOk result (λ made. IsOf graph.entry.now delta source made.0) }
         ensures range { IfOk result (λ made. IsStage P made.0) }
-        ensures least { IfOk result (λ made. made.0.least ≡ 0) }
+        ensures shared_from { IfOk result (λ made. made.0.shared_from ≡ 0) }
         ensures caller { IfOk result (λ made. (made.1.table ≡ made.0.table) × (made.1.story ≡ fresh)) }
         ensures claimer { IfOk result (λ made. (made.2.table ≡ made.0.claims) × (made.2.grants ≡ [])) }
     {
@@ -99,7 +99,7 @@ impl<'g, const P: u32> Store<'g, P> {
             rows,
             table,
             claims,
-            least: 0,
+            shared_from: 0,
         };
         Ok((store, caller, claimer))
     }
@@ -107,10 +107,10 @@ impl<'g, const P: u32> Store<'g, P> {
     /// The same tables, with rounds of fewer tasks left to the leader alone: starting threads takes longer than a short
     /// round.
     pub fn sharing_from(self, tasks: usize) -> Store<'g, P>
-        ensures { result ≡ record self.entry { least = tasks } }
+        ensures { result ≡ record self.entry { shared_from = tasks } }
     {
         Store {
-            least: tasks,
+            shared_from: tasks,
             ..self
         }
     }
@@ -194,9 +194,9 @@ impl<'g, const P: u32> Store<'g, P> {
     fn workers_for(&self, tasks: usize, workers: u32) -> u32
         requires { (1 ≤ workers) × (workers ≤ 64) }
         ensures range { (1 ≤ result) × (result ≤ 64) }
-        ensures few { tasks < self.now.least → result ≡ 1 }
+        ensures few { tasks < self.now.shared_from → result ≡ 1 }
     {
-        if tasks < self.least { 1 } else { workers }
+        if tasks < self.shared_from { 1 } else { workers }
     }
 
     /// Runs a round of tasks. A refusal spends the caller and the claimer.
@@ -217,7 +217,7 @@ impl<'g, const P: u32> Store<'g, P> {
         requires tasks { All (IsDue P self.now) tasks.now }
         ensures done { IfOk result (λ o. RoundDone (law_of P self.now) (max_dist P) (rows_of self.now) tasks.now caller o.caller o.found.items) }
         ensures claimer { IfOk result (λ o. o.claimer.table ≡ claimer.table) }
-        ensures alone { IfOk result (λ o. length tasks.now < self.now.least → o.started ≡ 1) }
+        ensures alone { IfOk result (λ o. length tasks.now < self.now.shared_from → o.started ≡ 1) }
     {
         walks_allow_arcs();
         let round = Round {

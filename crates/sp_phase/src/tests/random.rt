@@ -33,6 +33,30 @@ fn random_graph(
     graph_of(rt, n, &arcs)
 }
 
+// Every width of a bucket with every number of workers, each round shared.
+fn compare_runs<const P: u32>(
+    rt: &(impl Abort + AllocGlobal + Threads + Wait + Sync),
+    graph: &Graph,
+    source: u32,
+    want: &Answer<P>,
+    name: (u64, u32),
+)
+    requires { is_layout P ≡ true }
+{
+    let (seed, number) = name;
+    let most = Word::<P>::max_dist();
+    let longest = u64::from(graph.longest()).max(1);
+    for delta in [1, 2, mean(graph), longest, most] {
+        for workers in [1, 2, 3, 8] {
+            let told = run(rt, graph, delta.min(most), workers, source);
+            assert!(rt;
+                same(&told, want),
+                "graph {number} of seed {seed}, delta {delta}, {workers} workers"
+            );
+        }
+    }
+}
+
 // Compares both on random graphs, from a random source each.
 fn compare<const P: u32>(
     rt: &(impl Abort + AllocGlobal + Threads + Wait + Sync),
@@ -47,47 +71,53 @@ fn compare<const P: u32>(
         let graph = random_graph(rt, &mut random, longest)?;
         let source = random.up_to(graph.n());
         let want: Answer<P> = plain(rt, &graph, source)?;
-        let deltas = [
-            1,
-            2,
-            mean(&graph),
-            u64::from(graph.longest()).max(1),
-            Word::<P>::max_dist(),
-        ];
-        for delta in deltas {
-            let workers = [1, 2, 3, 8][(random.below(4) % 4) as usize];
-            let told = run(
-                rt,
-                &graph,
-                delta.min(Word::<P>::max_dist()),
-                workers,
-                source,
-            );
-            assert!(rt;
-                same(&told, &want),
-                "graph {number} of seed {seed}, delta {delta}, {workers} workers"
-            );
-        }
+        compare_runs(rt, &graph, source, &want, (seed, number));
     }
     Ok(())
 }
 
+// Short arcs make many ties, and many rounds of several tasks.
 #[test]
 fn short_arcs(rt: HostRuntime) -> Result<(), Fail> {
-    compare::<28>(&rt, 1, 250, 3)
+    compare::<28>(&rt, 1, 65, 3)
+}
+
+#[test]
+fn more_short_arcs(rt: HostRuntime) -> Result<(), Fail> {
+    compare::<28>(&rt, 2, 65, 3)
+}
+
+#[test]
+fn arcs_up_to_5(rt: HostRuntime) -> Result<(), Fail> {
+    compare::<28>(&rt, 3, 65, 5)
+}
+
+#[test]
+fn arcs_up_to_10(rt: HostRuntime) -> Result<(), Fail> {
+    compare::<28>(&rt, 4, 65, 10)
 }
 
 #[test]
 fn middling_arcs(rt: HostRuntime) -> Result<(), Fail> {
-    compare::<28>(&rt, 2, 250, 100)
+    compare::<28>(&rt, 5, 120, 100)
+}
+
+#[test]
+fn more_middling_arcs(rt: HostRuntime) -> Result<(), Fail> {
+    compare::<28>(&rt, 6, 120, 1000)
 }
 
 #[test]
 fn long_arcs(rt: HostRuntime) -> Result<(), Fail> {
-    compare::<28>(&rt, 3, 250, u32::MAX)
+    compare::<28>(&rt, 7, 125, u32::MAX)
+}
+
+#[test]
+fn more_long_arcs(rt: HostRuntime) -> Result<(), Fail> {
+    compare::<28>(&rt, 8, 125, u32::MAX)
 }
 
 #[test]
 fn sums_that_overflow(rt: HostRuntime) -> Result<(), Fail> {
-    compare::<32>(&rt, 4, 250, u32::MAX)
+    compare::<32>(&rt, 9, 250, u32::MAX)
 }

@@ -8,7 +8,7 @@ use Rattle.sp_phase.proofs.store.Store.run_tasks.Goals as goal
 pub run_round-requires-after_bounds : goal.run_round-requires-after_bounds
 run_round-requires-after_bounds g c κs within =
     let i = c.self.inside in
-    let st : Stage = record { graph = i.graph.now; source = i.source; delta = i.delta; table = i.table.id; claims = i.claims; least = i.least } in
+    let st : Stage = record { graph = i.graph.now; source = i.source; delta = i.delta; table = i.table.id; claims = i.claims; shared_from = i.shared_from } in
     let is : st ≡ c.args.self.now = c.self.view_is in
     let of = c.self.invariant.1 in
     let rows = ap (λ r. r.graph.n) of.rows in
