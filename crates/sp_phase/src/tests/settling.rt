@@ -83,7 +83,7 @@ fn settle_next(
     ensures unspent { OnOk result (IsUnspent run.new) }
 {
     let told = run.settle(rt, &OpenGate)?;
-    assert_eq!(rt; told, Some(bucket));
+    assert!(rt; told == Some(bucket), "not bucket {bucket}");
     Ok(())
 }
 
