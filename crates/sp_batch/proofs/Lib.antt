@@ -1,3 +1,4 @@
 pub mod Going
+pub mod Existing
 pub mod OfFile
 pub mod Reading

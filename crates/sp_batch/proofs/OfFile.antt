@@ -1,9 +1,8 @@
 -- The answers for a graph whose arcs were put in another order.
-use Rattle.std.proofs.Common.{◌≡◌, ℕ, ◌≤◌, Bool, true, false, List, [], ◌∷◌, Option, Some, None, Result, Ok, Err, refl, sym, ap, ◌∙◌}
-use Rattle.std.proofs.KnownBytes.{Appends-nil}
+use Rattle.std.proofs.Common.{◌≡◌, ℕ, ◌<◌, ◌≤◌, Bool, true, false, List, [], ◌∷◌, Option, Some, None, Result, Ok, Err, refl, sym, ap, ◌∙◌}
 use Rattle.std.proofs.lemmas.Bool.{false≢true}
 use Rattle.std.specs.Prelude.{IfErr, All, Contains, IsPermutation}
-use Rattle.sp_word.specs.Word.{max_dist}
+use Rattle.sp_word.specs.Word.{max_dist, is_layout}
 use Rattle.std.proofs.lemmas.List.Sorted.{Contains-permutation, IsPermutation-sym}
 use Rattle.sp_paths.specs.declared.arc.Arc.{Arc}
 use Rattle.sp_paths.specs.Paths.{Graph}
@@ -11,14 +10,18 @@ use Rattle.sp_paths.specs.Bags.{AreSame}
 use Rattle.sp_paths.proofs.SameArcs.{same_arcs_same_answers}
 use Rattle.sp_dimacs.specs.declared.graphs.GrFile.{GrFile}
 use Rattle.sp_dimacs.specs.declared.sources.SsFile.{SsFile}
-use Rattle.sp_dimacs.specs.Graph.{graph_of}
+use Rattle.sp_dimacs.specs.Graph.{graph_of, IsNetwork}
+use Rattle.sp_dimacs.specs.Sources.{AreSourcesWithin}
+use Rattle.sp_device.specs.declared.devices.Write.{Ghosts as Writer}
 use Rattle.sp_phase.specs.Answer.{IsAnswer}
 use Rattle.sp_batch.specs.declared.answers.Summary.{Summary}
 use Rattle.sp_batch.specs.declared.answers.BatchError.{BatchError}
 use Rattle.sp_batch.specs.declared.answers.BatchError.TheVariants.{Gr, Ss, NoSuchVertex, Memory, Write}
 use Rattle.sp_batch.specs.Batch.{Answer, TreeOf, FarFrom, IsAnswerTo, AreAnswers, HasBegun}
-use Rattle.sp_batch.specs.Steps.{AreAllAnswered}
+use Rattle.sp_batch.specs.Steps.{HasBegunFirst, AreAllAnswered}
 use Rattle.sp_batch.specs.Answered.{IsBatch, is_early}
+use Rattle.sp_batch.proofs.Going.{none_begun}
+use Rattle.sp_batch.proofs.Existing.{begun_whole}
 
 same_answer : (P : ℕ) (g h : Graph) (s : ℕ) (answer : Answer) → AreSame g h → IsAnswerTo P g s answer → IsAnswerTo P h s answer
 same_answer P g h s (TreeOf t) same is =
@@ -40,7 +43,7 @@ same_all P g h [] (a ∷ answers) same are = are
 same_all P g h (s ∷ sources) [] same are = are
 same_all P g h (s ∷ sources) (a ∷ answers) same are = (same_answer P g h s a same are.0, same_all P g h sources answers same are.1)
 
-same_begun : (P : ℕ) (g h : Graph) (sources : List ℕ) (old new : Option (List ℕ)) → AreSame g h → HasBegun P g sources old new → HasBegun P h sources old new
+same_begun : (P : ℕ) (g h : Graph) (sources : List ℕ) (old new : Option (List ℕ)) → AreSame g h → HasBegunFirst P g sources old new → HasBegunFirst P h sources old new
 same_begun P g h sources old new same is = record {
   done = is.done;
   later = is.later;
@@ -58,35 +61,37 @@ same_graph file graph n arcs = record {
   back = λ (a : Arc) is. Contains-permutation file.arcs.items graph.arcs a arcs is;
 }
 
+-- A file and a list of sources that are vertices of its graph.
+pub record AreSources (P : ℕ) (file : GrFile) (list : SsFile) : Type 0 where
+  pub layout : is_layout P ≡ true
+  pub network : IsNetwork P file
+  pub named : AreSourcesWithin P list
+  pub within : All (λ s. s ≤ file.n) list.sources.items
+
+-- What was begun with the first answers is a beginning with all.
+file_begun : (P : ℕ) (file : GrFile) (list : SsFile) (old new : Option (List ℕ)) → AreSources P file list → HasBegunFirst P (graph_of file) list.sources.items old new → HasBegun P (graph_of file) list.sources.items old new
+file_begun P file list old new ok begun =
+    begun_whole P (graph_of file) ok.layout ok.network.most ok.network.arcs list.sources.items old new (λ i d less. ((ok.named.sources i d less).least, ok.within i d less)) begun
+
 -- What was answered for the rows of a file's graph was answered for the file.
-pub of_file : {W : Type 0} (P : ℕ) (file : GrFile) (list : SsFile) (graph : Graph) (written : W → Option (List ℕ)) (has_failed : W → Bool) (old new : W) (result : Result Summary BatchError) → AreSame graph (graph_of file) → All (λ s. s ≤ file.n) list.sources.items
-    → AreAllAnswered P graph list.sources.items written has_failed old result new → IsBatch P file list (written old) (written new) (has_failed new) result
-of_file P file list graph written has_failed old new (Ok summary) same within (answers, are, wrote, counted) = (answers, same_all P graph (graph_of file) list.sources.items answers same are, wrote, counted)
-of_file P file list graph written has_failed old new (Err Memory) same within begun = (within, same_begun P graph (graph_of file) list.sources.items (written old) (written new) same begun)
-of_file P file list graph written has_failed old new (Err Write) same within (begun, failed) = (within, same_begun P graph (graph_of file) list.sources.items (written old) (written new) same begun, failed)
-of_file P file list graph written has_failed old new (Err (Gr e)) same within is = absurd is
-of_file P file list graph written has_failed old new (Err (Ss e)) same within is = absurd is
-of_file P file list graph written has_failed old new (Err (NoSuchVertex v)) same within is = absurd is
+pub of_file : {W : Type 0} (P : ℕ) (file : GrFile) (list : SsFile) (graph : Graph) (device : Writer W) (old new : W) (result : Result Summary BatchError) → AreSame graph (graph_of file) → AreSources P file list
+    → AreAllAnswered P graph list.sources.items device old result new → IsBatch P file list (device.written old) (device.written new) (device.has_failed new) result
+of_file P file list graph device old new (Ok summary) same ok h = (h.answers, same_all P graph (graph_of file) list.sources.items h.answers same h.are, h.text.wrote, h.text.counted)
+of_file P file list graph device old new (Err Memory) same ok begun = (ok.within, file_begun P file list (device.written old) (device.written new) ok (same_begun P graph (graph_of file) list.sources.items (device.written old) (device.written new) same begun))
+of_file P file list graph device old new (Err Write) same ok (begun, failed) = (ok.within, file_begun P file list (device.written old) (device.written new) ok (same_begun P graph (graph_of file) list.sources.items (device.written old) (device.written new) same begun), failed)
+of_file P file list graph device old new (Err (Gr e)) same ok is = absurd is
+of_file P file list graph device old new (Err (Ss e)) same ok is = absurd is
+of_file P file list graph device old new (Err (NoSuchVertex v)) same ok is = absurd is
 
 -- Memory was refused before anything was written.
-pub refused_early : (P : ℕ) (file : GrFile) (list : SsFile) (old : Option (List ℕ)) (has_failed : Bool) → All (λ s. s ≤ file.n) list.sources.items → IsBatch P file list old old has_failed (Err Memory)
-refused_early P file list old has_failed within = (
-  within,
-  record {
-    done = [];
-    later = list.sources.items;
-    parts = refl;
-    answers = [];
-    are = tt;
-    begun = record { part = []; more = []; parts = refl; wrote = Appends-nil old };
-  },
-)
+pub refused_early : (P : ℕ) (file : GrFile) (list : SsFile) (old : Option (List ℕ)) (has_failed : Bool) → AreSources P file list → IsBatch P file list old old has_failed (Err Memory)
+refused_early P file list old has_failed ok = (ok.within, file_begun P file list old old ok (none_begun P (graph_of file) list.sources.items old))
 
 -- Once answers are written, no file is refused.
-pub not_early : {W : Type 0} (P : ℕ) (g : Graph) (sources : List ℕ) (written : W → Option (List ℕ)) (has_failed : W → Bool) (old new : W) (result : Result Summary BatchError) (same : Type 0) → AreAllAnswered P g sources written has_failed old result new → IfErr result (λ e. is_early e ≡ true → same)
-not_early P g sources written has_failed old new (Ok summary) same is = tt
-not_early P g sources written has_failed old new (Err Memory) same is = λ early. absurd (false≢true early)
-not_early P g sources written has_failed old new (Err Write) same is = λ early. absurd (false≢true early)
-not_early P g sources written has_failed old new (Err (Gr e)) same is = absurd is
-not_early P g sources written has_failed old new (Err (Ss e)) same is = absurd is
-not_early P g sources written has_failed old new (Err (NoSuchVertex v)) same is = absurd is
+pub not_early : {W : Type 0} (P : ℕ) (g : Graph) (sources : List ℕ) (device : Writer W) (old new : W) (result : Result Summary BatchError) (same : Type 0) → AreAllAnswered P g sources device old result new → IfErr result (λ e. is_early e ≡ true → same)
+not_early P g sources device old new (Ok summary) same is = tt
+not_early P g sources device old new (Err Memory) same is = λ early. absurd (false≢true early)
+not_early P g sources device old new (Err Write) same is = λ early. absurd (false≢true early)
+not_early P g sources device old new (Err (Gr e)) same is = absurd is
+not_early P g sources device old new (Err (Ss e)) same is = absurd is
+not_early P g sources device old new (Err (NoSuchVertex v)) same is = absurd is

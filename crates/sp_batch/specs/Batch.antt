@@ -44,13 +44,10 @@ pub record IsSummary (answers : List Answer) (summary : Summary) : Type 0 where
   pub too_far : summary.too_far ≡ count_by is_far answers
   pub bytes : summary.bytes ≡ length (batch_text answers)
 
--- The first of the sources were answered, and of their text a beginning stands.
+-- Each source has an answer, and of the text of all the answers a beginning stands.
 pub record HasBegun (P : ℕ) (g : Graph) (sources : List ℕ) (old new : Option (List ℕ)) : Type 0 where
-  pub done : List ℕ
-  pub later : List ℕ
-  pub parts : sources ≡ done ++ later
   pub answers : List Answer
-  pub are : AreAnswers P g done answers
+  pub are : AreAnswers P g sources answers
   pub begun : IsBegun (batch_text answers) old new
 
 -- The source at some place is above n, and every source before it is not.

@@ -1,3 +1,4 @@
 pub mod Batch
+pub mod Found
 pub mod Steps
 pub mod Answered

@@ -1,31 +1,87 @@
--- One source after the other.
-use Rattle.std.specs.Prelude.{◌≡◌, ◌+◌, ◌<◌, ◌≤◌, ◌^◌, ℕ, Bool, true, cond, List, length, Option, Result, Ok, Err}
+-- Answers written and counted, some sources after the others.
+use Rattle.std.specs.Prelude.{◌≡◌, ◌+◌, ◌<◌, ◌≤◌, ◌^◌, ℕ, true, List, ◌++◌, map, Option, Result, Ok, Err}
 use Rattle.std.specs.Io.KnownBytes.{Appends}
+use Rattle.sp_device.specs.declared.devices.Write.{Ghosts as Writer}
 use Rattle.sp_device.specs.Devices.{IsBegun}
 use Rattle.sp_paths.specs.Paths.{Graph}
 use Rattle.sp_batch.specs.declared.answers.Summary.{Summary}
 use Rattle.sp_batch.specs.declared.answers.BatchError.{BatchError}
 use Rattle.sp_batch.specs.declared.answers.BatchError.TheVariants.{Memory, Write}
-use Rattle.sp_batch.specs.Batch.{Answer, IsAnswerTo, AreAnswers, answer_text, batch_text, is_far, IsSummary, HasBegun}
+use Rattle.sp_batch.specs.declared.answering.Step.{Step}
+use Rattle.sp_batch.specs.Batch.{Answer, AreAnswers, batch_text, IsSummary}
+use Rattle.sp_batch.specs.declared.finding.Found.{Found}
+use Rattle.sp_batch.specs.Found.{answer_of, AreFound}
 
--- the count of one answer
-pub record IsCount (answer : Answer) (one : Summary) : Type 0 where
-  pub sources : one.sources ≡ 1
-  pub too_far : one.too_far ≡ cond (is_far answer) 1 0
-  pub bytes : one.bytes ≡ length (answer_text answer)
+-- of no source
+abbrev pub none : Summary
+none = record { sources = 0; too_far = 0; bytes = 0 }
 
--- The answer to a source was written; or memory was refused, and nothing was written; or the writer failed, and a
--- beginning of the answer stands.
-abbrev pub IsAnswered : {W : Type 0} → (P : ℕ) → Graph → (s : ℕ) → (W → Option (List ℕ)) → (W → ℕ) → (W → Bool) → W → Result Summary BatchError → W → Type 0
-IsAnswered P g s written passed has_failed old (Ok one) new = (answer : Answer) × IsAnswerTo P g s answer × Appends (written old) (written new) (answer_text answer)
-    × IsCount answer one × (passed new ≡ passed old + one.bytes) × (0 < one.bytes → passed new ≤ 2 ^ 62)
-IsAnswered P g s written passed has_failed old (Err Memory) new = written new ≡ written old
-IsAnswered P g s written passed has_failed old (Err Write) new = (answer : Answer) × IsAnswerTo P g s answer × IsBegun (answer_text answer) (written old) (written new) × (has_failed new ≡ true)
-IsAnswered P g s written passed has_failed old (Err e) new = ⊥
+-- of some sources and of those behind them
+abbrev pub sum_of : (first second : Summary) → Summary
+sum_of first second = record {
+  sources = first.sources + second.sources;
+  too_far = first.too_far + second.too_far;
+  bytes = first.bytes + second.bytes;
+}
 
--- The same of a list of sources.
-abbrev pub AreAllAnswered : {W : Type 0} → (P : ℕ) → Graph → List ℕ → (W → Option (List ℕ)) → (W → Bool) → W → Result Summary BatchError → W → Type 0
-AreAllAnswered P g sources written has_failed old (Ok summary) new = (answers : List Answer) × AreAnswers P g sources answers × Appends (written old) (written new) (batch_text answers) × IsSummary answers summary
-AreAllAnswered P g sources written has_failed old (Err Memory) new = HasBegun P g sources (written old) (written new)
-AreAllAnswered P g sources written has_failed old (Err Write) new = HasBegun P g sources (written old) (written new) × (has_failed new ≡ true)
-AreAllAnswered P g sources written has_failed old (Err e) new = ⊥
+-- The sums fit 64 bits.
+pub record Fits (first second : Summary) : Type 0 where
+  pub sources : first.sources + second.sources < 2 ^ 64
+  pub too_far : first.too_far + second.too_far < 2 ^ 64
+  pub bytes : first.bytes + second.bytes < 2 ^ 64
+
+-- Exactly the text of the answers was written, and it was counted.
+pub record IsWritten {W : Type 0} (device : Writer W) (answers : List Answer) (old : W) (summary : Summary) (new : W) : Type 0 where
+  pub wrote : Appends (device.written old) (device.written new) (batch_text answers)
+  pub counted : IsSummary answers summary
+  pub went : device.passed new ≡ device.passed old + summary.bytes
+  pub small : 0 < summary.bytes → device.passed new ≤ 2 ^ 62
+
+-- The answers were written; or the writer failed, and a beginning of their text stands.
+abbrev pub AreWritten : {W : Type 0} → Writer W → List Answer → W → Result Summary BatchError → W → Type 0
+AreWritten device answers old (Ok summary) new = IsWritten device answers old summary new
+AreWritten device answers old (Err Write) new = IsBegun (batch_text answers) (device.written old) (device.written new) × (device.has_failed new ≡ true)
+AreWritten device answers old (Err e) new = ⊥
+
+-- The same of the answers that were found for some sources.
+abbrev pub IsGroupWritten : {P : ℕ} {W : Type 0} → Writer W → List (Found P) → W → Result Summary BatchError → W → Type 0
+IsGroupWritten {P} device group old result new = AreWritten device (map answer_of group) old result new
+
+-- The sources were answered, and their answers written and counted.
+pub record AreDone {W : Type 0} (P : ℕ) (g : Graph) (sources : List ℕ) (device : Writer W) (old : W) (summary : Summary) (new : W) : Type 0 where
+  pub answers : List Answer
+  pub are : AreAnswers P g sources answers
+  pub text : IsWritten device answers old summary new
+
+-- The first of the sources were answered, and of their text a beginning stands.
+pub record HasBegunFirst (P : ℕ) (g : Graph) (sources : List ℕ) (old new : Option (List ℕ)) : Type 0 where
+  pub done : List ℕ
+  pub later : List ℕ
+  pub parts : sources ≡ done ++ later
+  pub answers : List Answer
+  pub are : AreAnswers P g done answers
+  pub begun : IsBegun (batch_text answers) old new
+
+-- The sources were answered; or memory was refused or the writer failed, and a beginning of the text of the first answers stands.
+abbrev pub AreAllAnswered : {W : Type 0} → (P : ℕ) → Graph → List ℕ → Writer W → W → Result Summary BatchError → W → Type 0
+AreAllAnswered P g sources device old (Ok summary) new = AreDone P g sources device old summary new
+AreAllAnswered P g sources device old (Err Memory) new = HasBegunFirst P g sources (device.written old) (device.written new)
+AreAllAnswered P g sources device old (Err Write) new = HasBegunFirst P g sources (device.written old) (device.written new) × (device.has_failed new ≡ true)
+AreAllAnswered P g sources device old (Err e) new = ⊥
+
+-- Of the sources the first were answered, and the answers to the others were found.
+pub record IsStep {W : Type 0} (P : ℕ) (g : Graph) (sources : List ℕ) (device : Writer W) (old : W) (step : Step P) (new : W) : Type 0 where
+  pub front : List ℕ
+  pub back : List ℕ
+  pub parts : sources ≡ front ++ back
+  pub done : AreDone P g front device old step.summary new
+  pub found : AreFound g back step.waiting.items
+
+-- The same, or a refusal with a beginning of the answers' text.
+abbrev pub IsStepped : {W : Type 0} → (P : ℕ) → Graph → (sources : List ℕ) → Writer W → W → Result (Step P) BatchError → W → Type 0
+IsStepped P g sources device old (Ok step) new = IsStep P g sources device old step new
+IsStepped P g sources device old (Err e) new = AreAllAnswered P g sources device old (Err e) new
+
+-- From sources of which the answers wait, and those behind them.
+abbrev pub MovesOn : {P : ℕ} {W : Type 0} → Graph → (waiting : List (Found P)) → (sources : List ℕ) → Writer W → W → Result (Step P) BatchError → W → Type 0
+MovesOn {P} g waiting sources device old result new = (front : List ℕ) → AreFound g front waiting → IsStepped P g (front ++ sources) device old result new

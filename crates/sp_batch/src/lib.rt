@@ -1,8 +1,12 @@
 //! From bytes to bytes: a graph and a list of sources are read, and for each source its shortest-path tree is written.
 #![tactic(auto)]
 
+mod answering;
 mod answers;
 mod batch;
+mod finding;
+mod watch;
+mod writing;
 
 pub use answers::{BatchError, Summary};
 pub use batch::run_batch;

@@ -4,18 +4,24 @@ ghost use Rattle.sp_word.specs.Word.{is_layout, max_dist};
 
 mod devices;
 mod graphs;
+mod groups;
+mod meeting;
 mod refusals;
+mod threads;
 
+use crate::batch::answer_files;
+use crate::finding::Plan;
+use crate::watch::{Unwatched, Watch};
 use crate::{BatchError, Summary, run_batch};
-use sp_dimacs::{DimacsError, Kind, UpTo, UpToWriter};
+use sp_dimacs::{DimacsError, Kind, UpTo, UpToWriter, read_gr, read_ss};
 use std::alloc::Global;
 use std::process::Abort;
 use std::str::from_utf8;
 use std::sync::Wait;
-use std::thread::Threads;
+use std::thread::{Threads, available_parallelism};
 
-// More bytes than any text here has.
-const AMPLE: usize = 1 << 16;
+/// More bytes than any text here has.
+pub const AMPLE: usize = 1 << 20;
 
 /// What a batch gave.
 #[derive(Drop)]
@@ -54,7 +60,59 @@ pub fn run_into<const P: u32, R: Threads + Wait + Sync>(
     Ran { answer, out }
 }
 
-/// Asserts what a batch answers and writes, for some deltas and numbers of workers.
+/// Runs a batch with a watch, several sources at once where the graph has at least so many vertices and arcs in all.
+pub fn run_watched<R: Threads + Wait + Sync + Watch>(
+    rt: &R,
+    alloc: Global,
+    gr: &[u8],
+    ss: &[u8],
+    room: usize,
+    least: usize,
+    workers: u32,
+) -> Ran
+    requires gr { length gr.now ≤ 2 ^ 62 }
+    requires ss { length ss.now ≤ 2 ^ 62 }
+    requires room { room ≤ 2 ^ 62 }
+    requires workers { (1 ≤ workers) × (workers ≤ 64) }
+{
+    let mut out = UpToWriter::new(alloc, room, AMPLE);
+    let file = match read_gr::<28, _>(alloc, &mut UpTo::whole(gr)) {
+        Ok(file) => file,
+        Err(error) => {
+            let answer = Err(BatchError::Gr(error));
+            return Ran { answer, out };
+        }
+    };
+    let list = match read_ss::<28, _>(alloc, &mut UpTo::whole(ss)) {
+        Ok(list) => list,
+        Err(error) => {
+            let answer = Err(BatchError::Ss(error));
+            return Ran { answer, out };
+        }
+    };
+    let plan = Plan { delta: 2, workers };
+    let answer = answer_files::<28, R, _>(rt, alloc, file, &list, least, plan, &mut out);
+    Ran { answer, out }
+}
+
+/// Runs a batch by groups of sources, however small the graph is.
+pub fn run_groups<R: Threads + Wait + Sync>(
+    rt: &R,
+    alloc: Global,
+    gr: &[u8],
+    ss: &[u8],
+    room: usize,
+    workers: u32,
+) -> Ran
+    requires gr { length gr.now ≤ 2 ^ 62 }
+    requires ss { length ss.now ≤ 2 ^ 62 }
+    requires room { room ≤ 2 ^ 62 }
+    requires workers { (1 ≤ workers) × (workers ≤ 64) }
+{
+    run_watched(&(rt, Unwatched), alloc, gr, ss, room, 0, workers)
+}
+
+/// Asserts what a batch answers and writes, for some deltas and numbers of workers, and by groups.
 pub fn expect<R: Threads + Wait + Sync + Abort>(
     rt: &R,
     alloc: Global,
@@ -71,6 +129,11 @@ pub fn expect<R: Threads + Wait + Sync + Abort>(
         assert_eq!(rt; ran.answer, answer);
         assert_eq!(rt; from_utf8(ran.out.taken()), Ok(text));
     }
+    for workers in [2, 64] {
+        let ran = run_groups(rt, alloc, gr, ss, AMPLE, workers);
+        assert_eq!(rt; ran.answer, answer);
+        assert_eq!(rt; from_utf8(ran.out.taken()), Ok(text));
+    }
 }
 
 /// The answer where all was written.
@@ -80,6 +143,14 @@ pub fn summary(sources: u64, too_far: u64, bytes: u64) -> Result<Summary, BatchE
         too_far,
         bytes,
     })
+}
+
+/// How many processors there are.
+pub fn count_processors(rt: &impl Threads) -> u64 {
+    match available_parallelism(rt) {
+        Ok(count) => count.get() as u64,
+        Err(_) => 1,
+    }
 }
 
 /// A fault of the graph.

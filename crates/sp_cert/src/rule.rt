@@ -1,5 +1,6 @@
 //! The rules of a tree.
-ghost use Rattle.std.specs.Prelude.{◌≡◌, ◌≤◌};
+ghost use Rattle.std.specs.Prelude.{◌≡◌, ◌≤◌, Some};
+ghost use Rattle.std.specs.Fmt.{decimal};
 ghost use Rattle.sp_cert.specs.Rules.{number_of};
 
 use std::fmt;
@@ -30,6 +31,8 @@ impl Rule {
 }
 
 impl fmt::Display for Rule {
+    ghost output = { λ rule. Some (decimal (number_of rule)) };
+
     fn fmt<W: fmt::Write>(&self, f: &mut fmt::Formatter<W>) -> fmt::Result {
         write!(f, "{}", self.number())
     }

@@ -1,5 +1,5 @@
 //! The table that threads share, and the claimers.
-ghost use Rattle.std.specs.Prelude.{◌≡◌, ◌∷◌, ◌++◌, [], ◌<◌, IfOk, IfErr, IfSome, IfNone, OnSome, replicate};
+ghost use Rattle.std.specs.Prelude.{◌≡◌, ◌∷◌, ◌++◌, [], ◌<◌, IfOk, IsOkAnd, IfSome, IfNone, OnSome, replicate};
 ghost use Rattle.sp_claim.specs.Grants.{times, EachOnce};
 
 use crate::grants::{Apart, Checks, Claims, Grant, OncePerRound, Together, View};
@@ -83,14 +83,14 @@ impl ClaimTable {
         }
     }
 
-    /// Two claimers of the table: the first keeps the grants, the second has none.
+    /// Two claimers of the table: the first keeps the grants, the second has none. It takes no memory, and is never
+    /// refused.
     pub fn split(&self, claimer: Claimer) -> Result<(Claimer, Claimer), SplitRefused>
         requires table { claimer.table ≡ self.now }
         requires slots { 0 < self.now.words }
-        ensures first { IfOk result (λ claimers. claimers.0 ≡ claimer) }
-        ensures table { IfOk result (λ claimers. claimers.1.table ≡ claimer.table) }
-        ensures second { IfOk result (λ claimers. claimers.1.grants ≡ []) }
-        ensures refused { IfErr result (λ refusal. refusal.claimer ≡ claimer) }
+        ensures first { IsOkAnd result (λ claimers. claimers.0 ≡ claimer) }
+        ensures table { IsOkAnd result (λ claimers. claimers.1.table ≡ claimer.table) }
+        ensures second { IsOkAnd result (λ claimers. claimers.1.grants ≡ []) }
     {
         let Claimer { mut seat } = claimer;
         let other = self.table.shared.split_seat::<Apart>(&mut seat);

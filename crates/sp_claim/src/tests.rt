@@ -29,7 +29,7 @@ fn round_0_is_never_granted(rt: HostRuntime) -> Result<(), Fail> {
 fn two_threads_claim_each_slot_once(rt: HostRuntime) -> Result<(), Fail> {
     let (table, claimer) = ClaimTable::new(rt.alloc(), 64)?;
     let Ok((first, second)) = table.split(claimer) else {
-        panic!(rt; "the split was refused")
+        unreachable!()
     };
     let (mine, theirs) = join(
         &rt,

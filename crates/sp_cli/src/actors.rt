@@ -3,7 +3,7 @@ ghost use Rattle.std.specs.Prelude.{◌≡◌, ◌≤◌, IfOk};
 ghost use Rattle.sp_machine.specs.Programme.{IsNumber, IsItem};
 
 use sp_machine::{Item, Programme};
-use sp_offer::{AnyWord, Caller, OfferTable, SplitRefused};
+use sp_offer::{AnyWord, Caller, OfferTable};
 use std::alloc::{AllocError, Global};
 use std::snapshot::Snapshot;
 use std::sync::Wait;
@@ -54,8 +54,8 @@ fn offer_item<const P: u32>(table: &OfferTable<AnyWord, P>, caller: &mut Caller,
     }
 }
 
-/// Makes the offers of all actors, those of each on a thread of its own. Where a caller can't be split
-/// or a thread can't be started, this thread makes the actor's offers. All callers are joined at the end.
+/// Makes the offers of all actors, those of each on a thread of its own. Where a thread can't be started, this thread
+/// makes the actor's offers. All callers are joined at the end.
 pub fn offer_all<const P: u32, R: Threads + Wait + Sync>(
     rt: &R,
     alloc: Global,
@@ -78,12 +78,8 @@ pub fn offer_all<const P: u32, R: Threads + Wait + Sync>(
             let mut me = caller;
             let mut others = Vec::new(alloc);
             for actor in 1..=programme.actors() {
-                let (first, second) = match table.split(me) {
-                    Ok(callers) => callers,
-                    Err(SplitRefused { caller }) => {
-                        me = offer_row(table, caller, programme, actor);
-                        continue;
-                    }
+                let Ok((first, second)) = table.split(me) else {
+                    unreachable!()
                 };
                 me = first;
                 let promise = SameTable {

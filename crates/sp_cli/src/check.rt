@@ -73,8 +73,6 @@ fn check_files<const P: u32, R: Threads + Sync, G: Read, T: Read>(
     tree: &mut T,
 ) -> Result<Verdict, Fault>
     requires layout { is_layout P ≡ true }
-    requires fresh_gr { G.passed gr.old ≡ 0 }
-    requires fresh_tree { T.passed tree.old ≡ 0 }
     ensures read { IfErr result (λ fault. fault ≢ Fault.WriteFailed) }
 {
     let file = match read_gr::<P, G>(alloc, gr) {
@@ -95,8 +93,7 @@ fn check_files<const P: u32, R: Threads + Sync, G: Read, T: Read>(
             });
         }
     };
-    let graph = Graph::build(alloc, file.n, &file.arcs)?;
-    drop(file);
+    let graph = Graph::from_arcs(alloc, file.n, file.arcs)?;
     Ok(judge(rt, alloc, &graph, &tree)?)
 }
 

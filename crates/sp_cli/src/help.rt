@@ -47,16 +47,18 @@ pub const DELTA: &str = "The width of a bucket of tentative distances";
 /// The same, with how to choose one.
 pub const DELTA_LONG: &str = "\
 The width of a bucket of tentative distances, from 1 to the greatest distance of a word. The mean
-length of an arc is a good first choice; then try from 0.3 to 3 times as much. A delta that is far
-off costs much time or memory. Any delta gives the same bytes";
+length of an arc is a good choice, and so are a third of it and thirty times as much. Any delta gives
+the same bytes";
 
 /// The number of threads.
-pub const WORKERS: &str = "Threads that may work on one tree";
+pub const WORKERS: &str = "Threads that may work at once";
 
-/// The same, with its range.
+/// The same, with how to choose a number.
 pub const WORKERS_LONG: &str = "\
-Threads that may work on one tree, from 1 to 64, the main thread counted. Any number gives the same
-bytes";
+Threads that may work at once, from 1 to 64, the main thread counted. As many as there are processors
+is a good choice, where they are free: all work on one tree, or each on a tree of its own where there
+are several sources. No more threads are started than there are processors, nor any for a small graph.
+Any number gives the same bytes";
 
 /// The files, what is written, an example, faults and exit statuses.
 pub const TREE_MORE: &str = "\

@@ -1,6 +1,4 @@
 //! Where the files of a command line come from.
-ghost use Rattle.std.specs.Prelude.{◌≡◌, IfSome};
-
 use sp_device::Read;
 
 /// The files that a command line names.
@@ -9,6 +7,5 @@ pub trait Inputs {
     type File: Read + Drop;
 
     /// Opens a file at its beginning, or answers `None` where it cannot be opened.
-    fn open_input(&self, path: &str) -> Option<Self::File>
-        ensures { IfSome result (λ file. Self.File.passed file ≡ 0) };
+    fn open_input(&self, path: &str) -> Option<Self::File>;
 }

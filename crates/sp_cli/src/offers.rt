@@ -46,7 +46,6 @@ fn offer_file<const P: u32, R: Threads + Wait + Sync, D: Read, W: Write>(
     out: &mut W,
 ) -> Result<Status, Fault>
     requires layout { is_layout P ≡ true }
-    requires fresh { D.passed reader.old ≡ 0 }
     ensures done { IfOk result (λ status. status ≡ Done) }
     ensures unwritten { IfErr result (λ fault. fault ≢ Fault.WriteFailed → out.new ≡ out.old) }
 {

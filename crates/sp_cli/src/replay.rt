@@ -37,7 +37,6 @@ fn replay_file<const P: u32, R: Read, W: Write>(
     out: &mut W,
 ) -> Result<Status, Fault>
     requires layout { is_layout P ≡ true }
-    requires fresh { R.passed reader.old ≡ 0 }
     ensures done { IfOk result (λ status. status ≡ Done) }
     ensures unwritten { IfErr result (λ fault. fault ≢ Fault.WriteFailed → out.new ≡ out.old) }
 {

@@ -1,5 +1,5 @@
 //! Runs of the program over memory.
-ghost use Rattle.std.specs.Prelude.{◌≡◌, ◌≤◌, ◌^◌, IfSome};
+ghost use Rattle.std.specs.Prelude.{◌≤◌, ◌^◌};
 
 mod check;
 mod faults;
@@ -10,7 +10,7 @@ mod tree;
 mod usage;
 
 use crate::{Inputs, run_command};
-use sp_device::{Read, UpTo, UpToWriter};
+use sp_device::{UpTo, UpToWriter};
 use std::alloc::Global;
 use std::process::Abort;
 use std::str::from_utf8;
@@ -48,9 +48,7 @@ impl<'a> Inputs for Shelf<'a> {
     }
 }
 
-fn reader<'a>(stored: Stored<'a>) -> Option<UpTo<'a>>
-    ensures { IfSome result (λ file. ⟦<UpTo<'a> as Read>⟧.passed file ≡ 0) }
-{
+fn reader<'a>(stored: Stored<'a>) -> Option<UpTo<'a>> {
     match stored {
         Stored::Whole(bytes) if bytes.len() <= AMPLE => Some(UpTo::whole(bytes)),
         Stored::Failing(bytes) if bytes.len() <= AMPLE => Some(UpTo::failing(bytes)),

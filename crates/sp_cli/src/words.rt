@@ -117,7 +117,7 @@ fn tree_order<'a>(given: &ArgMatches<'a>, pred_bits: PredBits) -> Option<TreeOrd
 
 fn program<'a>(alloc: Global) -> Result<Command<'a>, AllocError> {
     Command::new(alloc, "spt")
-        .version("0.1.0")
+        .version("0.2.0")
         .about(help::PROGRAM)
         .after_help(help::PROGRAM_MORE)
         .subcommand_required(true)

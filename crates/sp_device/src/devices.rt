@@ -2,6 +2,7 @@
 ghost use Rattle.std.specs.Prelude.{◌≡◌, ◌+◌, ◌<◌, ◌≤◌, ◌^◌, ℕ, Bool, true, false, List, length, take, Option, OnOk, OnErr, IfOk};
 ghost use Rattle.std.specs.Io.KnownBytes.{Consumes, Appends, Keeps, IsAtEnd};
 ghost use Rattle.sp_device.specs.Devices.{IsBegun};
+ghost use Rattle.sp_device.specs.Failing.{Failing, Anytime, FailsBy};
 
 use crate::faults::WriteFault;
 
@@ -20,6 +21,9 @@ pub trait Read {
     /// Whether it has failed.
     ghost has_failed: { Self → Bool };
 
+    /// When it fails, as long as it lives.
+    ghost failing: { Self → Failing } = { λ _. Anytime };
+
     /// Puts some bytes into the front of the buffer, none only at the end.
     fn read(&mut self, buf: &mut [u8]) -> Result<usize, Failed>
         requires { 0 < length buf.old }
@@ -30,7 +34,9 @@ pub trait Read {
         ensures limit { OnOk result (passed self.new ≤ 2 ^ 62) }
         ensures going { OnOk result ((has_failed self.old ≡ false) × (has_failed self.new ≡ false)) }
         ensures kept { OnErr result (Keeps (left self.old) (left self.new) × (passed self.new ≡ passed self.old)) }
-        ensures failed { OnErr result (has_failed self.new ≡ true) };
+        ensures failed { OnErr result (has_failed self.new ≡ true) }
+        ensures fails { FailsBy (failing self.old) (passed self.old) result }
+        ensures lasting { failing self.new ≡ failing self.old };
 }
 
 /// Where bytes go. A device that has failed fails at every later call.
@@ -44,6 +50,9 @@ pub trait Write {
     /// Whether it has failed.
     ghost has_failed: { Self → Bool };
 
+    /// When it fails, as long as it lives.
+    ghost failing: { Self → Failing } = { λ _. Anytime };
+
     /// Takes a beginning of the bytes, at least one where there is one.
     fn write(&mut self, bytes: &[u8]) -> Result<usize, Failed>
         ensures within { IfOk result (λ n. n ≤ length bytes.now) }
@@ -53,7 +62,10 @@ pub trait Write {
         ensures limit { OnOk result (passed self.new ≤ 2 ^ 62) }
         ensures going { OnOk result ((has_failed self.old ≡ false) × (has_failed self.new ≡ false)) }
         ensures kept { OnErr result (Keeps (written self.old) (written self.new) × (passed self.new ≡ passed self.old)) }
-        ensures failed { OnErr result (has_failed self.new ≡ true) };
+        ensures failed { OnErr result (has_failed self.new ≡ true) }
+        ensures fails { 0 < length bytes.now → FailsBy (failing self.old) (passed self.old) result }
+        ensures none { length bytes.now ≡ 0 → OnErr result (has_failed self.old ≡ true) }
+        ensures lasting { failing self.new ≡ failing self.old };
 }
 
 /// Writes all the bytes, or a beginning of them where the device fails.
@@ -63,6 +75,8 @@ pub fn write_all<W: Write>(out: &mut W, bytes: &[u8]) -> Result<(), WriteFault>
     ensures limit { OnOk result (0 < length bytes.now → W.passed out.new ≤ 2 ^ 62) }
     ensures begun { OnErr result (IsBegun bytes.now (W.written out.old) (W.written out.new)) }
     ensures failed { OnErr result (W.has_failed out.new ≡ true) }
+    ensures fails { OnErr result (FailsBy (W.failing out.old) (W.passed out.new) result) }
+    ensures lasting { W.failing out.new ≡ W.failing out.old }
 {
     let mut rest = bytes;
     while !rest.is_empty() {

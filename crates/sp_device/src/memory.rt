@@ -1,10 +1,11 @@
 //! Devices over memory.
-ghost use Rattle.std.specs.Prelude.{◌≡◌, ◌+◌, ◌<◌, ◌≤◌, ◌^◌, [], false, Some, length, vec_len};
+ghost use Rattle.std.specs.Prelude.{◌≡◌, ◌+◌, ◌<◌, ◌≤◌, ◌^◌, ◌⊎◌, [], true, false, Some, length, vec_len, vec_capacity, if◌then◌else◌};
+ghost use Rattle.sp_device.specs.Failing.{Never, Behind};
 
 use crate::devices::{Failed, Read, Write};
 use std::alloc::Global;
 
-/// A reader that passes some bytes, and then ends or fails.
+/// A reader that passes some bytes, and then ends or fails. It fails nowhere else.
 #[derive(Drop)]
 pub struct UpTo<'a> {
     bytes: &'a [u8],
@@ -14,6 +15,7 @@ pub struct UpTo<'a> {
     failed: bool,
     ghost short: { passed + length bytes.now ≤ 2 ^ 62 },
     ghost some: { 0 < most },
+    ghost ended: { failed ≡ true → (fails ≡ true) × (length bytes.now ≡ 0) },
 }
 
 impl<'a> UpTo<'a> {
@@ -23,6 +25,7 @@ impl<'a> UpTo<'a> {
         ensures left { ⟦<UpTo<'a> as Read>⟧.left result ≡ Some bytes.now }
         ensures passed { ⟦<UpTo<'a> as Read>⟧.passed result ≡ 0 }
         ensures going { ⟦<UpTo<'a> as Read>⟧.has_failed result ≡ false }
+        ensures fails { ⟦<UpTo<'a> as Read>⟧.failing result ≡ Never }
     {
         UpTo::in_pieces(bytes, usize::MAX)
     }
@@ -33,6 +36,7 @@ impl<'a> UpTo<'a> {
         ensures left { ⟦<UpTo<'a> as Read>⟧.left result ≡ Some bytes.now }
         ensures passed { ⟦<UpTo<'a> as Read>⟧.passed result ≡ 0 }
         ensures going { ⟦<UpTo<'a> as Read>⟧.has_failed result ≡ false }
+        ensures fails { ⟦<UpTo<'a> as Read>⟧.failing result ≡ Behind (length bytes.now) }
     {
         let mut device = UpTo::whole(bytes);
         device.fails = true;
@@ -46,6 +50,7 @@ impl<'a> UpTo<'a> {
         ensures left { ⟦<UpTo<'a> as Read>⟧.left result ≡ Some bytes.now }
         ensures passed { ⟦<UpTo<'a> as Read>⟧.passed result ≡ 0 }
         ensures going { ⟦<UpTo<'a> as Read>⟧.has_failed result ≡ false }
+        ensures fails { ⟦<UpTo<'a> as Read>⟧.failing result ≡ Never }
     {
         UpTo {
             bytes,
@@ -64,8 +69,10 @@ impl Read for UpTo<'_> {
 
     ghost has_failed = { λ d. d.failed };
 
+    ghost failing = { λ d. if d.fails then Behind (d.passed + length d.bytes.now) else Never };
+
     fn read(&mut self, buf: &mut [u8]) -> Result<usize, Failed> {
-        if self.failed || self.fails && self.bytes.is_empty() {
+        if self.fails && self.bytes.is_empty() {
             self.failed = true;
             return Err(Failed);
         }
@@ -78,7 +85,7 @@ impl Read for UpTo<'_> {
     }
 }
 
-/// A writer that takes some bytes in all, and then fails. It fails too where memory is refused.
+/// A writer that takes some bytes in all, and then fails. It fails nowhere else.
 #[derive(Drop)]
 pub struct UpToWriter {
     taken: Vec<u8>,
@@ -87,19 +94,27 @@ pub struct UpToWriter {
     failed: bool,
     ghost short: { vec_len taken + room ≤ 2 ^ 62 },
     ghost some: { 0 < most },
+    ghost ready: { vec_len taken + room ≤ vec_capacity taken },
+    ghost full: { failed ≡ true → room ≡ 0 },
 }
 
 impl UpToWriter {
-    /// Takes so many bytes in all, at most `most` a call.
+    /// Takes so many bytes in all, at most `most` a call. The memory is taken at once: where it is refused, the
+    /// writer takes none.
     pub fn new(alloc: Global, room: usize, most: usize) -> Self
         requires short { room ≤ 2 ^ 62 }
         requires some { 0 < most }
         ensures written { ⟦<UpToWriter as Write>⟧.written result ≡ Some [] }
         ensures passed { ⟦<UpToWriter as Write>⟧.passed result ≡ 0 }
         ensures going { ⟦<UpToWriter as Write>⟧.has_failed result ≡ false }
+        ensures fails { (⟦<UpToWriter as Write>⟧.failing result ≡ Behind room) ⊎ (⟦<UpToWriter as Write>⟧.failing result ≡ Behind 0) }
     {
+        let (taken, room) = match Vec::with_capacity(alloc, room) {
+            Ok(taken) => (taken, room),
+            Err(_) => (Vec::new(alloc), 0),
+        };
         UpToWriter {
-            taken: Vec::new(alloc),
+            taken,
             room,
             most,
             failed: false,
@@ -120,6 +135,8 @@ impl Write for UpToWriter {
     ghost passed = { λ w. vec_len w.taken };
 
     ghost has_failed = { λ w. w.failed };
+
+    ghost failing = { λ w. Behind (vec_len w.taken + w.room) };
 
     fn write(&mut self, bytes: &[u8]) -> Result<usize, Failed> {
         let n = bytes.len().min(self.room).min(self.most);

@@ -128,8 +128,11 @@ impl<W: io::Write> Write for OfWrite<W> {
             self.failed = true;
             return Err(Failed);
         }
+        if bytes.is_empty() {
+            return Ok(0);
+        }
         match self.inner.write(&bytes[..most]) {
-            Ok(n) if n > 0 || bytes.is_empty() => {
+            Ok(n) if n > 0 => {
                 self.passed += n as u64;
                 Ok(n)
             }

@@ -99,12 +99,11 @@ impl<const P: u32> TextReader<Collector<Arcs<P>>> {
     }
 }
 
-/// The graph that the bytes of a device spell, or their first fault. Memory may be told in place of a later
-/// fault.
+/// The graph that the bytes of a device spell from here on, or their first fault. Where an arc finds no
+/// room, Memory is told of its line, if no line up to it has a fault.
 #[tactic(auto, using(crate::proofs::Limits::graph_read))]
 pub fn read_gr<const P: u32, R: Read>(alloc: Global, reader: &mut R) -> Result<GrFile, DimacsError>
-    requires layout { is_layout P ≡ true }
-    requires fresh { R.passed reader.old ≡ 0 }
+    requires { is_layout P ≡ true }
     ensures exact { (text : List ℕ) → R.left reader.old ≡ Some text → GraphRead P text (R.left reader.new) (R.has_failed reader.new) result }
     ensures found { IfOk result (λ file. (text : List ℕ) × SpellsGraph P text file) }
     ensures graph { IfOk result (IsNetwork P) }

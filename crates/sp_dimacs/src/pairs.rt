@@ -92,15 +92,14 @@ impl<const P: u32> TextReader<Collector<Pairs<P>>> {
     }
 }
 
-/// The pairs that the bytes of a device spell, or their first fault. Memory may be told in place of a later
-/// fault.
+/// The pairs that the bytes of a device spell from here on, or their first fault. Where a pair finds no
+/// room, Memory is told of its line, if no line up to it has a fault.
 #[tactic(auto, using(crate::proofs::Limits::pairs_read))]
 pub fn read_pairs<const P: u32, R: Read>(
     alloc: Global,
     reader: &mut R,
 ) -> Result<PairsFile, DimacsError>
-    requires layout { is_layout P ≡ true }
-    requires fresh { R.passed reader.old ≡ 0 }
+    requires { is_layout P ≡ true }
     ensures exact { (text : List ℕ) → R.left reader.old ≡ Some text → PairsRead P text (R.left reader.new) (R.has_failed reader.new) result }
     ensures found { IfOk result (λ file. (text : List ℕ) × SpellsPairs P text file) }
     ensures pairs { IfOk result (ArePairsWithin P) }

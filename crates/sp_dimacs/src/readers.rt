@@ -35,7 +35,7 @@ impl<T: LineTaker> TextReader<T> {
     /// Takes the next piece of the text.
     pub fn feed(&mut self, piece: &[u8]) -> Result<(), DimacsError>
         ensures again { (e : DimacsError) → IsSpent e self.old → (result ≡ Err e) × (self.new ≡ self.old) }
-        ensures fed { (text : List ℕ) → length (text ++ piece.now) ≤ 2 ^ 62 → IsBehindText T.rules T.After text self.old → FedText T.rules T.After (text ++ piece.now) result self.new }
+        ensures fed { (text : List ℕ) → length (text ++ piece.now) ≤ 2 ^ 62 → IsBehindText T.rules T.After text self.old → FedText T.rules T.After text piece.now result self.new }
     {
         self.feeder.feed(piece)
     }

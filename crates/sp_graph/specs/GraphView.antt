@@ -14,5 +14,5 @@ pub record IsStored (g : Inside) : Type 0 where
   pub some : 1 ≤ g.n
   pub graph : IsGraph (graph_of g)
   pub order : IsInOrder g.arcs.items
-  pub index : IsIndex g.n g.arcs.items g.starts.items
+  pub index : IsIndex g.n g.arcs.items g.ends.items
   pub longest : IsLongest g.arcs.items g.longest

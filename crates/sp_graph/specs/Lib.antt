@@ -1,5 +1,7 @@
 pub mod Order
+pub mod Part
 pub mod Longest
+pub mod Keys
 pub mod Index
 pub mod Split
 pub mod RowsValue

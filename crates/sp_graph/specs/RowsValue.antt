@@ -1,8 +1,19 @@
 -- What contracts see of rows.
-use Rattle.std.specs.Prelude.{ℕ}
+use Rattle.std.specs.Prelude.{ℕ, List, ◌++◌, filter, nat_le, nat_lt}
+use Rattle.sp_paths.specs.declared.arc.Arc.{Arc}
 use Rattle.sp_paths.specs.Paths.{Graph}
 
 -- the rows of a graph, each parted into its light arcs, of length at most delta, and its heavy ones
 pub record Split : Type 0 where
   pub graph : Graph
   pub delta : ℕ
+
+-- the light arcs of a list, its heavy ones, and the light before the heavy, each in their order
+abbrev pub light_among : (delta : ℕ) → List Arc → List Arc
+light_among delta arcs = filter (λ a. nat_le a.len delta) arcs
+
+abbrev pub heavy_among : (delta : ℕ) → List Arc → List Arc
+heavy_among delta arcs = filter (λ a. nat_lt delta a.len) arcs
+
+abbrev pub parted : (delta : ℕ) → List Arc → List Arc
+parted delta arcs = light_among delta arcs ++ heavy_among delta arcs

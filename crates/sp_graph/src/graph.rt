@@ -7,7 +7,8 @@ ghost use Rattle.sp_graph.specs.Order.{IsInOrder};
 ghost use Rattle.sp_graph.specs.Longest.{IsLongest};
 ghost use Rattle.sp_graph.specs.Index.{IsRowAt};
 
-use crate::index::{copy_in_order, greatest_length, row_starts};
+use crate::index::greatest_length;
+use crate::ordering::put_in_order;
 use sp_paths::Arc;
 use std::alloc::{AllocError, Global};
 use std::marker::Model;
@@ -21,8 +22,8 @@ pub struct Graph {
     n: u32,
     // in order
     arcs: Vec<Arc>,
-    // the row of vertex v goes from the place at v - 1 up to the one at v
-    starts: Vec<usize>,
+    // the row of vertex v ends at the place that stands at v, where the next one begins
+    ends: Vec<u32>,
     longest: u32,
 }
 
@@ -39,8 +40,7 @@ impl Model for Graph {
 }
 
 impl Graph {
-    /// The graph of `n` vertices with these arcs, each as often as it is given. It takes a time of the order of
-    /// `m log m` for `m` arcs, and is refused where there is no memory for a copy of the arcs and for `n + 1` places.
+    /// The graph of `n` vertices with these arcs, each as often as it is given, from a copy of them. `from_arcs` needs none.
     pub fn build(alloc: Global, n: u32, arcs: &[Arc]) -> Result<Graph, AllocError>
         requires some { 1 ≤ n }
         requires arcs { All (IsArc n) arcs.now }
@@ -48,23 +48,30 @@ impl Graph {
         ensures arcs { IfOk result (λ graph. IsPermutation arcs.now graph.arcs) }
         ensures order { IfOk result (λ graph. IsInOrder graph.arcs) }
     {
-        let arcs = copy_in_order(alloc, arcs)?;
-        Graph::of_ordered(alloc, n, arcs)
+        let arcs = arcs.to_vec(alloc)?;
+        Graph::from_arcs(alloc, n, arcs)
     }
 
-    // The graph of arcs that are in order.
-    fn of_ordered(alloc: Global, n: u32, arcs: Vec<Arc>) -> Result<Graph, AllocError>
+    /// The graph of `n` vertices with these arcs, each as often as it is given. It takes linear time but for rows out of
+    /// order, `l log l` for one of `l` arcs. Arcs that come by rising tail stay where they are; others are copied, twice where
+    /// their tails are far apart, and each list is given back as soon as its copy stands. It is refused where there is no
+    /// memory for a second list and for `n + 1` places, and where there are 2^32 arcs or more.
+    pub fn from_arcs(alloc: Global, n: u32, arcs: Vec<Arc>) -> Result<Graph, AllocError>
         requires some { 1 ≤ n }
         requires arcs { All (IsArc n) arcs.items }
-        requires order { IsInOrder arcs.items }
-        ensures { IfOk result (λ graph. graph ≡ record { n = n; arcs = arcs.items }) }
+        ensures n { IfOk result (λ graph. graph.n ≡ n) }
+        ensures arcs { IfOk result (λ graph. IsPermutation arcs.items graph.arcs) }
+        ensures order { IfOk result (λ graph. IsInOrder graph.arcs) }
     {
-        let starts = row_starts(alloc, n, &arcs)?;
-        let longest = greatest_length(&arcs);
+        if arcs.len() > u32::MAX as usize {
+            return Err(AllocError);
+        }
+        let rows = put_in_order(alloc, n, arcs)?;
+        let longest = greatest_length(&rows.arcs);
         Ok(Graph {
             n,
-            arcs,
-            starts,
+            arcs: rows.arcs,
+            ends: rows.ends,
             longest,
         })
     }
@@ -116,6 +123,7 @@ impl Graph {
         requires { IsVertex self.now.n v }
         ensures { IsRowAt self.now v result.0 result.1 }
     {
-        (self.starts[(v - 1) as usize], self.starts[v as usize])
+        let (low, high) = (self.ends[(v - 1) as usize], self.ends[v as usize]);
+        (low as usize, high as usize)
     }
 }

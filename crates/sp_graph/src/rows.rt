@@ -1,7 +1,8 @@
 //! Rows with light arcs before heavy ones.
-ghost use Rattle.std.specs.Prelude.{◌≡◌, ℕ, ◌≤◌, ◌++◌, length, slice_range, filter, nat_lt, nat_le, All, IfOk, OnOk};
+ghost use Rattle.std.specs.Prelude.{◌≡◌, ◌≤◌, ◌++◌, length, slice_range, All, IfOk, OnOk};
 ghost use Rattle.sp_paths.specs.Paths.{IsVertex, IsArc, IsGraph};
 ghost use Rattle.sp_paths.specs.Rows.{light_of, heavy_of};
+ghost use Rattle.sp_graph.specs.RowsValue.{light_among, heavy_among, parted};
 
 use crate::graph::Graph;
 use sp_paths::Arc;
@@ -130,9 +131,10 @@ fn part(arcs: &[Arc], low: usize, high: usize) -> &[Arc]
 
 // Appends a row, its light arcs before its heavy ones, and tells where the two begin.
 fn push_row(arcs: &mut Vec<Arc>, row: &[Arc], delta: u64) -> Result<Cut, AllocError>
-    ensures row { OnOk result (arcs.new.items ≡ arcs.old.items ++ (filter (λ a. nat_le a.len delta) row.now ++ filter (λ a. nat_lt delta a.len) row.now)) }
+    ensures row { OnOk result (arcs.new.items ≡ arcs.old.items ++ parted delta row.now) }
     ensures light { IfOk result (λ cut. cut.light ≡ length arcs.old.items) }
-    ensures heavy { IfOk result (λ cut. cut.heavy ≡ length (arcs.old.items ++ filter (λ a. nat_le a.len delta) row.now)) }
+    ensures heavy { IfOk result (λ cut.
+        cut.heavy ≡ length (arcs.old.items ++ light_among delta row.now)) }
 {
     let light = arcs.len();
     push_light(arcs, row, delta)?;
@@ -142,7 +144,7 @@ fn push_row(arcs: &mut Vec<Arc>, row: &[Arc], delta: u64) -> Result<Cut, AllocEr
 }
 
 fn push_light(arcs: &mut Vec<Arc>, row: &[Arc], delta: u64) -> Result<(), AllocError>
-    ensures { OnOk result (arcs.new.items ≡ arcs.old.items ++ filter (λ a. nat_le a.len delta) row.now) }
+    ensures { OnOk result (arcs.new.items ≡ arcs.old.items ++ light_among delta row.now) }
 {
     for arc in row {
         if arc.len as u64 <= delta {
@@ -153,7 +155,7 @@ fn push_light(arcs: &mut Vec<Arc>, row: &[Arc], delta: u64) -> Result<(), AllocE
 }
 
 fn push_heavy(arcs: &mut Vec<Arc>, row: &[Arc], delta: u64) -> Result<(), AllocError>
-    ensures { OnOk result (arcs.new.items ≡ arcs.old.items ++ filter (λ a. nat_lt delta a.len) row.now) }
+    ensures { OnOk result (arcs.new.items ≡ arcs.old.items ++ heavy_among delta row.now) }
 {
     for arc in row {
         if delta < arc.len as u64 {

@@ -1,14 +1,22 @@
-ghost use Rattle.std.specs.Prelude.{◌≡◌, ◌≤◌, IfOk};
+//! Rows of small graphs, and arcs in several orders.
+ghost use Rattle.std.specs.Prelude.{◌≡◌, ◌≤◌, All, IfOk};
+ghost use Rattle.sp_paths.specs.Paths.{IsArc};
+
+mod orders;
 
 use crate::{Graph, Rows};
 use sp_paths::Arc;
+use std::alloc::AllocError;
 use std::process::Abort;
 use std::test::Fail;
 
-// The graph of these arcs, given by tail, head and length.
-fn built(rt: &(impl Abort + AllocGlobal), n: u32, arcs: &[(u32, u32, u32)]) -> Result<Graph, Fail>
-    requires { 1 ≤ n }
-    ensures { IfOk result (λ graph. graph.n ≡ n) }
+// These arcs, given by tail, head and length.
+fn listed(
+    rt: &(impl Abort + AllocGlobal),
+    n: u32,
+    arcs: &[(u32, u32, u32)],
+) -> Result<Vec<Arc>, AllocError>
+    ensures { IfOk result (λ list. All (IsArc n) list.items) }
 {
     let mut list = Vec::new(rt.alloc());
     for (tail, head, len) in arcs {
@@ -18,6 +26,15 @@ fn built(rt: &(impl Abort + AllocGlobal), n: u32, arcs: &[(u32, u32, u32)]) -> R
         assert!(rt; 1 <= len);
         list.push(Arc { tail, head, len })?;
     }
+    Ok(list)
+}
+
+// The graph of these arcs.
+fn built(rt: &(impl Abort + AllocGlobal), n: u32, arcs: &[(u32, u32, u32)]) -> Result<Graph, Fail>
+    requires { 1 ≤ n }
+    ensures { IfOk result (λ graph. graph.n ≡ n) }
+{
+    let list = listed(rt, n, arcs)?;
     Ok(Graph::build(rt.alloc(), n, &list)?)
 }
 
@@ -58,6 +75,19 @@ fn rows_rise_by_head_then_length(rt: HostRuntime) -> Result<(), Fail> {
     assert!(rt; are(graph.row(2), &[(2, 4, 2)]));
     assert!(rt; graph.row(3).is_empty());
     assert!(rt; are(graph.row(4), &[(4, 1, 7), (4, 1, 9)]));
+    Ok(())
+}
+
+#[test]
+fn rows_in_their_order_are_sorted_within(rt: HostRuntime) -> Result<(), Fail> {
+    let graph = built(
+        &rt,
+        3,
+        &[(1, 3, 1), (1, 2, 2), (1, 2, 1), (3, 2, 1), (3, 1, 1)],
+    )?;
+    assert!(rt; are(graph.row(1), &[(1, 2, 1), (1, 2, 2), (1, 3, 1)]));
+    assert!(rt; graph.row(2).is_empty());
+    assert!(rt; are(graph.row(3), &[(3, 1, 1), (3, 2, 1)]));
     Ok(())
 }
 

@@ -70,9 +70,8 @@ impl<L: Lawful> Words<L> {
         ensures word { is_word J.layout result ≡ true }
         ensures call { Calls J.law (event J.by vertex (Read (word_of J.layout result))) (seat_story seat.old) (seat_story seat.new) }
     {
-        self.table
-            .shared
-            .load::<ReadWord<J>>(seat, (vertex - 1) as usize)
+        let words = &self.table.shared;
+        words.load::<ReadWord<J>>(seat, (vertex - 1) as usize)
     }
 
     // The load that begins an offer.
@@ -86,9 +85,8 @@ impl<L: Lawful> Words<L> {
         ensures seat { IsAtRest self.now.table.shared.table_id seat.new × IsSameSeat seat.old seat.new }
         ensures way { IsUnderWay J.layout J.law J.by vertex J.word word result 1 (seat_story seat.old) (seat_story seat.new) }
     {
-        self.table
-            .shared
-            .load::<FirstLook<J>>(seat, (vertex - 1) as usize)
+        let words = &self.table.shared;
+        words.load::<FirstLook<J>>(seat, (vertex - 1) as usize)
     }
 
     // An exchange of the bits held for the lesser bits offered.
@@ -103,9 +101,8 @@ impl<L: Lawful> Words<L> {
         ensures seat { IsAtRest self.now.table.shared.table_id seat.new × IsSameSeat seat.old seat.new }
         ensures step { IsExchanged J.layout J.law J.by vertex J.word word held result (seat_story seat.old) (seat_story seat.new) }
     {
-        self.table
-            .shared
-            .compare_exchange::<Exchange<J>>(seat, (vertex - 1) as usize, held, word)
+        let words = &self.table.shared;
+        words.compare_exchange::<Exchange<J>>(seat, (vertex - 1) as usize, held, word)
     }
 
     /// A load, and exchanges until one wins or a word is found that is no larger. Answers the word found last and
@@ -146,9 +143,8 @@ impl<L: Lawful> Words<L> {
         ensures word { is_word J.layout result ≡ true }
         ensures call { Calls J.law (answered J.by vertex J.word (word_of J.layout result)) (seat_story seat.old) (seat_story seat.new) }
     {
-        self.table
-            .shared
-            .fetch_min::<Lessen<J>>(seat, (vertex - 1) as usize, word)
+        let words = &self.table.shared;
+        words.fetch_min::<Lessen<J>>(seat, (vertex - 1) as usize, word)
     }
 
     /// A second seat, which has seen what the first has.

@@ -6,6 +6,24 @@ use Rattle.sp_paths.specs.declared.arc.Arc.{Arc}
 use Rattle.sp_paths.specs.Paths.{Graph, IsGraph, HasArc, HasWalk, IsLeast}
 use Rattle.sp_paths.proofs.Walks.{arc_in, walk_none, walk_more, walk_cases}
 
+-- the smallest number with a property that is decided, or none below a bound
+pub smallest : (P : ℕ → Type 0) → ((k : ℕ) → P k ⊎ (P k → ⊥)) → (bound : ℕ) → ((k : ℕ) × P k × ((j : ℕ) → P j → k ≤ j) × (k < bound)) ⊎ ((j : ℕ) → j < bound → P j → ⊥)
+smallest P dec zero = inr (λ j h p. absurd (omega arith))
+smallest P dec (suc n) = step (smallest P dec n) (dec n)
+  where
+    over : ((j : ℕ) → j < n → P j → ⊥) → (j : ℕ) → P j → (j < n) ⊎ (n ≤ j) → n ≤ j
+    over none j p (inl h) = absurd (none j h p)
+    over none j p (inr h) = h
+
+    last : ((j : ℕ) → j < n → P j → ⊥) → (P n → ⊥) → (j : ℕ) → P j → (j < n) ⊎ (n ≤ j) → j < suc n → ⊥
+    last none fails j p (inl h) lt = none j h p
+    last none fails j p (inr h) lt = let same : j ≡ n = omega arith in fails (subst P same p)
+
+    step : ((k : ℕ) × P k × ((j : ℕ) → P j → k ≤ j) × (k < n)) ⊎ ((j : ℕ) → j < n → P j → ⊥) → P n ⊎ (P n → ⊥) → ((k : ℕ) × P k × ((j : ℕ) → P j → k ≤ j) × (k < suc n)) ⊎ ((j : ℕ) → j < suc n → P j → ⊥)
+    step (inl (k, p, least, h)) here = inl (k, p, least, omega arith)
+    step (inr none) (inl p) = inl (n, p, (λ j q. over none j q (cases_lt j n)), omega arith)
+    step (inr none) (inr fails) = inr (λ j h p. last none fails j p (cases_lt j n) h)
+
 -- some element has the property, or none has
 pub any_decided : (P : Arc → Type 0) → ((a : Arc) → P a ⊎ (P a → ⊥)) → (arcs : List Arc) → ((a : Arc) × Contains arcs a × P a) ⊎ ((a : Arc) → Contains arcs a → P a → ⊥)
 any_decided P dec [] = inr (λ a c h. absurd (omega (arith, c.1)))
@@ -74,22 +92,12 @@ module _ (g : Graph) (gr : IsGraph g) (s : ℕ) where
       by_last v d (empty_decided v d) (any_decided (Ends v d) (ends_decided v d (λ u c h. walk_decided bound u c (omega arith))) g.arcs)
 
   -- the least length below a bound, or no walk below it
-  least_below : (v n : ℕ) → ((d : ℕ) × IsLeast g s v d × (d < n)) ⊎ ((d : ℕ) → d < n → HasWalk g s v d → ⊥)
-  least_below v zero = inr (λ d h w. absurd (omega arith))
-  least_below v (suc n) = step (least_below v n) (walk_decided (suc n) v n (omega arith))
+  pub least_below : (v n : ℕ) → ((d : ℕ) × IsLeast g s v d × (d < n)) ⊎ ((d : ℕ) → d < n → HasWalk g s v d → ⊥)
+  least_below v n = go (smallest (λ d. HasWalk g s v d) (λ d. walk_decided (suc d) v d (omega arith)) n)
     where
-      over : ((d : ℕ) → d < n → HasWalk g s v d → ⊥) → (e : ℕ) → HasWalk g s v e → (e < n) ⊎ (n ≤ e) → n ≤ e
-      over none e w (inl h) = absurd (none e h w)
-      over none e w (inr h) = h
-
-      last : ((d : ℕ) → d < n → HasWalk g s v d → ⊥) → (HasWalk g s v n → ⊥) → (d : ℕ) → HasWalk g s v d → (d < n) ⊎ (n ≤ d) → d < suc n → ⊥
-      last none fails d w (inl h) lt = none d h w
-      last none fails d w (inr h) lt = let same : d ≡ n = omega arith in fails (rw same at w)
-
-      step : ((d : ℕ) × IsLeast g s v d × (d < n)) ⊎ ((d : ℕ) → d < n → HasWalk g s v d → ⊥) → HasWalk g s v n ⊎ (HasWalk g s v n → ⊥) → ((d : ℕ) × IsLeast g s v d × (d < suc n)) ⊎ ((d : ℕ) → d < suc n → HasWalk g s v d → ⊥)
-      step (inl (d, least, h)) here = inl (d, least, omega arith)
-      step (inr none) (inl w) = inl (n, record { walk = w; least = λ e w'. over none e w' (cases_lt e n) }, omega arith)
-      step (inr none) (inr fails) = inr (λ d h w. last none fails d w (cases_lt d n) h)
+      go : ((d : ℕ) × HasWalk g s v d × ((e : ℕ) → HasWalk g s v e → d ≤ e) × (d < n)) ⊎ ((d : ℕ) → d < n → HasWalk g s v d → ⊥) → ((d : ℕ) × IsLeast g s v d × (d < n)) ⊎ ((d : ℕ) → d < n → HasWalk g s v d → ⊥)
+      go (inl (d, walk, least, h)) = inl (d, record { walk = walk; least = least }, h)
+      go (inr none) = inr none
 
   -- where there is a walk there is a least length, and it is no greater
   pub least_exists : (v e : ℕ) → HasWalk g s v e → (d : ℕ) × IsLeast g s v d × (d ≤ e)

@@ -5,6 +5,7 @@ pub mod Run
 pub mod Settle
 pub mod Only
 pub mod Proved
+pub mod Existence
 pub mod Sweep
 pub mod SameArcs
 pub mod RowSteps

@@ -1,5 +1,5 @@
 -- What the definitions of Paths make true. Each statement is the contract of a function of the crate.
-use Rattle.std.specs.Prelude.{◌≡◌, ℕ, ◌+◌, ◌*◌, ◌<◌, ◌≤◌, ◌↔◌, Option, Some, None}
+use Rattle.std.specs.Prelude.{◌≡◌, ℕ, ◌+◌, ◌*◌, ◌<◌, ◌≤◌, ◌↔◌, ◌⊎◌, Option, Some, None}
 use Rattle.sp_word.specs.History.{Table}
 use Rattle.sp_word.specs.Word.{Pair, Unreached}
 use Rattle.sp_paths.specs.Paths.{Graph, IsGraph, IsVertex, HasWalk, IsLeast, IsTree, IsFar, IsPair, PairAnswer, Found, TooFar, NoWalk, IsTableFrom, IsWithin, IsClosed, EndsInTree, IsLeftOut, IsRelaxedLight, IsRelaxedHeavy, IsSettled}
@@ -68,3 +68,15 @@ pub record FarMeans (g : Graph) (s max : ℕ) : Type 0 where
 
 abbrev pub FarIsMeant : Type 0
 FarIsMeant = (g : Graph) (s max : ℕ) → IsGraph g → FarMeans g s max
+
+-- the tree from s, where no vertex is too far
+abbrev pub HasTree : Graph → (s max : ℕ) → Type 0
+HasTree g s max = (words : Table) × IsTree g s words × IsFar g s max None
+
+-- every vertex of a graph, taken as a source, has an answer: its tree, or the smallest vertex that is too far
+abbrev pub TreesExist : Type 0
+TreesExist = (g : Graph) (s max : ℕ) → IsGraph g → IsVertex g.n s → HasTree g s max ⊎ ((v : ℕ) × IsFar g s max (Some v))
+
+-- and so has every target
+abbrev pub PairsExist : Type 0
+PairsExist = (g : Graph) (s t max : ℕ) → IsGraph g → IsVertex g.n s → IsVertex g.n t → (answer : PairAnswer) × IsPair g s t max answer

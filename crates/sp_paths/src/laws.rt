@@ -10,6 +10,8 @@ ghost use Rattle.sp_paths.specs.Theorems.{
   LeastExists,
   AnswersAreOne,
   FarIsMeant,
+  TreesExist,
+  PairsExist,
 };
 ghost use Rattle.sp_paths.specs.Bags.{SameArcsSameAnswers};
 ghost use Rattle.sp_paths.specs.Rows.{RowsHoldArcs, LightRowsRelaxed, HeavyRowsRelaxed};
@@ -70,4 +72,10 @@ pub fn meanings()
     ensures least { LeastExists }
     ensures one { AnswersAreOne }
     ensures far { FarIsMeant }
+{}
+
+/// Every source has an answer, and every target.
+pub fn answers_exist()
+    ensures tree { TreesExist }
+    ensures pair { PairsExist }
 {}

@@ -7,6 +7,6 @@ mod laws;
 
 pub use arc::Arc;
 pub use laws::{
-    bag_of_arcs, closed_calls, finished_table, meanings, passed_bucket, rows_of_arcs, swept_copy,
-    tested_copy,
+    answers_exist, bag_of_arcs, closed_calls, finished_table, meanings, passed_bucket,
+    rows_of_arcs, swept_copy, tested_copy,
 };

@@ -11,3 +11,4 @@ pub mod Marked
 pub mod Rising
 pub mod Making
 pub mod Coming
+pub mod WholeRun

@@ -6,3 +6,4 @@ pub mod Sweep
 pub mod Behind
 pub mod Progress
 pub mod Settling
+pub mod WholeRun

@@ -6,6 +6,7 @@ mod finish;
 mod leader;
 mod marks;
 mod phases;
+mod relaxing;
 mod round;
 mod run;
 mod settle;
@@ -13,10 +14,11 @@ mod source;
 mod store;
 mod sweep;
 mod tasks;
+mod whole;
 
 pub use answers::RunError;
 pub use run::Run;
-pub use source::{run_source, run_source_with};
+pub use source::{run_by_team, run_source, run_source_with};
 pub use store::Store;
 
 #[cfg(test)]

@@ -222,7 +222,7 @@ impl<'a, 'g, const P: u32> Run<'a, 'g, P> {
         }
     }
 
-    /// Does all that is left, and gives the caller back, which knows the tree's words.
+    /// Does all that is left, and gives the caller back, which knows the tree's words. A spent run answers Memory.
     pub fn finish<R: Threads + Wait + Sync, G: Gate + Sync>(
         self,
         rt: &R,
@@ -232,6 +232,7 @@ impl<'a, 'g, const P: u32> Run<'a, 'g, P> {
         ensures caller { IfOk result (λ done. done.1.table ≡ self.entry.stage.table) }
         ensures known { IfOk result (λ done. HasWords done.0 self.entry.stage.graph.n (known done.1.story)) }
         ensures refused { IfErr result (IsRefusal P self.entry.stage.graph self.entry.stage.source) }
+        ensures spent { IsSpent self.entry → IsErrAnd result IsMemory }
     {
         let Run {
             alloc,

@@ -6,22 +6,37 @@ ghost use Rattle.sp_phase.specs.Answer.{IsAnswer, IsRefusal};
 use crate::answers::RunError;
 use crate::run::Run;
 use crate::store::Store;
+use crate::whole::WholeRun;
 use sp_claim::Claimer;
 use sp_graph::Graph;
 use sp_offer::Caller;
-use sp_task::{Gate, OpenGate};
+use sp_task::Gate;
+use sp_team::Team;
 use sp_tree::Tree;
 use std::alloc::Global;
 use std::sync::Wait;
+use std::thread;
 use std::thread::Threads;
 
-// As many tasks take about as long as starting and joining a thread.
-const LEAST_SHARED: usize = 1000;
+// A worker for fewer vertices takes longer to start than it saves.
+const LEAST_VERTICES: u32 = 5000;
+
+// How many of the workers there is work for: no more than processors, and one for so many vertices.
+fn useful_workers<R: Threads>(rt: &R, n: u32, workers: u32) -> u32 {
+    let few = workers.min(n / LEAST_VERTICES).max(1);
+    if few == 1 {
+        return 1;
+    }
+    match thread::available_parallelism(rt) {
+        Ok(count) => few.min(u32::try_from(count.get()).unwrap_or(few)),
+        Err(_) => few,
+    }
+}
 
 /// The shortest-path tree from the source, or the vertex that is too far for a word of `P` bits of predecessor.
 ///
-/// `delta` is the width of a bucket, `workers` the number of threads, the leader counted. The answer is the same for
-/// each of both. Short rounds are the leader's alone.
+/// `delta` is the width of a bucket, `workers` the greatest number of threads, the leader counted. The answer is the same
+/// for each of both. There are no more threads than processors, and one for some thousand vertices.
 pub fn run_source<const P: u32, R: Threads + Wait + Sync>(
     rt: &R,
     alloc: Global,
@@ -37,12 +52,31 @@ pub fn run_source<const P: u32, R: Threads + Wait + Sync>(
     ensures tree { IfOk result (IsAnswer P graph.now source) }
     ensures refused { IfErr result (IsRefusal P graph.now source) }
 {
-    let (tables, caller, claimer) = Store::new(alloc, graph, delta, source)?;
-    let store = tables.sharing_from(LEAST_SHARED);
-    run_stored(rt, alloc, &store, caller, claimer, workers, &OpenGate)
+    let workers = useful_workers(rt, graph.n(), workers);
+    run_by_team(rt, alloc, graph, Team { delta, workers }, source)
 }
 
-/// The same, with a gate round every offer of its rounds, each of which is shared among the workers.
+/// The same with just so many threads.
+pub fn run_by_team<const P: u32, R: Threads + Wait + Sync>(
+    rt: &R,
+    alloc: Global,
+    graph: &Graph,
+    team: Team,
+    source: u32,
+) -> Result<Tree<P>, RunError>
+    requires layout { is_layout P ≡ true }
+    requires n { graph.now.n ≤ max_pred P }
+    ensures tree { IfOk result (IsAnswer P graph.now source) }
+    ensures refused { IfErr result (IsRefusal P graph.now source) }
+{
+    let n = graph.n();
+    if source < 1 || source > n {
+        return Err(RunError::NoSuchVertex);
+    }
+    WholeRun::new(alloc, graph, source, team).solve(rt)
+}
+
+/// The same by rounds of tasks, with a gate round every offer, and every round shared among the workers.
 pub fn run_source_with<const P: u32, R: Threads + Wait + Sync, G: Gate + Sync>(
     rt: &R,
     alloc: Global,

@@ -8,6 +8,7 @@ use sp_graph::Graph;
 use sp_offer::Caller;
 use sp_paths::Arc;
 use sp_task::OpenGate;
+use sp_team::Team;
 use sp_tree::Tree;
 use sp_word::Word;
 use std::process::Abort;
@@ -16,8 +17,10 @@ use std::test::Fail;
 use std::thread::Threads;
 
 mod compare;
+mod fire;
 mod meeting;
 mod random;
+mod refused;
 mod roads;
 mod settling;
 mod watching;
@@ -72,8 +75,8 @@ fn run<const P: u32>(
     run_source_with(rt, rt.alloc(), graph, delta, workers, source, &OpenGate)
 }
 
-// The same, with short rounds left to the leader.
-fn run_sharing_long<const P: u32>(
+// The same, by a team that lasts.
+fn run_by_team<const P: u32>(
     rt: &(impl Abort + AllocGlobal + Threads + Wait + Sync),
     graph: &Graph,
     delta: u64,
@@ -85,19 +88,19 @@ fn run_sharing_long<const P: u32>(
     assert!(rt; graph.n() <= Word::<P>::max_pred());
     assert!(rt; 1 <= delta && delta <= Word::<P>::max_dist());
     assert!(rt; 1 <= workers && workers <= 64);
-    run_source(rt, rt.alloc(), graph, delta, workers, source)
+    crate::run_by_team(rt, rt.alloc(), graph, Team { delta, workers }, source)
 }
 
 // The first caller of a store, and another.
-fn split(rt: &impl Abort, store: &Store<28>, caller: Caller) -> (Caller, Caller)
+fn split(store: &Store<28>, caller: Caller) -> (Caller, Caller)
     requires { caller.table ≡ store.now.table }
     ensures first { result.0.table ≡ store.now.table }
     ensures second { result.1.table ≡ store.now.table }
 {
-    match store.table().split(caller) {
-        Ok(both) => both,
-        Err(_) => panic!(rt; "a split was refused"),
-    }
+    let Ok(both) = store.table().split(caller) else {
+        unreachable!()
+    };
+    both
 }
 
 // What a run of every round shared tells of the graph of these arcs, in words of 28 bits of predecessor.
@@ -145,12 +148,14 @@ fn diamond(rt: HostRuntime) -> Result<(), Fail> {
 }
 
 #[test]
-fn short_rounds_alone(rt: HostRuntime) -> Result<(), Fail> {
+fn by_a_team(rt: HostRuntime) -> Result<(), Fail> {
     let graph = graph_of(&rt, 4, &DIAMOND)?;
     for workers in WORKERS {
-        let tree = run_sharing_long(&rt, &graph, 2, workers, 1)?;
+        let tree = run_by_team(&rt, &graph, 2, workers, 1)?;
         assert!(rt; has_rows(&tree, &DIAMOND_TREE));
     }
+    let tree: Tree<28> = run_source(&rt, rt.alloc(), &graph, 2, 64, 1)?;
+    assert!(rt; has_rows(&tree, &DIAMOND_TREE));
     Ok(())
 }
 

@@ -8,8 +8,10 @@
 mod far;
 mod pass;
 mod plain;
+mod random;
 
 pub use plain::{Answer, plain_tree};
+pub use random::{Kind, Random, random_graph};
 
 #[cfg(test)]
 mod tests;

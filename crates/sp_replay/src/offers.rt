@@ -84,17 +84,16 @@ impl<const P: u32> Keep for OfferKeeper<P> {
     }
 }
 
-/// The programme of the offers file that the bytes of a reader spell, or their first fault. Its items are the
-/// offers, and no word is there at the start.
+/// The programme of the offers file that the bytes of a reader spell from here on, or their first fault. Its
+/// items are the offers, and no word is there at the start.
 ///
 /// It takes memory for the offers as they come. Where a growth is refused it tells Memory at the line whose
-/// offer found no room, in place of a later fault. How much a refused reader took from its source is open.
+/// offer found no room, if no line up to it has a fault. How much a refused reader took from its source is open.
 pub fn read_offers<const P: u32, R: Read>(
     alloc: Global,
     reader: &mut R,
 ) -> Result<Programme<P>, DimacsError>
-    requires layout { is_layout P ≡ true }
-    requires fresh { R.passed reader.old ≡ 0 }
+    requires { is_layout P ≡ true }
     ensures found { IfOk result IsOffersFile }
     ensures exact { (text : List ℕ) → R.left reader.old ≡ Some text → OffersRead text (R.left reader.new) (R.has_failed reader.new) result }
     ensures read { IfErr result (λ e. e.kind ≡ Kind.Read → R.has_failed reader.new ≡ true) }

@@ -33,16 +33,15 @@ fn file_of<const P: u32>(parts: ReplayParts<P>) -> ReplayFile<P>
     }
 }
 
-/// The replay file that the bytes of a reader spell, or their first fault.
+/// The replay file that the bytes of a reader spell from here on, or their first fault.
 ///
 /// It takes memory for the values as they come. Where a growth is refused it tells Memory at the line whose
-/// value found no room, in place of a later fault. How much a refused reader took from its source is open.
+/// value found no room, if no line up to it has a fault. How much a refused reader took from its source is open.
 pub fn read_replay<const P: u32, R: Read>(
     alloc: Global,
     reader: &mut R,
 ) -> Result<ReplayFile<P>, DimacsError>
-    requires layout { is_layout P ≡ true }
-    requires fresh { R.passed reader.old ≡ 0 }
+    requires { is_layout P ≡ true }
     ensures found { IfOk result IsReplayFile }
     ensures steps { IfOk result (λ file. All (IsNumber file.programme.actors) file.steps.items) }
     ensures exact { (text : List ℕ) → R.left reader.old ≡ Some text → ReplayRead text (R.left reader.new) (R.has_failed reader.new) result }

@@ -1,6 +1,7 @@
 -- What the leader runs itself, and the whole round.
 use Rattle.std.proofs.Common.{subst, ◌≡◌, ℕ, zero, suc, ◌+◌, ◌*◌, ◌≤◌, List, [], ◌∷◌, ◌++◌, length, map, get_or, refl, sym, ap, ◌∙◌, arith, add-one, eq-eqb, ne_eqb, Bool, true, false}
 use Rattle.std.proofs.lemmas.List.Sums.{sum_by-cons, get_or-le-sum_by}
+use Rattle.std.proofs.lemmas.List.Elements.{All-weaker}
 use Rattle.std.specs.Prelude.{sum_by, filter, flat_map, nat_le, if◌then◌else◌, All, slice_index_or}
 use mathlib.Core.Logic.{dite}
 use native.Mathlib.Decide.{ℕ_discrete}
@@ -10,7 +11,7 @@ use Rattle.sp_word.specs.History.{Event}
 use Rattle.sp_paths.specs.declared.arc.Arc.{Arc}
 use Rattle.sp_paths.specs.Rows.{IsArcRelaxed}
 use Rattle.sp_graph.specs.RowsValue.{Split}
-use Rattle.sp_offer.specs.Story.{Story, Knowledge, known}
+use Rattle.sp_offer.specs.Story.{Story, Knowledge, known, own_calls}
 use Rattle.sp_bucket.specs.declared.entry.Entry.{Entry}
 use Rattle.sp_claim.specs.Held.{Held}
 use Rattle.sp_claim.specs.declared.grants.Grant.{Grant}
@@ -21,7 +22,8 @@ use Rattle.sp_task.specs.Calls.{asked, IsNearer, AllKnown}
 use Rattle.sp_task.specs.Work.{Job, job_of, jobs_of, offers_at, slot_at, grant_at, calls_weight, Did, start, Made, MadeOffers, Goes, AllBelow}
 use Rattle.sp_task.specs.Left.{tally, upto, unmarked, IsMarked, RanLeft, IsTaskDone, RoundDone}
 use Rattle.sp_task.proofs.Words.{not_above, at_most, within_pair}
-use Rattle.sp_task.proofs.Making.{made_more, made_none}
+use Rattle.sp_task.specs.Later.{IsLater}
+use Rattle.sp_task.proofs.Making.{made_more, made_none, nearer_along, later_along}
 use Rattle.sp_task.proofs.Going.{calls_weight-append, length-map}
 use Rattle.sp_task.proofs.Sums.{sum-tally, in_or_left, all_left, weight-upto, sum_by-map, sum_by-flat_map}
 
@@ -151,6 +153,18 @@ module _ (law : ℕ → Word → Type 0) (max : ℕ) (rows : Split) (tasks : Lis
     shorter = made.found;
     nearer = subst (All (IsNearer (known c.story))) (sym made.found) made.nearer;
     relaxed = tasks_known d max rows tasks (sym (each (above d.story)) ∙ none_above d.story calls made.knows);
+  }
+
+  -- a round of a caller that had looked at the table before, and made no calls since
+  pub done_after : (a b d : Knowledge) (f : List Entry) → IsLater law a b → own_calls b.story ≡ own_calls a.story → RoundDone law max rows tasks b d f → RoundDone law max rows tasks a d f
+  done_after a b d f later same r = record {
+    later = later_along law a b d later r.later;
+    calls = r.calls;
+    own = r.own ∙ ap (λ l. l ++ r.calls) same;
+    each = r.each;
+    shorter = r.shorter;
+    nearer = All-weaker (IsNearer (known b.story)) (IsNearer (known a.story)) (λ e near. nearer_along (known b.story) (known a.story) e (later.falls e.vertex) near) f r.nearer;
+    relaxed = r.relaxed;
   }
 
   -- the leader ran all tasks

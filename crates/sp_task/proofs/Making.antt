@@ -14,7 +14,7 @@ use Rattle.sp_offer.specs.Story.{Story, Knowledge, Calls, Knows, Follows, known,
 use Rattle.sp_bucket.specs.declared.entry.Entry.{Entry}
 use Rattle.sp_task.specs.Offers.{Asked}
 use Rattle.sp_task.specs.Calls.{asked, entries, entry_of_call, IsNearer, AllKnown}
-use Rattle.sp_task.specs.Later.{IsLater}
+use Rattle.sp_task.specs.Later.{IsLater, HasLegalHistory}
 use Rattle.sp_task.specs.Work.{Made, MadeOffers}
 use Rattle.sp_task.proofs.Words.{at_most_itself, at_most_along, lesser_at_most, no_farther, shorter_below}
 
@@ -37,7 +37,7 @@ AllKnown-append s [] ys h k = k
 AllKnown-append s (x ∷ xs) ys h k = (h.0, AllKnown-append s xs ys h.1 k)
 
 -- what is nearer than one table is nearer than a table above it
-nearer_along : (t s : Table) (e : Entry) → IsAtMost (t e.vertex) (s e.vertex) → IsNearer t e → IsNearer s e
+pub nearer_along : (t s : Table) (e : Entry) → IsAtMost (t e.vertex) (s e.vertex) → IsNearer t e → IsNearer s e
 nearer_along t s e low h d p is = go (t e.vertex) refl (subst (λ (w : Word). IsAtMost (t e.vertex) w) is low)
   where
     go : (w : Word) → t e.vertex ≡ w → IsAtMost w (Pair d p) → e.dist < d
@@ -63,6 +63,7 @@ module _ (law : ℕ → Word → Type 0) where
     begins = prefix_itself a.story.seen;
     falls = λ v. at_most_itself (known a.story v);
     stays = λ h. h;
+    legal = λ h. h;
   }
 
   pub later_along : (a b c : Knowledge) → IsLater law a b → IsLater law b c → IsLater law a c
@@ -71,7 +72,16 @@ module _ (law : ℕ → Word → Type 0) where
     begins = prefix_along a.story.seen b.story.seen c.story.seen p.begins q.begins;
     falls = λ v. at_most_along (known c.story v) (known b.story v) (known a.story v) (q.falls v) (p.falls v);
     stays = λ h. q.stays (p.stays h);
+    legal = λ h. q.legal (p.legal h);
   }
+
+  -- a legal history stays legal
+  pub legal_along : (a b : Knowledge) → IsLater law a b → HasLegalHistory law a → HasLegalHistory law b
+  legal_along a b p h = record { is_story = p.legal h.is_story; words = p.stays h.words }
+
+  -- one caller of two has a legal history
+  pub legal_joined : (a b c : Knowledge) → Follows law a.story b.story c.story → HasLegalHistory law c
+  legal_joined a b c f = record { is_story = f.is_story; words = f.words }
 
   -- one caller of two has gone on from the first
   pub later_joined : (a b c : Knowledge) → c.table ≡ a.table → Follows law a.story b.story c.story → IsLater law a c
@@ -80,6 +90,7 @@ module _ (law : ℕ → Word → Type 0) where
     begins = f.first;
     falls = λ v. (f.falls v).0;
     stays = λ h. f.words;
+    legal = λ h. f.is_story;
   }
 
   -- calls, and further calls
@@ -129,6 +140,7 @@ module _ (law : ℕ → Word → Type 0) where
         begins = (call.between ++ event by v (Offer word found reply) ∷ [], sym (append_assoc a.story.seen call.between (event by v (Offer word found reply) ∷ [])) ∙ sym call.seen);
         falls = knows.falls;
         stays = λ h. call.words;
+        legal = λ h. call.is_story;
       };
       mine = own;
       found = bag;

@@ -3,7 +3,8 @@ ghost use Rattle.std.specs.Prelude.{◌≡◌, ℕ, ◌+◌, ◌<◌, ◌≤◌,
 ghost use Rattle.sp_word.specs.Word.{is_layout, max_dist};
 ghost use Rattle.sp_offer.specs.Order.{lawful};
 ghost use Rattle.sp_task.specs.Offers.{IsTask};
-ghost use Rattle.sp_task.specs.Later.{IsLater};
+ghost use Rattle.sp_offer.specs.Story.{own_calls};
+ghost use Rattle.sp_task.specs.Later.{IsLater, HasLegalHistory};
 ghost use Rattle.sp_task.specs.Work.{IsReady, AreOf};
 ghost use Rattle.sp_task.specs.Left.{RoundDone};
 
@@ -13,7 +14,7 @@ use crate::work::left::{mark, run_left};
 use crate::work::stealing::{Deques, Plan, Seat, deal, run_workers};
 use crate::work::{Done, RoundOut, RoundRefused};
 use sp_claim::Claimer;
-use sp_offer::{Caller, Lawful, Loop, Lowering};
+use sp_offer::{Caller, Lawful, Loop, Lowering, OfferTable};
 use std::alloc::{AllocError, Global};
 use std::sync::Wait;
 use std::thread::Threads;
@@ -40,8 +41,10 @@ pub fn run_round<R: Threads + Wait + Sync, L: Lawful + Send + Sync, G: Gate + Sy
     ensures done { IfOk result (λ o. RoundDone (lawful P (L.allows round.now.table.now.law)) (max_dist P) round.now.rows.now round.now.tasks.now caller o.caller o.found.items) }
     ensures claimer { IfOk result (λ o. o.claimer.table ≡ claimer.table) }
     ensures started { IfOk result (λ o. (1 ≤ o.started) × (o.started ≤ round.now.workers)) }
+    ensures legal { IfOk result (λ o. HasLegalHistory (lawful P (L.allows round.now.table.now.law)) o.caller) }
     ensures refused { IfErr result (λ r. IsLater (lawful P (L.allows round.now.table.now.law)) caller r.caller) }
     ensures refused_claimer { IfErr result (λ r. r.claimer.table ≡ claimer.table) }
+    ensures refused_legal { IfErr result (λ r. HasLegalHistory (lawful P (L.allows round.now.table.now.law)) r.caller) }
 {
     run_round_by::<Loop, R, L, G, P>(rt, alloc, round, caller, claimer, gate)
 }
@@ -71,8 +74,10 @@ pub fn run_round_by<
     ensures done { IfOk result (λ o. RoundDone (lawful P (L.allows round.now.table.now.law)) (max_dist P) round.now.rows.now round.now.tasks.now caller o.caller o.found.items) }
     ensures claimer { IfOk result (λ o. o.claimer.table ≡ claimer.table) }
     ensures started { IfOk result (λ o. (1 ≤ o.started) × (o.started ≤ round.now.workers)) }
+    ensures legal { IfOk result (λ o. HasLegalHistory (lawful P (L.allows round.now.table.now.law)) o.caller) }
     ensures refused { IfErr result (λ r. IsLater (lawful P (L.allows round.now.table.now.law)) caller r.caller) }
     ensures refused_claimer { IfErr result (λ r. r.claimer.table ≡ claimer.table) }
+    ensures refused_legal { IfErr result (λ r. HasLegalHistory (lawful P (L.allows round.now.table.now.law)) r.caller) }
 {
     // there is a vertex, and so a slot to claim
     let _ = round.rows.n();
@@ -83,6 +88,20 @@ pub fn run_round_by<
         }
     }
     run_by_leader::<M, L, G, P>(alloc, round, caller, claimer, gate)
+}
+
+/// The same caller, which has looked at the table: its history is known to be legal.
+#[tactic(auto, using(crate::proofs::Making::later_joined, crate::proofs::Making::legal_joined))]
+fn look<L: Lawful, const P: u32>(table: &OfferTable<L, P>, caller: Caller) -> Caller
+    requires { caller.table ≡ table.now.id }
+    ensures later { IsLater (lawful P (L.allows table.now.law)) caller result }
+    ensures own { own_calls result.story ≡ own_calls caller.story }
+    ensures legal { HasLegalHistory (lawful P (L.allows table.now.law)) result }
+{
+    let Ok((caller, other)) = table.split(caller) else {
+        unreachable!()
+    };
+    table.join(caller, other)
 }
 
 /// What a round of several workers takes room for before its first offer.
@@ -107,7 +126,7 @@ fn prepare(alloc: Global, tasks: usize, workers: usize) -> Result<Prepared, Allo
 fn run_by_leader<M: Lowering, L: Lawful, G: Gate, const P: u32>(
     alloc: Global,
     round: &Round<L, P>,
-    mut caller: Caller,
+    caller: Caller,
     claimer: Claimer,
     gate: &G,
 ) -> Result<RoundOut, RoundRefused>
@@ -116,9 +135,12 @@ fn run_by_leader<M: Lowering, L: Lawful, G: Gate, const P: u32>(
     ensures done { IfOk result (λ o. RoundDone (lawful P (L.allows round.now.table.now.law)) (max_dist P) round.now.rows.now round.now.tasks.now caller o.caller o.found.items) }
     ensures claimer { IfOk result (λ o. o.claimer ≡ claimer) }
     ensures started { IfOk result (λ o. o.started ≡ 1) }
+    ensures legal { IfOk result (λ o. HasLegalHistory (lawful P (L.allows round.now.table.now.law)) o.caller) }
     ensures refused { IfErr result (λ r. IsLater (lawful P (L.allows round.now.table.now.law)) caller r.caller) }
     ensures refused_claimer { IfErr result (λ r. r.claimer ≡ claimer) }
+    ensures refused_legal { IfErr result (λ r. HasLegalHistory (lawful P (L.allows round.now.table.now.law)) r.caller) }
 {
+    let mut caller = look(round.table, caller);
     let mut found = Vec::new(alloc);
     if !run_left::<M, L, G, P>(round, gate, &[], &mut caller, &mut found) {
         return Err(RoundRefused { caller, claimer });
@@ -155,8 +177,10 @@ fn run_shared<
     ensures done { IfOk result (λ o. RoundDone (lawful P (L.allows round.now.table.now.law)) (max_dist P) round.now.rows.now round.now.tasks.now caller o.caller o.found.items) }
     ensures claimer { IfOk result (λ o. o.claimer.table ≡ claimer.table) }
     ensures started { IfOk result (λ o. (1 ≤ o.started) × (o.started ≤ max 1 (vec_len prepared.deques.owners))) }
+    ensures legal { IfOk result (λ o. HasLegalHistory (lawful P (L.allows round.now.table.now.law)) o.caller) }
     ensures refused { IfErr result (λ r. IsLater (lawful P (L.allows round.now.table.now.law)) caller r.caller) }
     ensures refused_claimer { IfErr result (λ r. r.claimer.table ≡ claimer.table) }
+    ensures refused_legal { IfErr result (λ r. HasLegalHistory (lawful P (L.allows round.now.table.now.law)) r.caller) }
 {
     let Prepared { mut marks, deques } = prepared;
     let Deques {
@@ -173,7 +197,7 @@ fn run_shared<
     let seat = Seat {
         worker: 0,
         own,
-        caller,
+        caller: look(round.table, caller),
         claimer,
     };
     let done = run_workers::<R, M, L, G, P>(

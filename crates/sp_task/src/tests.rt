@@ -22,7 +22,7 @@ use std::thread::Threads;
 
 mod gates;
 
-use gates::{Meeting, Thief};
+use gates::{Count, Meeting, Thief};
 
 const MOST_VERTICES: u32 = 1_000_000;
 
@@ -282,11 +282,16 @@ fn thief_takes(rt: HostRuntime) -> Result<(), Fail> {
     Ok(())
 }
 
-/// Three rounds on the graph of the diamond: what is found, with which lowering it may be.
+/// Whether the rounds on the graph of the diamond find what they should, with any lowering: round 1 of the first tasks,
+/// which relax the arcs of vertex 1, and then round 2.
 fn diamond<M: Lowering + Send + Sync, R: Threads + Wait + Sync>(
     rt: &R,
     alloc: Global,
-) -> Result<bool, AllocError> {
+    first: &[Task],
+    workers: u32,
+) -> Result<bool, AllocError>
+    requires { (1 ≤ workers) × (workers ≤ 64) }
+{
     let arcs = [
         arc(1, 2, 3),
         arc(1, 3, 3),
@@ -296,30 +301,37 @@ fn diamond<M: Lowering + Send + Sync, R: Threads + Wait + Sync>(
     ];
     let mut bench = set_up(alloc, 4, &arcs, 100)?;
     offer(&mut bench, 1, 0, 0);
-    let first = [light(1, 0)];
-    let second = [light(2, 3), light(3, 3), light(4, 6)];
-    let one = play::<M, R, OpenGate>(rt, alloc, bench, &first, 1, 1, &OpenGate);
+    let one = play::<M, R, OpenGate>(rt, alloc, bench, first, 1, workers, &OpenGate);
     let wanted = [entry(2, 3), entry(3, 3), entry(4, 6)];
-    let first_found = are_entries(one.found.as_slice(), &wanted) && one.started == 1;
-    let again = play::<M, R, OpenGate>(rt, alloc, one.bench, &first, 1, 1, &OpenGate);
-    let none_found = again.found.is_empty() && !again.refused;
+    let first_found = are_entries(one.found.as_slice(), &wanted) && one.started == workers;
+    // every claim of round 1 would be refused now, so the leader makes all three offers
+    let again_by = Count::new();
+    let again = play::<M, R, Count>(rt, alloc, one.bench, first, 1, workers, &again_by);
+    let none_found = again.found.is_empty() && !again.refused && again_by.is_leader_alone(3);
+    // both offers of 5 to 4 are made, and the first alone is shorter
+    let second = [light(2, 3), light(3, 3), light(4, 6)];
     let two = play::<M, R, OpenGate>(rt, alloc, again.bench, &second, 2, 2, &OpenGate);
-    // with OneMin or Loop alike, both offers of 5 to 4 are made, and the first alone is shorter
     let last_found = are_entries(two.found.as_slice(), &[entry(4, 5)]);
-    // every claim of round 2 is refused now
-    let more = play::<M, R, OpenGate>(rt, alloc, two.bench, &second, 2, 2, &OpenGate);
-    Ok(first_found && none_found && last_found && more.found.is_empty() && !more.refused)
+    let more_by = Count::new();
+    let more = play::<M, R, Count>(rt, alloc, two.bench, &second, 2, 2, &more_by);
+    let no_more = more.found.is_empty() && !more.refused && more_by.is_leader_alone(2);
+    Ok(first_found && none_found && last_found && no_more)
 }
 
 #[test]
 fn rounds(rt: HostRuntime) -> Result<(), Fail> {
-    assert!(rt; diamond::<Loop, HostRuntime>(&rt, rt.alloc())?);
+    let first = [light(1, 0)];
+    assert!(rt; diamond::<Loop, HostRuntime>(&rt, rt.alloc(), &first, 1)?);
+    assert!(rt; diamond::<OneMin, HostRuntime>(&rt, rt.alloc(), &first, 1)?);
     Ok(())
 }
 
+// No arc leaves vertex 4.
 #[test]
-fn rounds_by_one_step(rt: HostRuntime) -> Result<(), Fail> {
-    assert!(rt; diamond::<OneMin, HostRuntime>(&rt, rt.alloc())?);
+fn rounds_of_two_workers(rt: HostRuntime) -> Result<(), Fail> {
+    let first = [light(1, 0), light(4, 6)];
+    assert!(rt; diamond::<Loop, HostRuntime>(&rt, rt.alloc(), &first, 2)?);
+    assert!(rt; diamond::<OneMin, HostRuntime>(&rt, rt.alloc(), &first, 2)?);
     Ok(())
 }
 

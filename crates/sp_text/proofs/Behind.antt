@@ -1,6 +1,7 @@
 -- A reader that is fed, one byte on.
-use Rattle.std.proofs.Common.{⊎_elim, ◌≡◌, ◌≢◌, ℕ, zero, suc, ◌+◌, ◌-◌, ◌^◌, ◌<◌, ◌≤◌, Bool, true, false, eqb, List, [], ◌∷◌, ◌++◌, length, take, drop, get_or, min, Option, Some, None, Result, Ok, Err, refl, sym, ap, subst, ◌∙◌, inl, inr, ◌⊎◌, append_assoc, arith, length-append}
-use Rattle.std.proofs.lemmas.List.{append-nil, take_all, take-append-le, length_push, drop_more, take-append-drop}
+use Rattle.std.proofs.Common.{⊎_elim, ◌≡◌, ◌≢◌, ℕ, zero, suc, ◌+◌, ◌-◌, ◌%◌, ◌^◌, ◌<◌, ◌≤◌, Bool, true, false, eqb, List, [], ◌∷◌, ◌++◌, length, take, drop, get_or, min, Option, Some, None, Result, Ok, Err, refl, sym, ap, subst, ◌∙◌, inl, inr, ◌⊎◌, append_assoc, arith, length-append}
+use Rattle.std.proofs.Math.Nat.{mod-eq_of_lt}
+use Rattle.std.proofs.lemmas.List.{append-nil, take_all, length_push, drop_more, take-append-drop}
 use Rattle.std.proofs.lemmas.Bool.{lt-ltb, le-ltb, cases_eq, eq-eqb, eqb-true, false≢true}
 use Rattle.std.specs.List.{flat_map}
 use Rattle.sp_text.proofs.Meant.{text_is}
@@ -46,6 +47,11 @@ early_lf judge text goes clean =
     let parts = clean_parts judge text clean in
     early_at_lf judge text ∙ rw (parts.0, short_line judge (ended text) (rest text) goes parts.1) refl
 
+pub next_end : (text : List ℕ) (ends : ℕ) → length text ≤ 2 ^ 62 → ends ≡ length (ended text) → (ends + 1) % 2 ^ 64 ≡ min (ends + 1) (2 ^ 64 - 1)
+next_end text ends small is =
+    let line = line_is text ends small is in
+    mod-eq_of_lt (omega arith) ∙ (ap (λ n. n + 1) is ∙ sym line)
+
 pub lf_ok : {T : Type 0} (judge : Judge) (After : T → List (List ℕ) → Type 0) (text : List ℕ) (old : Feeder T) (taker : T) (room : List ℕ) (ends : ℕ) → length text ≤ 2 ^ 62
     → judge.closed (ended text) ≡ false → IsBehind judge After text old → judge.fault (ended text) old.room ≡ None → After taker (ended text ++ old.room ∷ [])
     → room ≡ [] → ends ≡ min (old.ends + 1) (2 ^ 64 - 1)
@@ -61,21 +67,24 @@ lf_ok judge After text old taker room ends small goes h none taken empty is =
     }
 
 pub lf_err : {T : Type 0} (judge : Judge) (After : T → List (List ℕ) → Type 0) (text : List ℕ) (old : Feeder T) (kind : Kind) → length text ≤ 2 ^ 62
-    → judge.closed (ended text) ≡ false → IsBehind judge After text old → (judge.fault (ended text) old.room ≡ Some kind) ⊎ ((judge.fault (ended text) old.room ≡ None) × (kind ≡ Memory))
-    → Refused judge (text ++ 10 ∷ []) (at_line old.ends kind)
+    → judge.closed (ended text) ≡ false → IsBehind judge After text old → (judge.fault (ended text) old.room ≡ Some kind) ⊎ ((judge.fault (ended text) old.room ≡ None) × (kind ≡ Memory) × (judge.is_item old.room ≡ true))
+    → Refused judge (ended text) (text ++ 10 ∷ []) (at_line old.ends kind)
 lf_err judge After text old kind small goes h (inl is) =
     let full : judge.fault (ended text) (rest text) ≡ Some kind = rw (← h.room) is in
     inl (early_lf judge text goes h.clean ∙ (rw full (same_error (length (ended text) + 1) (min (old.ends + 1) (2 ^ 64 - 1)) kind (line_is text old.ends small h.ends))))
 lf_err judge After text old kind small goes h (inr memory) =
     let full : judge.fault (ended text) (rest text) ≡ None = rw (← h.room) memory.0 in
     let parts = clean_parts judge text h.clean in
-    let line : min (old.ends + 1) (2 ^ 64 - 1) ≡ length (ended (text ++ 10 ∷ [])) = line_is text old.ends small h.ends ∙ (sym (length_push (ended text) (rest text)) ∙ ap length (sym (ended_at_lf text))) in
     inr (record {
       kind = memory.1;
-      first = omega arith;
-      within = omega arith;
-      clean = rw (line, take_all (length (ended (text ++ 10 ∷ []))) (ended (text ++ 10 ∷ [])) (omega arith), ended_at_lf text)
-          (first_push judge (ended text) (rest text) parts.0 ∙ rw (short_line judge (ended text) (rest text) goes parts.1, full) refl);
+      front = ended text;
+      line = rest text;
+      behind = [];
+      parts = ended_at_lf text;
+      place = line_is text old.ends small h.ends;
+      later = omega arith;
+      item = rw (← h.room) memory.2;
+      clean = first_push judge (ended text) (rest text) parts.0 ∙ rw (short_line judge (ended text) (rest text) goes parts.1, full) refl;
     })
 
 -- What came of a line that may go on.
@@ -105,7 +114,7 @@ run_open judge text run none goes = rw (ended_at_run text run none) goes
 
 pub run_err : {T : Type 0} (judge : Judge) (After : T → List (List ℕ) → Type 0) (text run : List ℕ) (old : Feeder T) → length text ≤ 2 ^ 62 → HasNoLf run
     → judge.closed (ended text) ≡ false → IsBehind judge After text old → 1024 < length old.room + length run
-    → Refused judge (text ++ run) (at_line old.ends LongLine)
+    → Refused judge (ended text) (text ++ run) (at_line old.ends LongLine)
 run_err judge After text run old small none goes h full =
     let long : 1024 < length (rest text ++ run) = omega (arith, length-append (rest text) run, ap length h.room) in
     inl (early_at_run judge text run none ∙ rw ((clean_parts judge text h.clean).0, rest_long judge (ended text) (rest text ++ run) goes long)
@@ -113,7 +122,7 @@ run_err judge After text run old small none goes h full =
 
 -- Behind a closed file any byte is one too many.
 pub closed_err : {T : Type 0} (judge : Judge) (After : T → List (List ℕ) → Type 0) (text : List ℕ) (b : ℕ) (old : Feeder T) → length text ≤ 2 ^ 62
-    → judge.closed (ended text) ≡ true → IsBehind judge After text old → Refused judge (text ++ b ∷ []) (at_line old.ends TooMany)
+    → judge.closed (ended text) ≡ true → IsBehind judge After text old → Refused judge (ended text) (text ++ b ∷ []) (at_line old.ends TooMany)
 closed_err judge After text b old small closed h = inl (⊎_elim
     (λ (is : b ≡ 10). rw is (early_at_lf judge text ∙ rw ((clean_parts judge text h.clean).0, closed) (same_error (length (ended text) + 1) (min (old.ends + 1) (2 ^ 64 - 1)) TooMany (line_is text old.ends small h.ends))))
     (λ (other : b ≢ 10). early_at_other judge text b other ∙ rw ((clean_parts judge text h.clean).0, closed) (same_error (length (ended text) + 1) (min (old.ends + 1) (2 ^ 64 - 1)) TooMany (line_is text old.ends small h.ends)))
@@ -125,23 +134,47 @@ ended-append : (text more : List ℕ) → (later : List (List ℕ)) × (ended (t
 unfolding ended
 ended-append text more = ((cut (cut [] text).1 more).0, ap (λ (c : List (List ℕ) × List ℕ). c.0) (cut-append [] text more))
 
-pub refusal_lasts : (judge : Judge) (text more : List ℕ) (e : DimacsError) → Refused judge text e → Refused judge (text ++ more) e
-refusal_lasts judge text more e (inl is) = inl (fault_lasts judge text more e is)
-refusal_lasts judge text more e (inr memory) =
+pub refusal_lasts : (judge : Judge) (before : List (List ℕ)) (text more : List ℕ) (e : DimacsError) → Refused judge before text e → Refused judge before (text ++ more) e
+refusal_lasts judge before text more e (inl is) = inl (fault_lasts judge text more e is)
+refusal_lasts judge before text more e (inr memory) =
     let later = ended-append text more in
     inr (record {
       kind = memory.kind;
-      first = memory.first;
-      within = rw later.1 (omega (arith, length-append (ended text) later.0, memory.within));
-      clean = rw (later.1, take-append-le e.line (ended text) later.0 memory.within) memory.clean;
+      front = memory.front;
+      line = memory.line;
+      behind = memory.behind ++ later.0;
+      parts = later.1 ∙ (ap (λ (all : List (List ℕ)). all ++ later.0) memory.parts ∙ append_assoc memory.front (memory.line ∷ memory.behind) later.0);
+      place = memory.place;
+      later = memory.later;
+      item = memory.item;
+      clean = memory.clean;
     })
+
+-- Of a longer piece fewer lines had ended before.
+pub refused_earlier : (judge : Judge) (before more : List (List ℕ)) (text : List ℕ) (e : DimacsError) → length before ≤ length more → Refused judge more text e → Refused judge before text e
+refused_earlier judge before more text e fewer (inl is) = inl is
+refused_earlier judge before more text e fewer (inr memory) = inr (record {
+  kind = memory.kind;
+  front = memory.front;
+  line = memory.line;
+  behind = memory.behind;
+  parts = memory.parts;
+  place = memory.place;
+  later = omega (arith, memory.later);
+  item = memory.item;
+  clean = memory.clean;
+})
+
+-- A longer text has no fewer lines.
+pub more_ended : (text more : List ℕ) → length (ended text) ≤ length (ended (text ++ more))
+more_ended text more = let later = ended-append text more in omega (arith, ap length later.1, length-append (ended text) later.0)
 
 -- Behind a closed file a run of bytes is too much.
 pub closed_run : {T : Type 0} (judge : Judge) (After : T → List (List ℕ) → Type 0) (text run : List ℕ) (old : Feeder T) → length text ≤ 2 ^ 62 → 0 < length run
-    → judge.closed (ended text) ≡ true → IsBehind judge After text old → Refused judge (text ++ run) (at_line old.ends TooMany)
+    → judge.closed (ended text) ≡ true → IsBehind judge After text old → Refused judge (ended text) (text ++ run) (at_line old.ends TooMany)
 closed_run judge After text [] old small some closed h = absurd (omega arith)
 closed_run judge After text (b ∷ run) old small some closed h =
-    rw (← append_assoc text (b ∷ []) run) (refusal_lasts judge (text ++ b ∷ []) run (at_line old.ends TooMany) (closed_err judge After text b old small closed h))
+    rw (← append_assoc text (b ∷ []) run) (refusal_lasts judge (ended text) (text ++ b ∷ []) run (at_line old.ends TooMany) (closed_err judge After text b old small closed h))
 
 -- The place of an LF.
 pub no_lf_before : (bytes : List ℕ) (n : ℕ) → ((k : ℕ) → 0 ≤ k → k < n → eqb (get_or bytes k 0) 10 ≡ true → ⊥) → HasNoLf (take n bytes)
@@ -202,7 +235,7 @@ unfolding told
 told_first judge text e is = rw is refl
 
 pub closed_open : {T U : Type 0} (judge : Judge) (After : T → List (List ℕ) → Type 0) (text : List ℕ) (old new : Feeder T) (result : Result U DimacsError) → IsBehind judge After text old → 0 < length old.room
-    → Fed judge After (text ++ 10 ∷ []) result new → Closed judge After text result new
+    → Fed judge After (ended text) (text ++ 10 ∷ []) result new → Closed judge After text result new
 closed_open judge After text old new (Ok u) h some fed =
     let same : lines text ≡ ended (text ++ 10 ∷ []) = lines_open text (rw (← h.room) some) in
     record {

@@ -1,22 +1,23 @@
 -- One line more, kept.
 use Rattle.std.proofs.lemmas.List.Sums.{sum_by_push}
-use Rattle.std.proofs.lemmas.Bool.{eq-eqb, ne_eqb, cases_eq}
+use Rattle.std.proofs.lemmas.Bool.{eq-eqb, ne_eqb, cases_eq, false≢true}
 use Rattle.std.proofs.lemmas.List.{append-nil, get_or-set_same, get_or-set_other}
 use Rattle.std.proofs.Common.{add-zero, zero-add, ◌&&◌, ◌≢◌, ◌≡◌, ℕ, zero, suc, ◌+◌, ◌<◌, ◌⊎◌, Bool, true, false, cond, eqb, leb, ltb, List, [], ◌∷◌, ◌++◌, length, set, Option, Some, None, Result, Ok, Err, refl, sym, ap, subst, ◌∙◌, ⊎_elim, inl, inr, arith}
 use denote.Bor.{Bor}
 use Rattle.std.specs.Option.{option_copied, unwrap_or}
-use Rattle.std.specs.Prelude.{slice_index, slice_get, is_err, OnOk, MatchResult}
+use Rattle.std.specs.Prelude.{slice_index, slice_get, is_err, IfSome, OnOk, MatchResult}
 use Rattle.sp_text.specs.declared.faults.Kind.{Kind}
 use Rattle.sp_text.specs.declared.faults.Kind.TheVariants.{Memory, BadLine, NoProblem, OutOfRange, TooMany, TooFew}
 use Rattle.sp_text.specs.declared.layouts.Ranges.{Ranges}
 use Rattle.sp_text.specs.Formats.{LineForm, Format, form_of, IsFreshPlace, fresh_after, IsOneOf}
-use Rattle.sp_text.specs.Text.{Item, Reading, Comment, Bad, IsProblem, IsItem, problem_first, items_first, problem_of, items_of, reading, top, first_letter, is_named, named_at, letter_or, item_out, count, problem_fault, placed_fault, fault, missing, judge}
+use Rattle.sp_text.specs.Text.{Item, Reading, Comment, Bad, IsProblem, IsItem, problem_first, items_first, problem_of, items_of, reading, top, first_letter, is_named, named_at, letter_or, item_out, count, problem_fault, placed_fault, fault, missing, is_item_line, judge}
 use Rattle.sp_text.specs.Collecting.{IsAfter, Answers, ItemIs}
 use Rattle.sp_text.specs.declared.layouts.Form.{Form}
 use Rattle.sp_text.specs.declared.matching.Numbers.{Numbers}
 use Rattle.sp_text.specs.declared.matching.Numbers.TheVariants as lists
 use Rattle.sp_text.specs.declared.reading.Found.{Found}
-use Rattle.sp_text.specs.Matching.{Are, IsFound, front_of, letter_of}
+use Rattle.sp_text.specs.declared.reading.Found.TheVariants as founds
+use Rattle.sp_text.specs.Matching.{Are, IsFound, IsUsualItem, front_of, letter_of}
 use Rattle.sp_text.specs.First.{Judge}
 use Rattle.sp_text.specs.Feeding.{Takes}
 
@@ -187,10 +188,10 @@ bad_taken format ranges before line is = rw is refl
 abbrev pub Taken : {K U : Type 0} → Format → Ranges → (K → List Item → Type 0) → List (List ℕ) → List ℕ → Result U Kind → K → Option (List ℕ) → List ℕ → Type 0
 Taken format ranges Kept before line result keep ps counts = MatchResult result
     (λ _. (fault format ranges before line ≡ None) × IsAfter format Kept (before ++ line ∷ []) keep ps counts)
-    (λ kind. (fault format ranges before line ≡ Some kind) ⊎ ((fault format ranges before line ≡ None) × (kind ≡ Memory)))
+    (λ kind. (fault format ranges before line ≡ Some kind) ⊎ ((fault format ranges before line ≡ None) × (kind ≡ Memory) × (is_item_line format line ≡ true)))
 
 pub takes_from : {T U : Type 0} (judge : Judge) (After : T → List (List ℕ) → Type 0) (before : List (List ℕ)) (line : List ℕ) (result : Result U Kind) (new : T)
-    → MatchResult result (λ _. (judge.fault before line ≡ None) × After new (before ++ line ∷ [])) (λ kind. (judge.fault before line ≡ Some kind) ⊎ ((judge.fault before line ≡ None) × (kind ≡ Memory)))
+    → MatchResult result (λ _. (judge.fault before line ≡ None) × After new (before ++ line ∷ [])) (λ kind. (judge.fault before line ≡ Some kind) ⊎ ((judge.fault before line ≡ None) × (kind ≡ Memory) × (judge.is_item line ≡ true)))
     → Takes judge After before line result new
 takes_from judge After before line (Ok u) new h = h
 takes_from judge After before line (Err kind) new h = h
@@ -200,7 +201,7 @@ none_before format ranges None ns h = refl
 none_before format ranges (Some ps) ns h = cc
 
 pub problem_taken : {K U : Type 0} (format : Format) (ranges : Ranges) (Kept : K → List Item → Type 0) (before : List (List ℕ)) (line : List ℕ) (ns : List ℕ) (result : Result U Kind) (keep : K) (ps : Option (List ℕ)) (counts : List ℕ)
-    → reading format line ≡ IsProblem ns → Answers Kept (problem_fault format ranges (problem_of format before) ns) (Some ns) (items_of format before) result keep ps counts
+    → reading format line ≡ IsProblem ns → Answers Kept false (problem_fault format ranges (problem_of format before) ns) (Some ns) (items_of format before) result keep ps counts
     → Taken format ranges Kept before line result keep ps counts
 unfolding fault problem_last
 problem_taken format ranges Kept before line ns (Ok u) keep ps counts is h =
@@ -208,25 +209,36 @@ problem_taken format ranges Kept before line ns (Ok u) keep ps counts is h =
     let problem : problem_of format (before ++ line ∷ []) ≡ Some ns = problem_push format before line ∙ rw (none, is) refl in
     let items : items_of format (before ++ line ∷ []) ≡ items_of format before = items_push format before line ∙ rw is (append-nil (items_of format before)) in
     (rw is h.0, rw (problem, items) h.1)
-problem_taken format ranges Kept before line ns (Err kind) keep ps counts is h = rw is h
+problem_taken format ranges Kept before line ns (Err kind) keep ps counts is (inl told) = inl (rw is told)
+problem_taken format ranges Kept before line ns (Err kind) keep ps counts is (inr memory) = absurd (false≢true memory.2)
 
 some_before : (ranges : Ranges) (problem : Option (List ℕ)) (items : List Item) (item : Item) → placed_fault ranges problem items item ≡ None → problem_last problem (IsItem item) ≡ problem
 unfolding problem_last
 some_before ranges None items item h = cc
 some_before ranges (Some ps) items item h = refl
 
+item_line : (format : Format) (line : List ℕ) (item : Item) → reading format line ≡ IsItem item → is_item_line format line ≡ true
+unfolding is_item_line
+item_line format line item is = rw is refl
+
 pub item_taken : {K U : Type 0} (format : Format) (ranges : Ranges) (Kept : K → List Item → Type 0) (before : List (List ℕ)) (line : List ℕ) (item : Item) (result : Result U Kind) (keep : K) (ps : Option (List ℕ)) (counts : List ℕ)
-    → reading format line ≡ IsItem item → Answers Kept (placed_fault ranges (problem_of format before) (items_of format before) item) (problem_of format before) (items_of format before ++ item ∷ []) result keep ps counts
+    → reading format line ≡ IsItem item → Answers Kept true (placed_fault ranges (problem_of format before) (items_of format before) item) (problem_of format before) (items_of format before ++ item ∷ []) result keep ps counts
     → Taken format ranges Kept before line result keep ps counts
 unfolding fault
 item_taken format ranges Kept before line item (Ok u) keep ps counts is h =
     let problem : problem_of format (before ++ line ∷ []) ≡ problem_of format before = problem_push format before line ∙ rw is (some_before ranges (problem_of format before) (items_of format before) item h.0) in
     let items : items_of format (before ++ line ∷ []) ≡ items_of format before ++ item ∷ [] = items_push format before line ∙ rw is refl in
     (rw is h.0, rw (problem, items) h.1)
-item_taken format ranges Kept before line item (Err kind) keep ps counts is h = rw is h
+item_taken format ranges Kept before line item (Err kind) keep ps counts is (inl told) = inl (rw is told)
+item_taken format ranges Kept before line item (Err kind) keep ps counts is (inr memory) = inr (rw is memory.0, memory.1, item_line format line item is)
 
 pub found_at : (format other : Format) (ranges more : Ranges) (ps line : List ℕ) (found : Found) → other ≡ format → more ≡ ranges → IsFound other more ps (reading other line) found → IsFound format ranges ps (reading format line) found
 found_at format other ranges more ps line found e f is = subst (λ (r : Ranges). IsFound format r ps (reading format line) found) f (subst (λ (x : Format). IsFound x more ps (reading x line) found) e is)
+
+pub usual_at : (format other : Format) (ranges more : Ranges) (problem : Option (List ℕ)) (ps line : List ℕ) (found : Option (ℕ × Bor Form × List ℕ)) → other ≡ format → more ≡ ranges → problem ≡ Some ps → IfSome found (IsUsualItem other more ps (reading other line))
+    → IfSome found (λ x. (ps : List ℕ) × (problem ≡ Some ps) × IsUsualItem format ranges ps (reading format line) x)
+usual_at format other ranges more problem ps line None e f seen is = tt
+usual_at format other ranges more problem ps line (Some x) e f seen is = (ps, seen, found_at format other ranges more ps line (founds.Item x.0 x.1 (lists.Within x.2)) e f is)
 
 -- The numbers of the problem line, where it has come.
 pub are_seen : (ranges : Ranges) (problem : Option (List ℕ)) (ref : Option (Bor (List ℕ))) (d seen : Bor (List ℕ)) (item : Item) (numbers : Numbers) → option_copied ref ≡ problem → seen ≡ unwrap_or ref d

@@ -4,6 +4,8 @@ pub mod Meant
 pub mod Behind
 pub mod Parting
 pub mod Quick
+pub mod Usual
+pub mod Lanes
 pub mod Forms
 pub mod LineForms
 pub mod Collected

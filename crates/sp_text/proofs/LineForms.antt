@@ -1,16 +1,18 @@
 -- The form that a line was found to have.
-use Rattle.std.proofs.Common.{◌≡◌, ℕ, ◌<◌, false, List, [], length, map, drop, get_or, Some, None, refl, ap, ◌∙◌}
+use Rattle.std.proofs.Common.{◌≡◌, ℕ, ◌+◌, ◌<◌, false, List, [], length, map, drop, get_or, Some, None, refl, ap, ◌∙◌}
 use Rattle.std.specs.Prelude.{slice_get}
 use Rattle.std.proofs.lemmas.List.{drop_more}
 use Rattle.std.proofs.lemmas.Option.{slice_get-map, slice_get-get_or}
 use Rattle.sp_text.specs.declared.layouts.Ranges.{Ranges}
+use Rattle.sp_text.specs.declared.layouts.Field.{Field}
 use Rattle.sp_text.specs.declared.layouts.Form.{Form}
 use Rattle.sp_text.specs.declared.layouts.Layout.{Layout}
 use Rattle.sp_text.specs.declared.matching.Numbers.{Numbers}
+use Rattle.sp_text.specs.declared.matching.Numbers.TheVariants.{Within}
 use Rattle.sp_text.specs.Lines.{without_cr, parted, fields}
 use Rattle.sp_text.specs.Formats.{form_of, format_of, IsSmallForm}
-use Rattle.sp_text.specs.Text.{is_comment, of_form, Item, IsItem, item_reading, reading_of, reading}
-use Rattle.sp_text.specs.Matching.{Are}
+use Rattle.sp_text.specs.Text.{is_comment, behind_words, of_form, Item, IsItem, item_reading, reading_of, reading}
+use Rattle.sp_text.specs.Matching.{Are, IsLetter, AreSpaced}
 
 item_here : (items : List Form) (place : ℕ) (d : Form) (line : List (List ℕ)) (ns : List ℕ) → place < length items → of_form (form_of (get_or items place d)) line ≡ Some ns
     → item_reading 0 (map form_of items) line ≡ item_reading place (map form_of (drop place items)) line
@@ -36,3 +38,29 @@ found_item layout line text place d ranges ps ns numbers cr remark problem so_fa
       plain,
       are,
     )
+
+-- A line does not have a form with whose words it does not begin.
+pub next_form : (items : List Form) (place : ℕ) (d : Form) (text : List ℕ) → place < length items → ((ds : List Field) → behind_words (parted [] (get_or items place d).words.now) ds (parted [] text) ≡ None)
+    → item_reading 0 (map form_of items) (parted [] text) ≡ item_reading place (map form_of (drop place items)) (parted [] text)
+    → item_reading 0 (map form_of items) (parted [] text) ≡ item_reading (place + 1) (map form_of (drop (place + 1) items)) (parted [] text)
+unfolding of_form
+next_form items place d text within none so_far =
+    so_far ∙ (ap (λ (forms : List Form). item_reading place (map form_of forms) (parted [] text)) (drop_more items place d within) ∙ rw (none (get_or items place d).fields.now) refl)
+
+no_form : (form : Form) (line : List (List ℕ)) → ((ds : List Field) → behind_words (parted [] form.words.now) ds line ≡ None) → of_form (form_of form) line ≡ None
+unfolding of_form
+no_form form line none = none form.fields.now
+
+letter_form : (form : Form) (text rest : List ℕ) (ranges : Ranges) (ps ns : List ℕ) → IsLetter form.words.now text rest → AreSpaced ranges ps form.fields.now rest ns → of_form (form_of form) (parted [] text) ≡ Some ns
+unfolding of_form
+letter_form form text rest ranges ps ns letter spaced = letter spaced.apart form.fields.now ∙ spaced.spelled
+
+-- An item whose form begins with a letter.
+pub found_usual : (layout : Layout) (line text rest : List ℕ) (place : ℕ) (d : Form) (ranges : Ranges) (ps ns : List ℕ) → IsSmallForm (get_or layout.items.now place d)
+    → text ≡ without_cr line → false ≡ is_comment (parted [] text) → ((ds : List Field) → behind_words (parted [] layout.problem.words.now) ds (parted [] text) ≡ None)
+    → item_reading 0 (map form_of layout.items.now) (parted [] text) ≡ item_reading place (map form_of (drop place layout.items.now)) (parted [] text)
+    → place < length layout.items.now → IsLetter (get_or layout.items.now place d).words.now text rest → AreSpaced ranges ps (get_or layout.items.now place d).fields.now rest ns
+    → (item : Item) × (reading (format_of layout) line ≡ IsItem item) × (item.kind ≡ place) × (slice_get (format_of layout).items place ≡ Some item.form) × (item.form ≡ form_of (get_or layout.items.now place d)) × IsSmallForm (get_or layout.items.now place d) × Are ranges ps item.form.fields item.numbers (Within ns)
+found_usual layout line text rest place d ranges ps ns small cr remark problem so_far within letter spaced =
+    found_item layout line text place d ranges ps ns (Within ns) cr remark (no_form layout.problem (parted [] text) problem) so_far within
+    (letter_form (get_or layout.items.now place d) text rest ranges ps ns letter spaced) small (spaced.within, refl)

@@ -5,7 +5,7 @@ use Rattle.std.proofs.lemmas.List.{take_all, get_or-take, length-take-le}
 use Rattle.std.specs.List.{list_all}
 use Rattle.std.specs.Char.{is_ascii_digit}
 use Rattle.sp_text.specs.Lines.{is_blank, parted, value}
-use Rattle.sp_text.specs.Numeral.{ranged, numeral, starts_number, begins_number, IsQuick}
+use Rattle.sp_text.specs.Numeral.{ranged, numeral, starts_number, begins_number, AreDigits, IsFront, IsQuick}
 use Rattle.sp_text.proofs.Digits.{and_parts, no_blank, is_number_parts, digits_no_blanks}
 use Rattle.sp_text.proofs.Parting.{later_field}
 
@@ -37,3 +37,13 @@ begun (d ∷ more) n zero quick begins = absurd (false≢true (sym (no_blank d (
 begun (d ∷ more) n (suc zero) quick begins = refl
 begun (d ∷ []) n (suc (suc end)) quick begins = refl
 begun (d ∷ e ∷ more) n (suc (suc end)) quick begins = (and_parts (not (eqb d 48)) (is_ascii_digit d) begins).0
+
+begun_some : (start : List ℕ) (end : ℕ) → 0 < end → begins_number start ≡ true → starts_number (take end start) ≡ true
+begun_some [] end some begins = absurd (false≢true begins)
+begun_some (d ∷ more) zero some begins = absurd (omega arith)
+begun_some (d ∷ more) (suc zero) some begins = refl
+begun_some (d ∷ []) (suc (suc end)) some begins = refl
+begun_some (d ∷ e ∷ more) (suc (suc end)) some begins = (and_parts (not (eqb d 48)) (is_ascii_digit d) begins).0
+
+pub begun_digits : (start : List ℕ) (n end : ℕ) → AreDigits start n end → begins_number start ≡ true → IsFront start n end
+begun_digits start n end is begins = record { within = is.within; digits = is.digits; number = is.number; starts = begun_some start end is.some begins }

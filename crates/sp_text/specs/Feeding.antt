@@ -1,5 +1,5 @@
 -- Where a reader that is fed in pieces stands.
-use Rattle.std.specs.Prelude.{◌≡◌, ℕ, ◌<◌, ◌≤◌, ◌⊎◌, List, [], ◌∷◌, ◌++◌, length, take, Some, None, Result, Ok, Err}
+use Rattle.std.specs.Prelude.{◌≡◌, ℕ, ◌+◌, ◌≤◌, ◌⊎◌, true, List, [], ◌∷◌, ◌++◌, length, Some, None, Result, Ok, Err}
 use Rattle.sp_text.specs.declared.faults.Kind.{Kind}
 use Rattle.sp_text.specs.declared.faults.Kind.TheVariants.{Memory}
 use Rattle.sp_text.specs.declared.faults.DimacsError.{DimacsError}
@@ -7,11 +7,12 @@ use Rattle.sp_text.specs.declared.feeding.Feeder.{Feeder}
 use Rattle.sp_text.specs.Lines.{ended, rest, lines}
 use Rattle.sp_text.specs.First.{Judge, first_fault, early, told, strictly_told}
 
--- What a taker of lines answers to a line: its fault; else that state follows, or memory was refused.
+-- What a taker of lines answers to a line: its fault; else that state follows, or the value of an item line
+-- found no room.
 -- `After` holds of a state and the lines that it was given, none of which has a fault.
 abbrev pub Takes : {T U : Type 0} → Judge → (T → List (List ℕ) → Type 0) → List (List ℕ) → List ℕ → Result U Kind → T → Type 0
 Takes judge After before line (Ok u) new = (judge.fault before line ≡ None) × After new (before ++ line ∷ [])
-Takes judge After before line (Err kind) new = (judge.fault before line ≡ Some kind) ⊎ ((judge.fault before line ≡ None) × (kind ≡ Memory))
+Takes judge After before line (Err kind) new = (judge.fault before line ≡ Some kind) ⊎ ((judge.fault before line ≡ None) × (kind ≡ Memory) × (judge.is_item line ≡ true))
 
 -- The reader stands behind this text, in which there is no fault yet.
 pub record IsBehind {T : Type 0} (judge : Judge) (After : T → List (List ℕ) → Type 0) (text : List ℕ) (reader : Feeder T) : Type 0 where
@@ -21,30 +22,37 @@ pub record IsBehind {T : Type 0} (judge : Judge) (After : T → List (List ℕ) 
   pub ends : reader.ends ≡ length (ended text)
   pub taken : After reader.taker (ended text)
 
--- Memory was refused at this line, and no line up to it has a fault.
-pub record IsMemory (judge : Judge) (all : List (List ℕ)) (e : DimacsError) : Type 0 where
+-- The value of this line of `all`, an item line, found no room. It stands behind those of `before`, which were
+-- taken earlier, and no line up to it has a fault.
+pub record IsMemory (judge : Judge) (before all : List (List ℕ)) (e : DimacsError) : Type 0 where
   pub kind : e.kind ≡ Memory
-  pub first : 0 < e.line
-  pub within : e.line ≤ length all
-  pub clean : first_fault judge (take e.line all) ≡ None
+  pub front : List (List ℕ)
+  pub line : List ℕ
+  pub behind : List (List ℕ)
+  pub parts : all ≡ front ++ line ∷ behind
+  pub place : e.line ≡ length front + 1
+  pub later : length before ≤ length front
+  pub item : judge.is_item line ≡ true
+  pub clean : first_fault judge (front ++ line ∷ []) ≡ None
 
--- The answer to a text that may go on.
-abbrev pub Refused : Judge → List ℕ → DimacsError → Type 0
-Refused judge text e = (early judge text ≡ Some e) ⊎ IsMemory judge (ended text) e
+-- The answer to a text that may go on. The lines of `before` had ended before its last piece.
+abbrev pub Refused : Judge → List (List ℕ) → List ℕ → DimacsError → Type 0
+Refused judge before text e = (early judge text ≡ Some e) ⊎ IsMemory judge before (ended text) e
 
-abbrev pub Fed : {T U : Type 0} → Judge → (T → List (List ℕ) → Type 0) → List ℕ → Result U DimacsError → Feeder T → Type 0
-Fed judge After text (Ok u) new = IsBehind judge After text new
-Fed judge After text (Err e) new = (new.spent ≡ Some e) × Refused judge text e
+abbrev pub Fed : {T U : Type 0} → Judge → (T → List (List ℕ) → Type 0) → List (List ℕ) → List ℕ → Result U DimacsError → Feeder T → Type 0
+Fed judge After before text (Ok u) new = IsBehind judge After text new
+Fed judge After before text (Err e) new = (new.spent ≡ Some e) × Refused judge before text e
 
 -- What the taker answers where the lines end: what is missing; else the value, and it begins again.
 abbrev pub Ends : {T V : Type 0} → Judge → (T → List (List ℕ) → Type 0) → (List (List ℕ) → V → Type 0) → List (List ℕ) → Result V Kind → T → Type 0
 Ends judge After Spelled all (Ok value) new = (judge.missing all ≡ None) × Spelled all value × After new []
 Ends judge After Spelled all (Err kind) new = judge.missing all ≡ Some kind
 
--- The answer where the text ends. A reader that gave its value begins again.
+-- The answer where the text ends; only a last line that lacks its LF is taken now. A reader that gave its value
+-- begins again.
 abbrev pub Finished : {T V : Type 0} → Judge → (T → List (List ℕ) → Type 0) → (List (List ℕ) → V → Type 0) → List ℕ → Result V DimacsError → Feeder T → Type 0
 Finished judge After Spelled text (Ok value) new = (told judge text ≡ None) × Spelled (lines text) value × IsBehind judge After [] new
-Finished judge After Spelled text (Err e) new = (new.spent ≡ Some e) × ((told judge text ≡ Some e) ⊎ IsMemory judge (lines text) e)
+Finished judge After Spelled text (Err e) new = (new.spent ≡ Some e) × ((told judge text ≡ Some e) ⊎ IsMemory judge (ended text) (lines text) e)
 
 -- All lines of the text were taken, the last one too.
 pub record IsClosed {T : Type 0} (judge : Judge) (After : T → List (List ℕ) → Type 0) (text : List ℕ) (reader : Feeder T) : Type 0 where
@@ -56,7 +64,7 @@ pub record IsClosed {T : Type 0} (judge : Judge) (After : T → List (List ℕ) 
 
 abbrev pub Closed : {T U : Type 0} → Judge → (T → List (List ℕ) → Type 0) → List ℕ → Result U DimacsError → Feeder T → Type 0
 Closed judge After text (Ok u) new = IsClosed judge After text new
-Closed judge After text (Err e) new = (new.spent ≡ Some e) × ((told judge text ≡ Some e) ⊎ IsMemory judge (lines text) e)
+Closed judge After text (Err e) new = (new.spent ≡ Some e) × ((told judge text ≡ Some e) ⊎ IsMemory judge (ended text) (lines text) e)
 
 -- The answer where a file that closes itself ends.
 abbrev pub StrictlyFinished : {T V : Type 0} → Judge → (T → List (List ℕ) → Type 0) → (List (List ℕ) → V → Type 0) → List ℕ → Result V DimacsError → Feeder T → Type 0

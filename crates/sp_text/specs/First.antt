@@ -6,11 +6,13 @@ use Rattle.sp_text.specs.declared.faults.DimacsError.{DimacsError}
 use Rattle.sp_text.specs.Lines.{ended, rest, lines}
 
 -- A file's rules: whether nothing may stand behind some lines, the fault of a line by the lines before it,
--- which have none, and what is missing where the lines end.
+-- which have none, what is missing where the lines end, and whether a line is an item line, whose value takes
+-- room.
 pub record Judge : Type 0 where
   pub closed : List (List ℕ) → Bool
   pub fault : List (List ℕ) → List ℕ → Option Kind
   pub missing : List (List ℕ) → Option Kind
+  pub is_item : List ℕ → Bool
 
 -- No line has the fault of a device.
 pub record IsSilent (judge : Judge) : Type 0 where

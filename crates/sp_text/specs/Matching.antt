@@ -1,9 +1,10 @@
 -- What a line was found to be.
-use Rattle.std.specs.Prelude.{◌≡◌, ℕ, true, ◌&&◌, nat_le, List, [], ◌∷◌, ◌++◌, slice_get, slice_index, Option, Some, None, Result, Ok, Err}
+use Rattle.std.specs.Prelude.{◌≡◌, ℕ, ◌<◌, true, ◌&&◌, nat_le, List, [], ◌∷◌, ◌++◌, length, slice_get, slice_index, Option, Some, None, Result, Ok, Err}
 use Rattle.std.specs.Borrow.{Bor}
-use Rattle.sp_text.specs.Lines.{parted}
+use Rattle.sp_text.specs.Lines.{is_blank, parted}
 use Rattle.sp_text.specs.declared.layouts.Ranges.{Ranges}
 use Rattle.sp_text.specs.declared.layouts.Field.{Field}
+use Rattle.sp_text.specs.declared.layouts.Form.{Form}
 use Rattle.sp_text.specs.declared.matching.Numbers.{Numbers}
 use Rattle.sp_text.specs.declared.matching.Numbers.TheVariants as lists
 use Rattle.sp_text.specs.declared.matching.Spelled.{Spelled}
@@ -11,7 +12,7 @@ use Rattle.sp_text.specs.declared.matching.Spelled.TheVariants.{No, Out, Within}
 use Rattle.sp_text.specs.declared.reading.Found.{Found}
 use Rattle.sp_text.specs.declared.reading.Found.TheVariants as founds
 use Rattle.sp_text.specs.Formats.{Format, form_of, IsSmallForm}
-use Rattle.sp_text.specs.Text.{Reading, Comment, Bad, IsProblem, IsItem, Item, with_number, numbers, top, first_out, first_letter}
+use Rattle.sp_text.specs.Text.{Reading, Comment, Bad, IsProblem, IsItem, Item, with_number, numbers, behind_words, top, first_out, first_letter}
 
 -- Of numbers of which the one with this letter is out of its range, these stand in front of it.
 abbrev pub IsFront : List Field → List ℕ → ℕ → List ℕ → Type 0
@@ -50,8 +51,26 @@ abbrev pub Matched : Ranges → List ℕ → List Field → Option (List ℕ) �
 Matched ranges ps ds found None = found ≡ None
 Matched ranges ps ds found (Some numbers) = (ns : List ℕ) × (found ≡ Some ns) × Are ranges ps ds ns numbers
 
+-- The text begins with a blank, or is empty.
+abbrev pub StandsApart : List ℕ → Type 0
+StandsApart text = 0 < length text → is_blank (slice_index text 0) ≡ true
+
+-- The words are a letter, which the line begins with, and this is the rest of it.
+abbrev pub IsLetter : List ℕ → List ℕ → List ℕ → Type 0
+IsLetter words line rest = StandsApart rest → (ds : List Field) → behind_words (parted [] words) ds (parted [] line) ≡ numbers ds (parted [] rest)
+
+-- The text stands apart, and spells these numbers, which are in their ranges.
+pub record AreSpaced (ranges : Ranges) (ps : List ℕ) (ds : List Field) (text ns : List ℕ) : Type 0 where
+  pub apart : StandsApart text
+  pub spelled : numbers ds (parted [] text) ≡ Some ns
+  pub within : first_out ranges ps ds ns ≡ None
+
 abbrev pub IsFound : Format → Ranges → List ℕ → Reading → Found → Type 0
 IsFound format ranges ps reading founds.Comment = reading ≡ Comment
 IsFound format ranges ps reading founds.Bad = reading ≡ Bad
 IsFound format ranges ps reading (founds.Problem numbers) = (ns : List ℕ) × (reading ≡ IsProblem ns) × Are ranges [] format.problem.fields ns numbers
 IsFound format ranges ps reading (founds.Item place form numbers) = (item : Item) × (reading ≡ IsItem item) × (item.kind ≡ place) × (slice_get format.items place ≡ Some item.form) × (item.form ≡ form_of form.now) × IsSmallForm form.now × Are ranges ps item.form.fields item.numbers numbers
+
+-- An item of the form at this place, with these numbers, which are in their ranges.
+abbrev pub IsUsualItem : Format → Ranges → List ℕ → Reading → ℕ × Bor Form × List ℕ → Type 0
+IsUsualItem format ranges ps reading (place, form, ns) = IsFound format ranges ps reading (founds.Item place form (lists.Within ns))

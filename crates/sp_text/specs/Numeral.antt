@@ -23,6 +23,20 @@ abbrev pub begins_number : List ℕ → Bool
 begins_number [] = false
 begins_number (d ∷ more) = not (d == 48) && is_ascii_digit d
 
+-- Some digits at the front spell a number.
+pub record AreDigits (text : List ℕ) (n end : ℕ) : Type 0 where
+  pub some : 0 < end
+  pub within : end ≤ length text
+  pub digits : list_all is_ascii_digit (take end text) ≡ true
+  pub number : n ≡ value (take end text)
+
+-- Digits at the front spell a small number, and no zero leads others.
+pub record IsFront (text : List ℕ) (n end : ℕ) : Type 0 where
+  pub within : end ≤ length text
+  pub digits : list_all is_ascii_digit (take end text) ≡ true
+  pub number : n ≡ value (take end text)
+  pub starts : starts_number (take end text) ≡ true
+
 -- Digits at the front spell a small number, and a blank or nothing stands behind them.
 pub record IsQuick (text : List ℕ) (n end : ℕ) : Type 0 where
   pub within : end ≤ length text

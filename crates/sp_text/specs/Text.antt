@@ -172,11 +172,28 @@ missing_of format ranges (Some ps) items = if nat_lt (count 0 items) (top ranges
 unfoldable pub missing : Format → Ranges → List (List ℕ) → Option Kind
 missing format ranges all = missing_of format ranges (problem_of format all) (items_of format all)
 
--- The faults of the lines of a file.
-abbrev pub judge : Format → Ranges → Judge
-judge format ranges = record { closed = λ lines. false; fault = fault format ranges; missing = missing format ranges }
+-- 5. The rules of a file.
 
--- 5. What a text spells.
+abbrev pub is_item_reading : Reading → Bool
+is_item_reading Comment = false
+is_item_reading Bad = false
+is_item_reading (IsProblem ns) = false
+is_item_reading (IsItem item) = true
+
+-- Whether a line is an item line.
+unfoldable pub is_item_line : Format → List ℕ → Bool
+is_item_line format line = is_item_reading (reading format line)
+
+-- No file of a format closes itself.
+abbrev pub judge : Format → Ranges → Judge
+judge format ranges = record {
+  closed = λ lines. false;
+  fault = fault format ranges;
+  missing = missing format ranges;
+  is_item = is_item_line format;
+}
+
+-- 6. What a text spells.
 pub record Spells (format : Format) (ranges : Ranges) (text : List ℕ) (problem : List ℕ) (items : List Item) : Type 0 where
   pub faultless : told (judge format ranges) text ≡ None
   pub problem_line : problem_of format (lines text) ≡ Some problem

@@ -1,18 +1,19 @@
 //! The lines of a layout, taken one after the other.
-ghost use Rattle.std.specs.Prelude.{◌≡◌, ℕ, ◌<◌, List, [], ◌∷◌, ◌++◌, length, slice_get, OnOk, Option, Some, None, true};
+ghost use Rattle.std.specs.Prelude.{◌≡◌, ℕ, ◌<◌, List, [], ◌∷◌, ◌++◌, length, slice_get, OnOk, IfSome, Option, Some, None, true, false};
 ghost use Rattle.sp_text.specs.declared.layouts.Ranges.{Ranges};
 ghost use Rattle.sp_text.specs.Formats.{Format, format_of, IsSmall, IsSmallForm, IsFreshPlace, form_of};
-ghost use Rattle.sp_text.specs.Text.{Item, judge, first_out, first_letter, is_named, named_at, problem_fault, placed_fault};
+ghost use Rattle.sp_text.specs.Text.{Item, judge, reading, first_out, first_letter, is_named, named_at, problem_fault, placed_fault};
 ghost use Rattle.sp_text.specs.Keeping.{CanKeep};
+ghost use Rattle.sp_text.specs.Feeding.{Takes};
 ghost use Rattle.sp_text.specs.Collecting.{IsAfter, SpelledBy, Holds, Answers, ItemIs};
-ghost use Rattle.sp_text.specs.Matching.{Are};
+ghost use Rattle.sp_text.specs.Matching.{Are, IsUsualItem};
 ghost use Rattle.sp_text.specs.Silence.{judge_silent};
 
 use crate::faults::Kind;
 use crate::feeding::LineTaker;
 use crate::layouts::{Field, Form, Layout, Ranges};
 use crate::matching::{Numbers, greatest};
-use crate::reading::{Found, read_line};
+use crate::reading::{Found, read_line, usual_item};
 use crate::rooms::Values;
 use std::alloc::AllocError;
 
@@ -100,11 +101,20 @@ impl<K: Keep> Collector<K> {
         }
     }
 
+    // The form of a line, its place and the numbers, behind a problem line, if they stand there in the usual way.
+    #[inline(always)]
+    fn usual_item(&self, line: &[u8]) -> Option<(usize, &'static Form, Values)>
+        ensures { IfSome result (λ x. (ps : List ℕ) × (self.now.problem ≡ Some ps) × IsUsualItem K.format K.ranges ps (reading K.format line.now) x) }
+    {
+        let problem = self.problem.as_ref()?;
+        usual_item(&self.keep.layout(), &self.keep.ranges(), problem, line)
+    }
+
     fn take_problem(&mut self, numbers: Numbers) -> Result<(), Kind>
         requires { (ns : List ℕ) × Are K.ranges [] K.format.problem.fields ns numbers }
         ensures { (problem : Option (List ℕ)) (items : List Item) (ns : List ℕ) → Holds K.Kept problem items self.old.keep self.old.problem self.old.counts
             → Are K.ranges [] K.format.problem.fields ns numbers
-            → Answers K.Kept (problem_fault K.format K.ranges problem ns) (Some ns) items result self.new.keep self.new.problem self.new.counts }
+            → Answers K.Kept false (problem_fault K.format K.ranges problem ns) (Some ns) items result self.new.keep self.new.problem self.new.counts }
     {
         if self.problem.is_some() {
             return Err(Kind::SecondProblem);
@@ -118,12 +128,13 @@ impl<K: Keep> Collector<K> {
         }
     }
 
+    #[inline(always)]
     fn take_item(&mut self, place: usize, form: &Form, numbers: Numbers) -> Result<(), Kind>
         requires small { IsSmallForm form.now }
         requires item { (item : Item) × (slice_get K.format.items place ≡ Some item.form) × (item.form ≡ form_of form.now) × ItemIs K.ranges self.old.problem item numbers }
         ensures { (problem : Option (List ℕ)) (items : List Item) (item : Item) → Holds K.Kept problem items self.old.keep self.old.problem self.old.counts
             → item.kind ≡ place → slice_get K.format.items place ≡ Some item.form → item.form ≡ form_of form.now → ItemIs K.ranges problem item numbers
-            → Answers K.Kept (placed_fault K.ranges problem items item) problem (items ++ item ∷ []) result self.new.keep self.new.problem self.new.counts }
+            → Answers K.Kept true (placed_fault K.ranges problem items item) problem (items ++ item ∷ []) result self.new.keep self.new.problem self.new.counts }
     {
         let Some(problem) = &self.problem else {
             return Err(Kind::NoProblem);
@@ -146,6 +157,21 @@ impl<K: Keep> Collector<K> {
         self.counts[group] = count + 1;
         Ok(())
     }
+
+    // Takes the next line, whatever it is.
+    #[inline(never)]
+    fn take_any(&mut self, line: &[u8]) -> Result<(), Kind>
+        ensures { (before : List (List ℕ)) → ⟦<Collector<K> as LineTaker>⟧.After self.old before → Takes (judge K.format K.ranges) ⟦<Collector<K> as LineTaker>⟧.After before line.now result self.new }
+    {
+        let none = Values::new();
+        let problem = self.problem.as_ref().unwrap_or(&none);
+        match read_line(&self.keep.layout(), &self.keep.ranges(), problem, line) {
+            Found::Comment => Ok(()),
+            Found::Bad => Err(Kind::BadLine),
+            Found::Problem(numbers) => self.take_problem(numbers),
+            Found::Item(place, form, numbers) => self.take_item(place, form, numbers),
+        }
+    }
 }
 
 impl<K: Keep> LineTaker for Collector<K> {
@@ -161,14 +187,11 @@ impl<K: Keep> LineTaker for Collector<K> {
         false
     }
 
+    #[inline(always)]
     fn take_line(&mut self, line: &[u8]) -> Result<(), Kind> {
-        let none = Values::new();
-        let problem = self.problem.as_ref().unwrap_or(&none);
-        match read_line(&self.keep.layout(), &self.keep.ranges(), problem, line) {
-            Found::Comment => Ok(()),
-            Found::Bad => Err(Kind::BadLine),
-            Found::Problem(numbers) => self.take_problem(numbers),
-            Found::Item(place, form, numbers) => self.take_item(place, form, numbers),
+        match self.usual_item(line) {
+            Some((place, form, values)) => self.take_item(place, form, Numbers::Within(values)),
+            None => self.take_any(line),
         }
     }
 

@@ -25,7 +25,7 @@ pub enum Kind {
     /// Fewer lines than were announced.
     #[error("7 TooFew")]
     TooFew,
-    /// A growth was refused.
+    /// A growth was refused: the value of this line found no room.
     #[error("8 Memory")]
     Memory,
     /// The device failed.

@@ -6,9 +6,9 @@ ghost use Rattle.sp_text.specs.Meaning.{HasNoLf};
 ghost use Rattle.sp_text.specs.First.{Judge, IsSilent, failed};
 ghost use Rattle.sp_text.specs.Feeding.{Takes, Ends, IsBehind, Fed, Refused, Closed, Finished, StrictlyFinished};
 
+use crate::endings::first_lf;
 use crate::faults::{DimacsError, Kind};
 use crate::rooms::Room;
-use memchr::memchr;
 use std::mem;
 
 // As many bytes as a line may have before its LF.
@@ -82,22 +82,33 @@ impl<T: LineTaker> Feeder<T> {
     }
 
     // The line that is being read ends, and has these bytes.
+    #[inline(always)]
     fn end_line(&mut self, line: &[u8]) -> Result<(), DimacsError>
-        ensures { (text : List ℕ) → length text ≤ 2 ^ 62 → T.rules.closed (ended text) ≡ false → IsBehind T.rules T.After text (record self.old { room = line.now }) → Fed T.rules T.After (text ++ 10 ∷ []) result self.new }
+        ensures { (text : List ℕ) → length text ≤ 2 ^ 62 → T.rules.closed (ended text) ≡ false → IsBehind T.rules T.After text (record self.old { room = line.now }) → Fed T.rules T.After (ended text) (text ++ 10 ∷ []) result self.new }
     {
         match self.taker.take_line(line) {
             Ok(()) => {
                 self.room.clear();
-                self.ends = self.ends.saturating_add(1);
+                self.ends = self.ends.wrapping_add(1);
                 Ok(())
             }
             Err(kind) => Err(self.refuse(kind)),
         }
     }
 
+    // The line that is being read ends.
+    #[inline(never)]
+    fn end_room(&mut self) -> Result<(), DimacsError>
+        ensures { (text : List ℕ) → length text ≤ 2 ^ 62 → T.rules.closed (ended text) ≡ false → IsBehind T.rules T.After text self.old → Fed T.rules T.After (ended text) (text ++ 10 ∷ []) result self.new }
+    {
+        let room = mem::replace(&mut self.room, Room::new());
+        self.end_line(room.line())
+    }
+
     // Takes bytes without an LF.
+    #[inline(never)]
     fn take_open(&mut self, bytes: &[u8]) -> Result<(), DimacsError>
-        ensures { (text : List ℕ) → length (text ++ bytes.now) ≤ 2 ^ 62 → T.rules.closed (ended text) ≡ false → HasNoLf bytes.now → IsBehind T.rules T.After text self.old → Fed T.rules T.After (text ++ bytes.now) result self.new }
+        ensures { (text : List ℕ) → length (text ++ bytes.now) ≤ 2 ^ 62 → T.rules.closed (ended text) ≡ false → HasNoLf bytes.now → IsBehind T.rules T.After text self.old → Fed T.rules T.After (ended text) (text ++ bytes.now) result self.new }
     {
         if self.room.room_left() < bytes.len() {
             return Err(self.refuse(Kind::LongLine));
@@ -107,13 +118,13 @@ impl<T: LineTaker> Feeder<T> {
     }
 
     // Takes bytes without an LF, and then an LF.
+    #[inline(always)]
     fn take_rest(&mut self, bytes: &[u8]) -> Result<(), DimacsError>
-        ensures { (text : List ℕ) → length (text ++ bytes.now) ≤ 2 ^ 62 → T.rules.closed (ended text) ≡ false → HasNoLf bytes.now → IsBehind T.rules T.After text self.old → Fed T.rules T.After (text ++ bytes.now ++ 10 ∷ []) result self.new }
+        ensures { (text : List ℕ) → length (text ++ bytes.now) ≤ 2 ^ 62 → T.rules.closed (ended text) ≡ false → HasNoLf bytes.now → IsBehind T.rules T.After text self.old → Fed T.rules T.After (ended text) (text ++ bytes.now ++ 10 ∷ []) result self.new }
     {
         if !self.room.is_empty() {
             self.take_open(bytes)?;
-            let room = mem::replace(&mut self.room, Room::new());
-            return self.end_line(room.line());
+            return self.end_room();
         }
         if bytes.len() > LONGEST {
             return Err(self.refuse(Kind::LongLine));
@@ -122,15 +133,16 @@ impl<T: LineTaker> Feeder<T> {
     }
 
     // Takes the bytes up to the next LF with it, or all of them, and answers what stands behind.
+    #[inline(always)]
     fn take_run<'a>(&mut self, bytes: &'a [u8]) -> Result<&'a [u8], DimacsError>
         requires { 0 < length bytes.now }
         ensures taken { IfOk result (λ more. (front : List ℕ) × (bytes.now ≡ front ++ more.now) × (0 < length front) × ((text : List ℕ) → length (text ++ bytes.now) ≤ 2 ^ 62 → IsBehind T.rules T.After text self.old → IsBehind T.rules T.After (text ++ front) self.new)) }
-        ensures refused { IfErr result (λ e. (text : List ℕ) → length (text ++ bytes.now) ≤ 2 ^ 62 → IsBehind T.rules T.After text self.old → (self.new.spent ≡ Some e) × Refused T.rules (text ++ bytes.now) e) }
+        ensures refused { IfErr result (λ e. (text : List ℕ) → length (text ++ bytes.now) ≤ 2 ^ 62 → IsBehind T.rules T.After text self.old → (self.new.spent ≡ Some e) × Refused T.rules (ended text) (text ++ bytes.now) e) }
     {
         if self.taker.is_closed() {
             return Err(self.refuse(Kind::TooMany));
         }
-        let Some(end) = memchr(b'\n', bytes) else {
+        let Some(end) = first_lf(bytes) else {
             self.take_open(bytes)?;
             return Ok(&[]);
         };
@@ -141,9 +153,10 @@ impl<T: LineTaker> Feeder<T> {
     }
 
     /// Takes the next piece of the text. After a refusal it answers the same again.
+    #[inline(never)]
     pub fn feed(&mut self, piece: &[u8]) -> Result<(), DimacsError>
         ensures again { (e : DimacsError) → self.old.spent ≡ Some e → (result ≡ Err e) × (self.new ≡ self.old) }
-        ensures fed { (text : List ℕ) → length (text ++ piece.now) ≤ 2 ^ 62 → IsBehind T.rules T.After text self.old → Fed T.rules T.After (text ++ piece.now) result self.new }
+        ensures fed { (text : List ℕ) → length (text ++ piece.now) ≤ 2 ^ 62 → IsBehind T.rules T.After text self.old → Fed T.rules T.After (ended text) (text ++ piece.now) result self.new }
     {
         if let Some(error) = self.spent {
             return Err(error);
@@ -162,8 +175,7 @@ impl<T: LineTaker> Feeder<T> {
         if self.room.is_empty() {
             return Ok(());
         }
-        let room = mem::replace(&mut self.room, Room::new());
-        self.end_line(room.line())
+        self.end_room()
     }
 
     /// The text has ended. A reader that gives its value is a new one then.

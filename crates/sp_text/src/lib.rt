@@ -2,6 +2,7 @@
 #![tactic(auto)]
 
 mod collecting;
+mod endings;
 mod faults;
 mod feeding;
 mod fields;
@@ -9,6 +10,7 @@ mod laws;
 mod layouts;
 mod matching;
 mod numbers;
+mod packed;
 mod reading;
 mod rooms;
 mod whole;

@@ -6,11 +6,11 @@ ghost use Rattle.sp_text.specs.declared.layouts.Ranges.{Ranges};
 ghost use Rattle.sp_text.specs.Formats.{form_of};
 ghost use Rattle.sp_text.specs.Numeral.{numeral};
 ghost use Rattle.sp_text.specs.Text.{top, numbers, behind_words, of_form};
-ghost use Rattle.sp_text.specs.Matching.{NumberTaken, Spells, Matched};
+ghost use Rattle.sp_text.specs.Matching.{NumberTaken, Spells, Matched, IsLetter, AreSpaced};
 
-use crate::fields::{next_field, parts_fields, skip_blanks, starts_otherwise};
+use crate::fields::{next_field, parts_fields, starts_otherwise};
 use crate::layouts::{Field, Form, Ranges, Top};
-use crate::numbers::{Numeral, begins_number, number, quick_number, ranged, spells_number};
+use crate::numbers::{Numeral, front_number, number, ranged, spells_number};
 use crate::rooms::Values;
 
 /// The numbers of a line that has a form.
@@ -64,21 +64,6 @@ fn next_number(text: &[u8], least: u64, most: u64) -> Option<(Numeral, &[u8])>
     Some((number(field, least, most), rest))
 }
 
-// The same, quickly where the number has few digits.
-#[inline(always)]
-fn next_numeral(text: &[u8], least: u64, most: u64) -> Option<(Numeral, &[u8])>
-    ensures { MatchOption result (parted [] text.now ≡ []) (λ x. (field : List ℕ) × (parted [] text.now ≡ field ∷ parted [] x.1.now) × (x.0 ≡ numeral field least most)) }
-{
-    let start = skip_blanks(text);
-    if begins_number(start) {
-        if let Some((value, end)) = quick_number(start) {
-            let (_, rest) = start.split_at(end);
-            return Some((ranged(value, least, most), rest));
-        }
-    }
-    next_number(start, least, most)
-}
-
 // Whether the fields of the text are numbers, one for each of these, and nothing else.
 fn are_numbers(fields: &[Field], text: &[u8]) -> bool
     ensures { MatchBool result ((ns : List ℕ) × (numbers fields.now (parted [] text.now) ≡ Some ns)) (numbers fields.now (parted [] text.now) ≡ None) }
@@ -108,7 +93,7 @@ fn take_number<'a>(
     ensures { NumberTaken ranges.now problem.now field.now more.now (numbers (field.now ∷ more.now) (parted [] text.now)) result }
 {
     let most = greatest(field.most, ranges, problem);
-    let Some((numeral, rest)) = next_numeral(text, field.least, most) else {
+    let Some((numeral, rest)) = next_number(text, field.least, most) else {
         return Err(Spelled::No);
     };
     match numeral {
@@ -162,23 +147,6 @@ fn take_numbers(
     end_numbers(rest)
 }
 
-// What stands behind a letter, if the words are that letter alone, and the line begins with it and a blank.
-#[inline(always)]
-fn after_letter<'a>(words: &[u8], text: &'a [u8]) -> Option<&'a [u8]>
-    ensures { IfSome result (λ rest. (ds : List Field) → behind_words (parted [] words.now) ds (parted [] text.now) ≡ numbers ds (parted [] rest.now)) }
-{
-    let [letter] = words else {
-        return None;
-    };
-    let [first, blank, rest @ ..] = text else {
-        return None;
-    };
-    if first != letter || parts_fields(*first) || !parts_fields(*blank) {
-        return None;
-    }
-    Some(rest)
-}
-
 // What stands behind the words, if the line begins with them.
 fn after_fields<'a>(words: &[u8], text: &'a [u8]) -> Option<&'a [u8]>
     ensures { (ds : List Field) → MatchOption result (behind_words (parted [] words.now) ds (parted [] text.now) ≡ None)
@@ -197,27 +165,63 @@ fn after_fields<'a>(words: &[u8], text: &'a [u8]) -> Option<&'a [u8]>
     Some(rest)
 }
 
-// The same, quickly where the words are a letter.
+/// Whether the first bytes show that the line does not begin with the words.
 #[inline(always)]
-fn after_words<'a>(words: &[u8], text: &'a [u8]) -> Option<&'a [u8]>
-    ensures { (ds : List Field) → MatchOption result (behind_words (parted [] words.now) ds (parted [] text.now) ≡ None)
-        (λ rest. behind_words (parted [] words.now) ds (parted [] text.now) ≡ numbers ds (parted [] rest.now)) }
-{
-    match after_letter(words, text) {
-        Some(rest) => Some(rest),
-        None => after_fields(words, text),
-    }
-}
-
-// Whether the first bytes show that the line does not begin with the words.
-#[inline(always)]
-fn begins_otherwise(words: &[u8], text: &[u8]) -> bool
+pub(crate) fn begins_otherwise(words: &[u8], text: &[u8]) -> bool
     ensures { result ≡ true → (ds : List Field) → behind_words (parted [] words.now) ds (parted [] text.now) ≡ None }
 {
     match words {
         [first, ..] => starts_otherwise(words, b' ') && starts_otherwise(text, *first),
         [] => false,
     }
+}
+
+/// What stands behind a letter, if the words are that letter alone, and the line begins with it.
+#[inline(always)]
+pub(crate) fn after_letter<'a>(words: &[u8], text: &'a [u8]) -> Option<&'a [u8]>
+    ensures { IfSome result (λ rest. IsLetter words.now text.now rest.now) }
+{
+    let [letter] = words else {
+        return None;
+    };
+    let [first, rest @ ..] = text else {
+        return None;
+    };
+    if first != letter || parts_fields(*first) {
+        return None;
+    }
+    Some(rest)
+}
+
+/// The numbers that the text spells in the usual way, one for each field: behind a space each, and in its range.
+#[inline(always)]
+pub(crate) fn spaced_numbers(
+    fields: &[Field],
+    ranges: &Ranges,
+    problem: &Values,
+    text: &[u8],
+) -> Option<Values>
+    requires { length fields.now ≤ 4 }
+    ensures { IfSome result (AreSpaced ranges.now problem.now fields.now text.now) }
+{
+    let mut values = Values::new();
+    let mut rest = text;
+    for (place, field) in fields.iter().enumerate() {
+        let [first, digits @ ..] = rest else {
+            return None;
+        };
+        if *first != b' ' {
+            return None;
+        }
+        let (value, end) = front_number(digits)?;
+        let most = greatest(field.most, ranges, problem);
+        let Numeral::Value(value) = ranged(value, field.least, most) else {
+            return None;
+        };
+        values.put(place, value);
+        (_, rest) = digits.split_at(end);
+    }
+    if rest.is_empty() { Some(values) } else { None }
 }
 
 /// The numbers of a line of this form, where the problem line had these.
@@ -235,7 +239,7 @@ pub(crate) fn match_form(
     if begins_otherwise(form.words, text) {
         return None;
     }
-    let rest = after_words(form.words, text)?;
+    let rest = after_fields(form.words, text)?;
     let mut values = Values::new();
     match take_numbers(form.fields, ranges, problem, rest, &mut values) {
         Spelled::No => None,

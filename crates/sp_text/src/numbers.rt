@@ -1,11 +1,12 @@
 //! Numbers of any number of digits.
-ghost use Rattle.std.specs.Prelude.{◌≡◌, ◌≤◌, ◌^◌, length, take, true, IfSome, MatchOption};
+ghost use Rattle.std.specs.Prelude.{◌≡◌, ◌<◌, ◌≤◌, ◌^◌, length, take, slice_index, true, false, IfSome, MatchOption};
 ghost use Rattle.std.specs.List.{list_all};
 ghost use Rattle.std.specs.Char.{is_ascii_digit};
 ghost use Rattle.sp_text.specs.Lines.{value, is_number};
-ghost use Rattle.sp_text.specs.Numeral.{numeral, ranged, starts_number, begins_number, IsQuick};
+ghost use Rattle.sp_text.specs.Numeral.{numeral, ranged, starts_number, begins_number, IsFront, IsQuick};
 
 use crate::fields::parts_fields;
+use crate::packed::packed_number;
 
 /// What a field is as a number within a range.
 #[derive(Clone, Copy, Debug, PartialEq, Eq)]
@@ -81,6 +82,7 @@ fn front_digits(text: &[u8]) -> (u64, usize)
     ensures within { result.1 ≤ length text.now }
     ensures digits { list_all is_ascii_digit (take result.1 text.now) ≡ true }
     ensures number { result.1 ≤ 19 → result.0 ≡ value (take result.1 text.now) }
+    ensures all { result.1 < length text.now → is_ascii_digit (slice_index text.now result.1) ≡ false }
 {
     let mut value: u64 = 0;
     for (end, byte) in text.iter().enumerate() {
@@ -90,6 +92,24 @@ fn front_digits(text: &[u8]) -> (u64, usize)
         value = value.wrapping_mul(10).wrapping_add((*byte - b'0') as u64);
     }
     (value, text.len())
+}
+
+/// The number that the digits at the front spell and where they end, if they begin with no zero, and are few.
+#[inline(always)]
+pub(crate) fn front_number(text: &[u8]) -> Option<(u64, usize)>
+    ensures { IfSome result (λ x. IsFront text.now x.0 x.1) }
+{
+    if !begins_number(text) {
+        return None;
+    }
+    if let Some((value, end)) = packed_number(text) {
+        return Some((value, end));
+    }
+    let (value, end) = front_digits(text);
+    if end > FEW_DIGITS {
+        return None;
+    }
+    Some((value, end))
 }
 
 /// The number that the digits at the front spell and where they end, if a blank or nothing stands there,
@@ -105,9 +125,9 @@ pub(crate) fn quick_number(text: &[u8]) -> Option<(u64, usize)>
     Some((value, end))
 }
 
-/// Whether the first byte is a digit, and no zero.
+// Whether the first byte is a digit, and no zero.
 #[inline(always)]
-pub(crate) fn begins_number(text: &[u8]) -> bool
+fn begins_number(text: &[u8]) -> bool
     ensures { result ≡ begins_number text.now }
 {
     match text {

@@ -1,13 +1,13 @@
 //! What a line is.
-ghost use Rattle.std.specs.Prelude.{◌≡◌, []};
+ghost use Rattle.std.specs.Prelude.{◌≡◌, [], IfSome};
 ghost use Rattle.sp_text.specs.Lines.{parted};
 ghost use Rattle.sp_text.specs.Formats.{format_of, IsSmall};
 ghost use Rattle.sp_text.specs.Text.{is_comment, reading};
-ghost use Rattle.sp_text.specs.Matching.{IsFound};
+ghost use Rattle.sp_text.specs.Matching.{IsFound, IsUsualItem};
 
 use crate::fields::{drop_cr, next_field, starts_otherwise};
 use crate::layouts::{Form, Layout, Ranges};
-use crate::matching::{Numbers, match_form};
+use crate::matching::{Numbers, after_letter, begins_otherwise, match_form, spaced_numbers};
 use crate::rooms::Values;
 
 /// What a line was found to be.
@@ -33,8 +33,36 @@ fn is_remark(text: &[u8]) -> bool
     }
 }
 
-/// What a line is, where the problem line had these numbers.
+/// The form of a line, its place and the numbers, if it is an item in the usual spelling, and they are in their ranges.
 #[inline(always)]
+pub(crate) fn usual_item(
+    layout: &Layout,
+    ranges: &Ranges,
+    problem: &Values,
+    line: &[u8],
+) -> Option<(usize, &'static Form, Values)>
+    requires { IsSmall layout.now }
+    ensures { IfSome result (IsUsualItem (format_of layout.now) ranges.now problem.now (reading (format_of layout.now) line.now)) }
+{
+    let text = drop_cr(line);
+    let items: &'static [Form] = layout.items;
+    for (place, form) in items.iter().enumerate() {
+        if let Some(rest) = after_letter(form.words, text) {
+            if starts_otherwise(text, b'c') && begins_otherwise(layout.problem.words, text) {
+                let values = spaced_numbers(form.fields, ranges, problem, rest)?;
+                return Some((place, form, values));
+            }
+            return None;
+        }
+        if !begins_otherwise(form.words, text) {
+            return None;
+        }
+    }
+    None
+}
+
+/// What a line is, where the problem line had these numbers.
+#[inline(never)]
 #[tactic(auto, unfolding(crate::specs::Text::reading, crate::specs::Text::reading_of, crate::specs::Lines::fields))]
 pub(crate) fn read_line(layout: &Layout, ranges: &Ranges, problem: &Values, line: &[u8]) -> Found
     requires { IsSmall layout.now }

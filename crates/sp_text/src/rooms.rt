@@ -68,7 +68,7 @@ impl Room {
     }
 }
 
-/// The numbers of a line, at most four.
+/// The numbers of a line, at most four. Past the last stand zeros.
 #[derive(Drop)]
 pub struct Values {
     numbers: [u64; 4],
@@ -80,7 +80,7 @@ impl Model for Values {
 
     ghost view = { λ v. take v.len v.numbers };
 
-    ghost invariant = { λ v. v.len ≤ 4 };
+    ghost invariant = { λ v. (v.len ≤ 4) × ((k : ℕ) → v.len ≤ k → slice_index v.numbers k ≡ 0) };
 }
 
 impl Values {
@@ -99,15 +99,25 @@ impl Values {
         requires { length self.old < 4 }
         ensures { self.new ≡ self.old ++ number ∷ [] }
     {
-        self.numbers[self.len] = number;
-        self.len += 1;
+        self.put(self.len, number);
+    }
+
+    // Puts a number behind the others, of which there are so many.
+    #[inline(always)]
+    pub(crate) fn put(&mut self, place: usize, number: u64)
+        requires place { place ≡ length self.old }
+        requires room { place < 4 }
+        ensures { self.new ≡ self.old ++ number ∷ [] }
+    {
+        self.numbers[place] = number;
+        self.len = place + 1;
     }
 
     /// The number at this place, 0 past the last.
     pub fn get(&self, place: usize) -> u64
         ensures { result ≡ slice_index self.now place }
     {
-        if place < self.len {
+        if place < self.numbers.len() {
             self.numbers[place]
         } else {
             0

@@ -1,4 +1,6 @@
 mod answers;
 mod devices;
+mod memory;
 mod pieces;
+mod quick;
 mod samples;

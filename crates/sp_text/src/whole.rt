@@ -15,8 +15,7 @@ fn read_on<R: Read, T: LineTaker + Drop>(
     reader: &mut R,
     mut feeder: Feeder<T>,
 ) -> Result<T::Value, DimacsError>
-    requires fresh { R.passed reader.old ≡ 0 }
-    requires new { IsBehind T.rules T.After [] feeder }
+    requires { IsBehind T.rules T.After [] feeder }
     ensures { ReadOn T.rules T.Spelled (R.left reader.old) (R.left reader.new) (R.has_failed reader.new) result }
 {
     let mut buffer = [0u8; PIECE];
@@ -29,14 +28,13 @@ fn read_on<R: Read, T: LineTaker + Drop>(
     }
 }
 
-/// The value that the bytes of a reader spell, or their first fault. Memory may be told in place of a
-/// later fault.
+/// The value that the bytes of a reader spell from here on, or their first fault. Where the value of an item
+/// line finds no room, Memory is told of that line, if no line up to it has a fault.
 pub fn read_text<R: Read, T: LineTaker + Drop>(
     reader: &mut R,
     feeder: Feeder<T>,
 ) -> Result<T::Value, DimacsError>
-    requires fresh { R.passed reader.old ≡ 0 }
-    requires new { IsBehind T.rules T.After [] feeder }
+    requires { IsBehind T.rules T.After [] feeder }
     ensures exact { (text : List ℕ) → R.left reader.old ≡ Some text → AllRead T.rules T.Spelled text (R.left reader.new) (R.has_failed reader.new) result }
     ensures found { IfOk result (IsSpelled T.rules T.Spelled) }
     ensures read { IfErr result (λ e. e.kind ≡ Kind.Read → R.has_failed reader.new ≡ true) }

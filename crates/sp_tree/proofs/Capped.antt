@@ -10,7 +10,7 @@ use Rattle.sp_tree.specs.declared.lines.Line.{Line}
 use Rattle.sp_tree.specs.declared.lines.Line.TheVariants.{Problem, Row, End}
 use Rattle.sp_tree.specs.declared.taking.TreeLines.{TreeLines}
 use Rattle.sp_tree.specs.Table.{TreeTable, IsTable, last_vertex}
-use Rattle.sp_tree.specs.Spelling.{Spelled, Nothing, Open, Whole, next, spelled_from, spelled, in_range, fault, line_in, tree_judge}
+use Rattle.sp_tree.specs.Spelling.{Spelled, Nothing, Open, Whole, next, spelled_from, spelled, in_range, fault, line_in, is_row, tree_judge}
 use Rattle.sp_tree.specs.Fields.{capped, capped_line}
 use Rattle.sp_tree.specs.Taking.{HasTable, IsAt, Answers}
 use Rattle.sp_tree.proofs.Rising.{few_rows}
@@ -92,11 +92,17 @@ push_from s (x ∷ before) line = push_from (next s (line_in x)) before line
 pub spelled_push : (before : List (List ℕ)) (line : List ℕ) → spelled (before ++ line ∷ []) ≡ next (spelled before) (line_in line)
 spelled_push before line = push_from Nothing before line
 
+capped_row : (line : Option Line) → is_row (capped_line line) ≡ is_row line
+capped_row None = refl
+capped_row (Some (Problem n source)) = refl
+capped_row (Some (Row vertex dist pred)) = refl
+capped_row (Some (End count)) = refl
+
 uncapped : {P : ℕ} (s : Spelled) (line : Option Line) (result : Result (Unit {0}) Kind) (new : TreeLines P) → is_layout P ≡ true → HasTable P s → Answers s (capped_line line) result new → Answers s line result new
 uncapped {P = P} s line (Ok u) new layout table h =
     let none : fault P s line ≡ None = sym (capped_fault P s line layout table) ∙ h.0 in
     (none, rw (capped_same P s line layout table none) at h.1)
-uncapped {P = P} s line (Err kind) new layout table h = rw (capped_fault P s line layout table) at h
+uncapped {P = P} s line (Err kind) new layout table h = rw (capped_fault P s line layout table, capped_row line) at h
 
 taken_by : {P : ℕ} (before : List (List ℕ)) (line : List ℕ) (result : Result (Unit {0}) Kind) (new : TreeLines P) → Answers (spelled before) (line_in line) result new
     → Takes (tree_judge P) (λ (k : TreeLines P) (lines : List (List ℕ)). IsAt k (spelled lines)) before line result new

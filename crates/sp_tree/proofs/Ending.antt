@@ -43,12 +43,12 @@ strict_silent judge silent text e h =
     one_of (early judge text) (or_at (length (ended text) + 1) (or_kind (cut_short judge text) (judge.missing (ended text))) None) e (early_silent judge silent text e)
     (at_end (length (ended text) + 1) (or_kind (cut_short judge text) (judge.missing (ended text))) e (kinds_silent (cut_short judge text) (judge.missing (ended text)) (short_silent judge text) (silent.missing (ended text)))) h
 
-memory_silent : (judge : Judge) (all : List (List ℕ)) (e : DimacsError) → IsMemory judge all e → e.kind ≢ Read
-memory_silent judge all e h is = let k : e.kind ≡ Memory = h.kind in cc
+memory_silent : (judge : Judge) (before all : List (List ℕ)) (e : DimacsError) → IsMemory judge before all e → e.kind ≢ Read
+memory_silent judge before all e h is = let k : e.kind ≡ Memory = h.kind in cc
 
-kind_told : (P : ℕ) (text : List ℕ) (end failure : Type 0) (has_failed : Bool) (e : DimacsError) → Refused (tree_judge P) text e ⊎ (end × (strictly_told (tree_judge P) text ≡ Some e)) ⊎ ((has_failed ≡ true) × failure) → e.kind ≡ Read → has_failed ≡ true
+kind_told : (P : ℕ) (text : List ℕ) (end failure : Type 0) (has_failed : Bool) (e : DimacsError) → Refused (tree_judge P) [] text e ⊎ (end × (strictly_told (tree_judge P) text ≡ Some e)) ⊎ ((has_failed ≡ true) × failure) → e.kind ≡ Read → has_failed ≡ true
 kind_told P text end failure has_failed e (inl (inl is)) read = absurd (early_silent (tree_judge P) (tree_silent P) text e is read)
-kind_told P text end failure has_failed e (inl (inr memory)) read = absurd (memory_silent (tree_judge P) _ e memory read)
+kind_told P text end failure has_failed e (inl (inr memory)) read = absurd (memory_silent (tree_judge P) _ _ e memory read)
 kind_told P text end failure has_failed e (inr (inl (at, is))) read = absurd (strict_silent (tree_judge P) (tree_silent P) text e is read)
 kind_told P text end failure has_failed e (inr (inr (is, fault))) read = is
 

@@ -2,6 +2,7 @@
 use Rattle.std.specs.Prelude.{◌≡◌, ℕ, ◌⊎◌, Bool, true, List, [], ◌++◌, Option, Some, Result, Ok, Err}
 use Rattle.std.specs.Io.KnownBytes.{Consumes, IsAtEnd}
 use Rattle.sp_text.specs.declared.faults.DimacsError.{DimacsError}
+use Rattle.sp_text.specs.Lines.{ended}
 use Rattle.sp_text.specs.First.{failed, strictly_told}
 use Rattle.sp_text.specs.Feeding.{IsBehind, Fed, Refused}
 use Rattle.sp_tree.specs.declared.reading.TreeReader.{TreeReader}
@@ -19,9 +20,10 @@ IsBehindTree {P} text reader = IsBehind (tree_judge P) (λ (k : TreeLines P) (li
 abbrev pub IsSpentTree : {P : ℕ} → DimacsError → TreeReader P → Type 0
 IsSpentTree e reader = reader.feeder.spent ≡ Some e
 
--- The answer to a text that may go on: the reader stands behind it, or is spent by its first fault.
-abbrev pub TreeFed : {P : ℕ} {U : Type 0} → List ℕ → Result U DimacsError → TreeReader P → Type 0
-TreeFed {P} text result new = Fed (tree_judge P) (λ (k : TreeLines P) (lines : List (List ℕ)). IsAt k (spelled lines)) text result new.feeder
+-- The answer to one piece more of a text: the reader stands behind it, or is spent by its first fault. Where a
+-- row finds no room, that is a row of lines that end in this piece.
+abbrev pub TreeFed : {P : ℕ} {U : Type 0} → (text piece : List ℕ) → Result U DimacsError → TreeReader P → Type 0
+TreeFed {P} text piece result new = Fed (tree_judge P) (λ (k : TreeLines P) (lines : List (List ℕ)). IsAt k (spelled lines)) (ended text) (text ++ piece) result new.feeder
 
 -- The answer where the text ends: the tree whose text it is, and a reader behind no text; or its first fault.
 abbrev pub TreeFinished : {P : ℕ} → List ℕ → Result TreeTable DimacsError → TreeReader P → Type 0
@@ -33,10 +35,10 @@ TreeFinished {P} text (Err e) new = IsSpentTree e new × (strictly_told (tree_ju
 abbrev pub TreeRead : (P : ℕ) → List ℕ → Option (List ℕ) → Bool → Result TreeTable DimacsError → Type 0
 TreeRead P text left has_failed (Ok tree) = (left ≡ Some []) × (text ≡ tree_text tree)
 TreeRead P text left has_failed (Err e) = (front more : List ℕ) × (text ≡ front ++ more) × (left ≡ Some more) ×
-    (Refused (tree_judge P) front e ⊎ ((more ≡ []) × (strictly_told (tree_judge P) text ≡ Some e)) ⊎ ((has_failed ≡ true) × (failed (tree_judge P) front ≡ Some e)))
+    (Refused (tree_judge P) [] front e ⊎ ((more ≡ []) × (strictly_told (tree_judge P) text ≡ Some e)) ⊎ ((has_failed ≡ true) × (failed (tree_judge P) front ≡ Some e)))
 
 -- The same where the bytes of the device are perhaps not known: this text came from it.
 abbrev pub TreeReadOn : (P : ℕ) → Option (List ℕ) → Option (List ℕ) → Bool → Result TreeTable DimacsError → Type 0
 TreeReadOn P old new has_failed (Ok tree) = (text : List ℕ) × Consumes old new text × IsAtEnd new × (text ≡ tree_text tree) × IsTable P tree
 TreeReadOn P old new has_failed (Err e) = (front : List ℕ) × Consumes old new front ×
-    (Refused (tree_judge P) front e ⊎ (IsAtEnd new × (strictly_told (tree_judge P) front ≡ Some e)) ⊎ ((has_failed ≡ true) × (failed (tree_judge P) front ≡ Some e)))
+    (Refused (tree_judge P) [] front e ⊎ (IsAtEnd new × (strictly_told (tree_judge P) front ≡ Some e)) ⊎ ((has_failed ≡ true) × (failed (tree_judge P) front ≡ Some e)))

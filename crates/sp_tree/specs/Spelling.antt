@@ -94,5 +94,15 @@ missing_of Nothing = Some NoProblem
 missing_of (Open t) = Some TooFew
 missing_of (Whole t) = None
 
+-- The value of a row line takes room.
+abbrev pub is_row : Option Line → Bool
+is_row (Some (Row vertex dist pred)) = true
+is_row line = false
+
 abbrev pub tree_judge : (P : ℕ) → Judge
-tree_judge P = record { closed = λ lines. is_whole (spelled lines); fault = λ before line. fault P (spelled before) (line_in line); missing = λ lines. missing_of (spelled lines) }
+tree_judge P = record {
+  closed = λ lines. is_whole (spelled lines);
+  fault = λ before line. fault P (spelled before) (line_in line);
+  missing = λ lines. missing_of (spelled lines);
+  is_item = λ line. is_row (line_in line);
+}

@@ -36,7 +36,7 @@ impl<const P: u32> TreeReader<P> {
     /// Takes the next piece of the text.
     pub fn feed(&mut self, piece: &[u8]) -> Result<(), DimacsError>
         ensures again { (e : DimacsError) → IsSpentTree e self.old → (result ≡ Err e) × (self.new ≡ self.old) }
-        ensures fed { (text : List ℕ) → length (text ++ piece.now) ≤ 2 ^ 62 → IsBehindTree text self.old → TreeFed (text ++ piece.now) result self.new }
+        ensures fed { (text : List ℕ) → length (text ++ piece.now) ≤ 2 ^ 62 → IsBehindTree text self.old → TreeFed text piece.now result self.new }
     {
         self.feeder.feed(piece)
     }
@@ -63,8 +63,7 @@ fn read_on<const P: u32, R: Read>(
     reader: &mut R,
     mut tree: TreeReader<P>,
 ) -> Result<Tree<P>, DimacsError>
-    requires fresh { R.passed reader.old ≡ 0 }
-    requires new { IsBehindTree [] tree }
+    requires { IsBehindTree [] tree }
     ensures { TreeReadOn P (R.left reader.old) (R.left reader.new) (R.has_failed reader.new) result }
 {
     let mut buffer = [0u8; PIECE];
@@ -77,14 +76,14 @@ fn read_on<const P: u32, R: Read>(
     }
 }
 
-/// The tree whose text the bytes of a device are, or their first fault. Memory may be told in place of a
-/// later fault.
+/// The tree whose text the bytes of a device are from here on, or their first fault. Where a row finds no room,
+/// Memory is told of its line, if no line up to it has a fault.
+#[tactic(auto, using(crate::proofs::Ending::read_told))]
 pub fn read_tree<const P: u32, R: Read>(
     alloc: Global,
     reader: &mut R,
 ) -> Result<Tree<P>, DimacsError>
-    requires layout { is_layout P ≡ true }
-    requires fresh { R.passed reader.old ≡ 0 }
+    requires { is_layout P ≡ true }
     ensures exact { (text : List ℕ) → R.left reader.old ≡ Some text → TreeRead P text (R.left reader.new) (R.has_failed reader.new) result }
     ensures found { IfOk result (IsTable P) }
     ensures read { IfErr result (λ e. e.kind ≡ Kind.Read → R.has_failed reader.new ≡ true) }

@@ -34,7 +34,7 @@ fn time_rows<R: AllocGlobal + Clock + Print>(rt: &R, file: GrFile) -> io::Result
 {
     let arcs = file.arcs.len() as u64;
     let start = Instant::now(rt)?;
-    let graph = Graph::build(rt.alloc(), file.n, &file.arcs)?;
+    let graph = Graph::from_arcs(rt.alloc(), file.n, file.arcs)?;
     print_each(rt, "build", start.elapsed(rt)?, arcs, "ns/arc")?;
     let start = Instant::now(rt)?;
     let rows = Rows::split(rt.alloc(), &graph, DELTA)?;

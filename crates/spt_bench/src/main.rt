@@ -3,6 +3,7 @@
 #![tactic(auto)]
 
 mod files;
+mod fire;
 mod offers;
 mod report;
 mod rounds;
@@ -20,7 +21,7 @@ use std::{env, io};
 use whole::{Paths, Plan};
 
 const USAGE: &str =
-    "usage: spt_bench read GR | tree FILE | offers THREADS WORDS COUNT | rounds WORKERS TASKS ROUNDS | threads THREADS COUNT | whole GR SS DELTA WORKERS TREES";
+    "usage: spt_bench read GR | tree FILE | offers THREADS WORDS COUNT | rounds WORKERS TASKS ROUNDS | threads THREADS COUNT | whole GR SS DELTA WORKERS TREES | fire GRAPHS SEED";
 
 // The crowd that three words of the command line order.
 fn crowd_of(threads: &str, words: &str, count: &str) -> Option<Crowd> {
@@ -76,6 +77,11 @@ fn run<R: AllocGlobal + Clock + Eprint + Files + Print + Threads + Wait + Sync>(
                     trees,
                 };
                 return whole::time_whole(rt, &paths, plan);
+            }
+        }
+        ["fire", graphs, seed] => {
+            if let (Ok(graphs), Ok(seed)) = (graphs.parse(), seed.parse()) {
+                return fire::fire(rt, graphs, seed);
             }
         }
         ["threads", threads, times] => {

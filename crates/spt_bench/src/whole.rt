@@ -82,8 +82,7 @@ fn time_trees<R: AllocGlobal + Clock + Files + Print + Threads + Wait + Sync>(
     requires { IsNetwork 28 file }
 {
     let start = Instant::now(rt)?;
-    let graph = Graph::build(rt.alloc(), file.n, &file.arcs)?;
-    drop(file);
+    let graph = Graph::from_arcs(rt.alloc(), file.n, file.arcs)?;
     print_each(rt, "rows", start.elapsed(rt)?, 1_000_000, "ms")?;
     let mut out = OfWrite::new(fs::create(rt, trees)?);
     let taken = answer_all(rt, &graph, &sources.sources, plan, &mut out)?;

@@ -1,7 +1,7 @@
 //! Devices that fail.
 ghost use Rattle.std.specs.Prelude.{◌≤◌, length};
 
-use super::graphs::{ALONE, DIAMOND, ONE};
+use super::graphs::{ALONE, DIAMOND, ONE, TWO, TWO_TEXT};
 use super::{gr, run_into, summary};
 use crate::{BatchError, Summary, run_batch};
 use sp_dimacs::{Kind, UpTo, UpToWriter};
@@ -11,11 +11,6 @@ use std::str::from_utf8;
 use std::sync::Wait;
 use std::test::Fail;
 use std::thread::Threads;
-
-const TWO: &[u8] = b"p aux sp ss 2\ns 1\ns 4\n";
-
-const TWO_TEXT: &[u8] =
-    b"p spt 4 1\nv 1 0 0\nv 2 3 1\nv 3 3 1\nv 4 5 2\ne 4\np spt 4 4\nv 4 0 0\ne 1\n";
 
 #[test]
 fn failing_writer(rt: HostRuntime) -> Result<(), Fail> {

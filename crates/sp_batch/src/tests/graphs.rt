@@ -16,6 +16,13 @@ pub const DIAMOND: &[u8] = b"p sp 4 5\na 1 2 3\na 1 3 3\na 2 4 2\na 3 4 2\na 1 4
 
 pub const ONE: &[u8] = b"p aux sp ss 1\ns 1\n";
 
+/// The sources 1 and 4.
+pub const TWO: &[u8] = b"p aux sp ss 2\ns 1\ns 4\n";
+
+/// Their blocks in the graph of the diamond.
+pub const TWO_TEXT: &[u8] =
+    b"p spt 4 1\nv 1 0 0\nv 2 3 1\nv 3 3 1\nv 4 5 2\ne 4\np spt 4 4\nv 4 0 0\ne 1\n";
+
 // 16 arcs of the greatest length in a line of 18 vertices; an arc from 17 to 18 is to follow.
 const LINE: &[u8] =
     b"a 1 2 4294967295\na 2 3 4294967295\na 3 4 4294967295\na 4 5 4294967295\na 5 6 4294967295\na 6 7 4294967295\na 7 8 4294967295\na 8 9 4294967295\na 9 10 4294967295\na 10 11 4294967295\na 11 12 4294967295\na 12 13 4294967295\na 13 14 4294967295\na 14 15 4294967295\na 15 16 4294967295\na 16 17 4294967295\n";

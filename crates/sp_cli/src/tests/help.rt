@@ -12,7 +12,7 @@ fn version(rt: HostRuntime) {
             &rt,
             run(&rt, rt.alloc(), &["spt", word], &[]),
             0,
-            "spt 0.1.0\n",
+            "spt 0.2.0\n",
             "",
         );
     }
@@ -222,12 +222,14 @@ Arguments:
 Options:
       --delta <D>
           The width of a bucket of tentative distances, from 1 to the greatest distance of a word. The mean
-          length of an arc is a good first choice; then try from 0.3 to 3 times as much. A delta that is far
-          off costs much time or memory. Any delta gives the same bytes
+          length of an arc is a good choice, and so are a third of it and thirty times as much. Any delta gives
+          the same bytes
 
       --workers <W>
-          Threads that may work on one tree, from 1 to 64, the main thread counted. Any number gives the same
-          bytes
+          Threads that may work at once, from 1 to 64, the main thread counted. As many as there are processors
+          is a good choice, where they are free: all work on one tree, or each on a tree of its own where there
+          are several sources. No more threads are started than there are processors, nor any for a small graph.
+          Any number gives the same bytes
           
           [default: 1]
 

@@ -1,7 +1,7 @@
 ghost use Rattle.std.specs.Prelude.{◌<◌};
 
 use super::samples::{DIAMOND, DIAMOND_ARCS, arcs, fed, told};
-use crate::{DimacsError, GrReader, Kind};
+use crate::{DimacsError, GrReader, Kind, Read, UpTo, read_gr};
 use std::alloc::Global;
 use std::test::Fail;
 
@@ -177,5 +177,29 @@ fn long_comment_whole(rt: HostRuntime) -> Result<(), Fail> {
     let mut too_long = text;
     too_long[1_034] = b'\n';
     assert_eq!(rt; arcs::<28>(alloc, &too_long), long);
+    Ok(())
+}
+
+// Of a device that has passed a header the rest is read, and lines are counted from there.
+#[test]
+fn behind_a_header(rt: HostRuntime) -> Result<(), Fail> {
+    let alloc = rt.alloc();
+    let mut header = [0u8; 5];
+    let mut device = UpTo::whole(b"spt1\np sp 2 1\na 1 2 3\n");
+    assert_eq!(rt; device.read(&mut header), Ok(5));
+    assert_eq!(rt; header, *b"spt1\n");
+    let file = read_gr::<28, _>(alloc, &mut device)?;
+    assert_eq!(rt; (file.n, file.arcs.len()), (2, 1));
+    let arc = file.arcs[0];
+    assert_eq!(rt; (arc.tail, arc.head, arc.len), (1, 2, 3));
+    let mut faulty = UpTo::whole(b"spt1\np sp 2 1\na 1 3 3\n");
+    assert_eq!(rt; faulty.read(&mut header), Ok(5));
+    assert_eq!(rt;
+        read_gr::<28, _>(alloc, &mut faulty).err(),
+        Some(DimacsError {
+            line: 2,
+            kind: Kind::OutOfRange(b'V'),
+        })
+    );
     Ok(())
 }

@@ -8,28 +8,31 @@ use std::sync::Wait;
 use std::test::Fail;
 use std::thread::{Threads, join};
 
-// Offers a pair to vertex 1, and gives the caller back.
-fn offer_one<M: Lowering>(table: &OfferTable<AnyWord, 28>, mut me: Caller, word: Word<28>) -> Caller
+// Offers two pairs to vertex 1, one after the other, and gives the caller back.
+fn offer_in_turn<M: Lowering>(
+    table: &OfferTable<AnyWord, 28>,
+    mut me: Caller,
+    first: Word<28>,
+    second: Word<28>,
+) -> Caller
     requires caller { me.table ≡ table.now.id }
     requires some { 0 < table.now.vertices }
-    requires word { IsPair word }
+    requires words { IsPair first × IsPair second }
     ensures { result.table ≡ me.table }
 {
-    table.offer_by::<M>(&mut me, 1, word);
+    table.offer_by::<M>(&mut me, 1, first);
+    table.offer_by::<M>(&mut me, 1, second);
     me
 }
 
-// Two callers, one on each lowering, offer a pair each.
-fn offer_both<R: Threads + Wait + Sync>(
+// Four offers: two by a thread on Loop, and two by a thread on OneMin.
+fn offer_by_both<R: Threads + Wait + Sync>(
     rt: &R,
     table: &OfferTable<AnyWord, 28>,
     me: Caller,
-    by_loop: Word<28>,
-    by_one: Word<28>,
 ) -> Option<Caller>
     requires caller { me.table ≡ table.now.id }
     requires some { 0 < table.now.vertices }
-    requires words { IsPair by_loop × IsPair by_one }
     ensures { IfSome result (λ c. c.table ≡ table.now.id) }
 {
     let (one, two) = table.split(me).ok()?;
@@ -38,25 +41,21 @@ fn offer_both<R: Threads + Wait + Sync>(
         || -> Caller
             requires caller { one.table ≡ table.now.id }
             requires some { 0 < table.now.vertices }
-            requires word { IsPair by_loop }
             ensures { result.table ≡ table.entry.now.id }
-        { offer_one::<Loop>(table, one, by_loop) },
+        { offer_in_turn::<Loop>(table, one, Word::pack(9, 1), Word::pack(7, 4)) },
         || -> Caller
             requires caller { two.table ≡ table.now.id }
             requires some { 0 < table.now.vertices }
-            requires word { IsPair by_one }
             ensures { result.table ≡ table.entry.now.id }
-        { offer_one::<OneMin>(table, two, by_one) },
+        { offer_in_turn::<OneMin>(table, two, Word::pack(7, 2), Word::pack(8, 3)) },
     );
     Some(table.join(one, two))
 }
 
 #[test]
-fn offers(rt: HostRuntime) -> Result<(), Fail> {
+fn one_step_lowering(rt: HostRuntime) -> Result<(), Fail> {
     let (table, me) = OfferTable::<AnyWord, 28>::new(rt.alloc(), 1, AnyWord)?;
-    let mut me = offer_both(&rt, &table, me, Word::pack(7, 4), Word::pack(7, 2)).ok_or(
-        "split refused",
-    )?;
+    let mut me = offer_by_both(&rt, &table, me).ok_or("split refused")?;
     assert_eq!(rt; table.read(&mut me, 1), Word::pack(7, 2));
     Ok(())
 }

@@ -10,33 +10,6 @@ use sp_word::Word;
 use std::process::Abort;
 use std::test::Fail;
 
-/// A row of numbers that are random enough (D. Knuth's multiplier, the upper bits).
-#[derive(Drop)]
-pub(crate) struct Random {
-    state: u64,
-}
-
-impl Random {
-    /// The same seed gives the same row.
-    pub(crate) fn new(seed: u64) -> Random {
-        Random { state: seed }
-    }
-
-    /// From 0 up to, not including, `bound`, which is at least 1.
-    pub(crate) fn below(&mut self, bound: u32) -> u32 {
-        self.state = self
-            .state
-            .wrapping_mul(6_364_136_223_846_793_005)
-            .wrapping_add(1_442_695_040_888_963_407);
-        ((self.state >> 32) as u32) % bound.max(1)
-    }
-
-    /// From 1 up to `n`.
-    pub(crate) fn up_to(&mut self, n: u32) -> u32 {
-        self.below(n).saturating_add(1)
-    }
-}
-
 /// What the plain program tells.
 pub(crate) fn plain<const P: u32>(
     rt: &(impl Abort + AllocGlobal),

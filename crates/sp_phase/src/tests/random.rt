@@ -1,11 +1,11 @@
 //! The engine and the plain program tell the same of random graphs.
-ghost use Rattle.std.specs.Prelude.{◌≡◌, true};
+ghost use Rattle.std.specs.Prelude.{◌≡◌, ◌≤◌, true};
 ghost use Rattle.sp_word.specs.Word.{is_layout};
 
-use super::compare::{Random, mean, plain, same};
-use super::{graph_of, run};
+use super::compare::{mean, plain, same};
+use super::{graph_of, run, run_by_team};
 use sp_graph::Graph;
-use sp_plain::Answer;
+use sp_plain::{Answer, Random};
 use sp_word::Word;
 use std::process::Abort;
 use std::sync::Wait;
@@ -13,7 +13,9 @@ use std::test::Fail;
 use std::thread::Threads;
 
 // An arc between any two of `n` vertices.
-fn random_arc(random: &mut Random, n: u32, longest: u32) -> (u32, u32, u32) {
+fn random_arc(random: &mut Random, n: u32, longest: u32) -> (u32, u32, u32)
+    requires { (1 ≤ n) × (1 ≤ longest) }
+{
     (random.up_to(n), random.up_to(n), random.up_to(longest))
 }
 
@@ -23,9 +25,11 @@ fn random_graph(
     rt: &(impl Abort + AllocGlobal),
     random: &mut Random,
     longest: u32,
-) -> Result<Graph, Fail> {
+) -> Result<Graph, Fail>
+    requires { 1 ≤ longest }
+{
     let n = random.up_to(200);
-    let m = random.below(n.saturating_mul(3));
+    let m = random.below(n * 3);
     let mut arcs = Vec::new(rt.alloc());
     for _ in 0..m {
         arcs.push(random_arc(random, n, longest))?;
@@ -33,7 +37,7 @@ fn random_graph(
     graph_of(rt, n, &arcs)
 }
 
-// Every width of a bucket with every number of workers, each round shared.
+// Every width of a bucket with every number of workers, by rounds that are all shared and by a team.
 fn compare_runs<const P: u32>(
     rt: &(impl Abort + AllocGlobal + Threads + Wait + Sync),
     graph: &Graph,
@@ -53,6 +57,11 @@ fn compare_runs<const P: u32>(
                 same(&told, want),
                 "graph {number} of seed {seed}, delta {delta}, {workers} workers"
             );
+            let told = run_by_team(rt, graph, delta.min(most), workers, source);
+            assert!(rt;
+                same(&told, want),
+                "graph {number} of seed {seed}, delta {delta}, a team of {workers}"
+            );
         }
     }
 }
@@ -64,7 +73,8 @@ fn compare<const P: u32>(
     graphs: u32,
     longest: u32,
 ) -> Result<(), Fail>
-    requires { is_layout P ≡ true }
+    requires layout { is_layout P ≡ true }
+    requires longest { 1 ≤ longest }
 {
     let mut random = Random::new(seed);
     for number in 0..graphs {

@@ -1,9 +1,10 @@
 //! The engine and the plain program tell the same of graphs of the size and the shape of a town's roads.
+ghost use Rattle.std.specs.Prelude.{◌≤◌};
 
-use super::compare::{Random, mean, plain, same};
-use super::{graph_of, run, run_sharing_long};
+use super::compare::{mean, plain, same};
+use super::{graph_of, run, run_by_team};
 use sp_graph::Graph;
-use sp_plain::Answer;
+use sp_plain::{Answer, Random};
 use sp_word::Word;
 use std::alloc::AllocError;
 use std::process::Abort;
@@ -29,6 +30,7 @@ struct Plan {
     roads: u32,
     // no street leads from one of so many parts to another
     parts: u32,
+    ghost some: { 1 ≤ spread },
 }
 
 const TOWN: Plan = Plan {
@@ -127,7 +129,7 @@ fn compare_widths(
     ];
     for delta in deltas {
         for workers in [1, 2, 8] {
-            let told = run_sharing_long(rt, graph, delta, workers, source);
+            let told = run_by_team(rt, graph, delta, workers, source);
             assert!(rt; same(&told, want), "delta {delta}, {workers} workers");
         }
     }

@@ -73,6 +73,18 @@ fn settle_answers(rt: HostRuntime) -> Result<(), Fail> {
     Ok(())
 }
 
+// Rounds of fewer than 1,000 tasks are the leader's alone.
+#[test]
+fn short_rounds_alone(rt: HostRuntime) -> Result<(), Fail> {
+    let graph = graph_of(&rt, 4, &DIAMOND)?;
+    let (store, caller, claimer) = Store::<28>::new(rt.alloc(), &graph, 2, 1)?;
+    let store = store.sharing_from(1000);
+    let run = Run::begin(rt.alloc(), &store, caller, claimer, 64)?;
+    let told = answers_of(&rt, run)?;
+    assert!(rt; told.as_slice() == [Some(0u64), Some(1), Some(2), Some(3), None].as_slice());
+    Ok(())
+}
+
 // Settles one more bucket, which is this one.
 fn settle_next(
     rt: &(impl Abort + AllocGlobal + Threads + Wait + Sync),
@@ -165,7 +177,7 @@ fn reads_beside_another_caller(rt: HostRuntime) -> Result<(), Fail> {
     for workers in WORKERS {
         assert!(rt; graph.n() == 4);
         let (store, caller, claimer) = Store::<28>::new(rt.alloc(), &graph, 2, 1)?;
-        let (caller, mut other) = split(&rt, &store, caller);
+        let (caller, mut other) = split(&store, caller);
         offer_first(&store, &mut other, 2);
         let [first, second] = settled_words(&rt, &store, caller, claimer, workers)?;
         assert!(rt; first.0 == Word::pack(3, 1));

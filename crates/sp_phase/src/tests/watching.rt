@@ -99,7 +99,7 @@ fn watched(
     requires claimer { claimer.table ≡ store.now.claims }
     ensures { IfOk result (λ watcher. watcher.table ≡ store.now.table) }
 {
-    let (caller, watcher) = split(rt, store, caller);
+    let (caller, watcher) = split(store, caller);
     let run = Run::begin(rt.alloc(), store, caller, claimer, 2)?;
     let (done, (watcher, falls)) = finish_watched(rt, run, store.table(), watcher);
     let (tree, _) = done?;

@@ -1,4 +1,4 @@
-//! Gates that hold workers, for a bounded number of loads.
+//! Gates that hold workers, for a bounded number of loads, and one that counts offers.
 
 use crate::Gate;
 use std::sync::atomic::{AtomicBool, AtomicU64, Ordering};
@@ -88,6 +88,40 @@ impl Gate for Thief {
                 return;
             }
         }
+    }
+
+    fn after_offer(&self, _worker: u32) {}
+}
+
+/// Counts the offers of the leader, and those of others.
+#[derive(Drop)]
+pub struct Count {
+    leaders: AtomicU64,
+    others: AtomicU64,
+}
+
+impl Count {
+    pub fn new() -> Count {
+        Count {
+            leaders: AtomicU64::new(0),
+            others: AtomicU64::new(0),
+        }
+    }
+
+    /// Whether the leader made so many offers, and nobody else made any.
+    pub fn is_leader_alone(&self, offers: u64) -> bool {
+        self.leaders.load(Ordering::SeqCst) == offers && self.others.load(Ordering::SeqCst) == 0
+    }
+}
+
+impl Gate for Count {
+    fn before_offer(&self, worker: u32) {
+        let offers = if worker == 0 {
+            &self.leaders
+        } else {
+            &self.others
+        };
+        offers.fetch_add(1, Ordering::SeqCst);
     }
 
     fn after_offer(&self, _worker: u32) {}

@@ -1,7 +1,7 @@
 //! Workers that take tasks from one another.
 //!
 //! What a deque hands out is a hint: nothing is known of it but that it is a number. The claim decides who runs a task.
-ghost use Rattle.std.specs.Prelude.{◌≡◌, ℕ, ◌+◌, ◌<◌, ◌≤◌, [], length, vec_len, IfOk, IfErr};
+ghost use Rattle.std.specs.Prelude.{◌≡◌, ℕ, ◌+◌, ◌<◌, ◌≤◌, [], length, vec_len, IfOk};
 ghost use denote.Param.Send.{IsSync, IsSend};
 ghost use Rattle.sp_word.specs.Word.{max_dist};
 ghost use Rattle.sp_offer.specs.Order.{lawful};
@@ -177,65 +177,41 @@ fn run_alone<M: Lowering, L: Lawful, G: Gate, const P: u32>(
     Ok(run_worker::<M, L, G, P>(alloc, &round, gate, stealers, seat))
 }
 
-/// A seat for the next worker, with this deque. Where a caller or a claimer can't be split, the one seat comes back.
+/// Two seats of one: the second is the next worker's, with this deque.
 fn split_seat<L: Lawful, const P: u32>(
     table: &OfferTable<L, P>,
     claims: &ClaimTable,
     seat: Seat,
     own: Worker<usize>,
-) -> Result<(Seat, Seat), Seat>
+) -> (Seat, Seat)
     requires slots { 0 < claims.now.words }
     requires tokens { AreOf table.now.id claims.now seat.caller seat.claimer }
-    ensures first { IfOk result (λ two. (two.0.caller ≡ seat.caller) × (two.0.claimer ≡ seat.claimer)) }
-    ensures caller { IfOk result (λ two. (two.1.caller.table ≡ seat.caller.table) × (two.1.caller.story ≡ beside seat.caller.story)) }
-    ensures claimer { IfOk result (λ two. (two.1.claimer.table ≡ seat.claimer.table) × (two.1.claimer.grants ≡ [])) }
-    ensures refused { IfErr result (λ one. (one.caller ≡ seat.caller) × (one.claimer ≡ seat.claimer)) }
+    ensures first { (result.0.caller ≡ seat.caller) × (result.0.claimer ≡ seat.claimer) }
+    ensures caller { (result.1.caller.table ≡ seat.caller.table) × (result.1.caller.story ≡ beside seat.caller.story) }
+    ensures claimer { (result.1.claimer.table ≡ seat.claimer.table) × (result.1.claimer.grants ≡ []) }
 {
-    let Seat {
-        worker,
-        own: first_own,
-        caller,
-        claimer,
-    } = seat;
-    let (caller, other_caller) = match table.split(caller) {
-        Ok(two) => two,
-        Err(refused) => {
-            return Err(Seat {
-                worker,
-                own: first_own,
-                caller: refused.caller,
-                claimer,
-            });
-        }
+    let Ok((caller, other_caller)) = table.split(seat.caller) else {
+        unreachable!()
     };
-    let (claimer, other_claimer) = match claims.split(claimer) {
-        Ok(two) => two,
-        Err(refused) => {
-            return Err(Seat {
-                worker,
-                own: first_own,
-                caller,
-                claimer: refused.claimer,
-            });
-        }
+    let Ok((claimer, other_claimer)) = claims.split(seat.claimer) else {
+        unreachable!()
     };
     let first = Seat {
-        worker,
-        own: first_own,
+        worker: seat.worker,
+        own: seat.own,
         caller,
         claimer,
     };
     let second = Seat {
-        worker: worker.saturating_add(1),
+        worker: first.worker.saturating_add(1),
         own,
         caller: other_caller,
         claimer: other_claimer,
     };
-    Ok((first, second))
+    (first, second)
 }
 
-/// A worker on this thread, and those of the other deques on threads that it starts. Where a caller or a claimer can't
-/// be split, the deques without a worker are emptied by the others.
+/// A worker on this thread, and those of the other deques on threads that it starts.
 #[cycle(workers)]
 pub(crate) fn run_workers<
     R: Threads + Sync,
@@ -266,14 +242,7 @@ pub(crate) fn run_workers<
             alloc, table, claims, rows, tasks, plan, gate, stealers, seat,
         );
     };
-    let (first, second) = match split_seat(table, claims, seat, own) {
-        Ok(two) => two,
-        Err(one) => {
-            return run_alone::<M, L, G, P>(
-                alloc, table, claims, rows, tasks, plan, gate, stealers, one,
-            );
-        }
-    };
+    let (first, second) = split_seat(table, claims, seat, own);
     let theirs = move || -> Worked
         requires { IsSync R.row × IsSync G.row × IsSync M.row × IsSend M.row × IsSync L.row × IsSend L.row × (0 < claims.now.words) × IsReady P (lawful P (L.allows table.now.law)) table.now.vertices claims.now.words rows.now tasks.now × AreOf table.now.id claims.now second.caller second.claimer }
         ensures { Answers (lawful P (L.allows table.entry.now.law)) (jobs_of (max_dist P) rows.entry.now tasks.entry.now) plan.number second.caller second.claimer (vec_len others + 1) result }

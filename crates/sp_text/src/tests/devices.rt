@@ -1,6 +1,6 @@
 use super::samples::{DIAMOND, read_entries};
 use crate::faults::{DimacsError, Kind};
-use sp_device::OfRead;
+use sp_device::{OfRead, Read, UpTo};
 use std::io;
 use std::test::Fail;
 
@@ -33,5 +33,16 @@ fn readers_of_std(rt: HostRuntime) -> Result<(), Fail> {
         kind: Kind::Read,
     };
     assert_eq!(rt; told.err(), Some(read));
+    Ok(())
+}
+
+#[test]
+fn behind_a_header(rt: HostRuntime) -> Result<(), Fail> {
+    let mut file = UpTo::whole(b"head\np sp 2 1\na 1 2 5\n");
+    let mut header = [0; 5];
+    assert_eq!(rt; file.read(&mut header), Ok(5));
+    assert_eq!(rt; header.as_slice(), b"head\n".as_slice());
+    let entries = read_entries(rt.alloc(), &mut file)?;
+    assert_eq!(rt; entries.as_slice(), [(0, 1, 2, 5)].as_slice());
     Ok(())
 }

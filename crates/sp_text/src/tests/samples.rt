@@ -162,9 +162,7 @@ pub fn new_reader(alloc: Global) -> Reader {
     Feeder::new(Collector::new(Entries::new(alloc)))
 }
 
-pub fn read_entries<R: Read>(alloc: Global, reader: &mut R) -> Result<Vec<Entry>, DimacsError>
-    requires { R.passed reader.old ≡ 0 }
-{
+pub fn read_entries<R: Read>(alloc: Global, reader: &mut R) -> Result<Vec<Entry>, DimacsError> {
     read_text(reader, Feeder::new(Collector::new(Entries::new(alloc))))
 }
 

@@ -1,5 +1,6 @@
 use super::samples::{ALONE, DIAMOND, cut_off, diamond, fed, told};
-use crate::TreeReader;
+use crate::{TreeReader, read_tree};
+use sp_device::{Read, UpTo};
 use sp_text::{DimacsError, Kind};
 use std::test::Fail;
 
@@ -65,5 +66,27 @@ fn failing_anywhere(rt: HostRuntime) -> Result<(), Fail> {
         }
     }
     assert_eq!(rt; line, 7);
+    Ok(())
+}
+
+// Of a device that has passed a header the rest is read, and lines are counted from there.
+#[test]
+fn behind_a_header(rt: HostRuntime) -> Result<(), Fail> {
+    let alloc = rt.alloc();
+    let mut header = [0u8; 5];
+    let mut device = UpTo::whole(b"spt1\np spt 2 1\nv 1 0 0\nv 2 7 1\ne 2\n");
+    assert_eq!(rt; device.read(&mut header), Ok(5));
+    assert_eq!(rt; header, *b"spt1\n");
+    let tree = read_tree::<28, _>(alloc, &mut device)?;
+    assert_eq!(rt; (tree.n(), tree.source(), tree.rows().len()), (2, 1, 2));
+    let mut faulty = UpTo::whole(b"spt1\np spt 2 1\nv 3 0 0\n");
+    assert_eq!(rt; faulty.read(&mut header), Ok(5));
+    assert_eq!(rt;
+        read_tree::<28, _>(alloc, &mut faulty).err(),
+        Some(DimacsError {
+            line: 2,
+            kind: Kind::OutOfRange(b'V'),
+        })
+    );
     Ok(())
 }

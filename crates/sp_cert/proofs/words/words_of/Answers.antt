@@ -1,4 +1,4 @@
-use Rattle.std.proofs.Common.{◌-◌, arith}
+use Rattle.std.proofs.Common.{arith}
 use Rattle.sp_cert.proofs.TreeSteps.{row_in, copied_more}
 use Rattle.sp_cert.proofs.words.words_of.Goals as goal
 

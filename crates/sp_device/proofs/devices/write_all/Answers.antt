@@ -1,4 +1,4 @@
-use Rattle.std.proofs.Common.{◌++◌, ◌+◌, ◌≡◌, length, take, length-append, arith}
+use Rattle.std.proofs.Common.{◌∙◌, ◌++◌, ◌+◌, ◌≡◌, length, take, length-append, arith}
 use Rattle.std.proofs.lemmas.List.{length-take-le}
 use Rattle.std.proofs.KnownBytes.{Appends-trans}
 use Rattle.sp_device.proofs.Printed.{split_on}
@@ -17,4 +17,5 @@ loop-rest-preserved g c =
       Appends-trans (g.W.Write.written c.args.out.now) (g.W.Write.written c.loop-rest.out) (g.W.Write.written c.write.new.self) front (take n rest) before.2 took.bytes,
       longer,
       λ _. took.limit,
+      took.lasting ∙ before.5,
     )

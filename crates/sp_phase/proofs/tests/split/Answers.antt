@@ -3,10 +3,10 @@ use Rattle.sp_offer.specs.Story.{Knowledge}
 use Rattle.sp_phase.proofs.tests.split.Goals as goal
 
 pub split-requires : goal.split-requires
-split-requires g c = (omega arith, c.requires ∙ sym c.table.ensures.table)
+split-requires c = (omega arith, c.requires ∙ sym c.table.ensures.table)
 
 pub returns-clause-first : goal.returns-clause-first
-returns-clause-first g c = ap (λ (k : Knowledge). k.table) c.in-Ok.ensures.first ∙ c.requires
+returns-clause-first c = ap (λ (k : Knowledge). k.table) c.in-Ok.ensures.first ∙ c.requires
 
 pub returns-clause-second : goal.returns-clause-second
-returns-clause-second g c = c.in-Ok.ensures.second.0 ∙ c.requires
+returns-clause-second c = c.in-Ok.ensures.second.0 ∙ c.requires

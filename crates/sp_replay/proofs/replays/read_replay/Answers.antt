@@ -10,7 +10,7 @@ pub file_of-requires : goal.file_of-requires
 file_of-requires g c =
     let found = c.in-Ok.ensures.found in
     let spells : Spells replay (ranges_of g.row.P) found.0 found.2.0 (items_of replay (lines found.0)) = record { faultless = found.1; problem_line = found.2.1; item_lines = refl } in
-    (lit< tt, (lit< tt, (c.requires.layout, is_programme g.row.P found.2.0 _ _ _ (accepted replay (ranges_of g.row.P) _ _ _ spells) found.2.2)))
+    (lit< tt, (lit< tt, (c.requires, is_programme g.row.P found.2.0 _ _ _ (accepted replay (ranges_of g.row.P) _ _ _ spells) found.2.2)))
 
 pub returns-in-Ok-clause-found : goal.returns-in-Ok-clause-found
 returns-in-Ok-clause-found g c =

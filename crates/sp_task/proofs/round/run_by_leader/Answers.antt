@@ -4,7 +4,7 @@ use Rattle.sp_offer.specs.Order.{lawful}
 use Rattle.sp_bucket.specs.declared.entry.Entry.{Entry}
 use Rattle.sp_task.specs.Work.{jobs_of}
 use Rattle.sp_task.specs.Left.{RanLeft}
-use Rattle.sp_task.proofs.Left.{alone_done}
+use Rattle.sp_task.proofs.Left.{alone_done, done_after}
 use Rattle.sp_task.proofs.round.run_by_leader.Goals as goal
 
 pub returns-clause-done : goal.returns-clause-done
@@ -12,5 +12,7 @@ returns-clause-done g c =
     let round = c.args.round.now in
     let law = lawful g.row.P (g.L.Lawful.allows round.table.now.law) in
     let jobs = jobs_of (max_dist g.row.P) round.rows.now round.tasks.now in
-    alone_done law (max_dist g.row.P) round.rows.now round.tasks.now c.args.caller c.run_left.new.caller c.run_left.new.found.items
-    (subst (λ (bag : List Entry). RanLeft law jobs [] (length round.tasks.now) c.args.caller c.run_left.new.caller bag c.run_left.new.found.items) c.new-found.ensures.items (c.if-not-run_left.ensures.left refl))
+    let looked = c.look-caller in
+    done_after law (max_dist g.row.P) round.rows.now round.tasks.now c.args.caller looked.result c.run_left.new.caller c.run_left.new.found.items looked.ensures.later looked.ensures.own
+    (alone_done law (max_dist g.row.P) round.rows.now round.tasks.now looked.result c.run_left.new.caller c.run_left.new.found.items
+    (subst (λ (bag : List Entry). RanLeft law jobs [] (length round.tasks.now) looked.result c.run_left.new.caller bag c.run_left.new.found.items) c.new-found.ensures.items (c.if-not-run_left.ensures.left refl)))

@@ -5,11 +5,12 @@ use Rattle.sp_task.specs.Work.{job_of, jobs_of, did, numbers_of}
 use Rattle.sp_task.specs.Left.{IsMarked}
 use Rattle.sp_task.proofs.Going.{length-map}
 use Rattle.sp_task.proofs.Making.{later_along}
-use Rattle.sp_task.proofs.Left.{once, below, round_done}
+use Rattle.sp_task.proofs.Left.{once, below, round_done, done_after}
 use Rattle.sp_task.proofs.round.run_shared.Goals as goal
 
 pub returns-then-not-run_left-clause-refused : goal.returns-then-not-run_left-clause-refused
-returns-then-not-run_left-clause-refused g c = later_along _ _ _ _ c.in_ok-done.ensures.0.made.later c.run_left.ensures.later
+returns-then-not-run_left-clause-refused g c =
+    later_along _ _ _ _ c.look.ensures.later (later_along _ _ _ _ c.in_ok-done.ensures.0.made.later c.run_left.ensures.later)
 
 pub mark-requires-clause-below : goal.mark-requires-clause-below
 mark-requires-clause-below g c =
@@ -28,5 +29,6 @@ returns-clause-done g c =
     let marked : IsMarked (length round.tasks.now) (numbers_of c.as_slice-2.result.now) c.as_slice-3.result.now =
     subst (λ (n : ℕ). IsMarked n (numbers_of c.as_slice-2.result.now) c.as_slice-3.result.now) c.requires.len
     (subst (λ (ms : List Bool). IsMarked (vec_len c.args.prepared.marks) (numbers_of c.as_slice-2.result.now) ms) (sym c.as_slice-3.ensures.value) c.mark.ensures) in
-    round_done law (max_dist g.row.P) round.rows.now round.tasks.now round.number c.args.caller c.run_left.new.caller c.args.claimer (did c.in_ok-done.done) (numbers_of c.as_slice-2.result.now) c.as_slice-3.result.now
-    c.run_left.new.found.items same one marked goes (c.if-not-run_left.ensures.left refl)
+    done_after law (max_dist g.row.P) round.rows.now round.tasks.now c.args.caller c.look.result c.run_left.new.caller c.run_left.new.found.items c.look.ensures.later c.look.ensures.own
+    (round_done law (max_dist g.row.P) round.rows.now round.tasks.now round.number c.look.result c.run_left.new.caller c.args.claimer (did c.in_ok-done.done) (numbers_of c.as_slice-2.result.now) c.as_slice-3.result.now
+    c.run_left.new.found.items same one marked goes (c.if-not-run_left.ensures.left refl))

@@ -1,7 +1,9 @@
-use Rattle.std.proofs.Common.{◌≤◌, ◌^◌, ◌++◌, length, take, arith, inl, length-append}
+use Rattle.std.proofs.Common.{◌≤◌, ◌^◌, ◌++◌, [], length, take, arith, inl, length-append}
 use Rattle.std.proofs.lemmas.Result.{err_from_is_err_and}
 use Rattle.std.proofs.lemmas.List.{length-take-le}
 use Rattle.std.proofs.KnownBytes.{Consumes-trans}
+use Rattle.sp_text.specs.Lines.{ended}
+use Rattle.sp_text.proofs.Behind.{refused_earlier}
 use Rattle.sp_text.proofs.whole.read_on.Goals as goal
 
 pub returns-in_err-feed-in-Ok : goal.returns-in_err-feed-in-Ok
@@ -16,5 +18,5 @@ returns-in_err-feed-in-Ok g c =
     rw (p.1, p.2) (
       front ++ piece,
       Consumes-trans (g.R.Read.left c.args.reader.now) (g.R.Read.left c.loop-feeder.reader) (g.R.Read.left c.read.new.self) front piece before.1 reads.bytes,
-      inl told.1,
+      inl (refused_earlier g.T.LineTaker.rules [] (ended front) (front ++ piece) c.in_err-feed-in-Ok.field-0.0 (omega arith) told.1),
     )

@@ -1,15 +1,10 @@
 use Rattle.std.proofs.Common.{arith}
-use Rattle.sp_task.proofs.Both.{answer_of_more, after_split}
+use Rattle.sp_task.proofs.Both.{after_split}
 use Rattle.sp_task.proofs.work.stealing.+workers.Goals as goal
-
-pub returns-in-Err : goal.returns-in-Err
-returns-in-Err g t c =
-    let same = c.in-Err.ensures.refused in
-    answer_of_more _ _ _ c.args.seat.caller _ c.args.seat.claimer _ _ _ _ same.0 same.1 (omega arith) c.run_alone-in-Err.ensures
 
 pub returns : goal.returns
 returns g t c =
-    let two = c.in-Ok.ensures in
+    let two = c.split_seat-first.ensures in
     after_split _ _ _ c.args.seat.caller _ _ c.args.seat.claimer _ _ _ _ _ _ _ _ two.first.0 two.first.1 two.caller.1 two.claimer.1
     (let n = c.in-Some.ensures.len in omega arith)
     c.join-later.ensures.second

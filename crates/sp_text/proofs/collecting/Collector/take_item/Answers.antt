@@ -24,7 +24,7 @@ returns-then-is_err g c = λ problem items item h kind place is are.
     let form = c.args.form.now in
     let named = c.named_letter.ensures items h.kept_are in
     let lt : count form.group items < top g.K.Keep.ranges c.in-Some.problem form.limit = rw (← c.ranges-2.ensures, ← c.greatest.ensures, ← h.counts_are form.group c.requires.small.group) c.if-greatest-count.false in
-    inr (count_fault g.K.Keep.ranges problem c.in-Some.problem items item form c.args.place c.args.numbers c.first.result c.named_letter.result c.in-Within.values false some is kind are c.first.ensures named c.in_default-named_letter.is c.in-Within.is (lt-leb _ _ lt), refl)
+    inr (count_fault g.K.Keep.ranges problem c.in-Some.problem items item form c.args.place c.args.numbers c.first.result c.named_letter.result c.in-Within.values false some is kind are c.first.ensures named c.in_default-named_letter.is c.in-Within.is (lt-leb _ _ lt), refl, refl)
 
 pub returns : goal.returns
 returns g c = λ problem items item h kind place is are.

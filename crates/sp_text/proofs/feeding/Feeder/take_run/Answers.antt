@@ -33,7 +33,7 @@ returns-in_err-take_rest-clause-refused g c =
     rw (p.1, p.2) (λ text small h.
     let shorter : length (text ++ line) ≤ 2 ^ 62 = omega (arith, length-append text bytes, length-append text line, c.split_at.ensures.front_len) in
     let told = c.in_err-take_rest.ensures text shorter (sym (c.if-is_closed.ensures (ended text) h.taken)) none h in
-    (told.0, rw (← lf_whole text bytes line n found.0.high found.1 c.split_at.ensures.front) (refusal_lasts g.T.LineTaker.rules (text ++ line ++ 10 ∷ []) (drop 1 (drop n bytes)) c.in_err-take_rest.field-0.0 told.1)))
+    (told.0, rw (← lf_whole text bytes line n found.0.high found.1 c.split_at.ensures.front) (refusal_lasts g.T.LineTaker.rules (ended text) (text ++ line ++ 10 ∷ []) (drop 1 (drop n bytes)) c.in_err-take_rest.field-0.0 told.1)))
 
 pub returns-clause-taken : goal.returns-clause-taken
 returns-clause-taken g c =

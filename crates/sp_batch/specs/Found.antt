@@ -1,0 +1,30 @@
+-- What was found for sources, before it is written.
+use Rattle.std.specs.Prelude.{◌≡◌, ◌≤◌, ℕ, true, List, map}
+use Rattle.sp_word.specs.Word.{is_layout, max_dist, max_pred}
+use Rattle.sp_paths.specs.Paths.{Graph}
+use Rattle.sp_batch.specs.declared.finding.Plan.{Plan}
+use Rattle.sp_batch.specs.declared.finding.Found.{Found}
+use Rattle.sp_batch.specs.declared.finding.Found.TheVariants.{Tree, Far}
+use Rattle.sp_batch.specs.Batch.{Answer, TreeOf, FarFrom, IsAnswerTo, AreAnswers}
+
+-- The layout, the graph and the plan are within the limits of a run.
+pub record IsReady {P : ℕ} (g : Graph) (plan : Plan P) : Type 0 where
+  pub layout : is_layout P ≡ true
+  pub n : g.n ≤ max_pred P
+  pub delta_least : 1 ≤ plan.delta
+  pub delta_most : plan.delta ≤ max_dist P
+  pub workers_least : 1 ≤ plan.workers
+  pub workers_most : plan.workers ≤ 64
+
+-- the answer that it is
+abbrev pub answer_of : {P : ℕ} → Found P → Answer
+answer_of (Tree t) = TreeOf t
+answer_of (Far source vertex) = FarFrom source vertex
+
+-- It is the answer to the source.
+abbrev pub IsFound : {P : ℕ} → Graph → (s : ℕ) → Found P → Type 0
+IsFound {P} g s found = IsAnswerTo P g s (answer_of found)
+
+-- They are the answers to the sources, in their order.
+abbrev pub AreFound : {P : ℕ} → Graph → (sources : List ℕ) → List (Found P) → Type 0
+AreFound {P} g sources group = AreAnswers P g sources (map answer_of group)

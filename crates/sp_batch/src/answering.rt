@@ -1,0 +1,232 @@
+//! Sources answered: found and written, one after the other or side by side.
+ghost use Rattle.std.specs.Prelude.{◌≡◌, ◌<◌, ◌≤◌, [], ◌∷◌, length, All, IfOk};
+ghost use denote.Param.Send.{IsSync};
+ghost use Rattle.sp_paths.specs.Paths.{IsVertex};
+ghost use Rattle.sp_batch.specs.Found.{IsReady, AreFound};
+ghost use Rattle.sp_batch.specs.Steps.{IsGroupWritten, AreAllAnswered, MovesOn};
+
+use crate::answers::{BatchError, Summary};
+use crate::finding::{Found, Plan, find_group, find_source};
+use crate::watch::Watch;
+use crate::writing::{nothing, sum, write_group, write_one};
+use sp_dimacs::Write;
+use sp_graph::Graph;
+use std::alloc::{AllocError, Global};
+use std::sync::Wait;
+use std::thread;
+use std::thread::{Threads, join_mut};
+
+// How many sources are answered at once: as many as there are workers, but no more than processors. One where there are no
+// others, or the graph has fewer vertices and arcs in all than it must have.
+fn count_at_once<R: Threads>(
+    rt: &R,
+    graph: &Graph,
+    least: usize,
+    sources: usize,
+    workers: u32,
+) -> u32
+    requires { 1 ≤ workers }
+    ensures least { 1 ≤ result }
+    ensures most { result ≤ workers }
+{
+    let items = graph.m().saturating_add(graph.n() as usize);
+    if workers == 1 || sources < 2 || items < least {
+        return 1;
+    }
+    match thread::available_parallelism(rt) {
+        Ok(count) => workers
+            .min(u32::try_from(count.get()).unwrap_or(workers))
+            .max(1),
+        Err(_) => workers,
+    }
+}
+
+// Finds the answer for one source, writes and counts it.
+#[tactic(auto, using(crate::proofs::Going::none_begun))]
+fn answer_source<const P: u32, R: Threads + Wait + Sync + Watch, W: Write>(
+    rt: &R,
+    alloc: Global,
+    graph: &Graph,
+    plan: Plan<P>,
+    source: u32,
+    out: &mut W,
+) -> Result<Summary, BatchError>
+    requires ready { IsReady graph.now plan }
+    requires vertex { IsVertex graph.now.n source }
+    ensures { AreAllAnswered P graph.now (source ∷ []) W.Write out.old result out.new }
+{
+    match find_source::<P, R>(rt, alloc, graph, plan, source) {
+        Ok(found) => write_one(&found, out),
+        Err(AllocError) => Err(BatchError::Memory),
+    }
+}
+
+// Answers sources one after the other, each by all workers.
+fn answer_in_turn<const P: u32, R: Threads + Wait + Sync + Watch, W: Write>(
+    rt: &R,
+    alloc: Global,
+    graph: &Graph,
+    plan: Plan<P>,
+    sources: &[u32],
+    out: &mut W,
+) -> Result<Summary, BatchError>
+    requires ready { IsReady graph.now plan }
+    requires short { length sources.now ≤ 1048576 }
+    requires vertices { All (IsVertex graph.now.n) sources.now }
+    ensures { AreAllAnswered P graph.now sources.now W.Write out.old result out.new }
+{
+    let mut summary = nothing();
+    for source in sources {
+        let one = answer_source::<P, R, W>(rt, alloc, graph, plan, *source, out)?;
+        summary = sum(summary, one);
+    }
+    Ok(summary)
+}
+
+// The same plan, its workers shared among so many sources.
+fn shared<const P: u32>(plan: Plan<P>, sources: u32) -> Plan<P>
+    requires { (1 ≤ sources) × (sources ≤ plan.workers) }
+    ensures delta { result.delta ≡ plan.entry.delta }
+    ensures least { 1 ≤ result.workers }
+    ensures most { result.workers ≤ plan.entry.workers }
+{
+    Plan {
+        delta: plan.delta,
+        workers: plan.workers / sources,
+    }
+}
+
+// Finds the answers for a group of sources. Meanwhile this thread writes those for the group before it.
+fn find_and_write<const P: u32, R: Threads + Wait + Sync + Watch, W: Write>(
+    rt: &R,
+    alloc: Global,
+    graph: &Graph,
+    plan: Plan<P>,
+    sources: &[u32],
+    before: &[Found<P>],
+    out: &mut W,
+) -> (
+    Result<Vec<Found<P>>, AllocError>,
+    Result<Summary, BatchError>,
+)
+    requires ready { IsReady graph.now plan }
+    requires vertices { All (IsVertex graph.now.n) sources.now }
+    ensures found { IfOk result.0 (λ group. AreFound graph.now sources.now group.items) }
+    ensures written { IsGroupWritten W.Write before.now out.old result.1 out.new }
+{
+    if before.is_empty() {
+        let found = find_group::<P, R>(rt, alloc, graph, plan, sources);
+        return (found, Ok(nothing()));
+    }
+    let mut find = || -> Result<Vec<Found<P>>, AllocError>
+        requires { IsSync R.row × IsReady graph.now plan × All (IsVertex graph.now.n) sources.now }
+        ensures { IfOk result (λ group. AreFound graph.entry.now sources.entry.now group.items) }
+    { find_group::<P, R>(rt, alloc, graph, plan, sources) };
+    let mut write = || -> Result<Summary, BatchError>
+        ensures { IsGroupWritten W.Write before.entry.now out.entry.now result out.exit.now }
+    { write_group::<P, W>(before, out) };
+    join_mut(rt, &mut find, &mut write)
+}
+
+/// How far a batch is: what was written since the step before, and the answers that wait to be written.
+#[derive(Drop)]
+pub(crate) struct Step<const P: u32> {
+    pub(crate) summary: Summary,
+    pub(crate) waiting: Vec<Found<P>>,
+}
+
+// Answers a group of sources, behind those whose answers wait: these are written, and those of the group wait then. Where
+// memory for the group is refused, its sources are answered one after the other.
+fn answer_group<const P: u32, R: Threads + Wait + Sync + Watch, W: Write>(
+    rt: &R,
+    alloc: Global,
+    graph: &Graph,
+    plan: Plan<P>,
+    sources: &[u32],
+    waiting: Vec<Found<P>>,
+    out: &mut W,
+) -> Result<Step<P>, BatchError>
+    requires ready { IsReady graph.now plan }
+    requires some { 0 < length sources.now }
+    requires few { length sources.now ≤ plan.workers }
+    requires vertices { All (IsVertex graph.now.n) sources.now }
+    ensures { MovesOn graph.now waiting.entry.items sources.now W.Write out.old result out.new }
+{
+    let each = shared(plan, sources.len() as u32);
+    let (found, written) = find_and_write::<P, R, W>(
+        rt, alloc, graph, each, sources, &waiting, out,
+    );
+    let summary = written?;
+    match found {
+        Ok(group) => Ok(Step {
+            summary,
+            waiting: group,
+        }),
+        Err(AllocError) => {
+            drop(waiting);
+            let more = answer_in_turn::<P, R, W>(rt, alloc, graph, plan, sources, out)?;
+            Ok(Step {
+                summary: sum(summary, more),
+                waiting: Vec::new(alloc),
+            })
+        }
+    }
+}
+
+/// Answers sources by groups of as many as there are workers. While a group is found, the one before it is written.
+pub(crate) fn answer_side_by_side<const P: u32, R: Threads + Wait + Sync + Watch, W: Write>(
+    rt: &R,
+    alloc: Global,
+    graph: &Graph,
+    plan: Plan<P>,
+    sources: &[u32],
+    out: &mut W,
+) -> Result<Summary, BatchError>
+    requires ready { IsReady graph.now plan }
+    requires short { length sources.now ≤ 1048576 }
+    requires vertices { All (IsVertex graph.now.n) sources.now }
+    ensures { AreAllAnswered P graph.now sources.now W.Write out.old result out.new }
+{
+    let mut summary = nothing();
+    let mut waiting = Vec::new(alloc);
+    let mut rest = sources;
+    while !rest.is_empty() {
+        let size = rest.len().min(plan.workers as usize);
+        let (group, later) = rest.split_at(size);
+        let Step {
+            summary: more,
+            waiting: next,
+        } = answer_group::<P, R, W>(rt, alloc, graph, plan, group, waiting, out)?;
+        summary = sum(summary, more);
+        waiting = next;
+        rest = later;
+    }
+    let last = write_group::<P, W>(&waiting, out)?;
+    Ok(sum(summary, last))
+}
+
+/// Answers sources in their order, several at once where the graph has at least so many vertices and arcs in all.
+pub(crate) fn answer_sources<const P: u32, R: Threads + Wait + Sync + Watch, W: Write>(
+    rt: &R,
+    alloc: Global,
+    graph: &Graph,
+    least: usize,
+    plan: Plan<P>,
+    sources: &[u32],
+    out: &mut W,
+) -> Result<Summary, BatchError>
+    requires ready { IsReady graph.now plan }
+    requires short { length sources.now ≤ 1048576 }
+    requires vertices { All (IsVertex graph.now.n) sources.now }
+    ensures { AreAllAnswered P graph.now sources.now W.Write out.old result out.new }
+{
+    let workers = count_at_once(rt, graph, least, sources.len(), plan.workers);
+    if workers == 1 {
+        return answer_in_turn::<P, R, W>(rt, alloc, graph, plan, sources, out);
+    }
+    let groups = Plan {
+        delta: plan.delta,
+        workers,
+    };
+    answer_side_by_side::<P, R, W>(rt, alloc, graph, groups, sources, out)
+}

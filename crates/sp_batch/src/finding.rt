@@ -1,0 +1,112 @@
+//! What is to be told of sources, found one after the other or side by side.
+ghost use Rattle.std.specs.Prelude.{◌≡◌, ◌++◌, All, IfOk};
+ghost use denote.Param.Send.{IsSync};
+ghost use Rattle.sp_paths.specs.Paths.{IsVertex};
+ghost use Rattle.sp_batch.specs.Found.{IsReady, IsFound, AreFound};
+
+use crate::watch::Watch;
+use sp_graph::Graph;
+use sp_phase::{RunError, run_source};
+use sp_tree::Tree;
+use std::alloc::{AllocError, Global};
+use std::sync::Wait;
+use std::thread::{Threads, join};
+
+/// How runs are made: the width of a bucket, and the number of workers.
+#[derive(Clone, Copy)]
+pub(crate) struct Plan<const P: u32> {
+    pub(crate) delta: u64,
+    pub(crate) workers: u32,
+}
+
+/// What is to be told of a source.
+#[derive(Drop)]
+pub(crate) enum Found<const P: u32> {
+    /// Its tree.
+    Tree(Tree<P>),
+    /// The vertex that is too far from it.
+    Far { source: u32, vertex: u32 },
+}
+
+/// What is to be told of a source.
+pub(crate) fn find_source<const P: u32, R: Threads + Wait + Sync + Watch>(
+    rt: &R,
+    alloc: Global,
+    graph: &Graph,
+    plan: Plan<P>,
+    source: u32,
+) -> Result<Found<P>, AllocError>
+    requires ready { IsReady graph.now plan }
+    requires vertex { IsVertex graph.now.n source }
+    ensures { IfOk result (IsFound graph.now source) }
+{
+    rt.before_source(source);
+    match run_source::<P, R>(rt, alloc, graph, plan.delta, plan.workers, source) {
+        Ok(tree) => Ok(Found::Tree(tree)),
+        Err(RunError::TooFar(vertex)) => Ok(Found::Far { source, vertex }),
+        Err(RunError::NoSuchVertex) => unreachable!(),
+        Err(RunError::Memory) => Err(AllocError),
+    }
+}
+
+// What is to be told of sources, one after the other.
+fn find_in_turn<const P: u32, R: Threads + Wait + Sync + Watch>(
+    rt: &R,
+    alloc: Global,
+    graph: &Graph,
+    plan: Plan<P>,
+    sources: &[u32],
+) -> Result<Vec<Found<P>>, AllocError>
+    requires ready { IsReady graph.now plan }
+    requires vertices { All (IsVertex graph.now.n) sources.now }
+    ensures { IfOk result (λ group. AreFound graph.now sources.now group.items) }
+{
+    let mut group = Vec::new(alloc);
+    for source in sources {
+        group.push(find_source::<P, R>(rt, alloc, graph, plan, *source)?)?;
+    }
+    Ok(group)
+}
+
+// Answers, and others behind them.
+fn put_behind<const P: u32>(
+    mut first: Vec<Found<P>>,
+    mut second: Vec<Found<P>>,
+) -> Result<Vec<Found<P>>, AllocError>
+    ensures { IfOk result (λ group. group.items ≡ first.entry.items ++ second.entry.items) }
+{
+    first.append(&mut second)?;
+    Ok(first)
+}
+
+/// What is to be told of sources, in their order, each found on a thread of its own by so many workers.
+///
+/// Where no thread can be had its sources are found last, on this one.
+#[cycle(groups)]
+pub(crate) fn find_group<const P: u32, R: Threads + Wait + Sync + Watch>(
+    rt: &R,
+    alloc: Global,
+    graph: &Graph,
+    plan: Plan<P>,
+    sources: &[u32],
+) -> Result<Vec<Found<P>>, AllocError>
+    requires ready { IsReady graph.now plan }
+    requires vertices { All (IsVertex graph.now.n) sources.now }
+    ensures { IfOk result (λ group. AreFound graph.now sources.now group.items) }
+{
+    if sources.len() < 2 {
+        return find_in_turn(rt, alloc, graph, plan, sources);
+    }
+    let half = sources.len() / 2;
+    let (left, right) = sources.split_at(half);
+    let back = move || -> Result<Vec<Found<P>>, AllocError>
+        requires { IsSync R.row × IsReady graph.now plan × All (IsVertex graph.now.n) right.now }
+        ensures { IfOk result (λ group. AreFound graph.entry.now right.entry.now group.items) }
+    { find_group(rt, alloc, graph, plan, right) };
+    let front = move || -> Result<Vec<Found<P>>, AllocError>
+        requires { IsSync R.row × IsReady graph.now plan × All (IsVertex graph.now.n) left.now }
+        ensures { IfOk result (λ group. AreFound graph.entry.now left.entry.now group.items) }
+    { find_group(rt, alloc, graph, plan, left) };
+    let (second, first) = join(rt, back, front);
+    put_behind(first?, second?)
+}

@@ -1,0 +1,21 @@
+//! What is told of sources while they are found.
+
+/// Is told of each source before its answer is found, on the thread that finds it.
+pub(crate) trait Watch {
+    fn before_source(&self, source: u32);
+}
+
+/// Does nothing: a batch runs with it.
+#[derive(Drop)]
+pub(crate) struct Unwatched;
+
+impl Watch for Unwatched {
+    fn before_source(&self, _source: u32) {}
+}
+
+/// A runtime's handle, and what is told beside it.
+impl<R, V: Watch> Watch for (R, V) {
+    fn before_source(&self, source: u32) {
+        self.1.before_source(source);
+    }
+}

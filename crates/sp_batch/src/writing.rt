@@ -1,0 +1,67 @@
+//! Answers written in their order, and counted.
+ghost use Rattle.std.specs.Prelude.{◌≡◌, [], ◌∷◌};
+ghost use Rattle.sp_batch.specs.Found.{answer_of};
+ghost use Rattle.sp_batch.specs.Steps.{AreWritten, IsGroupWritten, Fits, none, sum_of};
+
+use crate::answers::{BatchError, Summary};
+use crate::finding::Found;
+use sp_dimacs::Write;
+use sp_tree::{write_far, write_tree};
+
+/// Of no source.
+pub(crate) fn nothing() -> Summary
+    ensures { result ≡ none }
+{
+    Summary {
+        sources: 0,
+        too_far: 0,
+        bytes: 0,
+    }
+}
+
+/// Of some sources and of those behind them.
+pub(crate) fn sum(first: Summary, second: Summary) -> Summary
+    requires { Fits first second }
+    ensures { result ≡ sum_of first second }
+{
+    Summary {
+        sources: first.sources + second.sources,
+        too_far: first.too_far + second.too_far,
+        bytes: first.bytes + second.bytes,
+    }
+}
+
+/// Writes the answer for one source, and counts it.
+pub(crate) fn write_one<const P: u32, W: Write>(
+    found: &Found<P>,
+    out: &mut W,
+) -> Result<Summary, BatchError>
+    ensures { AreWritten W.Write (answer_of found.now ∷ []) out.old result out.new }
+{
+    match found {
+        Found::Tree(tree) => Ok(Summary {
+            sources: 1,
+            too_far: 0,
+            bytes: write_tree(tree, out)?,
+        }),
+        Found::Far { source, vertex } => Ok(Summary {
+            sources: 1,
+            too_far: 1,
+            bytes: write_far(*source, *vertex, out)?,
+        }),
+    }
+}
+
+/// Writes the answers for some sources, in their order, and counts them.
+pub(crate) fn write_group<const P: u32, W: Write>(
+    group: &[Found<P>],
+    out: &mut W,
+) -> Result<Summary, BatchError>
+    ensures { IsGroupWritten W.Write group.now out.old result out.new }
+{
+    let mut summary = nothing();
+    for found in group {
+        summary = sum(summary, write_one(found, out)?);
+    }
+    Ok(summary)
+}

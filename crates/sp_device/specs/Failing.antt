@@ -1,0 +1,16 @@
+-- When a device fails.
+use Rattle.std.specs.Prelude.{◌≡◌, ◌<◌, ℕ, ⊤, Result, Ok, Err}
+
+-- Never; exactly where so many bytes have passed in all; or at any time.
+pub data Failing : Type 0 where
+  Never : Failing
+  Behind : ℕ → Failing
+  Anytime : Failing
+
+-- The answer to a call for some bytes, where so many have passed.
+abbrev pub FailsBy : {T E : Type 0} → Failing → ℕ → Result T E → Type 0
+FailsBy Never passed (Ok answer) = ⊤
+FailsBy Never passed (Err e) = ⊥
+FailsBy (Behind total) passed (Ok answer) = passed < total
+FailsBy (Behind total) passed (Err e) = passed ≡ total
+FailsBy Anytime passed result = ⊤

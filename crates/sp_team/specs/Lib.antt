@@ -1,0 +1,3 @@
+pub mod Law
+pub mod Later
+pub mod Shown

@@ -1,0 +1,134 @@
+//! One vertex relaxed.
+ghost use Rattle.std.specs.Prelude.{◌≡◌, ℕ, ◌+◌, ◌≤◌, true, All, IfSome};
+ghost use Rattle.sp_word.specs.Word.{Pair, is_layout, max_dist};
+ghost use Rattle.sp_paths.specs.Paths.{IsVertex, IsArc};
+ghost use Rattle.sp_offer.specs.Order.{lawful};
+ghost use Rattle.sp_team.specs.Law.{IsReady};
+ghost use Rattle.sp_team.specs.Later.{IsLater};
+
+use crate::bins::Bins;
+use crate::entries::Entry;
+use sp_graph::Graph;
+use sp_offer::{Caller, Lawful, OfferTable};
+use sp_paths::Arc;
+use sp_word::{Reply, Word};
+use std::alloc::AllocError;
+
+/// The distance of a vertex, if it is reached: one that the law allows it.
+pub(crate) fn read_dist<L: Lawful, const P: u32>(
+    table: &OfferTable<L, P>,
+    vertex: u32,
+    caller: &mut Caller,
+) -> Option<u64>
+    requires vertex { IsVertex table.now.vertices vertex }
+    requires caller { caller.old.table ≡ table.now.id }
+    ensures later { IsLater (lawful P (L.allows table.now.law)) caller.old caller.new }
+    ensures lawful { IfSome result (λ dist. (pred : ℕ) × lawful P (L.allows table.now.law) vertex (Pair dist pred)) }
+{
+    table.read(caller, vertex).dist()
+}
+
+// Offers the head of an arc what the arc makes of its tail's distance.
+fn relax_arc<L: Lawful, const P: u32>(
+    table: &OfferTable<L, P>,
+    arc: Arc,
+    dist: u64,
+    caller: &mut Caller,
+    bins: &mut Bins,
+) -> Result<(), AllocError>
+    requires layout { is_layout P ≡ true }
+    requires head { IsVertex table.now.vertices arc.head }
+    requires sum { dist + arc.len ≤ max_dist P }
+    requires allowed { lawful P (L.allows table.now.law) arc.head (Pair (dist + arc.len) arc.tail) }
+    requires caller { caller.old.table ≡ table.now.id }
+    ensures { IsLater (lawful P (L.allows table.now.law)) caller.old caller.new }
+{
+    let sum = dist + u64::from(arc.len);
+    let word = Word::<P>::pack(sum, arc.tail);
+    match table.offer(caller, arc.head, word).reply {
+        Reply::Shorter => bins.put(Entry {
+            vertex: arc.head,
+            dist: sum,
+        }),
+        Reply::SmallerPred | Reply::Kept => Ok(()),
+    }
+}
+
+// Relaxes arcs at their tail's distance, where the sum is within the greatest distance.
+fn relax_row<L: Lawful, const P: u32>(
+    table: &OfferTable<L, P>,
+    row: &[Arc],
+    dist: u64,
+    caller: &mut Caller,
+    bins: &mut Bins,
+) -> Result<(), AllocError>
+    requires layout { is_layout P ≡ true }
+    requires dist { dist ≤ max_dist P }
+    requires arcs { All (IsArc table.now.vertices) row.now }
+    requires allowed { All (λ a. dist + a.len ≤ max_dist P → lawful P (L.allows table.now.law) a.head (Pair (dist + a.len) a.tail)) row.now }
+    requires caller { caller.old.table ≡ table.now.id }
+    ensures { IsLater (lawful P (L.allows table.now.law)) caller.old caller.new }
+{
+    let rest = Word::<P>::max_dist() - dist;
+    for arc in row {
+        if u64::from(arc.len) <= rest {
+            relax_arc(table, *arc, dist, caller, bins)?;
+        }
+    }
+    Ok(())
+}
+
+// Reads the words of the heads.
+fn warm_heads<L: Lawful, const P: u32>(table: &OfferTable<L, P>, row: &[Arc], caller: &mut Caller)
+    requires arcs { All (IsArc table.now.vertices) row.now }
+    requires caller { caller.old.table ≡ table.now.id }
+    ensures { IsLater (lawful P (L.allows table.now.law)) caller.old caller.new }
+{
+    for arc in row {
+        let _ = read_dist(table, arc.head, caller);
+    }
+}
+
+/// Reads what relaxing the entries will read, so that it lies in the cache then: these reads don't wait for one another, as
+/// they would between offers.
+pub(crate) fn warm<L: Lawful, const P: u32>(
+    graph: &Graph,
+    table: &OfferTable<L, P>,
+    entries: &[Entry],
+    caller: &mut Caller,
+)
+    requires ready { IsReady P (lawful P (L.allows table.now.law)) table.now.vertices graph.now }
+    requires caller { caller.old.table ≡ table.now.id }
+    ensures { IsLater (lawful P (L.allows table.now.law)) caller.old caller.new }
+{
+    for entry in entries {
+        if entry.vertex >= 1 && entry.vertex <= graph.n() {
+            let _ = read_dist(table, entry.vertex, caller);
+            warm_heads(table, graph.row(entry.vertex), caller);
+        }
+    }
+}
+
+/// Relaxes all arcs of an entry's vertex at the distance that it has, if that is the entry's.
+pub(crate) fn relax<L: Lawful, const P: u32>(
+    graph: &Graph,
+    table: &OfferTable<L, P>,
+    entry: Entry,
+    caller: &mut Caller,
+    bins: &mut Bins,
+) -> Result<(), AllocError>
+    requires ready { IsReady P (lawful P (L.allows table.now.law)) table.now.vertices graph.now }
+    requires caller { caller.old.table ≡ table.now.id }
+    ensures { IsLater (lawful P (L.allows table.now.law)) caller.old caller.new }
+{
+    let vertex = entry.vertex;
+    if vertex < 1 || vertex > graph.n() {
+        return Ok(());
+    }
+    match read_dist(table, vertex, caller) {
+        Some(dist) if dist == entry.dist => {
+            relax_row(table, graph.row(vertex), dist, caller, bins)
+        }
+        _ => Ok(()),
+    }
+}

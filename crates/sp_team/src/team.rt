@@ -1,0 +1,335 @@
+//! A team of workers.
+ghost use Rattle.std.specs.Prelude.{◌≡◌, ◌++◌, ◌||◌};
+ghost use denote.Param.Send.{IsSync, IsSend};
+ghost use Rattle.sp_offer.specs.Order.{lawful};
+ghost use Rattle.sp_offer.specs.Story.{Follows, own_calls};
+ghost use Rattle.sp_team.specs.Law.{IsReady};
+ghost use Rattle.sp_team.specs.Later.{IsLater};
+
+use crate::board::Board;
+use crate::entries::{Block, Entry};
+use crate::hands::Hands;
+use crate::relax::{read_dist, relax, warm};
+use crossbeam_deque::{Stealer, Worker};
+use sp_graph::Graph;
+use sp_offer::{Caller, Lawful, OfferTable};
+use std::alloc::{AllocError, Global};
+use std::sync::Wait;
+use std::thread::{Threads, join};
+
+/// How many entries a worker works off before it looks whether others want some.
+const STRETCH: usize = 16;
+
+/// A worker orders its entries by buckets that are delta wide, divided by 2 to this power, and may be delta ahead of the
+/// others.
+const FINER: u32 = 3;
+
+/// How a team works: the width of a bucket, and the number of workers.
+#[derive(Clone, Copy, Debug)]
+pub struct Team {
+    pub delta: u64,
+    pub workers: u32,
+}
+
+/// What a team leaves when it ends.
+#[derive(Drop)]
+pub struct Relaxed {
+    /// It has seen what all workers had.
+    pub caller: Caller,
+    /// Memory was refused to a worker that had entries, so some may not have been relaxed. Offers that were made stay made.
+    pub lost: bool,
+}
+
+/// What a worker begins with.
+#[derive(Drop)]
+struct Seat {
+    worker: usize,
+    own: Worker<Block>,
+    caller: Caller,
+}
+
+// Works off some entries.
+fn run_some<L: Lawful, const P: u32>(
+    graph: &Graph,
+    table: &OfferTable<L, P>,
+    hands: &mut Hands,
+    caller: &mut Caller,
+) -> Result<(), AllocError>
+    requires ready { IsReady P (lawful P (L.allows table.now.law)) table.now.vertices graph.now }
+    requires caller { caller.old.table ≡ table.now.id }
+    ensures { IsLater (lawful P (L.allows table.now.law)) caller.old caller.new }
+{
+    warm(graph, table, hands.upcoming(STRETCH), caller);
+    for _ in 0..STRETCH {
+        let Some(entry) = hands.take() else {
+            return Ok(());
+        };
+        relax(graph, table, entry, caller, hands.bins())?;
+    }
+    Ok(())
+}
+
+// The first entries.
+fn put_queue<L: Lawful, const P: u32>(
+    graph: &Graph,
+    table: &OfferTable<L, P>,
+    hands: &mut Hands,
+    caller: &mut Caller,
+    queue: &[u32],
+) -> Result<(), AllocError>
+    requires ready { IsReady P (lawful P (L.allows table.now.law)) table.now.vertices graph.now }
+    requires caller { caller.old.table ≡ table.now.id }
+    ensures { IsLater (lawful P (L.allows table.now.law)) caller.old caller.new }
+{
+    for vertex in queue {
+        let vertex = *vertex;
+        if vertex < 1 || vertex > graph.n() {
+            continue;
+        }
+        if let Some(dist) = read_dist(table, vertex, caller) {
+            hands.bins().put(Entry { vertex, dist })?;
+        }
+    }
+    Ok(())
+}
+
+// Sees to it that a worker has its first entries: the first worker those of the queue, each other one some that are
+// shared. False says that all work is done.
+fn begin<R: Wait, L: Lawful, const P: u32>(
+    rt: &R,
+    graph: &Graph,
+    table: &OfferTable<L, P>,
+    board: &Board,
+    stealers: &[Stealer<Block>],
+    queue: &[u32],
+    hands: &mut Hands,
+    caller: &mut Caller,
+) -> Result<bool, AllocError>
+    requires ready { IsReady P (lawful P (L.allows table.now.law)) table.now.vertices graph.now }
+    requires caller { caller.old.table ≡ table.now.id }
+    ensures { IsLater (lawful P (L.allows table.now.law)) caller.old caller.new }
+{
+    if !hands.is_first() {
+        return Ok(hands.begin(rt, board, stealers));
+    }
+    put_queue(graph, table, hands, caller, queue)?;
+    Ok(true)
+}
+
+// Works until there is nothing to do.
+fn work<R: Wait, L: Lawful, const P: u32>(
+    rt: &R,
+    graph: &Graph,
+    table: &OfferTable<L, P>,
+    board: &Board,
+    stealers: &[Stealer<Block>],
+    queue: &[u32],
+    hands: &mut Hands,
+    caller: &mut Caller,
+) -> Result<(), AllocError>
+    requires ready { IsReady P (lawful P (L.allows table.now.law)) table.now.vertices graph.now }
+    requires caller { caller.old.table ≡ table.now.id }
+    ensures { IsLater (lawful P (L.allows table.now.law)) caller.old caller.new }
+{
+    if !begin(rt, graph, table, board, stealers, queue, hands, caller)? {
+        return Ok(());
+    }
+    for _ in rt.forever() {
+        if !hands.find(rt, board, stealers)? {
+            return Ok(());
+        }
+        run_some(graph, table, hands, caller)?;
+    }
+    unreachable!()
+}
+
+// One worker, which begins with a queue, or waits for others.
+fn run_worker<R: Wait, L: Lawful, const P: u32>(
+    rt: &R,
+    alloc: Global,
+    graph: &Graph,
+    table: &OfferTable<L, P>,
+    board: &Board,
+    stealers: &[Stealer<Block>],
+    queue: &[u32],
+    delta: u64,
+    seat: Seat,
+) -> Relaxed
+    requires ready { IsReady P (lawful P (L.allows table.now.law)) table.now.vertices graph.now }
+    requires caller { seat.caller.table ≡ table.now.id }
+    ensures { IsLater (lawful P (L.allows table.now.law)) seat.caller result.caller }
+{
+    let Seat {
+        worker,
+        own,
+        mut caller,
+    } = seat;
+    let shift = delta.max(1).ilog2().saturating_sub(FINER);
+    let Ok(mut hands) = Hands::new(alloc, worker, own, shift, 1 << FINER) else {
+        // the first worker would have had the queue
+        let lost = worker == 0;
+        if lost {
+            board.leave(worker);
+        }
+        return Relaxed { caller, lost };
+    };
+    let lost = work(
+        rt,
+        graph,
+        table,
+        board,
+        stealers,
+        queue,
+        &mut hands,
+        &mut caller,
+    )
+    .is_err();
+    if lost {
+        board.leave(worker);
+    }
+    Relaxed { caller, lost }
+}
+
+// What two groups leave when they end. The caller knows what both did, and has the calls of both.
+fn merge<L: Lawful, const P: u32>(
+    table: &OfferTable<L, P>,
+    mine: Relaxed,
+    theirs: Relaxed,
+) -> Relaxed
+    requires mine { mine.caller.table ≡ table.now.id }
+    requires theirs { theirs.caller.table ≡ table.now.id }
+    ensures later { IsLater (lawful P (L.allows table.now.law)) mine.caller result.caller }
+    ensures both { Follows (lawful P (L.allows table.now.law)) mine.caller.story theirs.caller.story result.caller.story }
+    ensures own { own_calls result.caller.story ≡ own_calls mine.caller.story ++ own_calls theirs.caller.story }
+    ensures lost { result.lost ≡ (mine.lost || theirs.lost) }
+{
+    Relaxed {
+        caller: table.join(mine.caller, theirs.caller),
+        lost: mine.lost || theirs.lost,
+    }
+}
+
+// A worker on this thread, and those of the other deques on threads that it starts.
+#[cycle(workers)]
+fn run_workers<R: Threads + Wait + Sync, L: Lawful + Send + Sync, const P: u32>(
+    rt: &R,
+    alloc: Global,
+    graph: &Graph,
+    table: &OfferTable<L, P>,
+    board: &Board,
+    stealers: &[Stealer<Block>],
+    queue: &[u32],
+    delta: u64,
+    mut others: Vec<Worker<Block>>,
+    seat: Seat,
+) -> Relaxed
+    requires ready { IsReady P (lawful P (L.allows table.now.law)) table.now.vertices graph.now }
+    requires caller { seat.caller.table ≡ table.now.id }
+    ensures { IsLater (lawful P (L.allows table.now.law)) seat.caller result.caller }
+{
+    let Some(own) = others.pop() else {
+        return run_worker(rt, alloc, graph, table, board, stealers, queue, delta, seat);
+    };
+    let Seat {
+        worker,
+        own: first_own,
+        caller,
+    } = seat;
+    let Ok((caller, other)) = table.split(caller) else {
+        unreachable!()
+    };
+    let first = Seat {
+        worker,
+        own: first_own,
+        caller,
+    };
+    let second = Seat {
+        worker: worker.saturating_add(1),
+        own,
+        caller: other,
+    };
+    let theirs = move || -> Relaxed
+        requires { IsSync R.row × IsSync L.row × IsSend L.row × IsReady P (lawful P (L.allows table.now.law)) table.now.vertices graph.now × (second.caller.table ≡ table.now.id) }
+        ensures { IsLater (lawful P (L.allows table.entry.now.law)) second.caller result.caller }
+    {
+        run_workers(
+            rt, alloc, graph, table, board, stealers, queue, delta, others, second,
+        )
+    };
+    let mine = move || -> Relaxed
+        requires { IsReady P (lawful P (L.allows table.now.law)) table.now.vertices graph.now × (first.caller.table ≡ table.now.id) }
+        ensures { IsLater (lawful P (L.allows table.entry.now.law)) first.caller result.caller }
+    {
+        run_worker(
+            rt, alloc, graph, table, board, stealers, queue, delta, first,
+        )
+    };
+    let (later, sooner) = join(rt, theirs, mine);
+    merge(table, sooner, later)
+}
+
+/// The deques of a team: the workers' own, the first one's last, and a thief's side of each.
+#[derive(Drop)]
+struct Deques {
+    owners: Vec<Worker<Block>>,
+    stealers: Vec<Stealer<Block>>,
+}
+
+fn make_deques(alloc: Global, workers: usize) -> Result<Deques, AllocError> {
+    let mut owners = Vec::with_capacity(alloc, workers)?;
+    let mut stealers = Vec::with_capacity(alloc, workers)?;
+    for _ in 0..workers {
+        let own = Worker::new_fifo(alloc, 16)?;
+        stealers.push(own.stealer()?)?;
+        owners.push(own)?;
+    }
+    Ok(Deques { owners, stealers })
+}
+
+/// Relaxes the arcs of the vertices in the queue, and of all whose distance becomes smaller thereby, as long as there is
+/// memory for the entries.
+///
+/// Its workers are this thread and threads that it starts and joins. Each has a caller of its own.
+pub fn relax_all<R: Threads + Wait + Sync, L: Lawful + Send + Sync, const P: u32>(
+    rt: &R,
+    alloc: Global,
+    graph: &Graph,
+    table: &OfferTable<L, P>,
+    team: Team,
+    queue: &[u32],
+    caller: Caller,
+) -> Relaxed
+    requires ready { IsReady P (lawful P (L.allows table.now.law)) table.now.vertices graph.now }
+    requires caller { caller.table ≡ table.now.id }
+    ensures { IsLater (lawful P (L.allows table.now.law)) caller result.caller }
+{
+    let workers = team.workers.max(1) as usize;
+    let (board, deques) = match (Board::new(alloc, workers), make_deques(alloc, workers)) {
+        (Ok(board), Ok(deques)) => (board, deques),
+        _ => return Relaxed { caller, lost: true },
+    };
+    let Deques {
+        mut owners,
+        stealers,
+    } = deques;
+    let Some(own) = owners.pop() else {
+        return Relaxed { caller, lost: true };
+    };
+    let seat = Seat {
+        worker: 0,
+        own,
+        caller,
+    };
+    run_workers(
+        rt,
+        alloc,
+        graph,
+        table,
+        &board,
+        stealers.as_slice(),
+        queue,
+        team.delta,
+        owners,
+        seat,
+    )
+}
