@@ -2,11 +2,11 @@
 # folder of the repository.
 made=$home/.spt
 
-# what the program is made from, as one line
+# what the program is made from, as one line; tests, edits and the benchmark play no part
 sources() {
     (
         cd "$home"
-        find crates.txt HANDLES crates -name out -prune -o -type f \( -name '*.rt' -o -name '*.antt' -o -name '*.txt' -o -name HANDLES \) -print0 | LC_ALL=C sort -z | xargs -0 sha256sum | sha256sum
+        find crates.txt HANDLES crates \( -name out -o -path '*/src/tests*' -o -path '*/proofs/tests*' -o -path crates/spt_bench \) -prune -o -type f \( -name '*.rt' -o -name '*.antt' -o -name '*.txt' -o -name HANDLES \) -print0 | LC_ALL=C sort -z | xargs -0 sha256sum | sha256sum
     )
 }
 

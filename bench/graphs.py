@@ -1,7 +1,7 @@
 #!/usr/bin/env python3
 """Makes `.gr` graphs and `.ss` lists of sources, for benchmarks and for trying the program.
 
-Usage: python3 bench/graphs.py KIND N [--seed S] [--sources K] GR SS
+Usage: python3 bench/graphs.py KIND N [--seed S] [--sources K] [--shuffled] GR SS
 
 KIND is one of
   roads     a road-like grid: short streets both ways, some missing, and a few long ones; about 2.6 arcs a vertex
@@ -73,9 +73,11 @@ def far(n, _draw):
 KINDS = {"roads": roads, "random": at_random, "ties": ties, "parts": parts, "parallel": parallel, "far": far}
 
 
-def write_graph(path, kind, n, seed):
+def write_graph(path, kind, n, seed, shuffled=False):
     """Writes the graph, and tells its number of arcs and their mean length."""
     arcs = list(KINDS[kind](n, random.Random(seed)))
+    if shuffled:
+        random.Random(seed + 2).shuffle(arcs)
     with open(path, "w") as file:
         file.write(f"c {kind}, seed {seed}\np sp {n} {len(arcs)}\n")
         file.writelines(f"a {tail} {head} {length}\n" for tail, head, length in arcs)
@@ -98,8 +100,9 @@ def main():
     options.add_argument("ss")
     options.add_argument("--seed", type=int, default=1)
     options.add_argument("--sources", type=int, default=3)
+    options.add_argument("--shuffled", action="store_true", help="the same arcs in an order drawn at random")
     chosen = options.parse_args()
-    count, mean = write_graph(chosen.gr, chosen.kind, chosen.n, chosen.seed)
+    count, mean = write_graph(chosen.gr, chosen.kind, chosen.n, chosen.seed, chosen.shuffled)
     write_sources(chosen.ss, chosen.n, chosen.sources, chosen.seed)
     print(f"{chosen.n} vertices, {count} arcs of mean length {mean}, {chosen.sources} sources")
 

@@ -131,19 +131,19 @@ def print_row(part, name, best):
         theirs = other[0] / 1e6 if unit.endswith("/s") else other[0]
         ratio = theirs / ours if unit.endswith("/s") else ours / theirs
         theirs, ratio = f"{theirs:.2f}", f"{ratio:.2f}"
-    print(f"{part:<34} {ours:>10.2f} {theirs:>10} {ratio:>6}  {unit}", flush=True)
+    print(f"{part:<38} {ours:>10.2f} {theirs:>10} {ratio:>6}  {unit}", flush=True)
 
 
 def time_files(programs, folder, small, runs):
     gr, tree = os.path.join(folder, "graph.gr"), os.path.join(folder, "tree")
     vertices = 25_000 if small else 250_000
-    count, _ = graphs().write_graph(gr, "random", vertices, SEED)
+    for shuffled in (False, True):
+        count, _ = graphs().write_graph(gr, "random", vertices, SEED, shuffled)
+        best = best_of(programs, ["read", gr], runs)
+        for name in GRAPH_PARTS:
+            print_row(f"{name}, {count:,} arcs {'shuffled' if shuffled else 'by tail'}", name, best)
     write_tree(tree, vertices)
-    best = best_of(programs, ["read", gr], runs)
-    for both, more in zip(best, best_of(programs, ["tree", tree], runs)):
-        both.update(more)
-    for name in GRAPH_PARTS:
-        print_row(f"{name}, {count:,} arcs", name, best)
+    best = best_of(programs, ["tree", tree], runs)
     for name in TREE_PARTS:
         print_row(f"{name}, {vertices:,} rows", name, best)
 
@@ -188,7 +188,7 @@ def main():
         programs = [chosen.built or build_ours(), build_plain(folder, "reference")]
         if programs[1] is None:
             print("parts: no C++ compiler: ours alone", file=sys.stderr)
-        print(f"{'part':<34} {'ours':>10} {'C++':>10} {'ratio':>6}  unit")
+        print(f"{'part':<38} {'ours':>10} {'C++':>10} {'ratio':>6}  unit")
         time_files(programs, folder, chosen.small, chosen.runs)
         time_offers(programs, chosen.small, chosen.runs)
         time_rounds(programs, chosen.small, chosen.runs)

@@ -1,11 +1,12 @@
 #!/usr/bin/env python3
-"""Runs each command that README.md shows behind a `$`, and compares what it prints with what stands below it there.
+"""Runs each command that README.md and docs/ show behind a `$`, and compares what it prints with what stands below it there.
 
 Usage: python3 tests/readme.py
 
 The last line is 'N passed, M failed'.
 """
 
+import glob
 import os
 import re
 import subprocess
@@ -16,12 +17,13 @@ HOME = os.path.dirname(os.path.dirname(os.path.realpath(__file__)))
 
 def shown():
     """Each command with the text that stands below it."""
-    with open(f"{HOME}/README.md") as it:
-        text = it.read()
-    for block in re.findall(r"(?:^(?: {4}.*)?\n)+", text, re.M):
-        for part in re.split(r"^ {4}\$ ", block, flags=re.M)[1:]:
-            command, *below = part.split("\n")
-            yield command, "\n".join(line[4:] for line in below).strip("\n")
+    for file in [f"{HOME}/README.md", *sorted(glob.glob(f"{HOME}/docs/*.md"))]:
+        with open(file) as it:
+            text = it.read()
+        for block in re.findall(r"(?:^(?: {4}.*)?\n)+", text, re.M):
+            for part in re.split(r"^ {4}\$ ", block, flags=re.M)[1:]:
+                command, *below = part.split("\n")
+                yield command, "\n".join(line[4:] for line in below).strip("\n")
 
 
 def main():

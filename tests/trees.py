@@ -5,7 +5,8 @@ Usage: python3 tests/trees.py [--vertices N] [--sources K] [--seed S]
 
 For each kind, each width of a bucket and each number of workers the program must write the bytes that Dijkstra's
 algorithm gives. For each block that it writes, `spt check` must say yes, and no with the least vertex and rule once
-a digit is edited. The last line is 'N passed, M failed'.
+a digit is edited. On a greater graph several workers must be seen at work, for one source and for several, and one
+alone where one is asked for. The last line is 'N passed, M failed'.
 """
 
 import argparse
@@ -15,6 +16,7 @@ import random
 import subprocess
 import sys
 import tempfile
+import threading
 
 HOME = os.path.dirname(os.path.dirname(os.path.realpath(__file__)))
 sys.dont_write_bytecode = True
@@ -23,7 +25,7 @@ import graphs  # noqa: E402
 
 # the greatest distance of a word with 28 bits of predecessor, as --pred-bits is where it isn't given
 MAX = 2**36 - 2
-WORKERS = (1, 4, 64)
+WORKERS = (1, 2, 4, 64)
 EDITS = 5
 
 
@@ -155,6 +157,38 @@ def compare(count, kind, chosen, folder):
             compare_checks(count, kind, folder, graph, arcs, chosen.vertices, source, words, draw)
 
 
+def most_threads(*words):
+    """The greatest number of threads that was seen in one run, looked for all the time, and its status and output."""
+    most = 0
+    process = subprocess.Popen([f"{HOME}/spt", *words], stdout=subprocess.PIPE, stderr=subprocess.DEVNULL)
+    reader = threading.Thread(target=process.stdout.read)
+    reader.start()
+    while process.poll() is None:
+        try:
+            most = max(most, len(os.listdir(f"/proc/{process.pid}/task")))
+        except FileNotFoundError:
+            break
+    reader.join()
+    return most, process.wait()
+
+
+def see_workers(count, folder, seed):
+    """Several workers are started for one source of a great graph, and for several, and none where one is asked for."""
+    if len(os.sched_getaffinity(0)) < 2:
+        return
+    graph, one, several = f"{folder}/great.gr", f"{folder}/one.ss", f"{folder}/several.ss"
+    _, mean = graphs.write_graph(graph, "roads", 100_000, seed)
+    graphs.write_sources(one, 100_000, 1, seed)
+    graphs.write_sources(several, 100_000, 4, seed)
+    for name, sources in (("one source", one), ("several sources", several)):
+        for workers in WORKERS:
+            words = ("tree", graph, sources, "--delta", str(mean), "--workers", str(workers))
+            seen = [most_threads(*words) for _ in range(3)]
+            holds = all(status == 0 for _, status in seen)
+            most = max(threads for threads, _ in seen)
+            count.of(f"threads for {name}, {workers} workers", holds and (most == 1 if workers == 1 else most > 1))
+
+
 def main():
     options = argparse.ArgumentParser(description=__doc__, formatter_class=argparse.RawDescriptionHelpFormatter)
     options.add_argument("--vertices", type=int, default=10000)
@@ -165,6 +199,7 @@ def main():
     with tempfile.TemporaryDirectory() as folder:
         for kind in sorted(graphs.KINDS):
             compare(count, kind, chosen, folder)
+        see_workers(count, folder, chosen.seed)
     print(f"{count.passed} passed, {count.failed} failed")
     return 1 if count.failed else 0
 
