@@ -8,17 +8,17 @@ use Rattle.std.proofs.lemmas.List.Sums.{sum_by-cons}
 use Rattle.std.proofs.lemmas.List.Elements.{All-map, All-weaker, recursion_from_All}
 use Rattle.sp_word.specs.Word.{max_pred}
 use Rattle.sp_text.specs.declared.faults.DimacsError.{DimacsError}
-use Rattle.sp_text.specs.declared.layouts.Top.TheVariants.{Number, Vertex, Problem}
-use Rattle.sp_text.specs.declared.layouts.Ranges.{Ranges}
-use Rattle.sp_text.specs.declared.layouts.Field.{Field}
-use Rattle.sp_text.specs.Formats.{LineForm, Format, field}
+use Rattle.sp_text.specs.declared.formats.Top.TheVariants.{Number, Vertex, Problem}
+use Rattle.sp_text.specs.declared.formats.Ranges.{Ranges}
+use Rattle.sp_text.specs.declared.formats.Field.{Field}
+use Rattle.sp_text.specs.Formats.{LineForm, Format, field, ranges_of}
 use Rattle.sp_text.specs.Lines.{lines}
 use Rattle.sp_text.specs.Text.{Item, judge, first_out, top, count, items_of}
 use Rattle.sp_text.specs.Accepted.{IsAllowed, IsAccepted}
 use Rattle.sp_text.specs.Collecting.{SpelledBy}
 use Rattle.sp_text.specs.Whole.{IsSpelled}
 use Rattle.sp_text.proofs.Allowed.{accepted}
-use Rattle.sp_dimacs.specs.Formats.{gr, ss, pairs, arc_line, source_line, pair_line, ranges_of}
+use Rattle.sp_dimacs.specs.Formats.{gr, ss, pairs, arc_line, source_line, pair_line}
 use Rattle.sp_dimacs.specs.declared.graphs.GrFile.{GrFile}
 use Rattle.sp_dimacs.specs.declared.sources.SsFile.{SsFile}
 use Rattle.sp_dimacs.specs.declared.pairs.PairsFile.{PairsFile}

@@ -1,11 +1,10 @@
--- The line forms of the files, and the limits of the numbers in them.
+-- The line forms of the files.
 use Rattle.std.specs.Prelude.{ℕ, List, false, [], ◌∷◌, codes}
-use Rattle.sp_word.specs.Word.{max_dist, max_pred}
-use Rattle.sp_text.specs.declared.layouts.Field.{Field}
-use Rattle.sp_text.specs.declared.layouts.Top.{Top}
-use Rattle.sp_text.specs.declared.layouts.Top.TheVariants.{Number, Vertex, Problem}
-use Rattle.sp_text.specs.declared.layouts.Ranges.{Ranges}
+use Rattle.sp_text.specs.declared.formats.Field.{Field}
+use Rattle.sp_text.specs.declared.formats.Top.{Top}
+use Rattle.sp_text.specs.declared.formats.Top.TheVariants.{Number, Vertex, Problem}
 use Rattle.sp_text.specs.Formats.{Format, LineForm, field}
+use Rattle.sp_dimacs.specs.declared.formats.TheConstants.{MOST_ARCS, LONGEST_ARC, MOST_SOURCES}
 
 -- a line with these words and these numbers, of which so many may stand
 abbrev pub line_form : List (List ℕ) → List Field → Top → LineForm
@@ -13,11 +12,11 @@ line_form words fields limit = record { words = words; fields = fields; fresh = 
 
 -- `.gr`: the problem line `p sp N M`, and M lines `a U V W`
 abbrev pub arc_line : LineForm
-arc_line = line_form (codes "a" ∷ []) (field 85 1 (Problem 0) ∷ field 86 1 (Problem 0) ∷ field 87 1 (Number 4294967295) ∷ []) (Problem 1)
+arc_line = line_form (codes "a" ∷ []) (field 85 1 (Problem 0) ∷ field 86 1 (Problem 0) ∷ field 87 1 (Number LONGEST_ARC) ∷ []) (Problem 1)
 
 abbrev pub gr : Format
 gr = record {
-  problem = line_form (codes "p" ∷ codes "sp" ∷ []) (field 78 1 Vertex ∷ field 77 0 (Number 1073741824) ∷ []) (Number 1);
+  problem = line_form (codes "p" ∷ codes "sp" ∷ []) (field 78 1 Vertex ∷ field 77 0 (Number MOST_ARCS) ∷ []) (Number 1);
   items = arc_line ∷ [];
   needed = Problem 1;
 }
@@ -28,7 +27,7 @@ source_line = line_form (codes "s" ∷ []) (field 86 1 Vertex ∷ []) (Problem 0
 
 abbrev pub ss : Format
 ss = record {
-  problem = line_form (codes "p" ∷ codes "aux" ∷ codes "sp" ∷ codes "ss" ∷ []) (field 75 0 (Number 1048576) ∷ []) (Number 1);
+  problem = line_form (codes "p" ∷ codes "aux" ∷ codes "sp" ∷ codes "ss" ∷ []) (field 75 0 (Number MOST_SOURCES) ∷ []) (Number 1);
   items = source_line ∷ [];
   needed = Problem 0;
 }
@@ -39,11 +38,7 @@ pair_line = line_form (codes "q" ∷ []) (field 83 1 Vertex ∷ field 84 1 Verte
 
 abbrev pub pairs : Format
 pairs = record {
-  problem = line_form (codes "p" ∷ codes "pairs" ∷ []) (field 75 0 (Number 1048576) ∷ []) (Number 1);
+  problem = line_form (codes "p" ∷ codes "pairs" ∷ []) (field 75 0 (Number MOST_SOURCES) ∷ []) (Number 1);
   items = pair_line ∷ [];
   needed = Problem 0;
 }
-
--- the limits of words with P bits for the predecessor
-abbrev pub ranges_of : ℕ → Ranges
-ranges_of P = record { vertex = max_pred P; dist = max_dist P }

@@ -4,6 +4,7 @@ use Rattle.std.specs.Borrow.{Bor}
 use Rattle.std.specs.Io.KnownBytes.{Consumes, IsAtEnd}
 use Rattle.sp_text.specs.declared.faults.Kind.{Kind}
 use Rattle.sp_text.specs.declared.faults.Kind.TheVariants.{LongLine, Read}
+use Rattle.sp_text.specs.declared.rooms.TheConstants.{LONGEST_LINE}
 use Rattle.sp_text.specs.declared.faults.DimacsError.{DimacsError}
 use Rattle.sp_text.specs.Lines.{ended, rest, lines}
 use Rattle.sp_dimacs.specs.declared.lines.Lines.{Lines}
@@ -56,7 +57,7 @@ pub record IsRefused {R : Type 0} (left : R → Option (List ℕ)) (has_failed :
   pub more : List ℕ
   pub came : Consumes start (left reader.reader) (front ++ more)
   pub ended : ended front ≡ given
-  pub why : ((kind ≡ LongLine) × (1024 < length (rest front))) ⊎ ((kind ≡ Read) × (length (rest front) ≤ 1024) × (more ≡ []) × (has_failed reader.reader ≡ true))
+  pub why : ((kind ≡ LongLine) × (LONGEST_LINE < length (rest front))) ⊎ ((kind ≡ Read) × (length (rest front) ≤ LONGEST_LINE) × (more ≡ []) × (has_failed reader.reader ≡ true))
 
 -- whether the line that was given last had its LF
 abbrev pub had_lf : {R : Type 0} → Lines R → Bool
@@ -64,7 +65,7 @@ had_lf reader = reader.has_end
 
 -- The answer to the question for the next line: this one; or there is none; or its fault.
 abbrev pub Gave : {R : Type 0} → (R → Option (List ℕ)) → (R → Bool) → Option (List ℕ) → List (List ℕ) → List ℕ → Result Bool DimacsError → Lines R → Type 0
-Gave left has_failed start given line (Ok true) new = IsBehindLines left start (given ++ line ∷ []) new × IsNext left start given line new (had_lf new) × (length line ≤ 1024)
+Gave left has_failed start given line (Ok true) new = IsBehindLines left start (given ++ line ∷ []) new × IsNext left start given line new (had_lf new) × (length line ≤ LONGEST_LINE)
 Gave left has_failed start given line (Ok false) new = IsBehindLines left start given new × AreAll left start given new
 Gave left has_failed start given line (Err e) new = (new.state ≡ Refused e) × (e.line ≡ min (length given + 1) (2 ^ 64 - 1)) × IsRefused left has_failed start given e.kind new
 
@@ -88,15 +89,20 @@ GaveNext left has_failed start given (Ok (Some line)) new = Gave left has_failed
 GaveNext left has_failed start given (Ok None) new = Gave left has_failed start given [] (Ok false) new
 GaveNext left has_failed start given (Err e) new = Gave left has_failed start given [] (Err e) new
 
+-- The reader after this answer: a refused one stays so, and one that stands behind some lines gave the next.
+abbrev pub Gives : {R : Type 0} → (R → Option (List ℕ)) → (R → Bool) → Lines R → Result (Option (Bor (List ℕ))) DimacsError → Lines R → Type 0
+Gives left has_failed old result new = IsStillRefused old new ×
+    ((start : Option (List ℕ)) (given : List (List ℕ)) → IsBehindLines left start given old → GaveNext left has_failed start given result new)
+
 -- The next line of the text is too long; or the device has failed.
 abbrev pub IsFaulty : (text : List ℕ) → (given : List (List ℕ)) → Kind → Type 0
-IsFaulty text given kind = ((kind ≡ LongLine) × (long : List ℕ) × (slice_get (lines text) (length given) ≡ Some long) × (1024 < length long)) ⊎ (kind ≡ Read)
+IsFaulty text given kind = ((kind ≡ LongLine) × (long : List ℕ) × (slice_get (lines text) (length given) ≡ Some long) × (LONGEST_LINE < length long)) ⊎ (kind ≡ Read)
 
 abbrev pub IsFaultOf : (text : List ℕ) → (given : List (List ℕ)) → DimacsError → Type 0
 IsFaultOf text given e = (e.line ≡ min (length given + 1) (2 ^ 64 - 1)) × IsFaulty text given e.kind
 
 -- The line behind the given ones is this line of the text; or the given ones are all its lines.
 abbrev pub GaveOf : (text : List ℕ) → (given : List (List ℕ)) → Result (Option (Bor (List ℕ))) DimacsError → Type 0
-GaveOf text given (Ok (Some line)) = (slice_get (lines text) (length given) ≡ Some line.now) × (length line.now ≤ 1024)
+GaveOf text given (Ok (Some line)) = (slice_get (lines text) (length given) ≡ Some line.now) × (length line.now ≤ LONGEST_LINE)
 GaveOf text given (Ok None) = lines text ≡ given
 GaveOf text given (Err e) = IsFaultOf text given e

@@ -5,9 +5,11 @@ use Rattle.sp_text.specs.declared.faults.DimacsError.{DimacsError}
 use Rattle.sp_text.specs.Text.{Item, Spells, judge}
 use Rattle.sp_text.specs.Collecting.{SpelledBy}
 use Rattle.sp_text.specs.Whole.{AllRead}
-use Rattle.sp_dimacs.specs.Formats.{gr, ranges_of}
+use Rattle.sp_dimacs.specs.declared.formats.TheConstants.{MOST_ARCS}
+use Rattle.sp_dimacs.specs.Formats.{gr}
 use Rattle.sp_paths.specs.declared.arc.Arc.{Arc}
 use Rattle.sp_paths.specs.Paths.{Graph, IsArc}
+use Rattle.sp_text.specs.Formats.{ranges_of}
 use Rattle.sp_dimacs.specs.declared.graphs.GrFile.{GrFile}
 
 -- the arc of a line `a U V W`
@@ -34,5 +36,5 @@ graph_of file = record { n = file.n; arcs = file.arcs.items }
 pub record IsNetwork (P : ℕ) (file : GrFile) : Type 0 where
   pub least : 1 ≤ file.n
   pub most : file.n ≤ max_pred P
-  pub short : length file.arcs.items ≤ 1073741824
+  pub short : length file.arcs.items ≤ MOST_ARCS
   pub arcs : All (IsArc file.n) file.arcs.items

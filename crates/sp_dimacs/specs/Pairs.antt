@@ -5,7 +5,9 @@ use Rattle.sp_text.specs.declared.faults.DimacsError.{DimacsError}
 use Rattle.sp_text.specs.Text.{Item, Spells, judge}
 use Rattle.sp_text.specs.Collecting.{SpelledBy}
 use Rattle.sp_text.specs.Whole.{AllRead}
-use Rattle.sp_dimacs.specs.Formats.{pairs, ranges_of}
+use Rattle.sp_text.specs.Formats.{ranges_of}
+use Rattle.sp_dimacs.specs.declared.formats.TheConstants.{MOST_SOURCES}
+use Rattle.sp_dimacs.specs.Formats.{pairs}
 use Rattle.sp_dimacs.specs.declared.pairs.PairsFile.{PairsFile}
 
 -- the pair of a line `q S T`
@@ -33,5 +35,5 @@ pub record IsPairWithin (P : ℕ) (pair : ℕ × ℕ) : Type 0 where
 
 -- There are no more pairs than may be, and a word of the layout can name each vertex of them.
 pub record ArePairsWithin (P : ℕ) (file : PairsFile) : Type 0 where
-  pub short : length file.pairs.items ≤ 1048576
+  pub short : length file.pairs.items ≤ MOST_SOURCES
   pub pairs : All (IsPairWithin P) file.pairs.items

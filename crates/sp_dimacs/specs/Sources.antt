@@ -5,7 +5,9 @@ use Rattle.sp_text.specs.declared.faults.DimacsError.{DimacsError}
 use Rattle.sp_text.specs.Text.{Item, Spells, judge}
 use Rattle.sp_text.specs.Collecting.{SpelledBy}
 use Rattle.sp_text.specs.Whole.{AllRead}
-use Rattle.sp_dimacs.specs.Formats.{ss, ranges_of}
+use Rattle.sp_text.specs.Formats.{ranges_of}
+use Rattle.sp_dimacs.specs.declared.formats.TheConstants.{MOST_SOURCES}
+use Rattle.sp_dimacs.specs.Formats.{ss}
 use Rattle.sp_dimacs.specs.declared.sources.SsFile.{SsFile}
 
 -- the source of a line `s V`
@@ -31,5 +33,5 @@ pub record IsVertex (P : ℕ) (vertex : ℕ) : Type 0 where
 
 -- There are no more sources than may be, and a word of the layout can name each.
 pub record AreSourcesWithin (P : ℕ) (file : SsFile) : Type 0 where
-  pub short : length file.sources.items ≤ 1048576
+  pub short : length file.sources.items ≤ MOST_SOURCES
   pub sources : All (IsVertex P) file.sources.items

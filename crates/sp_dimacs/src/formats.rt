@@ -1,22 +1,23 @@
 //! The line forms of the files, as data.
-ghost use Rattle.std.specs.Prelude.{◌≡◌, true};
+ghost use Rattle.std.specs.Prelude.{◌≡◌};
 ghost use Rattle.sp_text.specs.Formats.{format_of};
-ghost use Rattle.sp_word.specs.Word.{is_layout};
-ghost use Rattle.sp_dimacs.specs.Formats.{gr, ss, pairs, ranges_of};
+ghost use Rattle.sp_dimacs.specs.Formats.{gr, ss, pairs};
 
-use sp_text::{Field, Form, Layout, Ranges, Top};
-use sp_word::Word;
+use sp_text::{Field, FileFormat, Form, Top};
 
-const MOST_ARCS: u64 = 1_073_741_824;
+/// As many arcs as a graph may have.
+pub const MOST_ARCS: u64 = 1_073_741_824;
 
-const LONGEST_ARC: u64 = 4_294_967_295;
+/// The greatest length of an arc.
+pub const LONGEST_ARC: u64 = 4_294_967_295;
 
-const MOST_SOURCES: u64 = 1_048_576;
+/// As many sources, or pairs, as a file may have.
+pub const MOST_SOURCES: u64 = 1_048_576;
 
 // The one line that says how many lines of another form stand.
 const PROBLEM_LIMIT: Top = Top::Number(1);
 
-const GR: Layout = Layout {
+const GR: FileFormat = FileFormat {
     problem: Form {
         words: b"p sp",
         fields: &[
@@ -61,7 +62,7 @@ const GR: Layout = Layout {
     needed: Top::Problem(1),
 };
 
-const SS: Layout = Layout {
+const SS: FileFormat = FileFormat {
     problem: Form {
         words: b"p aux sp ss",
         fields: &[Field {
@@ -87,7 +88,7 @@ const SS: Layout = Layout {
     needed: Top::Problem(0),
 };
 
-const PAIRS: Layout = Layout {
+const PAIRS: FileFormat = FileFormat {
     problem: Form {
         words: b"p pairs",
         fields: &[Field {
@@ -121,33 +122,22 @@ const PAIRS: Layout = Layout {
 };
 
 /// The line forms of a `.gr` file.
-pub fn gr_layout() -> Layout
+pub fn gr_format() -> FileFormat
     ensures { format_of result ≡ gr }
 {
     GR
 }
 
 /// The line forms of an `.ss` file.
-pub fn ss_layout() -> Layout
+pub fn ss_format() -> FileFormat
     ensures { format_of result ≡ ss }
 {
     SS
 }
 
 /// The line forms of a pairs file.
-pub fn pairs_layout() -> Layout
+pub fn pairs_format() -> FileFormat
     ensures { format_of result ≡ pairs }
 {
     PAIRS
-}
-
-/// The limits that a word of `P` bits of predecessor sets.
-pub fn ranges_of<const P: u32>() -> Ranges
-    requires { is_layout P ≡ true }
-    ensures { result ≡ ranges_of P }
-{
-    Ranges {
-        vertex: Word::<P>::max_pred() as u64,
-        dist: Word::<P>::max_dist(),
-    }
 }

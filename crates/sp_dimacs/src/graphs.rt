@@ -1,16 +1,19 @@
 //! `.gr` files: a graph.
 ghost use Rattle.std.specs.Prelude.{◌≡◌, ◌<◌, ◌^◌, ℕ, List, [], map, true, false, Some, IfOk, IfErr};
 ghost use Rattle.sp_word.specs.Word.{is_layout, max_pred};
+ghost use Rattle.sp_text.specs.Formats.{ranges_of};
 ghost use Rattle.sp_text.specs.Text.{judge};
-ghost use Rattle.sp_dimacs.specs.Formats.{gr, ranges_of};
+ghost use Rattle.sp_dimacs.specs.Formats.{gr};
 ghost use Rattle.sp_dimacs.specs.Reading.{IsBehindText};
 ghost use Rattle.sp_dimacs.specs.Graph.{arc_of, IsGraph, SpellsGraph, GraphRead, IsNetwork};
 
-use crate::formats::{gr_layout, ranges_of};
+use crate::formats::gr_format;
 use crate::readers::TextReader;
 use sp_device::Read;
 use sp_paths::Arc;
-use sp_text::{Collector, DimacsError, Keep, Kind, Layout, LineTaker, Ranges, Values, read_text};
+use sp_text::{
+    Collector, DimacsError, FileFormat, Keep, Kind, LineTaker, Ranges, Values, ranges_of, read_text,
+};
 use std::alloc::{AllocError, Global};
 use std::mem;
 
@@ -53,8 +56,8 @@ impl<const P: u32> Keep for Arcs<P> {
 
     ghost Spelled = { λ problem items file. IsGraph problem items file };
 
-    fn layout(&self) -> Layout {
-        gr_layout()
+    fn format(&self) -> FileFormat {
+        gr_format()
     }
 
     fn ranges(&self) -> Ranges {
@@ -93,7 +96,8 @@ impl<const P: u32> TextReader<Collector<Arcs<P>>> {
     /// A reader behind no text.
     pub fn new(alloc: Global) -> Self
         requires { is_layout P ≡ true }
-        ensures { IsBehindText (judge gr (ranges_of P)) ⟦<Collector<Arcs<P>> as LineTaker>⟧.After [] result }
+        ensures { IsBehindText
+            (judge gr (ranges_of P)) ⟦<Collector<Arcs<P>> as LineTaker>⟧.After [] result }
     {
         TextReader::of_taker(Collector::new(Arcs::new(alloc)))
     }
@@ -104,7 +108,8 @@ impl<const P: u32> TextReader<Collector<Arcs<P>>> {
 #[tactic(auto, using(crate::proofs::Limits::graph_read))]
 pub fn read_gr<const P: u32, R: Read>(alloc: Global, reader: &mut R) -> Result<GrFile, DimacsError>
     requires { is_layout P ≡ true }
-    ensures exact { (text : List ℕ) → R.left reader.old ≡ Some text → GraphRead P text (R.left reader.new) (R.has_failed reader.new) result }
+    ensures exact { (text : List ℕ) → R.left reader.old ≡ Some text
+        → GraphRead P text (R.left reader.new) (R.has_failed reader.new) result }
     ensures found { IfOk result (λ file. (text : List ℕ) × SpellsGraph P text file) }
     ensures graph { IfOk result (IsNetwork P) }
     ensures read { IfErr result (λ e. e.kind ≡ Kind.Read → R.has_failed reader.new ≡ true) }

@@ -1,9 +1,10 @@
 //! What holds of each value that a text spells.
 ghost use Rattle.std.specs.Prelude.{ℕ};
+ghost use Rattle.sp_text.specs.Formats.{ranges_of};
 ghost use Rattle.sp_text.specs.Text.{judge};
 ghost use Rattle.sp_text.specs.Collecting.{SpelledBy};
 ghost use Rattle.sp_text.specs.Whole.{IsSpelled};
-ghost use Rattle.sp_dimacs.specs.Formats.{gr, ss, pairs, ranges_of};
+ghost use Rattle.sp_dimacs.specs.Formats.{gr, ss, pairs};
 ghost use Rattle.sp_dimacs.specs.Graph.{IsGraph, IsNetwork};
 ghost use Rattle.sp_dimacs.specs.Sources.{AreSources, AreSourcesWithin};
 ghost use Rattle.sp_dimacs.specs.Pairs.{ArePairs, ArePairsWithin};
@@ -13,15 +14,20 @@ ghost use Rattle.sp_dimacs.specs.declared.pairs.PairsFile.{PairsFile};
 
 /// A graph that some text spells is within the limits of the layout.
 pub fn spelled_graph_is_within()
-    ensures { (P : ℕ) (file : GrFile) → IsSpelled (judge gr (ranges_of P)) (SpelledBy gr IsGraph) file → IsNetwork P file }
+    ensures { (P : ℕ) (file : GrFile)
+        → IsSpelled (judge gr (ranges_of P)) (SpelledBy gr IsGraph) file → IsNetwork P file }
 {}
 
 /// Sources that some text spells are within the limits of the layout.
 pub fn spelled_sources_are_within()
-    ensures { (P : ℕ) (file : SsFile) → IsSpelled (judge ss (ranges_of P)) (SpelledBy ss AreSources) file → AreSourcesWithin P file }
+    ensures { (P : ℕ) (file : SsFile)
+        → IsSpelled (judge ss (ranges_of P)) (SpelledBy ss AreSources) file
+        → AreSourcesWithin P file }
 {}
 
 /// Pairs that some text spells are within the limits of the layout.
 pub fn spelled_pairs_are_within()
-    ensures { (P : ℕ) (file : PairsFile) → IsSpelled (judge pairs (ranges_of P)) (SpelledBy pairs ArePairs) file → ArePairsWithin P file }
+    ensures { (P : ℕ) (file : PairsFile)
+        → IsSpelled (judge pairs (ranges_of P)) (SpelledBy pairs ArePairs) file
+        → ArePairsWithin P file }
 {}

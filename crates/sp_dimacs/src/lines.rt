@@ -4,9 +4,8 @@ ghost use Rattle.sp_text.specs.declared.faults.DimacsError.{DimacsError};
 ghost use Rattle.sp_dimacs.specs.LineReading.{RunTaken, LineRead};
 
 use crate::piece::Piece;
-use memchr::memchr;
 use sp_device::Read;
-use sp_text::{DimacsError, Kind, Room};
+use sp_text::{DimacsError, Kind, LONGEST_LINE, Room, cut_line};
 
 // Whether lines may come, and otherwise why there are no more.
 #[derive(Clone, Copy)]
@@ -16,37 +15,20 @@ pub enum State {
     Refused(DimacsError),
 }
 
-// Puts bytes behind those of a line, if it has room for them.
-fn extend(room: &mut Room, bytes: &[u8]) -> Result<(), Kind>
-    ensures pushed { OnOk result (room.new ≡ room.old ++ bytes.now) }
-    ensures short { OnOk result (length room.new ≤ 1024) }
-    ensures long { IfErr result (λ kind. (kind ≡ Kind.LongLine) × (1024 < length (room.old ++ bytes.now))) }
-{
-    if room.room_left() < bytes.len() {
-        return Err(Kind::LongLine);
-    }
-    room.push(bytes);
-    Ok(())
-}
-
 // Moves bytes up to an LF, and takes the LF away; or all of them, where there is none. It tells whether an
 // LF came.
 fn take_run(piece: &mut Piece, room: &mut Room) -> Result<bool, Kind>
     ensures taken { RunTaken piece.old room.old result piece.new room.new }
-    ensures short { OnOk result (length room.new ≤ 1024) }
+    ensures short { OnOk result (length room.new ≤ LONGEST_LINE) }
 {
-    let bytes = piece.bytes();
-    let Some(end) = memchr(b'\n', bytes) else {
-        if let Err(kind) = extend(room, bytes) {
-            return Err(kind);
-        }
+    let Some((line, _)) = cut_line(piece.bytes()) else {
+        room.extend(piece.bytes())?;
         piece.clear();
         return Ok(false);
     };
-    if let Err(kind) = extend(room, &bytes[..end]) {
-        return Err(kind);
-    }
-    piece.skip(end + 1);
+    room.extend(line)?;
+    let taken = line.len() + 1;
+    piece.skip(taken);
     Ok(true)
 }
 
@@ -54,8 +36,9 @@ fn take_run(piece: &mut Piece, room: &mut Room) -> Result<bool, Kind>
 // no line.
 fn read_line<R: Read>(reader: &mut R, piece: &mut Piece, room: &mut Room) -> Result<bool, Kind>
     requires { room.old ≡ [] }
-    ensures read { LineRead (R.left reader.old) (R.left reader.new) (R.has_failed reader.new) piece.old result piece.new room.new }
-    ensures short { OnOk result (length room.new ≤ 1024) }
+    ensures read { LineRead (R.left reader.old) (R.left reader.new)
+        (R.has_failed reader.new) piece.old result piece.new room.new }
+    ensures short { OnOk result (length room.new ≤ LONGEST_LINE) }
 {
     loop {
         match take_run(piece, room) {
@@ -84,7 +67,7 @@ pub struct Lines<R> {
 }
 
 impl<R: Read> Lines<R> {
-    ghost use Rattle.sp_dimacs.specs.Giving.{IsBehindLines, IsRefusedAs, IsStillRefused, had_lf, Gave, GaveNext, GaveOf, Counted};
+    ghost use Rattle.sp_dimacs.specs.Giving.{IsBehindLines, IsRefusedAs, had_lf, Gave, GaveOf, Gives, Counted};
     ghost use Rattle.sp_dimacs.specs.contracts.lines.Lines.{the_row};
     ghost use Rattle.std.specs.Io.BufRead.{Rests};
     ghost use Rattle.std.specs.Borrow.{sem};
@@ -106,8 +89,11 @@ impl<R: Read> Lines<R> {
 
     // Reads the next line into the room, if there is one.
     fn advance(&mut self) -> Result<bool, DimacsError>
-        ensures again { (e : DimacsError) → self.old.state ≡ Refused e → (result ≡ Err e) × (self.new ≡ self.old) }
-        ensures gave { (start : Option (List ℕ)) (given : List (List ℕ)) → IsBehindLines R.left start given self.old → Gave R.left R.has_failed start given self.new.room result self.new }
+        ensures again { (e : DimacsError) → self.old.state ≡ Refused e
+            → (result ≡ Err e) × (self.new ≡ self.old) }
+        ensures gave { (start : Option (List ℕ)) (given : List (List ℕ))
+            → IsBehindLines R.left start given self.old
+            → Gave R.left R.has_failed start given self.new.room result self.new }
     {
         match self.state {
             State::Over => return Ok(false),
@@ -138,7 +124,8 @@ impl<R: Read> Lines<R> {
 
     // The next line has this fault.
     fn refuse(&mut self, kind: Kind) -> DimacsError
-        ensures line { result ≡ record { line = min (self.old.number + 1) (2 ^ 64 - 1); kind = kind } }
+        ensures line { result
+            ≡ record { line = min (self.old.number + 1) (2 ^ 64 - 1); kind = kind } }
         ensures refused { self.new ≡ record self.old { state = Refused result } }
     {
         let error = DimacsError {
@@ -151,7 +138,8 @@ impl<R: Read> Lines<R> {
 
     /// The number of the line that was given last, 0 before the first.
     pub fn line(&self) -> u64
-        ensures { (start : Option (List ℕ)) (given : List (List ℕ)) → IsBehindLines R.left start given self.now → result ≡ min (length given) (2 ^ 64 - 1) }
+        ensures { (start : Option (List ℕ)) (given : List (List ℕ))
+            → IsBehindLines R.left start given self.now → result ≡ min (length given) (2 ^ 64 - 1) }
     {
         self.number
     }
@@ -168,8 +156,10 @@ impl<R: Read> Lines<R> {
     /// a refusal it answers the same again.
     pub fn next(&mut self) -> Result<Option<&[u8]>, DimacsError>
         ensures again { (e : DimacsError) → IsRefusedAs e self.old → result ≡ Err e }
-        ensures text { (text : List ℕ) (given : List (List ℕ)) → IsBehindLines R.left (Some text) given self.old → GaveOf text given result }
-        ensures* after { sem 𝓛 (Rests (the_row R.row) self.entry (λ new. IsStillRefused self.old new × ((start : Option (List ℕ)) (given : List (List ℕ)) → IsBehindLines R.left start given self.old → GaveNext R.left R.has_failed start given result new))) }
+        ensures text { (text : List ℕ) (given : List (List ℕ))
+            → IsBehindLines R.left (Some text) given self.old → GaveOf text given result }
+        ensures* after { sem 𝓛
+            (Rests (the_row R.row) self.entry (Gives R.left R.has_failed self.old result)) }
     {
         match self.advance() {
             Ok(true) => Ok(Some(self.room.line())),

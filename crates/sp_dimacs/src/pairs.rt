@@ -1,15 +1,18 @@
 //! Files of pairs: a source and a target each.
 ghost use Rattle.std.specs.Prelude.{◌≡◌, ◌<◌, ◌^◌, ℕ, List, [], map, true, false, Some, IfOk, IfErr};
 ghost use Rattle.sp_word.specs.Word.{is_layout, max_pred};
+ghost use Rattle.sp_text.specs.Formats.{ranges_of};
 ghost use Rattle.sp_text.specs.Text.{judge};
-ghost use Rattle.sp_dimacs.specs.Formats.{pairs, ranges_of};
+ghost use Rattle.sp_dimacs.specs.Formats.{pairs};
 ghost use Rattle.sp_dimacs.specs.Reading.{IsBehindText};
 ghost use Rattle.sp_dimacs.specs.Pairs.{pair_of, ArePairs, SpellsPairs, PairsRead, ArePairsWithin};
 
-use crate::formats::{pairs_layout, ranges_of};
+use crate::formats::pairs_format;
 use crate::readers::TextReader;
 use sp_device::Read;
-use sp_text::{Collector, DimacsError, Keep, Kind, Layout, LineTaker, Ranges, Values, read_text};
+use sp_text::{
+    Collector, DimacsError, FileFormat, Keep, Kind, LineTaker, Ranges, Values, ranges_of, read_text,
+};
 use std::alloc::{AllocError, Global};
 use std::mem;
 
@@ -51,8 +54,8 @@ impl<const P: u32> Keep for Pairs<P> {
 
     ghost Spelled = { λ problem items file. ArePairs problem items file };
 
-    fn layout(&self) -> Layout {
-        pairs_layout()
+    fn format(&self) -> FileFormat {
+        pairs_format()
     }
 
     fn ranges(&self) -> Ranges {
@@ -86,7 +89,8 @@ impl<const P: u32> TextReader<Collector<Pairs<P>>> {
     /// A reader behind no text.
     pub fn new(alloc: Global) -> Self
         requires { is_layout P ≡ true }
-        ensures { IsBehindText (judge pairs (ranges_of P)) ⟦<Collector<Pairs<P>> as LineTaker>⟧.After [] result }
+        ensures { IsBehindText
+            (judge pairs (ranges_of P)) ⟦<Collector<Pairs<P>> as LineTaker>⟧.After [] result }
     {
         TextReader::of_taker(Collector::new(Pairs::new(alloc)))
     }
@@ -100,7 +104,8 @@ pub fn read_pairs<const P: u32, R: Read>(
     reader: &mut R,
 ) -> Result<PairsFile, DimacsError>
     requires { is_layout P ≡ true }
-    ensures exact { (text : List ℕ) → R.left reader.old ≡ Some text → PairsRead P text (R.left reader.new) (R.has_failed reader.new) result }
+    ensures exact { (text : List ℕ) → R.left reader.old ≡ Some text
+        → PairsRead P text (R.left reader.new) (R.has_failed reader.new) result }
     ensures found { IfOk result (λ file. (text : List ℕ) × SpellsPairs P text file) }
     ensures pairs { IfOk result (ArePairsWithin P) }
     ensures read { IfErr result (λ e. e.kind ≡ Kind.Read → R.has_failed reader.new ≡ true) }

@@ -3,27 +3,26 @@ ghost use Rattle.std.specs.Prelude.{◌≡◌, ◌+◌, ◌≤◌, ◌^◌, [], 
 ghost use Rattle.std.specs.Io.KnownBytes.{Consumes, Keeps, IsAtEnd};
 
 use sp_device::{Failed, Read};
+use sp_text::PIECE;
 use std::marker::Model;
 
-// As many bytes as are taken from a device at a time.
-const ROOM: usize = 16_384;
-
-/// Bytes that wait to be read, at most 16,384.
+/// Bytes that wait to be read, at most `PIECE`.
 #[derive(Drop)]
 pub struct Piece {
-    bytes: [u8; ROOM],
+    bytes: [u8; PIECE],
     start: usize,
     end: usize,
 }
 
 impl Model for Piece {
     ghost use Rattle.std.specs.Prelude.{ℕ, List, take, drop, ◌≤◌};
+    ghost use Rattle.sp_text.specs.declared.whole.TheConstants.{PIECE};
 
     ghost Value = { List ℕ };
 
     ghost view = { λ p. drop p.start (take p.end p.bytes) };
 
-    ghost invariant = { λ p. (p.start ≤ p.end) × (p.end ≤ 16384) };
+    ghost invariant = { λ p. (p.start ≤ p.end) × (p.end ≤ PIECE) };
 }
 
 impl Piece {
@@ -32,7 +31,7 @@ impl Piece {
         ensures { result ≡ [] }
     {
         Piece {
-            bytes: [0; ROOM],
+            bytes: [0; PIECE],
             start: 0,
             end: 0,
         }

@@ -26,7 +26,8 @@ impl<T: LineTaker> TextReader<T> {
 
     /// What is fed from a device.
     pub(crate) fn into_feeder(self) -> Feeder<T>
-        ensures { (text : List ℕ) → IsBehindText T.rules T.After text self → IsBehind T.rules T.After text result }
+        ensures { (text : List ℕ) → IsBehindText T.rules T.After text self
+            → IsBehind T.rules T.After text result }
     {
         let TextReader { feeder } = self;
         feeder
@@ -34,24 +35,33 @@ impl<T: LineTaker> TextReader<T> {
 
     /// Takes the next piece of the text.
     pub fn feed(&mut self, piece: &[u8]) -> Result<(), DimacsError>
-        ensures again { (e : DimacsError) → IsSpent e self.old → (result ≡ Err e) × (self.new ≡ self.old) }
-        ensures fed { (text : List ℕ) → length (text ++ piece.now) ≤ 2 ^ 62 → IsBehindText T.rules T.After text self.old → FedText T.rules T.After text piece.now result self.new }
+        ensures again { (e : DimacsError) → IsSpent e self.old
+            → (result ≡ Err e) × (self.new ≡ self.old) }
+        ensures fed { (text : List ℕ) → length (text ++ piece.now) ≤ 2 ^ 62
+            → IsBehindText T.rules T.After text self.old
+            → FedText T.rules T.After text piece.now result self.new }
     {
         self.feeder.feed(piece)
     }
 
     /// The text has ended. A reader that gives its value is a new one then.
     pub fn finish(&mut self) -> Result<T::Value, DimacsError>
-        ensures again { (e : DimacsError) → IsSpent e self.old → (result ≡ Err e) × (self.new ≡ self.old) }
-        ensures finished { (text : List ℕ) → length text ≤ 2 ^ 62 → IsBehindText T.rules T.After text self.old → FinishedText T.rules T.After T.Spelled text result self.new }
+        ensures again { (e : DimacsError) → IsSpent e self.old
+            → (result ≡ Err e) × (self.new ≡ self.old) }
+        ensures finished { (text : List ℕ) → length text ≤ 2 ^ 62
+            → IsBehindText T.rules T.After text self.old
+            → FinishedText T.rules T.After T.Spelled text result self.new }
     {
         self.feeder.finish()
     }
 
     /// The device failed: the fault that was met before, or Read at the line being read.
     pub fn fail(&mut self) -> DimacsError
-        ensures again { (e : DimacsError) → IsSpent e self.old → (result ≡ e) × (self.new ≡ self.old) }
-        ensures failed { (text : List ℕ) → length text ≤ 2 ^ 62 → IsBehindText T.rules T.After text self.old → (failed T.rules text ≡ Some result) × IsSpent result self.new }
+        ensures again { (e : DimacsError) → IsSpent e self.old
+            → (result ≡ e) × (self.new ≡ self.old) }
+        ensures failed { (text : List ℕ) → length text ≤ 2 ^ 62
+            → IsBehindText T.rules T.After text self.old
+            → (failed T.rules text ≡ Some result) × IsSpent result self.new }
     {
         self.feeder.fail()
     }

@@ -1,15 +1,18 @@
 //! `.ss` files: a list of sources.
 ghost use Rattle.std.specs.Prelude.{◌≡◌, ◌<◌, ◌^◌, ℕ, List, [], map, true, false, Some, IfOk, IfErr};
 ghost use Rattle.sp_word.specs.Word.{is_layout, max_pred};
+ghost use Rattle.sp_text.specs.Formats.{ranges_of};
 ghost use Rattle.sp_text.specs.Text.{judge};
-ghost use Rattle.sp_dimacs.specs.Formats.{ss, ranges_of};
+ghost use Rattle.sp_dimacs.specs.Formats.{ss};
 ghost use Rattle.sp_dimacs.specs.Reading.{IsBehindText};
 ghost use Rattle.sp_dimacs.specs.Sources.{source_of, AreSources, SpellsSources, SourcesRead, AreSourcesWithin};
 
-use crate::formats::{ranges_of, ss_layout};
+use crate::formats::ss_format;
 use crate::readers::TextReader;
 use sp_device::Read;
-use sp_text::{Collector, DimacsError, Keep, Kind, Layout, LineTaker, Ranges, Values, read_text};
+use sp_text::{
+    Collector, DimacsError, FileFormat, Keep, Kind, LineTaker, Ranges, Values, ranges_of, read_text,
+};
 use std::alloc::{AllocError, Global};
 use std::mem;
 
@@ -51,8 +54,8 @@ impl<const P: u32> Keep for Sources<P> {
 
     ghost Spelled = { λ problem items file. AreSources problem items file };
 
-    fn layout(&self) -> Layout {
-        ss_layout()
+    fn format(&self) -> FileFormat {
+        ss_format()
     }
 
     fn ranges(&self) -> Ranges {
@@ -85,7 +88,8 @@ impl<const P: u32> TextReader<Collector<Sources<P>>> {
     /// A reader behind no text.
     pub fn new(alloc: Global) -> Self
         requires { is_layout P ≡ true }
-        ensures { IsBehindText (judge ss (ranges_of P)) ⟦<Collector<Sources<P>> as LineTaker>⟧.After [] result }
+        ensures { IsBehindText
+            (judge ss (ranges_of P)) ⟦<Collector<Sources<P>> as LineTaker>⟧.After [] result }
     {
         TextReader::of_taker(Collector::new(Sources::new(alloc)))
     }
@@ -96,7 +100,8 @@ impl<const P: u32> TextReader<Collector<Sources<P>>> {
 #[tactic(auto, using(crate::proofs::Limits::sources_read))]
 pub fn read_ss<const P: u32, R: Read>(alloc: Global, reader: &mut R) -> Result<SsFile, DimacsError>
     requires { is_layout P ≡ true }
-    ensures exact { (text : List ℕ) → R.left reader.old ≡ Some text → SourcesRead P text (R.left reader.new) (R.has_failed reader.new) result }
+    ensures exact { (text : List ℕ) → R.left reader.old ≡ Some text
+        → SourcesRead P text (R.left reader.new) (R.has_failed reader.new) result }
     ensures found { IfOk result (λ file. (text : List ℕ) × SpellsSources P text file) }
     ensures sources { IfOk result (AreSourcesWithin P) }
     ensures read { IfErr result (λ e. e.kind ≡ Kind.Read → R.has_failed reader.new ≡ true) }

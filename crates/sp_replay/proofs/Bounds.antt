@@ -2,13 +2,13 @@
 use Rattle.std.proofs.Common.{◌≡◌, ℕ, zero, suc, ◌<◌, ◌≤◌, Bool, true, false, ◌&&◌, cond, leb, List, [], ◌∷◌, length, Option, Some, None, refl, arith}
 use Rattle.std.proofs.lemmas.Bool.{leb-true}
 use Rattle.std.specs.Prelude.{slice_index, slice_get, codes}
-use Rattle.sp_text.specs.declared.layouts.Ranges.{Ranges}
-use Rattle.sp_text.specs.declared.layouts.Field.{Field}
-use Rattle.sp_text.specs.Formats.{LineForm}
+use Rattle.sp_text.specs.declared.formats.Ranges.{Ranges}
+use Rattle.sp_text.specs.declared.formats.Field.{Field}
+use Rattle.sp_text.specs.Formats.{LineForm, ranges_of}
 use Rattle.sp_text.specs.Text.{top, first_out}
 use Rattle.sp_text.specs.Keeping.{CanKeep}
 use Rattle.sp_word.specs.Word.{max_dist, max_pred}
-use Rattle.sp_replay.specs.ReplayFormat.{replay, offers, actors_file, actors_line, replay_lines, ranges_of, start_line, offer_line, vertex, actor, dist, pred}
+use Rattle.sp_replay.specs.ReplayFormat.{replay, offers, actors_file, actors_line, replay_lines, start_line, offer_line, vertex, actor, dist, pred}
 
 both : (a b : Bool) → (a && b) ≡ true → (a ≡ true) × (b ≡ true)
 both true b h = (refl, h)

@@ -6,13 +6,13 @@ use Rattle.std.proofs.lemmas.Bool.{eqb-true, cases_lt}
 use Rattle.std.proofs.lemmas.Option.{none-some}
 use Rattle.std.proofs.lemmas.List.{get_or_past}
 use Rattle.std.proofs.lemmas.List.Elements.{All-nil, All-cons, All-head, All-tail, All-append}
-use Rattle.sp_text.specs.declared.layouts.Top.TheVariants.{Problem}
-use Rattle.sp_text.specs.Formats.{LineForm, field}
+use Rattle.sp_text.specs.declared.formats.Top.TheVariants.{Problem}
+use Rattle.sp_text.specs.Formats.{LineForm, field, ranges_of}
 use Rattle.sp_text.specs.Text.{Item as Line, first_out}
 use Rattle.sp_text.specs.Accepted.{IsAllowed, IsAccepted}
 use Rattle.sp_machine.specs.declared.item.Item.{Item}
 use Rattle.sp_machine.specs.Programme.{Programme, IsNumber, IsItem, IsProgramme}
-use Rattle.sp_replay.specs.ReplayFormat.{replay, offers, actors_file, actors_line, replay_lines, ranges_of, start_line, offer_line, read_line, relax_line, step_line}
+use Rattle.sp_replay.specs.ReplayFormat.{replay, offers, actors_file, actors_line, replay_lines, start_line, offer_line, read_line, relax_line, step_line}
 use Rattle.sp_replay.specs.Replay.{named_by, offer_of, asked, item_for, step_by, IsReplay}
 use Rattle.sp_replay.specs.Offers.{offer_for, IsOffers}
 use Rattle.sp_replay.proofs.Bounds.{at_most, at_least}

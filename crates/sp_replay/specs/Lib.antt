@@ -1,4 +1,5 @@
 pub mod ReplayFormat
+pub mod Rows
 pub mod Replay
 pub mod Keeping
 pub mod ReplayFile

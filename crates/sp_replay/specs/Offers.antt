@@ -5,9 +5,10 @@ use Rattle.sp_text.specs.declared.faults.DimacsError.{DimacsError}
 use Rattle.sp_text.specs.Text.{Item as Line, Spells, judge}
 use Rattle.sp_text.specs.Collecting.{SpelledBy}
 use Rattle.sp_text.specs.Whole.{AllRead}
+use Rattle.sp_text.specs.Formats.{ranges_of}
 use Rattle.sp_machine.specs.declared.item.Item.{Item}
 use Rattle.sp_machine.specs.Programme.{Programme, IsNumber, row_of}
-use Rattle.sp_replay.specs.ReplayFormat.{offers, ranges_of}
+use Rattle.sp_replay.specs.ReplayFormat.{offers}
 use Rattle.sp_replay.specs.Replay.{number, offer_of}
 
 -- what a line `o A V D P` asks this actor to do

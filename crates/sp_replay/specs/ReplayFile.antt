@@ -4,8 +4,9 @@ use Rattle.sp_text.specs.declared.faults.DimacsError.{DimacsError}
 use Rattle.sp_text.specs.Text.{Item as Line, Spells, judge}
 use Rattle.sp_text.specs.Collecting.{SpelledBy}
 use Rattle.sp_text.specs.Whole.{AllRead}
+use Rattle.sp_text.specs.Formats.{ranges_of}
 use Rattle.sp_replay.specs.declared.replays.ReplayFile.{ReplayFile}
-use Rattle.sp_replay.specs.ReplayFormat.{replay, ranges_of}
+use Rattle.sp_replay.specs.ReplayFormat.{replay}
 use Rattle.sp_replay.specs.Replay.{IsReplay}
 
 -- The numbers of the problem line and the other lines say this.

@@ -1,14 +1,9 @@
 -- The line forms of replay files and of offers files.
 use Rattle.std.specs.Prelude.{ℕ, true, false, List, [], ◌∷◌, codes}
-use Rattle.sp_text.specs.declared.layouts.Top.TheVariants.{Number, Dist, Vertex, Problem}
-use Rattle.sp_text.specs.declared.layouts.Ranges.{Ranges}
-use Rattle.sp_text.specs.declared.layouts.Field.{Field}
+use Rattle.sp_text.specs.declared.formats.Top.TheVariants.{Number, Dist, Vertex, Problem}
+use Rattle.sp_text.specs.declared.formats.Field.{Field}
 use Rattle.sp_text.specs.Formats.{LineForm, Format, field}
-use Rattle.sp_word.specs.Word.{max_dist, max_pred}
-
--- the limits of words with P bits for a predecessor
-abbrev pub ranges_of : ℕ → Ranges
-ranges_of P = record { vertex = max_pred P; dist = max_dist P }
+use Rattle.sp_replay.specs.declared.formats.TheConstants.{MOST_WORDS, MOST_ACTORS, MOST_ITEMS, MOST_STEPS, LONGEST_ARC}
 
 -- V, from 1 to N
 abbrev pub vertex : Field
@@ -29,7 +24,7 @@ pred = field 80 0 Vertex
 abbrev pub actors_line : List ℕ → LineForm
 actors_line word = record {
   words = codes "p" ∷ word ∷ [];
-  fields = field 78 1 (Number 65536) ∷ field 75 1 (Number 64) ∷ [];
+  fields = field 78 1 (Number MOST_WORDS) ∷ field 75 1 (Number MOST_ACTORS) ∷ [];
   fresh = false;
   group = 0;
   limit = Number 1;
@@ -41,7 +36,7 @@ start_line = record { words = codes "i" ∷ []; fields = vertex ∷ dist ∷ pre
 
 -- an item: its word, and its fields
 abbrev pub item_line : List ℕ → List Field → LineForm
-item_line word fields = record { words = word ∷ []; fields = fields; fresh = false; group = 0; limit = Number 1048576 }
+item_line word fields = record { words = word ∷ []; fields = fields; fresh = false; group = 0; limit = Number MOST_ITEMS }
 
 -- `o A V D P`
 abbrev pub offer_line : LineForm
@@ -53,11 +48,11 @@ read_line = item_line (codes "r") (actor ∷ vertex ∷ [])
 
 -- `a A U V L`
 abbrev pub relax_line : LineForm
-relax_line = item_line (codes "a") (actor ∷ field 85 1 (Problem 0) ∷ vertex ∷ field 76 1 (Number 4294967295) ∷ [])
+relax_line = item_line (codes "a") (actor ∷ field 85 1 (Problem 0) ∷ vertex ∷ field 76 1 (Number LONGEST_ARC) ∷ [])
 
 -- `s A`
 abbrev pub step_line : LineForm
-step_line = record { words = codes "s" ∷ []; fields = actor ∷ []; fresh = false; group = 2; limit = Number 16777216 }
+step_line = record { words = codes "s" ∷ []; fields = actor ∷ []; fresh = false; group = 2; limit = Number MOST_STEPS }
 
 -- `p WORD N K`, and lines of these forms in any order
 abbrev pub actors_file : List ℕ → List LineForm → Format

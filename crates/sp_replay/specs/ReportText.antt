@@ -1,17 +1,14 @@
 -- The text of a report.
-use Rattle.std.specs.Prelude.{ℕ, ◌+◌, Bool, true, false, List, [], ◌∷◌, ◌++◌, codes, decimal}
+use Rattle.std.specs.Prelude.{ℕ, ◌+◌, Bool, true, false, List, [], ◌∷◌, ◌++◌, codes}
 use Rattle.std.specs.List.{flat_map}
 use Rattle.sp_word.specs.Word.{Word, Unreached, Pair}
 use Rattle.sp_word.specs.declared.reply.Reply.{Reply}
 use Rattle.sp_word.specs.declared.reply.Reply.TheVariants.{Shorter, SmallerPred, Kept}
+use Rattle.sp_text.specs.Numeral.{number_text}
 use Rattle.sp_machine.specs.declared.effect.Call.{Call}
 use Rattle.sp_machine.specs.declared.effect.Call.TheVariants.{Offer, Read}
 use Rattle.sp_machine.specs.declared.report.Finished.{Finished}
 use Rattle.sp_machine.specs.declared.report.Report.{Report}
-
--- a blank and a number
-abbrev pub number_text : ℕ → List ℕ
-number_text n = codes " " ++ decimal n
 
 -- ` D P`, or ` none`
 abbrev pub word_text : Word → List ℕ

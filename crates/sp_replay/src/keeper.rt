@@ -2,14 +2,15 @@
 ghost use Rattle.std.specs.Prelude.{◌≡◌, ℕ, ◌+◌, ◌≤◌, ◌∷◌, [], ◌++◌, List, slice_index, map, OnOk, IfOk, true};
 ghost use Rattle.sp_word.specs.Word.{Pair, is_layout};
 ghost use Rattle.sp_text.specs.Keeping.{CanKeep};
+ghost use Rattle.sp_text.specs.Formats.{ranges_of};
 ghost use Rattle.sp_text.specs.Text.{Item as Line};
-ghost use Rattle.sp_replay.specs.ReplayFormat.{replay, ranges_of};
+ghost use Rattle.sp_replay.specs.ReplayFormat.{replay};
 ghost use Rattle.sp_replay.specs.Replay.{offer_of};
 
-use crate::layout::{OFFER, READ, RELAX, START, STEP, limits, replay_layout};
+use crate::formats::{MOST_WORDS, OFFER, READ, RELAX, START, STEP, replay_format};
 use crate::rows::Rows;
 use sp_machine::Item;
-use sp_text::{Keep, Layout, Ranges, Values};
+use sp_text::{FileFormat, Keep, Ranges, Values, ranges_of};
 use sp_word::Word;
 use std::alloc::{AllocError, Global};
 use std::collections::HashSet;
@@ -50,7 +51,7 @@ fn word_at<const P: u32>(values: &Values, place: usize) -> Word<P>
 /// The offer of a line `o A V D P`.
 pub fn offer_at<const P: u32>(values: &Values) -> Item<P>
     requires layout { is_layout P ≡ true }
-    requires vertex { slice_index values.now 1 ≤ 65536 }
+    requires vertex { slice_index values.now 1 ≤ MOST_WORDS }
     requires dist { slice_index values.now 2 ≤ (ranges_of P).dist }
     requires pred { slice_index values.now 3 ≤ (ranges_of P).vertex }
     ensures { result ≡ offer_of values.now }
@@ -80,7 +81,7 @@ impl<const P: u32> Keeper<P> {
 
     // The vertex has this word at the start.
     fn name(&mut self, vertex: u64, word: Word<P>) -> Result<(), AllocError>
-        requires { vertex ≤ 65536 }
+        requires { vertex ≤ MOST_WORDS }
         ensures named { OnOk result (IsNamed self.old vertex word.entry self.new) }
         ensures rows { self.new.rows ≡ self.old.rows }
         ensures steps { self.new.steps ≡ self.old.steps }
@@ -93,7 +94,8 @@ impl<const P: u32> Keeper<P> {
 
 impl<const P: u32> Keep for Keeper<P> {
     ghost use Rattle.std.specs.Prelude.{◌≡◌, ℕ, List};
-    ghost use Rattle.sp_replay.specs.ReplayFormat.{replay, ranges_of};
+    ghost use Rattle.sp_replay.specs.ReplayFormat.{replay};
+    ghost use Rattle.sp_text.specs.Formats.{ranges_of};
     ghost use Rattle.sp_replay.specs.Keeping.{Keeps, Says};
 
     type Value = ReplayParts<P>;
@@ -106,12 +108,12 @@ impl<const P: u32> Keep for Keeper<P> {
 
     ghost Spelled = { λ problem lines parts. Says problem lines parts };
 
-    fn layout(&self) -> Layout {
-        replay_layout()
+    fn format(&self) -> FileFormat {
+        replay_format()
     }
 
     fn ranges(&self) -> Ranges {
-        limits::<P>()
+        ranges_of::<P>()
     }
 
     fn keep(&mut self, place: usize, values: &Values) -> Result<(), AllocError> {

@@ -2,8 +2,8 @@
 //! or the words that offers leave.
 #![tactic(auto)]
 
+mod formats;
 mod keeper;
-mod layout;
 mod lines;
 mod offers;
 mod replays;

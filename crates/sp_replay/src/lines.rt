@@ -1,9 +1,10 @@
 //! The lines of a report, pushed to a block.
 ghost use Rattle.std.specs.Prelude.{◌≡◌, ◌+◌, ◌≤◌, ◌++◌, length};
-ghost use Rattle.sp_replay.specs.ReportText.{number_text, word_text, reply_text, asked_text, call_text, reached_text, count_text, totals_text, closed_text};
+ghost use Rattle.sp_replay.specs.ReportText.{word_text, reply_text, asked_text, call_text, reached_text, count_text, totals_text, closed_text};
 
 use sp_device::Block;
 use sp_machine::{Call, Finished};
+use sp_text::push_number;
 use sp_word::{Reply, Word};
 
 /// As many bytes as the line of a finished call has at most.
@@ -17,15 +18,6 @@ pub const COUNT_ROOM: usize = 23;
 
 /// As many bytes as the last two lines have at most.
 pub const END_ROOM: usize = 55;
-
-fn push_number(block: &mut Block, n: u64)
-    requires { length block.old + 21 ≤ 8192 }
-    ensures text { block.new ≡ block.old ++ number_text n }
-    ensures short { length block.new ≤ length block.old + 21 }
-{
-    block.push(b" ");
-    block.push_number(n);
-}
 
 fn push_word<const P: u32>(block: &mut Block, word: Word<P>)
     requires { length block.old + 42 ≤ 8192 }

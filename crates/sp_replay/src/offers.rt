@@ -1,15 +1,17 @@
 //! Offers files.
-ghost use Rattle.std.specs.Prelude.{◌≡◌, ℕ, List, [], IfOk, IfErr, OnOk, Some, true, false};
+ghost use Rattle.std.specs.Prelude.{◌≡◌, ℕ, List, [], IfOk, IfErr, Some, true, false};
 ghost use Rattle.sp_word.specs.Word.{is_layout};
 ghost use Rattle.sp_text.specs.Text.{Item as Line};
 ghost use Rattle.sp_replay.specs.Offers.{IsOffersFile, OffersRead};
 
+use crate::formats::offers_format;
 use crate::keeper::offer_at;
-use crate::layout::{limits, offers_layout};
 use crate::rows::Rows;
 use sp_device::Read;
 use sp_machine::{Item, Programme};
-use sp_text::{Collector, DimacsError, Feeder, Keep, Kind, Layout, Ranges, Values, read_text};
+use sp_text::{
+    Collector, DimacsError, Feeder, FileFormat, Keep, Kind, Ranges, Values, ranges_of, read_text,
+};
 use std::alloc::{AllocError, Global};
 
 /// The offers so far.
@@ -43,7 +45,8 @@ impl<const P: u32> OfferKeeper<P> {
 
 impl<const P: u32> Keep for OfferKeeper<P> {
     ghost use Rattle.std.specs.Prelude.{◌≡◌, ℕ, List, false};
-    ghost use Rattle.sp_replay.specs.ReplayFormat.{offers, ranges_of};
+    ghost use Rattle.sp_replay.specs.ReplayFormat.{offers};
+    ghost use Rattle.sp_text.specs.Formats.{ranges_of};
     ghost use Rattle.sp_replay.specs.OfferKeeping.{KeepsOffers, SaysOffers};
 
     type Value = OfferParts<P>;
@@ -56,12 +59,12 @@ impl<const P: u32> Keep for OfferKeeper<P> {
 
     ghost Spelled = { λ problem lines parts. SaysOffers problem lines parts };
 
-    fn layout(&self) -> Layout {
-        offers_layout()
+    fn format(&self) -> FileFormat {
+        offers_format()
     }
 
     fn ranges(&self) -> Ranges {
-        limits::<P>()
+        ranges_of::<P>()
     }
 
     fn keep(&mut self, _place: usize, values: &Values) -> Result<(), AllocError> {
@@ -95,7 +98,8 @@ pub fn read_offers<const P: u32, R: Read>(
 ) -> Result<Programme<P>, DimacsError>
     requires { is_layout P ≡ true }
     ensures found { IfOk result IsOffersFile }
-    ensures exact { (text : List ℕ) → R.left reader.old ≡ Some text → OffersRead text (R.left reader.new) (R.has_failed reader.new) result }
+    ensures exact { (text : List ℕ) → R.left reader.old ≡ Some text
+        → OffersRead text (R.left reader.new) (R.has_failed reader.new) result }
     ensures read { IfErr result (λ e. e.kind ≡ Kind.Read → R.has_failed reader.new ≡ true) }
 {
     let feeder = Feeder::new(Collector::new(OfferKeeper::<P>::new(alloc)));

@@ -44,7 +44,8 @@ pub fn read_replay<const P: u32, R: Read>(
     requires { is_layout P ≡ true }
     ensures found { IfOk result IsReplayFile }
     ensures steps { IfOk result (λ file. All (IsNumber file.programme.actors) file.steps.items) }
-    ensures exact { (text : List ℕ) → R.left reader.old ≡ Some text → ReplayRead text (R.left reader.new) (R.has_failed reader.new) result }
+    ensures exact { (text : List ℕ) → R.left reader.old ≡ Some text
+        → ReplayRead text (R.left reader.new) (R.has_failed reader.new) result }
     ensures read { IfErr result (λ e. e.kind ≡ Kind.Read → R.has_failed reader.new ≡ true) }
 {
     let feeder = Feeder::new(Collector::new(Keeper::<P>::new(alloc)));

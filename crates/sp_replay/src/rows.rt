@@ -1,7 +1,8 @@
 //! The items of the actors, a row for each.
-ghost use Rattle.std.specs.Prelude.{◌≡◌, ℕ, ◌==◌, ◌≤◌, ◌++◌, ◌∷◌, [], map, take, length, OnOk, if◌then◌else◌};
-ghost use Rattle.sp_machine.specs.Programme.{row_of};
+ghost use Rattle.std.specs.Prelude.{◌≡◌, ◌≤◌, [], map, take, length, OnOk};
+ghost use Rattle.sp_replay.specs.Rows.{lists_of, HaveSameRows, AddsItem};
 
+use crate::formats::MOST_ACTORS;
 use sp_machine::Item;
 use std::alloc::{AllocError, Global};
 use std::marker::Model;
@@ -36,8 +37,8 @@ impl<const P: u32> Rows<P> {
 
     /// Puts an item behind those of an actor. Actors are numbered from 1.
     pub fn push(&mut self, actor: u64, item: Item<P>) -> Result<(), AllocError>
-        requires { actor ≤ 64 }
-        ensures { OnOk result ((other : ℕ) → 1 ≤ other → row_of self.new other ≡ row_of self.old other ++ (if actor == other then item.entry ∷ [] else [])) }
+        requires { actor ≤ MOST_ACTORS }
+        ensures { OnOk result (AddsItem self.old actor item.entry self.new) }
     {
         push_item(self.alloc, &mut self.rows, actor, item)
     }
@@ -59,7 +60,7 @@ fn grow<const P: u32>(
     rows: &mut Vec<Vec<Item<P>>>,
     len: usize,
 ) -> Result<(), AllocError>
-    ensures same { OnOk result ((actor : ℕ) → row_of (map (λ row. row.items) rows.new.items) actor ≡ row_of (map (λ row. row.items) rows.old.items) actor) }
+    ensures same { OnOk result (HaveSameRows (lists_of rows.old) (lists_of rows.new)) }
     ensures long { OnOk result (len ≤ length rows.new.items) }
 {
     while rows.len() < len {
@@ -75,8 +76,8 @@ fn push_item<const P: u32>(
     actor: u64,
     item: Item<P>,
 ) -> Result<(), AllocError>
-    requires { actor ≤ 64 }
-    ensures { OnOk result ((other : ℕ) → 1 ≤ other → row_of (map (λ row. row.items) rows.new.items) other ≡ row_of (map (λ row. row.items) rows.old.items) other ++ (if actor == other then item.entry ∷ [] else [])) }
+    requires { actor ≤ MOST_ACTORS }
+    ensures { OnOk result (AddsItem (lists_of rows.old) actor item.entry (lists_of rows.new)) }
 {
     let Some(place) = actor.checked_sub(1) else {
         return Ok(());

@@ -8,9 +8,9 @@ use Rattle.std.proofs.lemmas.List.Elements.{All-nil, All-push}
 use Rattle.sp_text.specs.declared.faults.Kind.{Kind}
 use Rattle.sp_text.specs.declared.faults.Kind.TheVariants.{TooMany, TooFew}
 use Rattle.sp_text.specs.declared.faults.DimacsError.{DimacsError}
-use Rattle.sp_text.specs.declared.layouts.Top.{Top}
-use Rattle.sp_text.specs.declared.layouts.Ranges.{Ranges}
-use Rattle.sp_text.specs.declared.layouts.Field.{Field}
+use Rattle.sp_text.specs.declared.formats.Top.{Top}
+use Rattle.sp_text.specs.declared.formats.Ranges.{Ranges}
+use Rattle.sp_text.specs.declared.formats.Field.{Field}
 use Rattle.sp_text.specs.Lines.{lines, fields, is_number, value}
 use Rattle.sp_text.specs.Formats.{LineForm, Format}
 use Rattle.sp_text.specs.First.{or_at, or_else, or_kind, size_fault, line_fault, first_after, first_fault, told}

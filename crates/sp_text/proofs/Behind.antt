@@ -3,17 +3,15 @@ use Rattle.std.proofs.Common.{⊎_elim, ◌≡◌, ◌≢◌, ℕ, zero, suc, �
 use Rattle.std.proofs.Math.Nat.{mod-eq_of_lt}
 use Rattle.std.proofs.lemmas.List.{append-nil, take_all, length_push, drop_more, take-append-drop}
 use Rattle.std.proofs.lemmas.Bool.{lt-ltb, le-ltb, cases_eq, eq-eqb, eqb-true, false≢true}
-use Rattle.std.specs.List.{flat_map}
-use Rattle.sp_text.proofs.Meant.{text_is}
 use Rattle.sp_text.specs.declared.faults.Kind.{Kind}
-use Rattle.sp_text.specs.declared.faults.Kind.TheVariants.{LongLine, NoProblem, TooMany, TooFew, Memory, Read}
+use Rattle.sp_text.specs.declared.faults.Kind.TheVariants.{LongLine, TooMany, TooFew, Memory, Read}
 use Rattle.sp_text.specs.declared.faults.DimacsError.{DimacsError}
 use Rattle.sp_text.specs.declared.feeding.Feeder.{Feeder}
 use Rattle.sp_text.specs.Lines.{cut, ended, rest, lines, last_line}
 use Rattle.sp_text.specs.Meaning.{HasNoLf}
-use Rattle.sp_text.specs.First.{Judge, or_at, line_fault, first_after, first_fault, rest_fault, early, failed, told, cut_short, strictly_told}
-use Rattle.sp_text.specs.Feeding.{IsBehind, Refused, Fed, IsClosed, Closed}
-use Rattle.sp_text.proofs.Cutting.{cut-append, front_byte, or_else_none, ended_at_lf, rest_at_lf, ended_at_run, rest_at_run, early_at_run, clean_parts, open_while, none_parts, rest_open, first_push, early_at_lf, early_at_other, fault_lasts}
+use Rattle.sp_text.specs.First.{Judge, or_at, line_fault, first_after, first_fault, rest_fault, early, failed, cut_short, unfinished, told}
+use Rattle.sp_text.specs.Feeding.{IsBehind, Refused, IsMemory, Fed, lines_taken, IsToldOf, IsClosed, Closed}
+use Rattle.sp_text.proofs.Cutting.{cut-append, front_byte, or_else_none, ended_at_lf, rest_at_lf, ended_at_run, rest_at_run, early_at_run, clean_parts, open_while, first_push, early_at_lf, early_at_other, fault_lasts}
 
 -- the fault of the line that is being read
 abbrev pub at_line : ℕ → Kind → DimacsError
@@ -186,15 +184,15 @@ no_lf_before (b ∷ bytes) (suc n) none = ((λ is. none 0 (omega arith) (omega a
 pub no_lf : (bytes : List ℕ) → ((k : ℕ) → 0 ≤ k → k < length bytes → eqb (get_or bytes k 0) 10 ≡ true → ⊥) → HasNoLf bytes
 no_lf bytes none = subst HasNoLf (take_all (length bytes) bytes (omega arith)) (no_lf_before bytes (length bytes) none)
 
-pub lf_parts : (bytes : List ℕ) (n : ℕ) → n < length bytes → eqb (get_or bytes n 0) 10 ≡ true → bytes ≡ (take n bytes ++ 10 ∷ []) ++ drop 1 (drop n bytes)
+pub lf_parts : (bytes : List ℕ) (n : ℕ) → n < length bytes → eqb (get_or bytes n 0) 10 ≡ true → bytes ≡ take n bytes ++ 10 ∷ drop 1 (drop n bytes)
 lf_parts bytes n within is =
     let lf : get_or bytes n 0 ≡ 10 = eqb-true (get_or bytes n 0) 10 is in
-    sym (take-append-drop n bytes) ∙ (ap (λ (t : List ℕ). take n bytes ++ t) (drop_more bytes n 0 within ∙ rw (lf, drop_more bytes n 0 within) refl) ∙ sym (append_assoc (take n bytes) (10 ∷ []) (drop 1 (drop n bytes))))
+    sym (take-append-drop n bytes) ∙ ap (λ (t : List ℕ). take n bytes ++ t) (drop_more bytes n 0 within ∙ rw (lf, drop_more bytes n 0 within) refl)
 
-pub lf_whole : (text bytes line : List ℕ) (n : ℕ) → n < length bytes → eqb (get_or bytes n 0) 10 ≡ true → line ≡ take n bytes → (text ++ line ++ 10 ∷ []) ++ drop 1 (drop n bytes) ≡ text ++ bytes
-lf_whole text bytes line n within is line_is =
-    ap (λ (t : List ℕ). t ++ drop 1 (drop n bytes)) (append_assoc text line (10 ∷ []))
-    ∙ (append_assoc text (line ++ 10 ∷ []) (drop 1 (drop n bytes)) ∙ ap (λ (t : List ℕ). text ++ t) (rw line_is (sym (lf_parts bytes n within is))))
+pub lf_whole : (text bytes line more : List ℕ) → bytes ≡ line ++ 10 ∷ more → (text ++ line ++ 10 ∷ []) ++ more ≡ text ++ bytes
+lf_whole text bytes line more is =
+    ap (λ (t : List ℕ). t ++ more) (append_assoc text line (10 ∷ []))
+    ∙ (append_assoc text (line ++ 10 ∷ []) more ∙ ap (λ (t : List ℕ). text ++ t) (append_assoc line (10 ∷ []) more ∙ sym is))
 
 pub same_room : {T : Type 0} (judge : Judge) (After : T → List (List ℕ) → Type 0) (text : List ℕ) (old : Feeder T) (room : List ℕ) → IsBehind judge After text old → room ≡ old.room
     → IsBehind judge After text (record { taker = old.taker; room = room; ends = old.ends; spent = old.spent })
@@ -202,7 +200,7 @@ same_room judge After text old room h is = record { going = h.going; clean = h.c
 
 -- The end of a text.
 
-lines_whole : (text : List ℕ) → rest text ≡ [] → lines text ≡ ended text
+pub lines_whole : (text : List ℕ) → rest text ≡ [] → lines text ≡ ended text
 unfolding lines
 lines_whole text none = rw none (append-nil (ended text))
 
@@ -223,6 +221,7 @@ closed_whole judge After text old h empty =
       room = empty;
       ends = h.ends ∙ ap length (sym same);
       taken = rw same h.taken;
+      whole = λ _. sym h.room ∙ empty;
     }
 
 -- A text that ends with an LF has no fault but in its lines.
@@ -230,13 +229,28 @@ early_whole : (judge : Judge) (text : List ℕ) → rest text ≡ [] → early j
 unfolding early
 early_whole judge text none = rw none (or_else_none (first_fault judge (ended text)))
 
-told_first : (judge : Judge) (text : List ℕ) (e : DimacsError) → first_fault judge (lines text) ≡ Some e → told judge text ≡ Some e
-unfolding told
-told_first judge text e is = rw is refl
+told_first : (judge : Judge) (text : List ℕ) (e : DimacsError) → judge.needs_lf ≡ false → first_fault judge (lines text) ≡ Some e → told judge text ≡ Some e
+unfolding told first_after
+told_first judge text e lenient is = rw (lenient, is) refl
 
-pub closed_open : {T U : Type 0} (judge : Judge) (After : T → List (List ℕ) → Type 0) (text : List ℕ) (old new : Feeder T) (result : Result U DimacsError) → IsBehind judge After text old → 0 < length old.room
+cut_open : (r : List ℕ) → 0 < length r → cut_short r ≡ Some TooFew
+cut_open [] some = absurd (omega arith)
+cut_open (b ∷ r) some = refl
+
+-- A line without the LF that it needs.
+pub told_unfinished : {T : Type 0} (judge : Judge) (After : T → List (List ℕ) → Type 0) (text : List ℕ) (old : Feeder T) → length text ≤ 2 ^ 62 → judge.needs_lf ≡ true → IsBehind judge After text old → 0 < length old.room
+    → IsToldOf judge text (at_line old.ends TooFew)
+unfolding told early first_after
+told_unfinished judge After text old small strict h some =
+    inl (rw (strict, h.clean, cut_open (rest text) (rw (← h.room) some)) (same_error (length (ended text) + 1) (min (old.ends + 1) (2 ^ 64 - 1)) TooFew (line_is text old.ends small h.ends)))
+
+taken_lines : (needs_lf : Bool) (text : List ℕ) → needs_lf ≡ false → lines_taken needs_lf text ≡ lines text
+taken_lines false text lenient = refl
+taken_lines true text lenient = cc
+
+pub closed_open : {T U : Type 0} (judge : Judge) (After : T → List (List ℕ) → Type 0) (text : List ℕ) (old new : Feeder T) (result : Result U DimacsError) → judge.needs_lf ≡ false → IsBehind judge After text old → 0 < length old.room
     → Fed judge After (ended text) (text ++ 10 ∷ []) result new → Closed judge After text result new
-closed_open judge After text old new (Ok u) h some fed =
+closed_open judge After text old new (Ok u) lenient h some fed =
     let same : lines text ≡ ended (text ++ 10 ∷ []) = lines_open text (rw (← h.room) some) in
     record {
       going = fed.going;
@@ -244,13 +258,14 @@ closed_open judge After text old new (Ok u) h some fed =
       room = fed.room ∙ rest_at_lf text;
       ends = fed.ends ∙ ap length (sym same);
       taken = rw same fed.taken;
+      whole = λ strict. absurd (false≢true (sym lenient ∙ strict));
     }
-closed_open judge After text old new (Err e) h some (spent, inl is) =
+closed_open judge After text old new (Err e) lenient h some (spent, inl is) =
     let same : lines text ≡ ended (text ++ 10 ∷ []) = lines_open text (rw (← h.room) some) in
-    (spent, inl (told_first judge text e (rw same (sym (early_whole judge (text ++ 10 ∷ []) (rest_at_lf text)) ∙ is))))
-closed_open judge After text old new (Err e) h some (spent, inr memory) =
+    (spent, inl (told_first judge text e lenient (rw same (sym (early_whole judge (text ++ 10 ∷ []) (rest_at_lf text)) ∙ is))))
+closed_open judge After text old new (Err e) lenient h some (spent, inr memory) =
     let same : lines text ≡ ended (text ++ 10 ∷ []) = lines_open text (rw (← h.room) some) in
-    (spent, inr (rw same memory))
+    (spent, inr (subst (λ (all : List (List ℕ)). IsMemory judge (ended text) all e) (sym (taken_lines judge.needs_lf text lenient ∙ same)) memory))
 
 pub failed_here : {T : Type 0} (judge : Judge) (After : T → List (List ℕ) → Type 0) (text : List ℕ) (old : Feeder T) → length text ≤ 2 ^ 62 → IsBehind judge After text old → failed judge text ≡ Some (at_line old.ends Read)
 unfolding failed
@@ -264,16 +279,23 @@ lines_short : (text : List ℕ) → length (lines text) ≤ length text + 1
 unfolding lines
 lines_short text = omega (arith, length-append (ended text) (last_line (rest text)), ended_short text, last_short (rest text))
 
+unfinished_none : (needs_lf : Bool) (judge : Judge) (text : List ℕ) → first_fault judge (lines text) ≡ None → (needs_lf ≡ true → rest text ≡ []) → unfinished needs_lf judge text ≡ None
+unfinished_none false judge text clean whole = refl
+unfinished_none true judge text clean whole =
+    let none : rest text ≡ [] = whole refl in
+    let in_order : early judge text ≡ None = early_whole judge text none ∙ (ap (first_fault judge) (sym (lines_whole text none)) ∙ clean) in
+    rw (in_order, none) refl
+
 pub told_none : {T : Type 0} (judge : Judge) (After : T → List (List ℕ) → Type 0) (text : List ℕ) (reader : Feeder T) → IsClosed judge After text reader → judge.missing (lines text) ≡ None → told judge text ≡ None
 unfolding told
-told_none judge After text reader h none = rw (h.clean, none) refl
+told_none judge After text reader h none = rw (unfinished_none judge.needs_lf judge text h.clean h.whole, h.clean, none) refl
 
 pub told_missing : {T : Type 0} (judge : Judge) (After : T → List (List ℕ) → Type 0) (text : List ℕ) (reader : Feeder T) (kind : Kind) → length text ≤ 2 ^ 62 → IsClosed judge After text reader
     → judge.missing (lines text) ≡ Some kind → told judge text ≡ Some (at_line reader.ends kind)
 unfolding told
 told_missing judge After text reader kind small h is =
     let line : min (reader.ends + 1) (2 ^ 64 - 1) ≡ length (lines text) + 1 = omega (arith, lines_short text, h.ends) in
-    rw (h.clean, is) (same_error (length (lines text) + 1) (min (reader.ends + 1) (2 ^ 64 - 1)) kind line)
+    rw (unfinished_none judge.needs_lf judge text h.clean h.whole, h.clean, is) (same_error (length (lines text) + 1) (min (reader.ends + 1) (2 ^ 64 - 1)) kind line)
 
 pub starts : {T : Type 0} (judge : Judge) (After : T → List (List ℕ) → Type 0) (taker : T) (room : List ℕ) (spent : Option DimacsError) → After taker [] → room ≡ [] → spent ≡ None
     → IsBehind judge After [] (record { taker = taker; room = room; ends = 0; spent = spent })
@@ -282,46 +304,3 @@ starts judge After taker room spent taken empty going = record { going = going; 
 
 pub open_behind : {T : Type 0} (judge : Judge) (After : T → List (List ℕ) → Type 0) (text : List ℕ) (old : Feeder T) → IsBehind judge After text old → 0 < length old.room → judge.closed (ended text) ≡ false
 open_behind judge After text old h some = open_while judge text h.clean (rw (← h.room) some)
-
--- The end of a file that closes itself.
-
-closed_rest : (judge : Judge) (before : List (List ℕ)) (r : List ℕ) → rest_fault judge before r ≡ None → judge.closed before ≡ true → r ≡ []
-closed_rest judge before [] h closed = refl
-closed_rest judge before (b ∷ r) h closed = absurd (false≢true (sym (rest_open judge before (b ∷ r) h (omega arith)) ∙ closed))
-
-pub nothing_left : (judge : Judge) (text : List ℕ) → early judge text ≡ None → judge.closed (ended text) ≡ true → rest text ≡ []
-unfolding early
-nothing_left judge text clean closed = closed_rest judge (ended text) (rest text) (none_parts (first_fault judge (ended text)) (length (ended text) + 1) (rest_fault judge (ended text) (rest text)) clean).1 closed
-
-some_text : (all : List (List ℕ)) (r : List ℕ) (b : ℕ) (text : List ℕ) → b ∷ text ≡ flat_map (λ line. line ++ 10 ∷ []) all ++ r → (length all ≡ 0) × (r ≡ []) → ⊥
-some_text [] r b text whole (none, empty) = let e : b ∷ text ≡ [] = whole ∙ empty in cc
-some_text (x ∷ all) r b text whole (none, empty) = absurd (omega arith)
-
-pub short_kind : (judge : Judge) (text : List ℕ) → judge.closed (ended text) ≡ false → (length (ended text) ≡ 0) × (rest text ≡ []) → cut_short judge text ≡ Some NoProblem
-short_kind judge [] closed none = refl
-short_kind judge (b ∷ text) closed none = absurd (some_text (ended (b ∷ text)) (rest (b ∷ text)) b text (text_is (b ∷ text)).whole none)
-
-pub some_kind : (judge : Judge) (text : List ℕ) → judge.closed (ended text) ≡ false → ((length (ended text) ≡ 0) × (rest text ≡ []) → ⊥) → cut_short judge text ≡ Some TooFew
-unfolding ended rest
-some_kind judge [] closed some = absurd (some (refl, refl))
-some_kind judge (b ∷ text) closed some = rw closed refl
-
-pub told_short : {T : Type 0} (judge : Judge) (After : T → List (List ℕ) → Type 0) (text : List ℕ) (old : Feeder T) (kind : Kind) → length text ≤ 2 ^ 62 → IsBehind judge After text old → cut_short judge text ≡ Some kind
-    → strictly_told judge text ≡ Some (at_line old.ends kind)
-unfolding strictly_told
-told_short judge After text old kind small h is = rw (h.clean, is) (same_error (length (ended text) + 1) (min (old.ends + 1) (2 ^ 64 - 1)) kind (line_is text old.ends small h.ends))
-
-closed_kind : (judge : Judge) (text : List ℕ) → judge.closed (ended text) ≡ true → judge.closed [] ≡ false → cut_short judge text ≡ None
-unfolding ended
-closed_kind judge [] closed empty = absurd (false≢true (sym empty ∙ closed))
-closed_kind judge (b ∷ text) closed empty = rw closed refl
-
-pub told_closed : {T : Type 0} (judge : Judge) (After : T → List (List ℕ) → Type 0) (text : List ℕ) (old : Feeder T) → IsBehind judge After text old → judge.closed (ended text) ≡ true → judge.closed [] ≡ false → judge.missing (ended text) ≡ None
-    → strictly_told judge text ≡ None
-unfolding strictly_told
-told_closed judge After text old h closed empty none = rw (h.clean, closed_kind judge text closed empty, none) refl
-
-pub told_lacking : {T : Type 0} (judge : Judge) (After : T → List (List ℕ) → Type 0) (text : List ℕ) (old : Feeder T) (kind : Kind) → length text ≤ 2 ^ 62 → IsBehind judge After text old → judge.closed (ended text) ≡ true → judge.closed [] ≡ false
-    → judge.missing (ended text) ≡ Some kind → strictly_told judge text ≡ Some (at_line old.ends kind)
-unfolding strictly_told
-told_lacking judge After text old kind small h closed empty is = rw (h.clean, closed_kind judge text closed empty, is) (same_error (length (ended text) + 1) (min (old.ends + 1) (2 ^ 64 - 1)) kind (line_is text old.ends small h.ends))

@@ -8,11 +8,11 @@ use Rattle.std.specs.Option.{option_copied, unwrap_or}
 use Rattle.std.specs.Prelude.{slice_index, slice_get, is_err, IfSome, OnOk, MatchResult}
 use Rattle.sp_text.specs.declared.faults.Kind.{Kind}
 use Rattle.sp_text.specs.declared.faults.Kind.TheVariants.{Memory, BadLine, NoProblem, OutOfRange, TooMany, TooFew}
-use Rattle.sp_text.specs.declared.layouts.Ranges.{Ranges}
+use Rattle.sp_text.specs.declared.formats.Ranges.{Ranges}
 use Rattle.sp_text.specs.Formats.{LineForm, Format, form_of, IsFreshPlace, fresh_after, IsOneOf}
 use Rattle.sp_text.specs.Text.{Item, Reading, Comment, Bad, IsProblem, IsItem, problem_first, items_first, problem_of, items_of, reading, top, first_letter, is_named, named_at, letter_or, item_out, count, problem_fault, placed_fault, fault, missing, is_item_line, judge}
 use Rattle.sp_text.specs.Collecting.{IsAfter, Answers, ItemIs}
-use Rattle.sp_text.specs.declared.layouts.Form.{Form}
+use Rattle.sp_text.specs.declared.formats.Form.{Form}
 use Rattle.sp_text.specs.declared.matching.Numbers.{Numbers}
 use Rattle.sp_text.specs.declared.matching.Numbers.TheVariants as lists
 use Rattle.sp_text.specs.declared.reading.Found.{Found}

@@ -1,7 +1,7 @@
 -- The numbers of a line, field by field.
 use Rattle.std.proofs.Common.{◌≡◌, ℕ, ◌≤◌, Bool, true, false, cond, leb, ◌&&◌, List, [], ◌∷◌, ◌++◌, length, drop, get_or, Some, refl, sym, ◌∙◌, append_assoc, arith}
-use Rattle.sp_text.specs.declared.layouts.Ranges.{Ranges}
-use Rattle.sp_text.specs.declared.layouts.Field.{Field}
+use Rattle.sp_text.specs.declared.formats.Ranges.{Ranges}
+use Rattle.sp_text.specs.declared.formats.Field.{Field}
 use Rattle.sp_text.specs.declared.numbers.Numeral.{Numeral}
 use Rattle.sp_text.specs.declared.numbers.Numeral.TheVariants as numerals
 use Rattle.sp_text.specs.declared.matching.Spelled.{Spelled}

@@ -3,8 +3,8 @@ use Rattle.std.proofs.Common.{◌≡◌, ◌≢◌, ℕ, zero, suc, ◌+◌, ◌
 use Rattle.std.proofs.Math.Nat.{mod-eq_of_lt}
 use Rattle.std.proofs.lemmas.Bool.{false≢true}
 use Rattle.std.proofs.lemmas.Bool.Decides.{nat_tests}
-use Rattle.std.proofs.lemmas.List.{length-map, length-take-le}
-use Rattle.std.proofs.lemmas.List.Sums.{prefix_len_passes}
+use Rattle.std.proofs.lemmas.List.{get_or-take, length-map, length-take-le}
+use Rattle.std.proofs.lemmas.List.Sums.{prefix_len_passes, prefix_len_stops}
 use Rattle.std.proofs.lemmas.Simd.{zip2_splat, zip2_splat_left, tops_compared, bitmask_splat, mask_l-mod, trailing_mask_l, map-map, run_in_chunk_fails, run_in_chunk_stops}
 use Rattle.std.specs.Simd.Lanes.{zip2, fold_l, mask_l, top}
 use Rattle.std.specs.Int.Count.{count_trailing_zeros, trailing_of_zero}
@@ -198,6 +198,10 @@ below_take [] (suc n) i small = omega arith
 below_take (b ∷ text) (suc n) zero small = small 0
 below_take (b ∷ text) (suc n) (suc i) small = below_take text n i (λ k. small (suc k))
 
+fold_small : (s : ℕ) (xs : List ℕ) → s < 2 ^ 32 → fold_l (λ (s x : ℕ). (s + x) % 2 ^ 32) s xs < 2 ^ 32
+fold_small s [] small = small
+fold_small s (x ∷ xs) small = fold_small ((s + x) % 2 ^ 32) xs (omega arith)
+
 pub packed_digits : (text : List ℕ) (n end : ℕ) → 8 ≤ length text → ((i : ℕ) → Fits w8 (get_or text i 0)) → end ≡ counted (take 8 text) → n ≡ packed end (take 8 text) → end ≢ 0 → end ≤ 7 → AreDigits text n end
 packed_digits text n end long bytes end_is n_is other few =
     let some : 0 < end = omega arith in
@@ -206,10 +210,12 @@ packed_digits text n end long bytes end_is n_is other few =
     let prefix = end_is ∙ counted_is (take 8 text) eight small (rw end_is at few) in
     let digits : (i : ℕ) → i < end → is_ascii_digit (get_or (take 8 text) i 0) ≡ true = λ i below. prefix_len_passes is_ascii_digit (take 8 text) i 0 (rw prefix at below) in
     record {
+      small = rw n_is (omega (arith, fold_small 0 (zip2 (λ (x y : ℕ). x * y % 2 ^ 32) (map (λ (a : ℕ). a) (zip2 (λ (a b : ℕ). (a + (2 ^ 8 - b)) % 2 ^ 8) (take 8 text) (replicate 8 48))) (get_or weights end [])) (omega arith)));
       some = some;
       within = omega arith;
       digits = rw (← take_front text end 8 (omega arith)) (all_front (take 8 text) end digits);
       number = n_is ∙ (eight_digits (take 8 text) end eight some few digits ∙ ap value (take_front text end 8 (omega arith)));
+      behind = λ _. rw (← get_or-take 8 text end 0 (omega arith), prefix) (prefix_len_stops is_ascii_digit (take 8 text) 0 (omega (arith, prefix, eight)));
     }
 
 -- Where the first LF stands among 32 bytes.

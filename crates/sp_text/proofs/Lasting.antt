@@ -1,9 +1,9 @@
 -- What an early fault says of the whole text.
-use Rattle.std.proofs.Common.{◌≡◌, ℕ, ◌+◌, List, [], ◌∷◌, ◌++◌, length, Option, Some, None, refl, ap, ◌∙◌}
+use Rattle.std.proofs.Common.{◌≡◌, ℕ, ◌+◌, Bool, true, false, List, [], ◌∷◌, ◌++◌, length, Option, Some, None, refl, ap, ◌∙◌}
 use Rattle.sp_text.specs.declared.faults.Kind.{Kind}
 use Rattle.sp_text.specs.declared.faults.DimacsError.{DimacsError}
 use Rattle.sp_text.specs.Lines.{ended, rest, lines, last_line}
-use Rattle.sp_text.specs.First.{Judge, or_at, or_else, or_kind, size_fault, first_after, first_fault, rest_fault, early, told}
+use Rattle.sp_text.specs.First.{Judge, or_at, or_else, or_kind, size_fault, first_after, first_fault, rest_fault, early, unfinished, told}
 use Rattle.sp_text.proofs.Cutting.{first_after-append, fault_lasts}
 
 by_size : (size : Option Kind) (n : ℕ) (before : List (List ℕ)) (fault : Option Kind) (missing : Option DimacsError) (e : DimacsError) → n ≡ length before + 1
@@ -19,11 +19,15 @@ told_early judge n (Some x) before r missing e is h = h
 told_early judge n None before [] missing e is h = cc
 told_early judge n None before (b ∷ r) missing e is h = by_size (size_fault judge before (b ∷ r)) n before (judge.fault before (b ∷ r)) missing e is h
 
+early_first : (needs_lf : Bool) (judge : Judge) (text : List ℕ) (later : Option DimacsError) (e : DimacsError) → early judge text ≡ Some e → later ≡ Some e → or_else (unfinished needs_lf judge text) later ≡ Some e
+early_first false judge text later e h is = is
+early_first true judge text later e h is = rw h refl
+
 pub early_is_told : (judge : Judge) (text : List ℕ) (e : DimacsError) → early judge text ≡ Some e → told judge text ≡ Some e
 unfolding early told lines
-early_is_told judge text e h =
+early_is_told judge text e h = early_first judge.needs_lf judge text _ e h (
     ap (λ (f : Option DimacsError). or_else f (or_at (length (ended text ++ last_line (rest text)) + 1) (judge.missing (ended text ++ last_line (rest text))) None)) (first_after-append judge [] (ended text) (last_line (rest text)))
-    ∙ told_early judge (length (ended text) + 1) (first_fault judge (ended text)) (ended text) (rest text) (or_at (length (ended text ++ last_line (rest text)) + 1) (judge.missing (ended text ++ last_line (rest text))) None) e refl h
+    ∙ told_early judge (length (ended text) + 1) (first_fault judge (ended text)) (ended text) (rest text) (or_at (length (ended text ++ last_line (rest text)) + 1) (judge.missing (ended text ++ last_line (rest text))) None) e refl h)
 
 pub early_lasts : (judge : Judge) (text more : List ℕ) (e : DimacsError) → early judge text ≡ Some e → told judge (text ++ more) ≡ Some e
 early_lasts judge text more e h = early_is_told judge (text ++ more) e (fault_lasts judge text more e h)

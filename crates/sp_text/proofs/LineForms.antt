@@ -3,10 +3,10 @@ use Rattle.std.proofs.Common.{◌≡◌, ℕ, ◌+◌, ◌<◌, false, List, [],
 use Rattle.std.specs.Prelude.{slice_get}
 use Rattle.std.proofs.lemmas.List.{drop_more}
 use Rattle.std.proofs.lemmas.Option.{slice_get-map, slice_get-get_or}
-use Rattle.sp_text.specs.declared.layouts.Ranges.{Ranges}
-use Rattle.sp_text.specs.declared.layouts.Field.{Field}
-use Rattle.sp_text.specs.declared.layouts.Form.{Form}
-use Rattle.sp_text.specs.declared.layouts.Layout.{Layout}
+use Rattle.sp_text.specs.declared.formats.Ranges.{Ranges}
+use Rattle.sp_text.specs.declared.formats.Field.{Field}
+use Rattle.sp_text.specs.declared.formats.Form.{Form}
+use Rattle.sp_text.specs.declared.formats.FileFormat.{FileFormat}
 use Rattle.sp_text.specs.declared.matching.Numbers.{Numbers}
 use Rattle.sp_text.specs.declared.matching.Numbers.TheVariants.{Within}
 use Rattle.sp_text.specs.Lines.{without_cr, parted, fields}
@@ -20,20 +20,20 @@ item_here : (items : List Form) (place : ℕ) (d : Form) (line : List (List ℕ)
 item_here items place d line ns within is so_far =
     so_far ∙ (ap (λ (forms : List Form). item_reading place (map form_of forms) line) (drop_more items place d within) ∙ rw is refl)
 
-pub found_item : (layout : Layout) (line text : List ℕ) (place : ℕ) (d : Form) (ranges : Ranges) (ps ns : List ℕ) (numbers : Numbers)
-    → text ≡ without_cr line → false ≡ is_comment (parted [] text) → of_form (form_of layout.problem) (parted [] text) ≡ None
-    → item_reading 0 (map form_of layout.items.now) (parted [] text) ≡ item_reading place (map form_of (drop place layout.items.now)) (parted [] text)
-    → place < length layout.items.now → of_form (form_of (get_or layout.items.now place d)) (parted [] text) ≡ Some ns
-    → IsSmallForm (get_or layout.items.now place d)
-    → Are ranges ps (form_of (get_or layout.items.now place d)).fields ns numbers
-    → (item : Item) × (reading (format_of layout) line ≡ IsItem item) × (item.kind ≡ place) × (slice_get (format_of layout).items place ≡ Some item.form) × (item.form ≡ form_of (get_or layout.items.now place d)) × IsSmallForm (get_or layout.items.now place d) × Are ranges ps item.form.fields item.numbers numbers
+pub found_item : (format : FileFormat) (line text : List ℕ) (place : ℕ) (d : Form) (ranges : Ranges) (ps ns : List ℕ) (numbers : Numbers)
+    → text ≡ without_cr line → false ≡ is_comment (parted [] text) → of_form (form_of format.problem) (parted [] text) ≡ None
+    → item_reading 0 (map form_of format.items.now) (parted [] text) ≡ item_reading place (map form_of (drop place format.items.now)) (parted [] text)
+    → place < length format.items.now → of_form (form_of (get_or format.items.now place d)) (parted [] text) ≡ Some ns
+    → IsSmallForm (get_or format.items.now place d)
+    → Are ranges ps (form_of (get_or format.items.now place d)).fields ns numbers
+    → (item : Item) × (reading (format_of format) line ≡ IsItem item) × (item.kind ≡ place) × (slice_get (format_of format).items place ≡ Some item.form) × (item.form ≡ form_of (get_or format.items.now place d)) × IsSmallForm (get_or format.items.now place d) × Are ranges ps item.form.fields item.numbers numbers
 unfolding reading reading_of fields
-found_item layout line text place d ranges ps ns numbers cr remark problem so_far within is plain are =
-    let here = item_here layout.items.now place d (parted [] text) ns within is so_far in (
-      record { kind = place; form = form_of (get_or layout.items.now place d); numbers = ns },
+found_item format line text place d ranges ps ns numbers cr remark problem so_far within is plain are =
+    let here = item_here format.items.now place d (parted [] text) ns within is so_far in (
+      record { kind = place; form = form_of (get_or format.items.now place d); numbers = ns },
       rw (← cr, ← remark, problem) here,
       refl,
-      slice_get-map form_of layout.items.now place ∙ rw (slice_get-get_or layout.items.now place d within) refl,
+      slice_get-map form_of format.items.now place ∙ rw (slice_get-get_or format.items.now place d within) refl,
       refl,
       plain,
       are,
@@ -56,11 +56,11 @@ unfolding of_form
 letter_form form text rest ranges ps ns letter spaced = letter spaced.apart form.fields.now ∙ spaced.spelled
 
 -- An item whose form begins with a letter.
-pub found_usual : (layout : Layout) (line text rest : List ℕ) (place : ℕ) (d : Form) (ranges : Ranges) (ps ns : List ℕ) → IsSmallForm (get_or layout.items.now place d)
-    → text ≡ without_cr line → false ≡ is_comment (parted [] text) → ((ds : List Field) → behind_words (parted [] layout.problem.words.now) ds (parted [] text) ≡ None)
-    → item_reading 0 (map form_of layout.items.now) (parted [] text) ≡ item_reading place (map form_of (drop place layout.items.now)) (parted [] text)
-    → place < length layout.items.now → IsLetter (get_or layout.items.now place d).words.now text rest → AreSpaced ranges ps (get_or layout.items.now place d).fields.now rest ns
-    → (item : Item) × (reading (format_of layout) line ≡ IsItem item) × (item.kind ≡ place) × (slice_get (format_of layout).items place ≡ Some item.form) × (item.form ≡ form_of (get_or layout.items.now place d)) × IsSmallForm (get_or layout.items.now place d) × Are ranges ps item.form.fields item.numbers (Within ns)
-found_usual layout line text rest place d ranges ps ns small cr remark problem so_far within letter spaced =
-    found_item layout line text place d ranges ps ns (Within ns) cr remark (no_form layout.problem (parted [] text) problem) so_far within
-    (letter_form (get_or layout.items.now place d) text rest ranges ps ns letter spaced) small (spaced.within, refl)
+pub found_usual : (format : FileFormat) (line text rest : List ℕ) (place : ℕ) (d : Form) (ranges : Ranges) (ps ns : List ℕ) → IsSmallForm (get_or format.items.now place d)
+    → text ≡ without_cr line → false ≡ is_comment (parted [] text) → ((ds : List Field) → behind_words (parted [] format.problem.words.now) ds (parted [] text) ≡ None)
+    → item_reading 0 (map form_of format.items.now) (parted [] text) ≡ item_reading place (map form_of (drop place format.items.now)) (parted [] text)
+    → place < length format.items.now → IsLetter (get_or format.items.now place d).words.now text rest → AreSpaced ranges ps (get_or format.items.now place d).fields.now rest ns
+    → (item : Item) × (reading (format_of format) line ≡ IsItem item) × (item.kind ≡ place) × (slice_get (format_of format).items place ≡ Some item.form) × (item.form ≡ form_of (get_or format.items.now place d)) × IsSmallForm (get_or format.items.now place d) × Are ranges ps item.form.fields item.numbers (Within ns)
+found_usual format line text rest place d ranges ps ns small cr remark problem so_far within letter spaced =
+    found_item format line text place d ranges ps ns (Within ns) cr remark (no_form format.problem (parted [] text) problem) so_far within
+    (letter_form (get_or format.items.now place d) text rest ranges ps ns letter spaced) small (spaced.within, refl)

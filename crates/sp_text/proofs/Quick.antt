@@ -1,11 +1,12 @@
 -- A field that a quick number is.
-use Rattle.std.proofs.Common.{◌≡◌, ℕ, zero, suc, ◌<◌, ◌≤◌, not, true, false, List, [], ◌∷◌, length, take, drop, get_or, eqb, refl, sym, ◌∙◌, subst, arith}
+use Rattle.std.proofs.Common.{◌≡◌, ℕ, zero, suc, ◌-◌, ◌^◌, ◌<◌, ◌≤◌, not, true, false, List, [], ◌∷◌, length, take, drop, get_or, eqb, refl, sym, ◌∙◌, subst, arith}
 use Rattle.std.proofs.lemmas.Bool.{false≢true}
 use Rattle.std.proofs.lemmas.List.{take_all, get_or-take, length-take-le}
+use Rattle.std.proofs.lemmas.List.Sums.{take_while-cons}
 use Rattle.std.specs.List.{list_all}
 use Rattle.std.specs.Char.{is_ascii_digit}
-use Rattle.sp_text.specs.Lines.{is_blank, parted, value}
-use Rattle.sp_text.specs.Numeral.{ranged, numeral, starts_number, begins_number, AreDigits, IsFront, IsQuick}
+use Rattle.sp_text.specs.Lines.{is_blank, is_number, parted, value}
+use Rattle.sp_text.specs.Numeral.{ranged, numeral, starts_number, begins_number, capped, leading_digits, Leads, AreDigits, IsFront, IsQuick}
 use Rattle.sp_text.proofs.Digits.{and_parts, no_blank, is_number_parts, digits_no_blanks}
 use Rattle.sp_text.proofs.Parting.{later_field}
 
@@ -46,4 +47,30 @@ begun_some (d ∷ []) (suc (suc end)) some begins = refl
 begun_some (d ∷ e ∷ more) (suc (suc end)) some begins = (and_parts (not (eqb d 48)) (is_ascii_digit d) begins).0
 
 pub begun_digits : (start : List ℕ) (n end : ℕ) → AreDigits start n end → begins_number start ≡ true → IsFront start n end
-begun_digits start n end is begins = record { within = is.within; digits = is.digits; number = is.number; starts = begun_some start end is.some begins }
+begun_digits start n end is begins = record { small = is.small; within = is.within; digits = is.digits; number = is.number; behind = is.behind; starts = begun_some start end is.some begins }
+
+-- The digits at the front.
+
+pub leading_is : (text : List ℕ) (end : ℕ) → end ≤ length text → list_all is_ascii_digit (take end text) ≡ true → (end < length text → is_ascii_digit (get_or text end 0) ≡ false) → leading_digits text ≡ take end text
+leading_is [] zero within digits behind = refl
+leading_is [] (suc end) within digits behind = refl
+leading_is (b ∷ text) zero within digits behind = take_while-cons is_ascii_digit b text ∙ rw (behind (omega arith)) refl
+leading_is (b ∷ text) (suc end) within digits behind =
+    let parts = and_parts (is_ascii_digit b) (list_all is_ascii_digit (take end text)) digits in
+    take_while-cons is_ascii_digit b text ∙ rw (parts.0, leading_is text end (omega arith) parts.1 (λ more. behind (omega arith))) refl
+
+pub leads : (text : List ℕ) (n end : ℕ) → end ≤ length text → list_all is_ascii_digit (take end text) ≡ true → (end < length text → is_ascii_digit (get_or text end 0) ≡ false) → starts_number (take end text) ≡ true → n ≡ capped (value (take end text))
+    → Leads text n end
+leads text n end within digits behind starts number =
+    let same = leading_is text end within digits behind in
+    record { spelled = rw (same, is_number_parts (take end text), starts, digits) refl; number = rw same number; digits = same; within = within }
+
+pub leads_none : (text : List ℕ) (end : ℕ) → end ≤ length text → list_all is_ascii_digit (take end text) ≡ true → (end < length text → is_ascii_digit (get_or text end 0) ≡ false) → starts_number (take end text) ≡ false
+    → is_number (leading_digits text) ≡ false
+leads_none text end within digits behind starts = rw (leading_is text end within digits behind, is_number_parts (take end text), starts) refl
+
+pub small_is : (n v : ℕ) → n < 2 ^ 64 → n ≡ v → n ≡ capped v
+small_is n v small is = omega arith
+
+pub large_is : (v : ℕ) → 2 ^ 64 ≤ v → 2 ^ 64 - 1 ≡ capped v
+large_is v large = omega arith

@@ -5,9 +5,9 @@ use Rattle.std.specs.Io.KnownBytes.{Consumes, IsAtEnd}
 use Rattle.std.proofs.lemmas.List.{append-nil}
 use Rattle.sp_text.specs.declared.faults.Kind.TheVariants.{Memory, Read}
 use Rattle.sp_text.specs.declared.faults.DimacsError.{DimacsError}
-use Rattle.sp_text.specs.Lines.{ended, lines}
+use Rattle.sp_text.specs.Lines.{lines}
 use Rattle.sp_text.specs.First.{Judge, IsSilent, told, failed}
-use Rattle.sp_text.specs.Feeding.{Refused, IsMemory}
+use Rattle.sp_text.specs.Feeding.{Refused, IsMemory, IsToldOf}
 use Rattle.sp_text.specs.Whole.{AllRead, IsSpelled, ReadOn}
 use Rattle.sp_text.proofs.Silent.{early_silent, told_silent}
 
@@ -19,13 +19,13 @@ all_given judge Spelled text given (Some more) has_failed value gone end none sp
     let same : given ≡ text = sym (gone ∙ rw end (append-nil given)) in
     (rw end refl, rw same at none, rw same at spelled)
 
-told_given : (judge : Judge) (text given more : List ℕ) (e : DimacsError) → text ≡ given ++ more → more ≡ [] → (told judge given ≡ Some e) ⊎ IsMemory judge (ended given) (lines given) e → (told judge text ≡ Some e) ⊎ IsMemory judge (ended text) (lines text) e
+told_given : (judge : Judge) (text given more : List ℕ) (e : DimacsError) → text ≡ given ++ more → more ≡ [] → IsToldOf judge given e → IsToldOf judge text e
 told_given judge text given more e gone end is =
     let same : given ≡ text = sym (gone ∙ rw end (append-nil given)) in
     rw same at is
 
 err_given : {V : Type 0} (judge : Judge) (Spelled : List (List ℕ) → V → Type 0) (text given : List ℕ) (new : Option (List ℕ)) (has_failed : Bool) (e : DimacsError) → Consumes (Some text) new given
-    → Refused judge [] given e ⊎ (IsAtEnd new × ((told judge given ≡ Some e) ⊎ IsMemory judge (ended given) (lines given) e)) ⊎ ((has_failed ≡ true) × (failed judge given ≡ Some e))
+    → Refused judge [] given e ⊎ (IsAtEnd new × IsToldOf judge given e) ⊎ ((has_failed ≡ true) × (failed judge given ≡ Some e))
     → AllRead {V = V} judge Spelled text new has_failed (Err e)
 err_given judge Spelled text given None has_failed e gone is = absurd gone
 err_given judge Spelled text given (Some more) has_failed e gone (inl refused) = (given, more, gone, refl, inl refused)
@@ -50,7 +50,7 @@ memory_silent : (judge : Judge) (before all : List (List ℕ)) (e : DimacsError)
 memory_silent judge before all e h is = let k : e.kind ≡ Memory = h.kind in cc
 
 kind_told : (judge : Judge) (text : List ℕ) (at_end failure : Type 0) (has_failed : Bool) (e : DimacsError) → IsSilent judge
-    → Refused judge [] text e ⊎ (at_end × ((told judge text ≡ Some e) ⊎ IsMemory judge (ended text) (lines text) e)) ⊎ ((has_failed ≡ true) × failure) → e.kind ≡ Read → has_failed ≡ true
+    → Refused judge [] text e ⊎ (at_end × IsToldOf judge text e) ⊎ ((has_failed ≡ true) × failure) → e.kind ≡ Read → has_failed ≡ true
 kind_told judge text at_end failure has_failed e silent (inl (inl is)) read = absurd (early_silent judge silent text e is read)
 kind_told judge text at_end failure has_failed e silent (inl (inr memory)) read = absurd (memory_silent judge _ _ e memory read)
 kind_told judge text at_end failure has_failed e silent (inr (inl (end, inl is))) read = absurd (told_silent judge silent text e is read)

@@ -1,8 +1,8 @@
 -- What holds of a text without a fault.
 use Rattle.std.specs.Prelude.{◌≡◌, ◌≤◌, ℕ, List, [], length, slice_get, All, Some, None}
 use Rattle.std.specs.List.{AllByRecursion}
-use Rattle.sp_text.specs.declared.layouts.Top.{Top}
-use Rattle.sp_text.specs.declared.layouts.Ranges.{Ranges}
+use Rattle.sp_text.specs.declared.formats.Top.{Top}
+use Rattle.sp_text.specs.declared.formats.Ranges.{Ranges}
 use Rattle.sp_text.specs.Formats.{Format}
 use Rattle.sp_text.specs.Text.{Item, first_out, top, count}
 

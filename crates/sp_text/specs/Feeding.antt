@@ -1,11 +1,11 @@
 -- Where a reader that is fed in pieces stands.
-use Rattle.std.specs.Prelude.{◌≡◌, ℕ, ◌+◌, ◌≤◌, ◌⊎◌, true, List, [], ◌∷◌, ◌++◌, length, Some, None, Result, Ok, Err}
+use Rattle.std.specs.Prelude.{◌≡◌, ℕ, ◌+◌, ◌≤◌, ◌⊎◌, Bool, true, false, List, [], ◌∷◌, ◌++◌, length, Some, None, Result, Ok, Err}
 use Rattle.sp_text.specs.declared.faults.Kind.{Kind}
 use Rattle.sp_text.specs.declared.faults.Kind.TheVariants.{Memory}
 use Rattle.sp_text.specs.declared.faults.DimacsError.{DimacsError}
 use Rattle.sp_text.specs.declared.feeding.Feeder.{Feeder}
 use Rattle.sp_text.specs.Lines.{ended, rest, lines}
-use Rattle.sp_text.specs.First.{Judge, first_fault, early, told, strictly_told}
+use Rattle.sp_text.specs.First.{Judge, first_fault, early, told}
 
 -- What a taker of lines answers to a line: its fault; else that state follows, or the value of an item line
 -- found no room.
@@ -48,25 +48,30 @@ abbrev pub Ends : {T V : Type 0} → Judge → (T → List (List ℕ) → Type 0
 Ends judge After Spelled all (Ok value) new = (judge.missing all ≡ None) × Spelled all value × After new []
 Ends judge After Spelled all (Err kind) new = judge.missing all ≡ Some kind
 
+-- The lines that are taken of a whole text: one that lacks its LF only where it needs none.
+abbrev pub lines_taken : (needs_lf : Bool) → List ℕ → List (List ℕ)
+lines_taken false text = lines text
+lines_taken true text = ended text
+
+-- a fault of a whole text, or the value of its last line found no room
+abbrev pub IsToldOf : Judge → List ℕ → DimacsError → Type 0
+IsToldOf judge text e = (told judge text ≡ Some e) ⊎ IsMemory judge (ended text) (lines_taken judge.needs_lf text) e
+
 -- The answer where the text ends; only a last line that lacks its LF is taken now. A reader that gave its value
 -- begins again.
 abbrev pub Finished : {T V : Type 0} → Judge → (T → List (List ℕ) → Type 0) → (List (List ℕ) → V → Type 0) → List ℕ → Result V DimacsError → Feeder T → Type 0
 Finished judge After Spelled text (Ok value) new = (told judge text ≡ None) × Spelled (lines text) value × IsBehind judge After [] new
-Finished judge After Spelled text (Err e) new = (new.spent ≡ Some e) × ((told judge text ≡ Some e) ⊎ IsMemory judge (ended text) (lines text) e)
+Finished judge After Spelled text (Err e) new = (new.spent ≡ Some e) × IsToldOf judge text e
 
--- All lines of the text were taken, the last one too.
+-- All lines of the text were taken, the last one too, which has its LF where it needs one.
 pub record IsClosed {T : Type 0} (judge : Judge) (After : T → List (List ℕ) → Type 0) (text : List ℕ) (reader : Feeder T) : Type 0 where
   pub going : reader.spent ≡ None
   pub clean : first_fault judge (lines text) ≡ None
   pub room : reader.room ≡ []
   pub ends : reader.ends ≡ length (lines text)
   pub taken : After reader.taker (lines text)
+  pub whole : judge.needs_lf ≡ true → rest text ≡ []
 
 abbrev pub Closed : {T U : Type 0} → Judge → (T → List (List ℕ) → Type 0) → List ℕ → Result U DimacsError → Feeder T → Type 0
 Closed judge After text (Ok u) new = IsClosed judge After text new
-Closed judge After text (Err e) new = (new.spent ≡ Some e) × ((told judge text ≡ Some e) ⊎ IsMemory judge (ended text) (lines text) e)
-
--- The answer where a file that closes itself ends.
-abbrev pub StrictlyFinished : {T V : Type 0} → Judge → (T → List (List ℕ) → Type 0) → (List (List ℕ) → V → Type 0) → List ℕ → Result V DimacsError → Feeder T → Type 0
-StrictlyFinished judge After Spelled text (Ok value) new = (strictly_told judge text ≡ None) × Spelled (ended text) value × (rest text ≡ []) × IsBehind judge After [] new
-StrictlyFinished judge After Spelled text (Err e) new = (new.spent ≡ Some e) × (strictly_told judge text ≡ Some e)
+Closed judge After text (Err e) new = (new.spent ≡ Some e) × IsToldOf judge text e

@@ -1,18 +1,20 @@
 -- The first fault of a text, whatever its line forms are.
-use Rattle.std.specs.Prelude.{◌≢◌, ℕ, ◌+◌, Bool, List, [], ◌∷◌, ◌++◌, length, nat_lt, if◌then◌else◌, Option, Some, None}
+use Rattle.std.specs.Prelude.{◌≢◌, ℕ, ◌+◌, Bool, true, false, List, [], ◌∷◌, ◌++◌, length, nat_lt, if◌then◌else◌, Option, Some, None}
 use Rattle.sp_text.specs.declared.faults.Kind.{Kind}
-use Rattle.sp_text.specs.declared.faults.Kind.TheVariants.{LongLine, NoProblem, TooMany, TooFew, Read}
+use Rattle.sp_text.specs.declared.faults.Kind.TheVariants.{LongLine, TooMany, TooFew, Read}
 use Rattle.sp_text.specs.declared.faults.DimacsError.{DimacsError}
+use Rattle.sp_text.specs.declared.rooms.TheConstants.{LONGEST_LINE}
 use Rattle.sp_text.specs.Lines.{ended, rest, lines}
 
 -- A file's rules: whether nothing may stand behind some lines, the fault of a line by the lines before it,
--- which have none, what is missing where the lines end, and whether a line is an item line, whose value takes
--- room.
+-- which have none, what is missing where the lines end, whether a line is an item line, whose value takes
+-- room, and whether each line needs its LF, also the last.
 pub record Judge : Type 0 where
   pub closed : List (List ℕ) → Bool
   pub fault : List (List ℕ) → List ℕ → Option Kind
   pub missing : List (List ℕ) → Option Kind
   pub is_item : List ℕ → Bool
+  pub needs_lf : Bool
 
 -- No line has the fault of a device.
 pub record IsSilent (judge : Judge) : Type 0 where
@@ -33,7 +35,7 @@ or_kind (Some kind) later = Some kind
 
 -- What a line shows by its bytes alone: it should not be there, or there are too many.
 abbrev pub size_fault : Judge → List (List ℕ) → List ℕ → Option Kind
-size_fault judge before line = if judge.closed before then Some TooMany else (if nat_lt 1024 (length line) then Some LongLine else None)
+size_fault judge before line = if judge.closed before then Some TooMany else (if nat_lt LONGEST_LINE (length line) then Some LongLine else None)
 
 abbrev pub line_fault : Judge → List (List ℕ) → List ℕ → Option Kind
 line_fault judge before line = or_kind (size_fault judge before line) (judge.fault before line)
@@ -45,10 +47,6 @@ first_after judge before (line ∷ more) = or_at (length before + 1) (line_fault
 
 abbrev pub first_fault : Judge → List (List ℕ) → Option DimacsError
 first_fault judge all = first_after judge [] all
-
--- The text has ended: a line has a fault, or something is missing at the line after the last.
-unfoldable pub told : Judge → List ℕ → Option DimacsError
-told judge text = or_else (first_fault judge (lines text)) (or_at (length (lines text) + 1) (judge.missing (lines text)) None)
 
 -- The text may go on: a line whose LF came has a fault, or what came of the next one shows it.
 abbrev pub rest_fault : Judge → List (List ℕ) → List ℕ → Option Kind
@@ -62,10 +60,17 @@ early judge text = or_else (first_fault judge (ended text)) (or_at (length (ende
 unfoldable pub failed : Judge → List ℕ → Option DimacsError
 failed judge text = or_else (early judge text) (or_at (length (ended text) + 1) (Some Read) None)
 
--- The text has ended, where a line needs its LF and the last line closes the file.
-abbrev pub cut_short : Judge → List ℕ → Option Kind
-cut_short judge [] = Some NoProblem
-cut_short judge (b ∷ text) = if judge.closed (ended (b ∷ text)) then None else Some TooFew
+-- The text has ended within a line: a fault that came earlier, or TooFew at that line.
+abbrev pub cut_short : List ℕ → Option Kind
+cut_short [] = None
+cut_short (b ∷ bytes) = Some TooFew
 
-unfoldable pub strictly_told : Judge → List ℕ → Option DimacsError
-strictly_told judge text = or_else (early judge text) (or_at (length (ended text) + 1) (or_kind (cut_short judge text) (judge.missing (ended text))) None)
+abbrev pub unfinished : (needs_lf : Bool) → Judge → List ℕ → Option DimacsError
+unfinished false judge text = None
+unfinished true judge text = or_else (early judge text) (or_at (length (ended text) + 1) (cut_short (rest text)) None)
+
+-- The text has ended: its last line lacks an LF that it needs, or a line has a fault, or something is missing at the
+-- line after the last.
+unfoldable pub told : Judge → List ℕ → Option DimacsError
+told judge text = or_else (unfinished judge.needs_lf judge text)
+    (or_else (first_fault judge (lines text)) (or_at (length (lines text) + 1) (judge.missing (lines text)) None))

@@ -1,9 +1,11 @@
 -- The line forms of the files.
 use Rattle.std.specs.Prelude.{◌≡◌, ◌+◌, ◌<◌, ◌≤◌, ◌⊎◌, ℕ, Bool, List, [], ◌∷◌, length, slice_index_or, map, if◌then◌else◌}
-use Rattle.sp_text.specs.declared.layouts.Top.{Top}
-use Rattle.sp_text.specs.declared.layouts.Field.{Field}
-use Rattle.sp_text.specs.declared.layouts.Form.{Form}
-use Rattle.sp_text.specs.declared.layouts.Layout.{Layout}
+use Rattle.sp_text.specs.declared.formats.Top.{Top}
+use Rattle.sp_text.specs.declared.formats.Field.{Field}
+use Rattle.sp_text.specs.declared.formats.Form.{Form}
+use Rattle.sp_text.specs.declared.formats.FileFormat.{FileFormat}
+use Rattle.sp_word.specs.Word.{max_dist, max_pred}
+use Rattle.sp_text.specs.declared.formats.Ranges.{Ranges}
 use Rattle.sp_text.specs.Lines.{parted}
 
 -- Its words, and then a number for each field. Lines of forms of one group are counted together, up to
@@ -25,7 +27,7 @@ pub record Format : Type 0 where
 abbrev pub form_of : Form → LineForm
 form_of f = record { words = parted [] f.words.now; fields = f.fields.now; fresh = f.fresh; group = f.group; limit = f.limit }
 
-abbrev pub format_of : Layout → Format
+abbrev pub format_of : FileFormat → Format
 format_of l = record { problem = form_of l.problem; items = map form_of l.items.now; needed = l.needed }
 
 abbrev pub field : ℕ → ℕ → Top → Field
@@ -49,6 +51,10 @@ pub record IsSmallForm (f : Form) : Type 0 where
   pub numbers : length f.fields.now ≤ 4
   pub group : f.group < 3
 
-pub record IsSmall (l : Layout) : Type 0 where
+pub record IsSmall (l : FileFormat) : Type 0 where
   pub problem : IsSmallForm l.problem
   pub items : (k : ℕ) (d : Form) → k < length l.items.now → IsSmallForm (slice_index_or l.items.now k d)
+
+-- the limits of words with P bits for the predecessor
+abbrev pub ranges_of : ℕ → Ranges
+ranges_of P = record { vertex = max_pred P; dist = max_dist P }

@@ -12,10 +12,14 @@ pub record IsFirstFault (rules : Judge) (all : List (List ℕ)) (e : DimacsError
   pub fault : line_fault rules (take place all) (get_or all place []) ≡ Some e.kind
   pub none_before : (j : ℕ) → j < place → line_fault rules (take j all) (get_or all j []) ≡ None
 
--- A text is its lines, each with its LF, and then a rest; there is no other LF.
 abbrev pub HasNoLf : List ℕ → Type 0
 HasNoLf bytes = AllByRecursion (λ b. b ≢ 10) bytes
 
+-- These bytes stand in front of the first LF, and those behind it.
+abbrev pub IsFirstLine : (bytes line more : List ℕ) → Type 0
+IsFirstLine bytes line more = HasNoLf line × (bytes ≡ line ++ 10 ∷ more)
+
+-- A text is its lines, each with its LF, and then a rest; there is no other LF.
 pub record IsCut (text : List ℕ) (all : List (List ℕ)) (more : List ℕ) : Type 0 where
   pub whole : text ≡ flat_map (λ line. line ++ 10 ∷ []) all ++ more
   pub lines : AllByRecursion HasNoLf all

@@ -1,8 +1,8 @@
 -- What a field is, as a number within a range.
-use Rattle.std.specs.Prelude.{◌≡◌, ◌<◌, ◌≤◌, length, take, slice_index, ℕ, Bool, true, false, ◌&&◌, not, List, [], ◌∷◌, nat_le, ◌==◌, if◌then◌else◌}
+use Rattle.std.specs.Prelude.{◌≡◌, ◌<◌, ◌≤◌, ◌-◌, ◌^◌, min, length, take, slice_index, ℕ, Bool, true, false, ◌&&◌, not, List, [], ◌∷◌, ◌++◌, codes, decimal, nat_le, ◌==◌, if◌then◌else◌}
 use Rattle.sp_text.specs.declared.numbers.Numeral.{Numeral}
 use Rattle.sp_text.specs.declared.numbers.Numeral.TheVariants.{Bad, Out, Value}
-use Rattle.std.specs.List.{list_all}
+use Rattle.std.specs.List.{list_all, take_while}
 use Rattle.std.specs.Char.{is_ascii_digit}
 use Rattle.sp_text.specs.Lines.{is_blank, is_number, value}
 
@@ -11,6 +11,25 @@ ranged n least most = if nat_le least n && nat_le n most then Value n else Out
 
 abbrev pub numeral : List ℕ → ℕ → ℕ → Numeral
 numeral field least most = if is_number field then ranged (value field) least most else Bad
+
+-- A number as 64 bits can hold it: 2^64 - 1 stands for each that is too large.
+abbrev pub capped : ℕ → ℕ
+capped n = min n (2 ^ 64 - 1)
+
+-- The digits at the front of a text, as many as stand there.
+abbrev pub leading_digits : List ℕ → List ℕ
+leading_digits text = take_while is_ascii_digit text
+
+-- These digits spell no number.
+abbrev pub HasNoLead : List ℕ → Type 0
+HasNoLead text = is_number (leading_digits text) ≡ false
+
+-- These digits, so many, spell this number, as 64 bits can hold it.
+pub record Leads (text : List ℕ) (n end : ℕ) : Type 0 where
+  pub spelled : is_number (leading_digits text) ≡ true
+  pub number : n ≡ capped (value (leading_digits text))
+  pub digits : leading_digits text ≡ take end text
+  pub within : end ≤ length text
 
 -- There is a byte, and no zero leads others.
 abbrev pub starts_number : List ℕ → Bool
@@ -23,18 +42,22 @@ abbrev pub begins_number : List ℕ → Bool
 begins_number [] = false
 begins_number (d ∷ more) = not (d == 48) && is_ascii_digit d
 
--- Some digits at the front spell a number.
+-- The digits at the front, of which there are some, spell a number.
 pub record AreDigits (text : List ℕ) (n end : ℕ) : Type 0 where
+  pub small : n < 2 ^ 64
   pub some : 0 < end
   pub within : end ≤ length text
   pub digits : list_all is_ascii_digit (take end text) ≡ true
   pub number : n ≡ value (take end text)
+  pub behind : end < length text → is_ascii_digit (slice_index text end) ≡ false
 
--- Digits at the front spell a small number, and no zero leads others.
+-- The digits at the front spell a small number, and no zero leads others.
 pub record IsFront (text : List ℕ) (n end : ℕ) : Type 0 where
+  pub small : n < 2 ^ 64
   pub within : end ≤ length text
   pub digits : list_all is_ascii_digit (take end text) ≡ true
   pub number : n ≡ value (take end text)
+  pub behind : end < length text → is_ascii_digit (slice_index text end) ≡ false
   pub starts : starts_number (take end text) ≡ true
 
 -- Digits at the front spell a small number, and a blank or nothing stands behind them.
@@ -43,3 +66,7 @@ pub record IsQuick (text : List ℕ) (n end : ℕ) : Type 0 where
   pub digits : list_all is_ascii_digit (take end text) ≡ true
   pub number : n ≡ value (take end text)
   pub behind : end < length text → is_blank (slice_index text end) ≡ true
+
+-- a space and a number
+abbrev pub number_text : ℕ → List ℕ
+number_text n = codes " " ++ decimal n

@@ -1,7 +1,7 @@
 -- A format to try the definitions and the engine on.
 use Rattle.std.specs.Prelude.{◌≡◌, ℕ, true, false, List, [], ◌∷◌, map, slice_index, codes}
-use Rattle.sp_text.specs.declared.layouts.Top.TheVariants.{Number, Vertex, Dist, Problem}
-use Rattle.sp_text.specs.declared.layouts.Ranges.{Ranges}
+use Rattle.sp_text.specs.declared.formats.Top.TheVariants.{Number, Vertex, Dist, Problem}
+use Rattle.sp_text.specs.declared.formats.Ranges.{Ranges}
 use Rattle.sp_text.specs.Formats.{Format, field}
 use Rattle.sp_text.specs.Text.{Item}
 

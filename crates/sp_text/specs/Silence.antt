@@ -3,7 +3,7 @@ use Rattle.std.proofs.Common.{◌≢◌, ℕ, Bool, true, false, cond, List, [],
 use Rattle.std.specs.Prelude.{nat_lt, nat_le}
 use Rattle.sp_text.specs.declared.faults.Kind.{Kind}
 use Rattle.sp_text.specs.declared.faults.Kind.TheVariants.{TooMany, TooFew, Read}
-use Rattle.sp_text.specs.declared.layouts.Ranges.{Ranges}
+use Rattle.sp_text.specs.declared.formats.Ranges.{Ranges}
 use Rattle.sp_text.specs.First.{IsSilent}
 use Rattle.sp_text.specs.Formats.{Format}
 use Rattle.sp_text.specs.Text.{Item, Reading, Comment, Bad, IsProblem, IsItem, first_out, out_or, top, count, item_out, too_many, problem_fault, placed_fault, reading_fault, reading, problem_of, items_of, fault, missing_of, missing, judge}

@@ -3,10 +3,10 @@ use Rattle.std.specs.Prelude.{◌≡◌, ℕ, ◌+◌, Bool, true, false, ◌&&�
 use Rattle.std.specs.List.{list_any, count_by}
 use Rattle.sp_text.specs.declared.faults.Kind.{Kind}
 use Rattle.sp_text.specs.declared.faults.Kind.TheVariants.{BadLine, NoProblem, SecondProblem, OutOfRange, TooMany, TooFew}
-use Rattle.sp_text.specs.declared.layouts.Top.{Top}
-use Rattle.sp_text.specs.declared.layouts.Top.TheVariants.{Number, Vertex, Dist, Problem}
-use Rattle.sp_text.specs.declared.layouts.Ranges.{Ranges}
-use Rattle.sp_text.specs.declared.layouts.Field.{Field}
+use Rattle.sp_text.specs.declared.formats.Top.{Top}
+use Rattle.sp_text.specs.declared.formats.Top.TheVariants.{Number, Vertex, Dist, Problem}
+use Rattle.sp_text.specs.declared.formats.Ranges.{Ranges}
+use Rattle.sp_text.specs.declared.formats.Field.{Field}
 use Rattle.sp_text.specs.Formats.{LineForm, Format}
 use Rattle.sp_text.specs.Lines.{lines, fields, is_number, value}
 use Rattle.sp_text.specs.First.{Judge, told}
@@ -184,13 +184,14 @@ is_item_reading (IsItem item) = true
 unfoldable pub is_item_line : Format → List ℕ → Bool
 is_item_line format line = is_item_reading (reading format line)
 
--- No file of a format closes itself.
+-- No file of a format closes itself, and its last line may lack its LF.
 abbrev pub judge : Format → Ranges → Judge
 judge format ranges = record {
   closed = λ lines. false;
   fault = fault format ranges;
   missing = missing format ranges;
   is_item = is_item_line format;
+  needs_lf = false;
 }
 
 -- 6. What a text spells.

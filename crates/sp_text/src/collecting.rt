@@ -1,6 +1,6 @@
-//! The lines of a layout, taken one after the other.
+//! The lines of a file, taken one after the other.
 ghost use Rattle.std.specs.Prelude.{◌≡◌, ℕ, ◌<◌, List, [], ◌∷◌, ◌++◌, length, slice_get, OnOk, IfSome, Option, Some, None, true, false};
-ghost use Rattle.sp_text.specs.declared.layouts.Ranges.{Ranges};
+ghost use Rattle.sp_text.specs.declared.formats.Ranges.{Ranges};
 ghost use Rattle.sp_text.specs.Formats.{Format, format_of, IsSmall, IsSmallForm, IsFreshPlace, form_of};
 ghost use Rattle.sp_text.specs.Text.{Item, judge, reading, first_out, first_letter, is_named, named_at, problem_fault, placed_fault};
 ghost use Rattle.sp_text.specs.Keeping.{CanKeep};
@@ -11,7 +11,7 @@ ghost use Rattle.sp_text.specs.Silence.{judge_silent};
 
 use crate::faults::Kind;
 use crate::feeding::LineTaker;
-use crate::layouts::{Field, Form, Layout, Ranges};
+use crate::formats::{Field, FileFormat, Form, Ranges};
 use crate::matching::{Numbers, greatest};
 use crate::reading::{Found, read_line, usual_item};
 use crate::rooms::Values;
@@ -35,7 +35,7 @@ pub trait Keep {
     ghost Spelled: { List ℕ → List Item → Self.Value → Type 0 };
 
     /// The line forms of the file.
-    fn layout(&self) -> Layout
+    fn format(&self) -> FileFormat
         ensures format { format_of result ≡ format }
         ensures small { IsSmall result };
 
@@ -46,17 +46,20 @@ pub trait Keep {
     /// Keeps an item whose numbers are in range. Where memory is refused, nothing is promised of the items.
     fn keep(&mut self, place: usize, values: &Values) -> Result<(), AllocError>
         requires { CanKeep format ranges place values.now }
-        ensures { (before : List Item) (item : Item) → Kept self.old before → item.kind ≡ place → item.numbers ≡ values.now → OnOk result (Kept self.new (before ++ item ∷ [])) };
+        ensures { (before : List Item) (item : Item) → Kept self.old before → item.kind ≡ place
+            → item.numbers ≡ values.now → OnOk result (Kept self.new (before ++ item ∷ [])) };
 
     /// Whether an item of this fresh form with this first number was kept.
     fn is_named(&self, place: usize, first: u64) -> bool
         requires { IsFreshPlace format place }
-        ensures { (before : List Item) → Kept self.now before → result ≡ is_named place first before };
+        ensures { (before : List Item) → Kept self.now before
+            → result ≡ is_named place first before };
 
     /// The value of the items, behind a problem line whose numbers are in range; then it begins again.
     fn give(&mut self, problem: &Values) -> Self::Value
         requires { first_out ranges [] format.problem.fields problem.now ≡ None }
-        ensures { (all : List Item) → Kept self.old all → (Spelled problem.now all result) × Kept self.new [] };
+        ensures { (all : List Item) → Kept self.old all
+            → (Spelled problem.now all result) × Kept self.new [] };
 }
 
 /// Takes the lines of a file, and keeps the items.
@@ -65,7 +68,8 @@ pub struct Collector<K: Keep> {
     keep: K,
     problem: Option<Values>,
     counts: [u64; 3],
-    ghost in_range: { (ps : List ℕ) → problem ≡ Some ps → first_out K.ranges [] K.format.problem.fields ps ≡ None },
+    ghost in_range: { (ps : List ℕ) → problem ≡ Some ps
+        → first_out K.ranges [] K.format.problem.fields ps ≡ None },
 }
 
 fn first_letter(fields: &[Field]) -> Option<u8>
@@ -80,7 +84,8 @@ fn first_letter(fields: &[Field]) -> Option<u8>
 // The letter of the first field, where the form is fresh and its number was named before.
 fn named_letter<K: Keep>(keep: &K, place: usize, form: &Form, first: u64) -> Option<u8>
     requires { form.now.fresh ≡ true → IsFreshPlace K.format place }
-    ensures { (before : List Item) → K.Kept keep.now before → result ≡ named_at (form_of form.now) place first before }
+    ensures { (before : List Item) → K.Kept keep.now before
+        → result ≡ named_at (form_of form.now) place first before }
 {
     if form.fresh && keep.is_named(place, first) {
         return first_letter(form.fields);
@@ -104,17 +109,21 @@ impl<K: Keep> Collector<K> {
     // The form of a line, its place and the numbers, behind a problem line, if they stand there in the usual way.
     #[inline(always)]
     fn usual_item(&self, line: &[u8]) -> Option<(usize, &'static Form, Values)>
-        ensures { IfSome result (λ x. (ps : List ℕ) × (self.now.problem ≡ Some ps) × IsUsualItem K.format K.ranges ps (reading K.format line.now) x) }
+        ensures { IfSome result
+            (λ x. (ps : List ℕ) × (self.now.problem ≡ Some ps)
+            × IsUsualItem K.format K.ranges ps (reading K.format line.now) x) }
     {
         let problem = self.problem.as_ref()?;
-        usual_item(&self.keep.layout(), &self.keep.ranges(), problem, line)
+        usual_item(&self.keep.format(), &self.keep.ranges(), problem, line)
     }
 
     fn take_problem(&mut self, numbers: Numbers) -> Result<(), Kind>
         requires { (ns : List ℕ) × Are K.ranges [] K.format.problem.fields ns numbers }
-        ensures { (problem : Option (List ℕ)) (items : List Item) (ns : List ℕ) → Holds K.Kept problem items self.old.keep self.old.problem self.old.counts
+        ensures { (problem : Option (List ℕ)) (items : List Item) (ns : List ℕ)
+            → Holds K.Kept problem items self.old.keep self.old.problem self.old.counts
             → Are K.ranges [] K.format.problem.fields ns numbers
-            → Answers K.Kept false (problem_fault K.format K.ranges problem ns) (Some ns) items result self.new.keep self.new.problem self.new.counts }
+            → Answers K.Kept false (problem_fault K.format K.ranges problem ns) (Some ns)
+            items result self.new.keep self.new.problem self.new.counts }
     {
         if self.problem.is_some() {
             return Err(Kind::SecondProblem);
@@ -131,10 +140,14 @@ impl<K: Keep> Collector<K> {
     #[inline(always)]
     fn take_item(&mut self, place: usize, form: &Form, numbers: Numbers) -> Result<(), Kind>
         requires small { IsSmallForm form.now }
-        requires item { (item : Item) × (slice_get K.format.items place ≡ Some item.form) × (item.form ≡ form_of form.now) × ItemIs K.ranges self.old.problem item numbers }
-        ensures { (problem : Option (List ℕ)) (items : List Item) (item : Item) → Holds K.Kept problem items self.old.keep self.old.problem self.old.counts
-            → item.kind ≡ place → slice_get K.format.items place ≡ Some item.form → item.form ≡ form_of form.now → ItemIs K.ranges problem item numbers
-            → Answers K.Kept true (placed_fault K.ranges problem items item) problem (items ++ item ∷ []) result self.new.keep self.new.problem self.new.counts }
+        requires item { (item : Item) × (slice_get K.format.items place ≡ Some item.form)
+            × (item.form ≡ form_of form.now) × ItemIs K.ranges self.old.problem item numbers }
+        ensures { (problem : Option (List ℕ)) (items : List Item) (item : Item)
+            → Holds K.Kept problem items self.old.keep self.old.problem self.old.counts
+            → item.kind ≡ place → slice_get K.format.items place ≡ Some item.form
+            → item.form ≡ form_of form.now → ItemIs K.ranges problem item numbers
+            → Answers K.Kept true (placed_fault K.ranges problem items item) problem
+            (items ++ item ∷ []) result self.new.keep self.new.problem self.new.counts }
     {
         let Some(problem) = &self.problem else {
             return Err(Kind::NoProblem);
@@ -161,11 +174,13 @@ impl<K: Keep> Collector<K> {
     // Takes the next line, whatever it is.
     #[inline(never)]
     fn take_any(&mut self, line: &[u8]) -> Result<(), Kind>
-        ensures { (before : List (List ℕ)) → ⟦<Collector<K> as LineTaker>⟧.After self.old before → Takes (judge K.format K.ranges) ⟦<Collector<K> as LineTaker>⟧.After before line.now result self.new }
+        ensures { (before : List (List ℕ)) → ⟦<Collector<K> as LineTaker>⟧.After self.old before
+            → Takes (judge K.format K.ranges) ⟦<Collector<K> as LineTaker>⟧.After
+            before line.now result self.new }
     {
         let none = Values::new();
         let problem = self.problem.as_ref().unwrap_or(&none);
-        match read_line(&self.keep.layout(), &self.keep.ranges(), problem, line) {
+        match read_line(&self.keep.format(), &self.keep.ranges(), problem, line) {
             Found::Comment => Ok(()),
             Found::Bad => Err(Kind::BadLine),
             Found::Problem(numbers) => self.take_problem(numbers),
@@ -187,6 +202,10 @@ impl<K: Keep> LineTaker for Collector<K> {
         false
     }
 
+    fn needs_lf(&self) -> bool {
+        false
+    }
+
     #[inline(always)]
     fn take_line(&mut self, line: &[u8]) -> Result<(), Kind> {
         match self.usual_item(line) {
@@ -199,7 +218,7 @@ impl<K: Keep> LineTaker for Collector<K> {
         let Some(problem) = &self.problem else {
             return Err(Kind::NoProblem);
         };
-        if self.counts[0] < greatest(self.keep.layout().needed, &self.keep.ranges(), problem) {
+        if self.counts[0] < greatest(self.keep.format().needed, &self.keep.ranges(), problem) {
             return Err(Kind::TooFew);
         }
         let value = self.keep.give(problem);

@@ -1,5 +1,7 @@
 //! The end of a line.
+ghost use Rattle.std.specs.Prelude.{MatchOption};
 ghost use Rattle.memchr.specs.Find.{IsFirstByte, is_byte};
+ghost use Rattle.sp_text.specs.Meaning.{HasNoLf, IsFirstLine};
 
 use memchr::memchr;
 use std::simd::prelude::*;
@@ -8,9 +10,9 @@ use std::simd::u8x32;
 // As many bytes are searched at once.
 const FRONT: usize = 32;
 
-/// Where the first LF stands.
+// Where the first LF stands.
 #[inline(always)]
-pub(crate) fn first_lf(bytes: &[u8]) -> Option<usize>
+fn first_lf(bytes: &[u8]) -> Option<usize>
     ensures { IsFirstByte (is_byte 10) bytes.now result }
 {
     if bytes.len() >= FRONT {
@@ -21,4 +23,15 @@ pub(crate) fn first_lf(bytes: &[u8]) -> Option<usize>
         }
     }
     memchr(b'\n', bytes)
+}
+
+/// The bytes in front of the first LF, and those behind it.
+#[inline(always)]
+pub fn cut_line(bytes: &[u8]) -> Option<(&[u8], &[u8])>
+    ensures { MatchOption result (HasNoLf bytes.now) (λ x. IsFirstLine bytes.now x.0.now x.1.now) }
+{
+    let end = first_lf(bytes)?;
+    let (line, after) = bytes.split_at(end);
+    let (_, more) = after.split_at(1);
+    Some((line, more))
 }

@@ -1,18 +1,15 @@
 //! A reader that is fed a text in pieces, whatever its line forms are.
-ghost use Rattle.std.specs.Prelude.{◌≡◌, ◌+◌, ◌-◌, ◌^◌, ◌<◌, ◌≤◌, ◌++◌, ◌∷◌, [], ℕ, List, length, min, Ok, Err, Some, None, false, MatchBool, IfOk, IfErr};
+ghost use Rattle.std.specs.Prelude.{◌≡◌, ◌+◌, ◌-◌, ◌^◌, ◌<◌, ◌≤◌, ◌++◌, ◌∷◌, [], ℕ, List, length, min, Ok, Err, Some, None, false, IfOk, IfErr};
 ghost use Rattle.sp_text.specs.declared.faults.DimacsError.{DimacsError};
 ghost use Rattle.sp_text.specs.Lines.{ended};
 ghost use Rattle.sp_text.specs.Meaning.{HasNoLf};
 ghost use Rattle.sp_text.specs.First.{Judge, IsSilent, failed};
-ghost use Rattle.sp_text.specs.Feeding.{Takes, Ends, IsBehind, Fed, Refused, Closed, Finished, StrictlyFinished};
+ghost use Rattle.sp_text.specs.Feeding.{Takes, Ends, IsBehind, Fed, Refused, Closed, Finished};
 
-use crate::endings::first_lf;
+use crate::endings::cut_line;
 use crate::faults::{DimacsError, Kind};
-use crate::rooms::Room;
+use crate::rooms::{LONGEST_LINE, Room};
 use std::mem;
-
-// As many bytes as a line may have before its LF.
-const LONGEST: usize = 1024;
 
 /// Takes the lines of a text, one after the other, while none has a fault.
 pub trait LineTaker {
@@ -32,13 +29,19 @@ pub trait LineTaker {
     fn is_closed(&self) -> bool
         ensures { (before : List (List ℕ)) → After self.now before → result ≡ rules.closed before };
 
+    /// Whether each line needs its LF, also the last.
+    fn needs_lf(&self) -> bool
+        ensures { result ≡ rules.needs_lf };
+
     /// Takes the next line, or tells its fault. After a fault nothing is promised of the state.
     fn take_line(&mut self, line: &[u8]) -> Result<(), Kind>
-        ensures { (before : List (List ℕ)) → After self.old before → Takes rules After before line.now result self.new };
+        ensures { (before : List (List ℕ)) → After self.old before
+            → Takes rules After before line.now result self.new };
 
     /// The lines have ended. Where nothing is missing, it gives the value and begins again.
     fn end(&mut self) -> Result<Self::Value, Kind>
-        ensures { (all : List (List ℕ)) → After self.old all → Ends rules After Spelled all result self.new };
+        ensures { (all : List (List ℕ)) → After self.old all
+            → Ends rules After Spelled all result self.new };
 
     /// No line has the fault of a device.
     ghost silent: { IsSilent rules };
@@ -70,7 +73,8 @@ impl<T: LineTaker> Feeder<T> {
 
     // The line being read has this fault.
     fn refuse(&mut self, kind: Kind) -> DimacsError
-        ensures line { result ≡ record { line = min (self.old.ends + 1) (2 ^ 64 - 1); kind = kind } }
+        ensures line { result
+            ≡ record { line = min (self.old.ends + 1) (2 ^ 64 - 1); kind = kind } }
         ensures spent { self.new.spent ≡ Some result }
     {
         let error = DimacsError {
@@ -84,7 +88,9 @@ impl<T: LineTaker> Feeder<T> {
     // The line that is being read ends, and has these bytes.
     #[inline(always)]
     fn end_line(&mut self, line: &[u8]) -> Result<(), DimacsError>
-        ensures { (text : List ℕ) → length text ≤ 2 ^ 62 → T.rules.closed (ended text) ≡ false → IsBehind T.rules T.After text (record self.old { room = line.now }) → Fed T.rules T.After (ended text) (text ++ 10 ∷ []) result self.new }
+        ensures { (text : List ℕ) → length text ≤ 2 ^ 62 → T.rules.closed (ended text) ≡ false
+            → IsBehind T.rules T.After text (record self.old { room = line.now })
+            → Fed T.rules T.After (ended text) (text ++ 10 ∷ []) result self.new }
     {
         match self.taker.take_line(line) {
             Ok(()) => {
@@ -99,7 +105,9 @@ impl<T: LineTaker> Feeder<T> {
     // The line that is being read ends.
     #[inline(never)]
     fn end_room(&mut self) -> Result<(), DimacsError>
-        ensures { (text : List ℕ) → length text ≤ 2 ^ 62 → T.rules.closed (ended text) ≡ false → IsBehind T.rules T.After text self.old → Fed T.rules T.After (ended text) (text ++ 10 ∷ []) result self.new }
+        ensures { (text : List ℕ) → length text ≤ 2 ^ 62 → T.rules.closed (ended text) ≡ false
+            → IsBehind T.rules T.After text self.old
+            → Fed T.rules T.After (ended text) (text ++ 10 ∷ []) result self.new }
     {
         let room = mem::replace(&mut self.room, Room::new());
         self.end_line(room.line())
@@ -108,25 +116,30 @@ impl<T: LineTaker> Feeder<T> {
     // Takes bytes without an LF.
     #[inline(never)]
     fn take_open(&mut self, bytes: &[u8]) -> Result<(), DimacsError>
-        ensures { (text : List ℕ) → length (text ++ bytes.now) ≤ 2 ^ 62 → T.rules.closed (ended text) ≡ false → HasNoLf bytes.now → IsBehind T.rules T.After text self.old → Fed T.rules T.After (ended text) (text ++ bytes.now) result self.new }
+        ensures { (text : List ℕ) → length (text ++ bytes.now) ≤ 2 ^ 62
+            → T.rules.closed (ended text) ≡ false → HasNoLf bytes.now
+            → IsBehind T.rules T.After text self.old
+            → Fed T.rules T.After (ended text) (text ++ bytes.now) result self.new }
     {
-        if self.room.room_left() < bytes.len() {
-            return Err(self.refuse(Kind::LongLine));
+        match self.room.extend(bytes) {
+            Ok(()) => Ok(()),
+            Err(kind) => Err(self.refuse(kind)),
         }
-        self.room.push(bytes);
-        Ok(())
     }
 
     // Takes bytes without an LF, and then an LF.
     #[inline(always)]
     fn take_rest(&mut self, bytes: &[u8]) -> Result<(), DimacsError>
-        ensures { (text : List ℕ) → length (text ++ bytes.now) ≤ 2 ^ 62 → T.rules.closed (ended text) ≡ false → HasNoLf bytes.now → IsBehind T.rules T.After text self.old → Fed T.rules T.After (ended text) (text ++ bytes.now ++ 10 ∷ []) result self.new }
+        ensures { (text : List ℕ) → length (text ++ bytes.now) ≤ 2 ^ 62
+            → T.rules.closed (ended text) ≡ false → HasNoLf bytes.now
+            → IsBehind T.rules T.After text self.old
+            → Fed T.rules T.After (ended text) (text ++ bytes.now ++ 10 ∷ []) result self.new }
     {
         if !self.room.is_empty() {
             self.take_open(bytes)?;
             return self.end_room();
         }
-        if bytes.len() > LONGEST {
+        if bytes.len() > LONGEST_LINE {
             return Err(self.refuse(Kind::LongLine));
         }
         self.end_line(bytes)
@@ -136,27 +149,35 @@ impl<T: LineTaker> Feeder<T> {
     #[inline(always)]
     fn take_run<'a>(&mut self, bytes: &'a [u8]) -> Result<&'a [u8], DimacsError>
         requires { 0 < length bytes.now }
-        ensures taken { IfOk result (λ more. (front : List ℕ) × (bytes.now ≡ front ++ more.now) × (0 < length front) × ((text : List ℕ) → length (text ++ bytes.now) ≤ 2 ^ 62 → IsBehind T.rules T.After text self.old → IsBehind T.rules T.After (text ++ front) self.new)) }
-        ensures refused { IfErr result (λ e. (text : List ℕ) → length (text ++ bytes.now) ≤ 2 ^ 62 → IsBehind T.rules T.After text self.old → (self.new.spent ≡ Some e) × Refused T.rules (ended text) (text ++ bytes.now) e) }
+        ensures taken { IfOk result
+            (λ more. (front : List ℕ) × (bytes.now ≡ front ++ more.now) × (0 < length front)
+            × ((text : List ℕ) → length (text ++ bytes.now) ≤ 2 ^ 62
+            → IsBehind T.rules T.After text self.old
+            → IsBehind T.rules T.After (text ++ front) self.new)) }
+        ensures refused { IfErr result
+            (λ e. (text : List ℕ) → length (text ++ bytes.now) ≤ 2 ^ 62
+            → IsBehind T.rules T.After text self.old
+            → (self.new.spent ≡ Some e) × Refused T.rules (ended text) (text ++ bytes.now) e) }
     {
         if self.taker.is_closed() {
             return Err(self.refuse(Kind::TooMany));
         }
-        let Some(end) = first_lf(bytes) else {
+        let Some((line, more)) = cut_line(bytes) else {
             self.take_open(bytes)?;
             return Ok(&[]);
         };
-        let (line, after) = bytes.split_at(end);
         self.take_rest(line)?;
-        let (_, more) = after.split_at(1);
         Ok(more)
     }
 
     /// Takes the next piece of the text. After a refusal it answers the same again.
     #[inline(never)]
     pub fn feed(&mut self, piece: &[u8]) -> Result<(), DimacsError>
-        ensures again { (e : DimacsError) → self.old.spent ≡ Some e → (result ≡ Err e) × (self.new ≡ self.old) }
-        ensures fed { (text : List ℕ) → length (text ++ piece.now) ≤ 2 ^ 62 → IsBehind T.rules T.After text self.old → Fed T.rules T.After (ended text) (text ++ piece.now) result self.new }
+        ensures again { (e : DimacsError) → self.old.spent ≡ Some e
+            → (result ≡ Err e) × (self.new ≡ self.old) }
+        ensures fed { (text : List ℕ) → length (text ++ piece.now) ≤ 2 ^ 62
+            → IsBehind T.rules T.After text self.old
+            → Fed T.rules T.After (ended text) (text ++ piece.now) result self.new }
     {
         if let Some(error) = self.spent {
             return Err(error);
@@ -168,20 +189,27 @@ impl<T: LineTaker> Feeder<T> {
         Ok(())
     }
 
-    // Takes the last line, if it lacks its LF.
+    // Takes the last line, if it lacks its LF, and needs none.
     fn close_line(&mut self) -> Result<(), DimacsError>
-        ensures { (text : List ℕ) → length text ≤ 2 ^ 62 → IsBehind T.rules T.After text self.old → Closed T.rules T.After text result self.new }
+        ensures { (text : List ℕ) → length text ≤ 2 ^ 62 → IsBehind T.rules T.After text self.old
+            → Closed T.rules T.After text result self.new }
     {
         if self.room.is_empty() {
             return Ok(());
+        }
+        if self.taker.needs_lf() {
+            return Err(self.refuse(Kind::TooFew));
         }
         self.end_room()
     }
 
     /// The text has ended. A reader that gives its value is a new one then.
     pub fn finish(&mut self) -> Result<T::Value, DimacsError>
-        ensures again { (e : DimacsError) → self.old.spent ≡ Some e → (result ≡ Err e) × (self.new ≡ self.old) }
-        ensures finished { (text : List ℕ) → length text ≤ 2 ^ 62 → IsBehind T.rules T.After text self.old → Finished T.rules T.After T.Spelled text result self.new }
+        ensures again { (e : DimacsError) → self.old.spent ≡ Some e
+            → (result ≡ Err e) × (self.new ≡ self.old) }
+        ensures finished { (text : List ℕ) → length text ≤ 2 ^ 62
+            → IsBehind T.rules T.After text self.old
+            → Finished T.rules T.After T.Spelled text result self.new }
     {
         if let Some(error) = self.spent {
             return Err(error);
@@ -196,41 +224,13 @@ impl<T: LineTaker> Feeder<T> {
         }
     }
 
-    // Whether no byte has come.
-    fn is_untouched(&self) -> bool
-        ensures { MatchBool result ((self.now.ends ≡ 0) × (self.now.room ≡ [])) ((self.now.ends ≡ 0) × (self.now.room ≡ []) → ⊥) }
-    {
-        self.ends == 0 && self.room.is_empty()
-    }
-
-    /// The text of a file that closes itself has ended. A reader that gives its value is a new one then.
-    pub fn finish_closed(&mut self) -> Result<T::Value, DimacsError>
-        requires { T.rules.closed [] ≡ false }
-        ensures again { (e : DimacsError) → self.old.spent ≡ Some e → (result ≡ Err e) × (self.new ≡ self.old) }
-        ensures finished { (text : List ℕ) → length text ≤ 2 ^ 62 → IsBehind T.rules T.After text self.old → StrictlyFinished T.rules T.After T.Spelled text result self.new }
-    {
-        if let Some(error) = self.spent {
-            return Err(error);
-        }
-        if !self.taker.is_closed() {
-            if self.is_untouched() {
-                return Err(self.refuse(Kind::NoProblem));
-            }
-            return Err(self.refuse(Kind::TooFew));
-        }
-        match self.taker.end() {
-            Ok(value) => {
-                self.ends = 0;
-                Ok(value)
-            }
-            Err(kind) => Err(self.refuse(kind)),
-        }
-    }
-
     /// The device failed: the fault that was met before, or Read at the line being read.
     pub fn fail(&mut self) -> DimacsError
-        ensures again { (e : DimacsError) → self.old.spent ≡ Some e → (result ≡ e) × (self.new ≡ self.old) }
-        ensures failed { (text : List ℕ) → length text ≤ 2 ^ 62 → IsBehind T.rules T.After text self.old → (failed T.rules text ≡ Some result) × (self.new.spent ≡ Some result) }
+        ensures again { (e : DimacsError) → self.old.spent ≡ Some e
+            → (result ≡ e) × (self.new ≡ self.old) }
+        ensures failed { (text : List ℕ) → length text ≤ 2 ^ 62
+            → IsBehind T.rules T.After text self.old
+            → (failed T.rules text ≡ Some result) × (self.new.spent ≡ Some result) }
     {
         match self.spent {
             Some(error) => error,

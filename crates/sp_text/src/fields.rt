@@ -47,7 +47,9 @@ pub(crate) fn skip_blanks(text: &[u8]) -> &[u8]
 
 /// The first field, and what stands after it.
 pub(crate) fn next_field(text: &[u8]) -> Option<(&[u8], &[u8])>
-    ensures { MatchOption result (parted [] text.now ≡ []) (λ x. (parted [] text.now ≡ x.0.now ∷ parted [] x.1.now) × (length x.1.now < length text.now)) }
+    ensures { MatchOption result (parted [] text.now ≡ [])
+        (λ x. (parted [] text.now ≡ x.0.now ∷ parted [] x.1.now)
+        × (length x.1.now < length text.now)) }
 {
     let (_, rest) = text.split_at(run(text, true));
     if rest.is_empty() {

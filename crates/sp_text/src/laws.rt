@@ -1,7 +1,7 @@
 //! Laws of the definitions.
 ghost use Rattle.std.specs.Prelude.{◌≡◌, ℕ, List, ◌++◌, Some};
 ghost use Rattle.sp_text.specs.declared.faults.DimacsError.{DimacsError};
-ghost use Rattle.sp_text.specs.declared.layouts.Ranges.{Ranges};
+ghost use Rattle.sp_text.specs.declared.formats.Ranges.{Ranges};
 ghost use Rattle.sp_text.specs.Formats.{Format};
 ghost use Rattle.sp_text.specs.Text.{Item, Spells};
 ghost use Rattle.sp_text.specs.Accepted.{IsAccepted};
@@ -11,12 +11,14 @@ ghost use Rattle.sp_text.specs.Meaning.{IsFirstFault, IsCut};
 
 /// A fault that a text shows before its end is the first fault of each text that begins so.
 pub fn early_fault_is_first()
-    ensures { (rules : Judge) (text more : List ℕ) (e : DimacsError) → early rules text ≡ Some e → told rules (text ++ more) ≡ Some e }
+    ensures { (rules : Judge) (text more : List ℕ) (e : DimacsError) → early rules text ≡ Some e
+        → told rules (text ++ more) ≡ Some e }
 {}
 
 /// The first fault of a text's lines is that of the first line that has one.
 pub fn first_fault_is_least()
-    ensures { (rules : Judge) (all : List (List ℕ)) (e : DimacsError) → first_fault rules all ≡ Some e → IsFirstFault rules all e }
+    ensures { (rules : Judge) (all : List (List ℕ)) (e : DimacsError)
+        → first_fault rules all ≡ Some e → IsFirstFault rules all e }
 {}
 
 /// A text is its ended lines, each with its LF, and then the rest.
@@ -26,5 +28,6 @@ pub fn text_is_its_lines()
 
 /// Of a text without a fault all numbers are in their ranges, and as many items stand as may and must.
 pub fn accepted_text_is_in_range()
-    ensures { (format : Format) (ranges : Ranges) (text problem : List ℕ) (items : List Item) → Spells format ranges text problem items → IsAccepted format ranges problem items }
+    ensures { (format : Format) (ranges : Ranges) (text problem : List ℕ) (items : List Item)
+        → Spells format ranges text problem items → IsAccepted format ranges problem items }
 {}

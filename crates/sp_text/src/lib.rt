@@ -6,25 +6,28 @@ mod endings;
 mod faults;
 mod feeding;
 mod fields;
+mod formats;
 mod laws;
-mod layouts;
 mod matching;
 mod numbers;
 mod packed;
 mod reading;
 mod rooms;
 mod whole;
+mod writing;
 
 pub use collecting::{Collector, Keep};
+pub use endings::cut_line;
 pub use faults::{DimacsError, Kind};
 pub use feeding::{Feeder, LineTaker};
+pub use formats::{Field, FileFormat, Form, Ranges, Top, ranges_of};
 pub use laws::{
     accepted_text_is_in_range, early_fault_is_first, first_fault_is_least, text_is_its_lines,
 };
-pub use layouts::{Field, Form, Layout, Ranges, Top};
-pub use numbers::{Numeral, number};
-pub use rooms::{Room, Values};
-pub use whole::read_text;
+pub use numbers::{Numeral, leading_number, number};
+pub use rooms::{LONGEST_LINE, Room, Values};
+pub use whole::{PIECE, read_text};
+pub use writing::push_number;
 
 #[cfg(test)]
 mod tests;

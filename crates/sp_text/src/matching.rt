@@ -1,15 +1,15 @@
 //! A line against the forms of a file.
 ghost use Rattle.std.specs.Prelude.{◌≡◌, ◌+◌, ◌≤◌, ℕ, List, [], ◌∷◌, length, slice_index, true, Some, None, IfSome, MatchOption, MatchBool};
 ghost use Rattle.sp_text.specs.Lines.{parted};
-ghost use Rattle.sp_text.specs.declared.layouts.Field.{Field};
-ghost use Rattle.sp_text.specs.declared.layouts.Ranges.{Ranges};
+ghost use Rattle.sp_text.specs.declared.formats.Field.{Field};
+ghost use Rattle.sp_text.specs.declared.formats.Ranges.{Ranges};
 ghost use Rattle.sp_text.specs.Formats.{form_of};
 ghost use Rattle.sp_text.specs.Numeral.{numeral};
 ghost use Rattle.sp_text.specs.Text.{top, numbers, behind_words, of_form};
 ghost use Rattle.sp_text.specs.Matching.{NumberTaken, Spells, Matched, IsLetter, AreSpaced};
 
 use crate::fields::{next_field, parts_fields, starts_otherwise};
-use crate::layouts::{Field, Form, Ranges, Top};
+use crate::formats::{Field, Form, Ranges, Top};
 use crate::numbers::{Numeral, front_number, number, ranged, spells_number};
 use crate::rooms::Values;
 
@@ -58,7 +58,9 @@ impl Numbers {
 
 // The first field as a number, and what stands after it.
 fn next_number(text: &[u8], least: u64, most: u64) -> Option<(Numeral, &[u8])>
-    ensures { MatchOption result (parted [] text.now ≡ []) (λ x. (field : List ℕ) × (parted [] text.now ≡ field ∷ parted [] x.1.now) × (x.0 ≡ numeral field least most)) }
+    ensures { MatchOption result (parted [] text.now ≡ [])
+        (λ x. (field : List ℕ) × (parted [] text.now ≡ field ∷ parted [] x.1.now)
+        × (x.0 ≡ numeral field least most)) }
 {
     let (field, rest) = next_field(text)?;
     Some((number(field, least, most), rest))
@@ -66,7 +68,8 @@ fn next_number(text: &[u8], least: u64, most: u64) -> Option<(Numeral, &[u8])>
 
 // Whether the fields of the text are numbers, one for each of these, and nothing else.
 fn are_numbers(fields: &[Field], text: &[u8]) -> bool
-    ensures { MatchBool result ((ns : List ℕ) × (numbers fields.now (parted [] text.now) ≡ Some ns)) (numbers fields.now (parted [] text.now) ≡ None) }
+    ensures { MatchBool result ((ns : List ℕ) × (numbers fields.now (parted [] text.now) ≡ Some ns))
+        (numbers fields.now (parted [] text.now) ≡ None) }
 {
     let [_, more @ ..] = fields else {
         return next_field(text).is_none();
@@ -90,7 +93,8 @@ fn take_number<'a>(
     problem: &Values,
     text: &'a [u8],
 ) -> Result<(u64, &'a [u8]), Spelled>
-    ensures { NumberTaken ranges.now problem.now field.now more.now (numbers (field.now ∷ more.now) (parted [] text.now)) result }
+    ensures { NumberTaken ranges.now problem.now field.now more.now
+        (numbers (field.now ∷ more.now) (parted [] text.now)) result }
 {
     let most = greatest(field.most, ranges, problem);
     let Some((numeral, rest)) = next_number(text, field.least, most) else {
@@ -111,7 +115,8 @@ fn take_number<'a>(
 // What a line is where no field is left, and this text is.
 #[inline(always)]
 fn end_numbers(text: &[u8]) -> Spelled
-    ensures { (ranges : Ranges) (ps values : List ℕ) → Spells ranges ps [] (numbers [] (parted [] text.now)) values values result }
+    ensures { (ranges : Ranges) (ps values : List ℕ)
+        → Spells ranges ps [] (numbers [] (parted [] text.now)) values values result }
 {
     if next_field(text).is_none() {
         Spelled::Within
@@ -130,7 +135,8 @@ fn take_numbers(
     values: &mut Values,
 ) -> Spelled
     requires { length values.old + length fields.now ≤ 4 }
-    ensures { Spells ranges.now problem.now fields.now (numbers fields.now (parted [] text.now)) values.old values.new result }
+    ensures { Spells ranges.now problem.now fields.now
+        (numbers fields.now (parted [] text.now)) values.old values.new result }
 {
     let mut fields = fields;
     let mut rest = text;
@@ -149,8 +155,10 @@ fn take_numbers(
 
 // What stands behind the words, if the line begins with them.
 fn after_fields<'a>(words: &[u8], text: &'a [u8]) -> Option<&'a [u8]>
-    ensures { (ds : List Field) → MatchOption result (behind_words (parted [] words.now) ds (parted [] text.now) ≡ None)
-        (λ rest. behind_words (parted [] words.now) ds (parted [] text.now) ≡ numbers ds (parted [] rest.now)) }
+    ensures { (ds : List Field)
+        → MatchOption result (behind_words (parted [] words.now) ds (parted [] text.now) ≡ None)
+        (λ rest. behind_words (parted [] words.now) ds (parted [] text.now)
+        ≡ numbers ds (parted [] rest.now)) }
 {
     let mut words = words;
     let mut rest = text;
@@ -168,7 +176,8 @@ fn after_fields<'a>(words: &[u8], text: &'a [u8]) -> Option<&'a [u8]>
 /// Whether the first bytes show that the line does not begin with the words.
 #[inline(always)]
 pub(crate) fn begins_otherwise(words: &[u8], text: &[u8]) -> bool
-    ensures { result ≡ true → (ds : List Field) → behind_words (parted [] words.now) ds (parted [] text.now) ≡ None }
+    ensures { result ≡ true → (ds : List Field)
+        → behind_words (parted [] words.now) ds (parted [] text.now) ≡ None }
 {
     match words {
         [first, ..] => starts_otherwise(words, b' ') && starts_otherwise(text, *first),
@@ -234,7 +243,8 @@ pub(crate) fn match_form(
     text: &[u8],
 ) -> Option<Numbers>
     requires { length form.now.fields.now ≤ 4 }
-    ensures { Matched ranges.now problem.now form.now.fields.now (of_form (form_of form.now) (parted [] text.now)) result }
+    ensures { Matched ranges.now problem.now form.now.fields.now
+        (of_form (form_of form.now) (parted [] text.now)) result }
 {
     if begins_otherwise(form.words, text) {
         return None;

@@ -3,7 +3,7 @@ ghost use Rattle.std.specs.Prelude.{◌≡◌, ◌<◌, ◌≤◌, ◌^◌, leng
 ghost use Rattle.std.specs.List.{list_all};
 ghost use Rattle.std.specs.Char.{is_ascii_digit};
 ghost use Rattle.sp_text.specs.Lines.{value, is_number};
-ghost use Rattle.sp_text.specs.Numeral.{numeral, ranged, starts_number, begins_number, IsFront, IsQuick};
+ghost use Rattle.sp_text.specs.Numeral.{numeral, ranged, HasNoLead, Leads, starts_number, begins_number, IsFront, IsQuick};
 
 use crate::fields::parts_fields;
 use crate::packed::packed_number;
@@ -82,7 +82,8 @@ fn front_digits(text: &[u8]) -> (u64, usize)
     ensures within { result.1 ≤ length text.now }
     ensures digits { list_all is_ascii_digit (take result.1 text.now) ≡ true }
     ensures number { result.1 ≤ 19 → result.0 ≡ value (take result.1 text.now) }
-    ensures all { result.1 < length text.now → is_ascii_digit (slice_index text.now result.1) ≡ false }
+    ensures all { result.1 < length text.now
+        → is_ascii_digit (slice_index text.now result.1) ≡ false }
 {
     let mut value: u64 = 0;
     for (end, byte) in text.iter().enumerate() {
@@ -144,6 +145,29 @@ fn starts_number(field: &[u8]) -> bool
         [] => false,
         [_] => true,
         [first, ..] => *first != b'0',
+    }
+}
+
+/// The number that the digits at the front of a text spell, and how many digits they are. Of a number above
+/// 2^64 - 1 it tells that. None where they spell no number.
+#[inline(always)]
+pub fn leading_number(text: &[u8]) -> Option<(u64, usize)>
+    ensures { MatchOption result (HasNoLead text.now) (λ x. Leads text.now x.0 x.1) }
+{
+    if let Some((value, end)) = front_number(text) {
+        return Some((value, end));
+    }
+    let (value, end) = front_digits(text);
+    let (digits, _) = text.split_at(end);
+    if !starts_number(digits) {
+        return None;
+    }
+    if end <= FEW_DIGITS {
+        return Some((value, end));
+    }
+    match value_of(digits) {
+        Some(value) => Some((value, end)),
+        None => Some((u64::MAX, end)),
     }
 }
 

@@ -6,7 +6,7 @@ ghost use Rattle.sp_text.specs.Text.{is_comment, reading};
 ghost use Rattle.sp_text.specs.Matching.{IsFound, IsUsualItem};
 
 use crate::fields::{drop_cr, next_field, starts_otherwise};
-use crate::layouts::{Form, Layout, Ranges};
+use crate::formats::{FileFormat, Form, Ranges};
 use crate::matching::{Numbers, after_letter, begins_otherwise, match_form, spaced_numbers};
 use crate::rooms::Values;
 
@@ -36,19 +36,21 @@ fn is_remark(text: &[u8]) -> bool
 /// The form of a line, its place and the numbers, if it is an item in the usual spelling, and they are in their ranges.
 #[inline(always)]
 pub(crate) fn usual_item(
-    layout: &Layout,
+    format: &FileFormat,
     ranges: &Ranges,
     problem: &Values,
     line: &[u8],
 ) -> Option<(usize, &'static Form, Values)>
-    requires { IsSmall layout.now }
-    ensures { IfSome result (IsUsualItem (format_of layout.now) ranges.now problem.now (reading (format_of layout.now) line.now)) }
+    requires { IsSmall format.now }
+    ensures { IfSome result
+        (IsUsualItem (format_of format.now) ranges.now problem.now
+        (reading (format_of format.now) line.now)) }
 {
     let text = drop_cr(line);
-    let items: &'static [Form] = layout.items;
+    let items: &'static [Form] = format.items;
     for (place, form) in items.iter().enumerate() {
         if let Some(rest) = after_letter(form.words, text) {
-            if starts_otherwise(text, b'c') && begins_otherwise(layout.problem.words, text) {
+            if starts_otherwise(text, b'c') && begins_otherwise(format.problem.words, text) {
                 let values = spaced_numbers(form.fields, ranges, problem, rest)?;
                 return Some((place, form, values));
             }
@@ -64,18 +66,24 @@ pub(crate) fn usual_item(
 /// What a line is, where the problem line had these numbers.
 #[inline(never)]
 #[tactic(auto, unfolding(crate::specs::Text::reading, crate::specs::Text::reading_of, crate::specs::Lines::fields))]
-pub(crate) fn read_line(layout: &Layout, ranges: &Ranges, problem: &Values, line: &[u8]) -> Found
-    requires { IsSmall layout.now }
-    ensures { IsFound (format_of layout.now) ranges.now problem.now (reading (format_of layout.now) line.now) result }
+pub(crate) fn read_line(
+    format: &FileFormat,
+    ranges: &Ranges,
+    problem: &Values,
+    line: &[u8],
+) -> Found
+    requires { IsSmall format.now }
+    ensures { IsFound (format_of format.now) ranges.now problem.now
+        (reading (format_of format.now) line.now) result }
 {
     let text = drop_cr(line);
     if is_remark(text) {
         return Found::Comment;
     }
-    if let Some(numbers) = match_form(&layout.problem, ranges, &Values::new(), text) {
+    if let Some(numbers) = match_form(&format.problem, ranges, &Values::new(), text) {
         return Found::Problem(numbers);
     }
-    let items: &'static [Form] = layout.items;
+    let items: &'static [Form] = format.items;
     for (place, form) in items.iter().enumerate() {
         if let Some(numbers) = match_form(form, ranges, problem, text) {
             return Found::Item(place, form, numbers);

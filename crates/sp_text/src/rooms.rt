@@ -1,21 +1,28 @@
 //! Fixed room for a line.
-ghost use Rattle.std.specs.Prelude.{◌≡◌, ◌+◌, ◌<◌, ◌≤◌, List, [], ◌∷◌, ◌++◌, ℕ, length, take, slice_index, MatchBool};
+ghost use Rattle.std.specs.Prelude.{◌≡◌, ◌+◌, ◌<◌, ◌≤◌, List, [], ◌∷◌, ◌++◌, ℕ, length, take, slice_index, MatchBool, OnOk, OnErr, IfErr};
 
+use crate::faults::Kind;
 use std::marker::Model;
 
-/// The bytes of a line so far, at most 1,024.
+/// As many bytes as a line may have before its LF.
+pub const LONGEST_LINE: usize = 1024;
+
+/// The bytes of a line so far, at most `LONGEST_LINE`.
 #[derive(Drop)]
 pub struct Room {
-    bytes: [u8; 1024],
+    bytes: [u8; LONGEST_LINE],
     len: usize,
 }
 
 impl Model for Room {
+    ghost use Rattle.std.specs.Prelude.{◌≤◌, List, ℕ, take};
+    ghost use Rattle.sp_text.specs.declared.rooms.TheConstants.{LONGEST_LINE};
+
     ghost Value = { List ℕ };
 
     ghost view = { λ r. take r.len r.bytes };
 
-    ghost invariant = { λ r. r.len ≤ 1024 };
+    ghost invariant = { λ r. r.len ≤ LONGEST_LINE };
 }
 
 impl Room {
@@ -24,16 +31,16 @@ impl Room {
         ensures { result ≡ [] }
     {
         Room {
-            bytes: [0; 1024],
+            bytes: [0; LONGEST_LINE],
             len: 0,
         }
     }
 
-    /// How many more bytes have room.
-    pub fn room_left(&self) -> usize
-        ensures { result + length self.now ≡ 1024 }
+    // How many more bytes have room.
+    fn room_left(&self) -> usize
+        ensures { result + length self.now ≡ LONGEST_LINE }
     {
-        1024 - self.len
+        LONGEST_LINE - self.len
     }
 
     /// Whether there is no byte.
@@ -43,14 +50,29 @@ impl Room {
         self.len == 0
     }
 
-    /// Puts bytes behind the others.
-    pub fn push(&mut self, bytes: &[u8])
-        requires { length self.old + length bytes.now ≤ 1024 }
+    // Puts bytes behind the others.
+    fn push(&mut self, bytes: &[u8])
+        requires { length self.old + length bytes.now ≤ LONGEST_LINE }
         ensures { self.new ≡ self.old ++ bytes.now }
     {
         let end = self.len + bytes.len();
         self.bytes[self.len..end].copy_from_slice(bytes);
         self.len = end;
+    }
+
+    /// Puts bytes behind the others, or tells that the line is too long.
+    pub fn extend(&mut self, bytes: &[u8]) -> Result<(), Kind>
+        ensures pushed { OnOk result (self.new ≡ self.old ++ bytes.now) }
+        ensures short { OnOk result (length self.new ≤ LONGEST_LINE) }
+        ensures kind { IfErr result (λ kind. kind ≡ Kind.LongLine) }
+        ensures long { OnErr result (LONGEST_LINE < length (self.old ++ bytes.now)) }
+        ensures kept { OnErr result (self.new ≡ self.old) }
+    {
+        if self.room_left() < bytes.len() {
+            return Err(Kind::LongLine);
+        }
+        self.push(bytes);
+        Ok(())
     }
 
     /// Takes all bytes away.

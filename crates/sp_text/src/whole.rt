@@ -7,8 +7,8 @@ use crate::faults::{DimacsError, Kind};
 use crate::feeding::{Feeder, LineTaker};
 use sp_device::Read;
 
-// As many bytes as are read at a time.
-const PIECE: usize = 65_536;
+/// As many bytes as are read of a device at a time.
+pub const PIECE: usize = 65_536;
 
 // Reads to the end, and feeds what comes.
 fn read_on<R: Read, T: LineTaker + Drop>(
@@ -16,7 +16,8 @@ fn read_on<R: Read, T: LineTaker + Drop>(
     mut feeder: Feeder<T>,
 ) -> Result<T::Value, DimacsError>
     requires { IsBehind T.rules T.After [] feeder }
-    ensures { ReadOn T.rules T.Spelled (R.left reader.old) (R.left reader.new) (R.has_failed reader.new) result }
+    ensures { ReadOn T.rules T.Spelled (R.left reader.old) (R.left reader.new)
+        (R.has_failed reader.new) result }
 {
     let mut buffer = [0u8; PIECE];
     loop {
@@ -35,7 +36,8 @@ pub fn read_text<R: Read, T: LineTaker + Drop>(
     feeder: Feeder<T>,
 ) -> Result<T::Value, DimacsError>
     requires { IsBehind T.rules T.After [] feeder }
-    ensures exact { (text : List ℕ) → R.left reader.old ≡ Some text → AllRead T.rules T.Spelled text (R.left reader.new) (R.has_failed reader.new) result }
+    ensures exact { (text : List ℕ) → R.left reader.old ≡ Some text
+        → AllRead T.rules T.Spelled text (R.left reader.new) (R.has_failed reader.new) result }
     ensures found { IfOk result (IsSpelled T.rules T.Spelled) }
     ensures read { IfErr result (λ e. e.kind ≡ Kind.Read → R.has_failed reader.new ≡ true) }
 {

@@ -4,10 +4,11 @@ use Rattle.std.proofs.lemmas.List.{append-nil}
 use Rattle.std.proofs.lemmas.Bool.{le-ltb}
 use Rattle.std.specs.List.{flat_map, AllByRecursion}
 use Rattle.sp_word.specs.Word.{Word, Unreached, Pair, max_dist, max_pred}
-use Rattle.sp_text.specs.Lines.{cut, ended, rest}
+use Rattle.sp_text.specs.Lines.{cut, ended, rest, lines}
 use Rattle.sp_text.specs.Meaning.{HasNoLf}
-use Rattle.sp_text.specs.First.{Judge, size_fault, line_fault, first_after, first_fault, early, cut_short, strictly_told}
+use Rattle.sp_text.specs.First.{Judge, size_fault, line_fault, first_after, first_fault, early, told}
 use Rattle.sp_text.proofs.Cutting.{cut-append, ended_at_lf, rest_at_lf, ended_at_run, rest_at_run}
+use Rattle.sp_text.proofs.Behind.{lines_whole}
 use Rattle.sp_tree.specs.declared.lines.Line.{Line}
 use Rattle.sp_tree.specs.declared.lines.Line.TheVariants.{Problem, Row, End}
 use Rattle.sp_tree.specs.Table.{TreeTable, IsTable, AreRows, IsPairWithin, last_after, last_vertex}
@@ -171,28 +172,22 @@ rows_clean P count before t (row ∷ more) is are n_small max_small count_small 
     rw assoc at after)
 
 pub record IsAccepted (P : ℕ) (t : TreeTable) : Type 0 where
-  pub none : strictly_told (tree_judge P) (tree_text t) ≡ None
+  pub none : told (tree_judge P) (tree_text t) ≡ None
   pub spells : spelled (ended (tree_text t)) ≡ Whole t
 
-closed_short : (judge : Judge) (text : List ℕ) → judge.closed (ended text) ≡ true → judge.closed [] ≡ false → cut_short judge text ≡ None
-unfolding ended
-closed_short judge [] closed empty = let no : true ≡ false = sym closed ∙ empty in cc
-closed_short judge (b ∷ text) closed empty = rw closed refl
-
-told_none : (P : ℕ) (text : List ℕ) (lines : List (List ℕ)) (t : TreeTable) → ended text ≡ lines → rest text ≡ [] → first_fault (tree_judge P) lines ≡ None → spelled lines ≡ Whole t → strictly_told (tree_judge P) text ≡ None
-unfolding strictly_told early
-told_none P text lines t ended_is rest_is none spells =
-    let last : spelled (ended text) ≡ Whole t = ap spelled ended_is ∙ spells in
-    let short = closed_short (tree_judge P) text (ap is_whole last) refl in
-    rw (short, last, rest_is, ended_is, none) refl
+told_none : (P : ℕ) (text : List ℕ) (all : List (List ℕ)) (t : TreeTable) → ended text ≡ all → rest text ≡ [] → first_fault (tree_judge P) all ≡ None → spelled all ≡ Whole t → told (tree_judge P) text ≡ None
+unfolding told early
+told_none P text all t ended_is rest_is none spells =
+    let same : lines text ≡ all = lines_whole text rest_is ∙ ended_is in
+    rw (same, ended_is, rest_is, none, spells) refl
 
 -- The text of each table is accepted, and spells that table.
 pub accepts : (P : ℕ) (t : TreeTable) → IsTable P t → IsAccepted P t
 unfolding lines_of
 accepts P t h =
     let sizes = small P t h in
-    let lines = lines_of t.n t.source (length t.rows) t.rows in
-    let back = lines_back lines (lines_no_lf P t h) in
+    let all = lines_of t.n t.source (length t.rows) t.rows in
+    let back = lines_back all (lines_no_lf P t h) in
     let same = text_same P t h in
     let problem_small : IsSmall (Problem t.n t.source) = (sizes.n, sizes.source) in
     let bare : TreeTable = record { n = t.n; source = t.source; rows = [] } in
@@ -200,9 +195,9 @@ accepts P t h =
     let rows = rows_clean P (length t.rows) (line_bytes (Problem t.n t.source) ∷ []) bare t.rows begun h.rows sizes.n sizes.dist sizes.count (omega arith) in
     let first = line_clean P [] Nothing (Problem t.n t.source) refl refl problem_small (range_ok 78 1 (max_pred P) t.n _ h.least h.most (range_ok 83 1 t.n t.source None h.source_least h.source_most refl)) in
     let none = first_then (tree_judge P) [] (line_bytes (Problem t.n t.source)) (map row_bytes t.rows ++ line_bytes (End (length t.rows)) ∷ []) first rows.none in
-    let ended_is : ended (tree_text t) ≡ lines = ap ended same ∙ back.0 in
+    let ended_is : ended (tree_text t) ≡ all = ap ended same ∙ back.0 in
     let rest_is : rest (tree_text t) ≡ [] = ap rest same ∙ back.1 in
-    record { none = told_none P (tree_text t) lines t ended_is rest_is none rows.spells; spells = ap spelled ended_is ∙ rows.spells }
+    record { none = told_none P (tree_text t) all t ended_is rest_is none rows.spells; spells = ap spelled ended_is ∙ rows.spells }
 
 whole_same : (t u : TreeTable) → ◌≡◌ {A = Spelled} (Whole t) (Whole u) → t ≡ u
 whole_same t u h = cc

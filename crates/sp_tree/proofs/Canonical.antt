@@ -6,11 +6,12 @@ use Rattle.sp_word.specs.Word.{Pair}
 use Rattle.sp_text.specs.Lines.{is_number, value}
 use Rattle.sp_text.specs.Text.{is_word}
 use Rattle.sp_text.specs.Meaning.{HasNoLf}
+use Rattle.sp_text.proofs.Digits.{and_parts}
 use Rattle.sp_tree.specs.declared.lines.Line.{Line}
 use Rattle.sp_tree.specs.declared.lines.Line.TheVariants.{Problem, Row, End}
 use Rattle.sp_tree.specs.TreeText.{problem_text, reached_text, end_text}
 use Rattle.sp_tree.specs.Spelling.{fields, problem_of, spt_of, row_of, end_of, line_of, line_in}
-use Rattle.sp_tree.proofs.Numerals.{both_true, decimal_number, number_decimal, value_decimal, decimal_short, decimal_no_space, decimal_no_lf}
+use Rattle.sp_tree.proofs.Numerals.{decimal_number, number_decimal, value_decimal, decimal_short, decimal_no_space, decimal_no_lf}
 
 -- The bytes of a line.
 abbrev pub line_bytes : Line → List ℕ
@@ -68,7 +69,7 @@ word_is [] [] h = refl
 word_is [] (c ∷ field) h = cc
 word_is (b ∷ word) [] h = cc
 word_is (b ∷ word) (c ∷ field) h =
-    let p = both_true (eqb b c) (is_word word field) h in
+    let p = and_parts (eqb b c) (is_word word field) h in
     let same : b ≡ c = eqb-true b c p.0 in
     rw (same, word_is word field p.1) refl
 
@@ -86,8 +87,8 @@ row_joined (v ∷ []) line h small = cc
 row_joined (v ∷ d ∷ []) line h small = cc
 row_joined (v ∷ d ∷ p ∷ []) line h small =
     let found = cond_some_none (is_number v && is_number d && is_number p) (Row (value v) (value d) (value p)) line h in
-    let both = both_true (is_number v && is_number d) (is_number p) found.0 in
-    let first = both_true (is_number v) (is_number d) both.0 in
+    let both = and_parts (is_number v && is_number d) (is_number p) found.0 in
+    let first = and_parts (is_number v) (is_number d) both.0 in
     let sizes = rw (← found.1) at small in
     rw (← found.1) (rw (← number_decimal v first.0 sizes.0, ← number_decimal d first.1 sizes.1, ← number_decimal p both.1 sizes.2) refl)
 row_joined (v ∷ d ∷ p ∷ x ∷ more) line h small = cc
@@ -97,7 +98,7 @@ problem_joined [] line h small = cc
 problem_joined (n ∷ []) line h small = cc
 problem_joined (n ∷ s ∷ []) line h small =
     let found = cond_some_none (is_number n && is_number s) (Problem (value n) (value s)) line h in
-    let both = both_true (is_number n) (is_number s) found.0 in
+    let both = and_parts (is_number n) (is_number s) found.0 in
     let sizes = rw (← found.1) at small in
     rw (← found.1) (rw (← number_decimal n both.0 sizes.0, ← number_decimal s both.1 sizes.1) refl)
 problem_joined (n ∷ s ∷ x ∷ more) line h small = cc

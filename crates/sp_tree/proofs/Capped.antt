@@ -11,7 +11,8 @@ use Rattle.sp_tree.specs.declared.lines.Line.TheVariants.{Problem, Row, End}
 use Rattle.sp_tree.specs.declared.taking.TreeLines.{TreeLines}
 use Rattle.sp_tree.specs.Table.{TreeTable, IsTable, last_vertex}
 use Rattle.sp_tree.specs.Spelling.{Spelled, Nothing, Open, Whole, next, spelled_from, spelled, in_range, fault, line_in, is_row, tree_judge}
-use Rattle.sp_tree.specs.Fields.{capped, capped_line}
+use Rattle.sp_text.specs.Numeral.{capped}
+use Rattle.sp_tree.specs.Fields.{capped_line}
 use Rattle.sp_tree.specs.Taking.{HasTable, IsAt, Answers}
 use Rattle.sp_tree.proofs.Rising.{few_rows}
 

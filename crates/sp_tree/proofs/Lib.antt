@@ -3,7 +3,6 @@ pub mod Rising
 pub mod Sent
 pub mod Numerals
 pub mod Canonical
-pub mod Ending
 pub mod Told
 pub mod Accepted
 pub mod Finished

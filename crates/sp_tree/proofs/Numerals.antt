@@ -8,13 +8,9 @@ use Rattle.std.specs.Int.{IsInRange}
 use Rattle.sp_text.specs.Lines.{value_after, value, is_number}
 use Rattle.sp_text.specs.Numeral.{starts_number}
 use Rattle.sp_text.specs.Meaning.{HasNoLf}
-use Rattle.sp_text.proofs.Digits.{is_number_parts}
+use Rattle.sp_text.proofs.Digits.{and_parts, is_number_parts}
 
-pub both_true : (b c : Bool) → (b && c) ≡ true → (b ≡ true) × (c ≡ true)
-both_true true c h = (refl, h)
-both_true false c h = cc
-
-pub digit_range : (c : ℕ) → is_ascii_digit c ≡ true → IsInRange 48 57 c
+digit_range : (c : ℕ) → is_ascii_digit c ≡ true → IsInRange 48 57 c
 digit_range c h = grind (arith, tests)
 
 range_digit : (c : ℕ) → IsInRange 48 57 c → is_ascii_digit c ≡ true
@@ -23,7 +19,7 @@ range_digit c h = grind (arith, tests)
 digits_test : IsDigitsTest (λ ds. list_all is_ascii_digit ds ≡ true)
 digits_test = record {
   empty = refl;
-  parts = λ c cs h. let p = both_true (is_ascii_digit c) (list_all is_ascii_digit cs) h in (digit_range c p.0, p.1);
+  parts = λ c cs h. let p = and_parts (is_ascii_digit c) (list_all is_ascii_digit cs) h in (digit_range c p.0, p.1);
   more = λ c cs first rest. rw (range_digit c first) rest;
 }
 
@@ -60,7 +56,7 @@ decimal_number n small = is_number_parts (decimal n) ∙ rw (starts_from (decima
 -- and by nothing else.
 pub number_decimal : (ds : List ℕ) → is_number ds ≡ true → value ds < 2 ^ 64 → ds ≡ decimal (value ds)
 number_decimal ds h small =
-    let parts = both_true (starts_number ds) (list_all is_ascii_digit ds) (sym (is_number_parts ds) ∙ h) in
+    let parts = and_parts (starts_number ds) (list_all is_ascii_digit ds) (sym (is_number_parts ds) ∙ h) in
     let means = starts_means ds parts.0 in
     sym (decimal-digits_value numerals ds parts.1 means.0 means.1 small)
 
@@ -73,8 +69,8 @@ no_space d h = let range = digit_range d h in ne_eqb d 32 (λ e. omega (arith, e
 
 pub digits_no_space : (ds : List ℕ) → list_all is_ascii_digit ds ≡ true → (k : ℕ) (e : ℕ) → k < length ds → eqb (get_or ds k e) 32 ≡ false
 digits_no_space [] h k e within = absurd (omega arith)
-digits_no_space (d ∷ ds) h zero e within = no_space d (both_true (is_ascii_digit d) (list_all is_ascii_digit ds) h).0
-digits_no_space (d ∷ ds) h (suc k) e within = digits_no_space ds (both_true (is_ascii_digit d) (list_all is_ascii_digit ds) h).1 k e (omega arith)
+digits_no_space (d ∷ ds) h zero e within = no_space d (and_parts (is_ascii_digit d) (list_all is_ascii_digit ds) h).0
+digits_no_space (d ∷ ds) h (suc k) e within = digits_no_space ds (and_parts (is_ascii_digit d) (list_all is_ascii_digit ds) h).1 k e (omega arith)
 
 pub decimal_no_space : (n : ℕ) → n < 2 ^ 64 → (k : ℕ) (e : ℕ) → k < length (decimal n) → eqb (get_or (decimal n) k e) 32 ≡ false
 decimal_no_space n small = digits_no_space (decimal n) (decimal_digits n small)
@@ -82,7 +78,7 @@ decimal_no_space n small = digits_no_space (decimal n) (decimal_digits n small)
 digits_no_lf : (ds : List ℕ) → list_all is_ascii_digit ds ≡ true → HasNoLf ds
 digits_no_lf [] h = tt
 digits_no_lf (d ∷ ds) h =
-    let p = both_true (is_ascii_digit d) (list_all is_ascii_digit ds) h in
+    let p = and_parts (is_ascii_digit d) (list_all is_ascii_digit ds) h in
     let range = digit_range d p.0 in
     (λ e. omega (arith, e, range.0), digits_no_lf ds p.1)
 

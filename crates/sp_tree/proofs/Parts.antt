@@ -1,14 +1,15 @@
 -- A line at its first space.
-use Rattle.std.proofs.Common.{◌≡◌, ◌≢◌, ℕ, zero, suc, ◌^◌, ◌<◌, ◌≤◌, true, false, List, [], ◌∷◌, length, take, drop, get_or, eqb, Some, None, refl, sym, ap, ◌∙◌, eq-eqb, ne_eqb, arith}
-use Rattle.std.proofs.lemmas.List.{take_all, get_or-take, length-take-le}
-use Rattle.std.proofs.lemmas.List.Splits.{slice_split-cons_yes, slice_split-cons_no, length-slice_split}
-use Rattle.std.specs.List.{onto_first, list_all}
+use Rattle.std.proofs.Common.{◌≡◌, ◌≢◌, ℕ, zero, suc, ◌<◌, ◌≤◌, Bool, true, false, List, [], ◌∷◌, ◌++◌, length, take, drop, get_or, eqb, Some, None, refl, sym, ap, subst, ◌∙◌, eq-eqb, ne_eqb, arith}
+use Rattle.std.proofs.lemmas.List.{take_all, take-append-drop, drop_at, length-take-le}
+use Rattle.std.proofs.lemmas.List.Splits.{slice_split-cons_yes, slice_split-cons_no, slice_split_at, slice_split_none, join_with_byte-slice_split}
+use Rattle.std.proofs.lemmas.List.Sums.{take_while-cons}
+use Rattle.std.specs.List.{onto_first, list_all, join_with_byte}
 use Rattle.std.specs.Char.{is_ascii_digit}
-use Rattle.sp_text.specs.Lines.{value}
-use Rattle.sp_text.specs.Numeral.{starts_number}
-use Rattle.sp_text.proofs.Digits.{is_number_parts}
+use Rattle.sp_text.specs.Lines.{is_number}
+use Rattle.sp_text.specs.Numeral.{starts_number, leading_digits, Leads}
+use Rattle.sp_text.proofs.Digits.{and_parts, is_number_parts}
 use Rattle.sp_tree.specs.Spelling.{fields}
-use Rattle.sp_tree.specs.Fields.{capped, number_in, last_in, IsFront}
+use Rattle.sp_tree.specs.Fields.{number_in, last_in, HasNoNext}
 use Rattle.sp_tree.proofs.Numerals.{digits_no_space}
 
 pub first_part : (n : ℕ) (text : List ℕ) → n < length text → ((k : ℕ) → k < n → get_or text k 0 ≢ 32) → get_or text n 0 ≡ 32 → fields text ≡ take n text ∷ fields (drop 1 (drop n text))
@@ -24,34 +25,71 @@ one_part (b ∷ text) others =
     slice_split-cons_no (λ x. eqb x 32) b text (ne_eqb b 32 (others 0 (omega arith)))
     ∙ ap (onto_first b) (one_part text (λ k h. others (suc k) (omega arith)))
 
-two_parts : (field : List ℕ) (parts : List (List ℕ)) → 0 < length parts → last_in (field ∷ parts) ≡ None
-two_parts field [] some = absurd (omega arith)
-two_parts field (next ∷ more) some = refl
+-- A field that is a number is the digits at the front.
 
--- Where more stands behind a first field, that is not the last one.
-pub more_parts : (text field rest : List ℕ) → fields text ≡ field ∷ fields rest → None ≡ last_in (fields text)
-more_parts text field rest is = rw is (sym (two_parts field (fields rest) (omega (arith, length-slice_split (λ b. eqb b 32) rest))))
+digits_of : (field : List ℕ) → is_number field ≡ true → list_all is_ascii_digit field ≡ true
+digits_of field h = (and_parts (starts_number field) (list_all is_ascii_digit field) (sym (is_number_parts field) ∙ h)).1
 
--- Digits at the front, with a space or nothing behind them.
+leading_before : (field : List ℕ) (rest : List ℕ) → list_all is_ascii_digit field ≡ true → leading_digits (field ++ 32 ∷ rest) ≡ field
+leading_before [] rest digits = take_while-cons is_ascii_digit 32 rest
+leading_before (d ∷ field) rest digits =
+    let parts = and_parts (is_ascii_digit d) (list_all is_ascii_digit field) digits in
+    take_while-cons is_ascii_digit d (field ++ 32 ∷ rest) ∙ rw (parts.0, leading_before field rest parts.1) refl
 
-field_number : (field : List ℕ) (n : ℕ) → n < 2 ^ 64 → n ≡ value field → list_all is_ascii_digit field ≡ true → starts_number field ≡ true → number_in field ≡ Some n
-field_number field n small is digits some =
-    let same : capped (value field) ≡ n = omega (arith, is) in
-    rw (is_number_parts field, some, digits, same) refl
+leading_all : (field : List ℕ) → list_all is_ascii_digit field ≡ true → leading_digits field ≡ field
+leading_all [] digits = refl
+leading_all (d ∷ field) digits =
+    let parts = and_parts (is_ascii_digit d) (list_all is_ascii_digit field) digits in
+    take_while-cons is_ascii_digit d field ∙ rw (parts.0, leading_all field parts.1) refl
 
-front_others : (text : List ℕ) (end k : ℕ) → end ≤ length text → list_all is_ascii_digit (take end text) ≡ true → k < end → get_or text k 0 ≢ 32
-front_others text end k within digits below e =
-    let none = digits_no_space (take end text) digits k 0 (omega (arith, length-take-le end text within)) in
-    let no : true ≡ false = sym (eq-eqb (get_or text k 0) 32 e) ∙ (ap (λ (b : ℕ). eqb b 32) (sym (get_or-take end text k 0 below)) ∙ none) in
-    cc
+-- What a number at the front of a text says of its fields.
 
-pub front_next : (text field rest : List ℕ) (n end : ℕ) → IsFront text n end → field ≡ take end text → rest ≡ drop 1 (drop end text) → end < length text → get_or text end 0 ≡ 32 → starts_number field ≡ true → (fields text ≡ field ∷ fields rest) × (number_in field ≡ Some n)
-front_next text field rest n end front field_is rest_is within space some = (
-  rw (field_is, rest_is) (first_part end text within (λ k h. front_others text end k front.within front.digits h) space),
-  field_number field n front.small (rw field_is front.number) (rw field_is front.digits) some,
-)
+pub next_is : (text rest : List ℕ) (n end : ℕ) → Leads text n end → drop end text ≡ 32 ∷ rest → (fields text ≡ leading_digits text ∷ fields rest) × (number_in (leading_digits text) ≡ Some n)
+next_is text rest n end leads behind =
+    let digits = digits_of (leading_digits text) leads.spelled in
+    let parts : text ≡ leading_digits text ++ 32 ∷ rest = sym (take-append-drop end text) ∙ rw (behind, leads.digits) refl in (
+      subst (λ (t : List ℕ). fields t ≡ leading_digits text ∷ fields rest) (sym parts) (slice_split_at (λ b. eqb b 32) (leading_digits text) 32 rest (digits_no_space (leading_digits text) digits) refl),
+      rw (leads.spelled, leads.number) refl,
+    )
 
-pub front_last : (text : List ℕ) (n end : ℕ) → IsFront text n end → end ≡ length text → starts_number text ≡ true → Some n ≡ last_in (fields text)
-front_last text n end front whole some =
-    let all : take end text ≡ text = take_all end text (omega (arith, whole)) in
-    rw (one_part text (λ k h. front_others text end k front.within front.digits (omega (arith, whole)))) (sym (field_number text n front.small (rw all at front.number) (rw all at front.digits) some))
+no_number : (field : List ℕ) → (is_number field ≡ true → ⊥) → (b : Bool) → is_number field ≡ b → number_in field ≡ None
+no_number field not_so true is = absurd (not_so is)
+no_number field not_so false is = rw is refl
+
+by_parts : (text : List ℕ) (parts : List (List ℕ)) → fields text ≡ parts → ((rest : List ℕ) → text ≡ leading_digits text ++ 32 ∷ rest → is_number (leading_digits text) ≡ true → ⊥) → HasNoNext parts
+by_parts text [] is not_so = tt
+by_parts text (field ∷ []) is not_so = tt
+by_parts text (field ∷ next ∷ more) is not_so = no_number field (λ number.
+    let rest : List ℕ = join_with_byte 32 (next ∷ more) in
+    let whole : text ≡ field ++ 32 ∷ rest = sym (join_with_byte-slice_split 32 text) ∙ ap (join_with_byte 32) is in
+    let same : leading_digits text ≡ field = ap leading_digits whole ∙ leading_before field rest (digits_of field number) in
+    not_so rest (rw same whole) (rw same number)) (is_number field) refl
+
+pub no_next : (text : List ℕ) → ((rest : List ℕ) → text ≡ leading_digits text ++ 32 ∷ rest → is_number (leading_digits text) ≡ true → ⊥) → HasNoNext (fields text)
+no_next text not_so = by_parts text (fields text) refl not_so
+
+-- Behind the digits stands no space.
+pub no_space : (text : List ℕ) (n end : ℕ) → Leads text n end → ((rest : List ℕ) → drop end text ≡ 32 ∷ rest → ⊥) → HasNoNext (fields text)
+no_space text n end leads not_so = no_next text (λ rest parts number.
+    let long : length (leading_digits text) ≡ end = ap length leads.digits ∙ length-take-le end text leads.within in
+    not_so rest (ap (drop end) parts ∙ drop_at (leading_digits text) (32 ∷ rest) end long))
+
+pub begins_so : (xs : List ℕ) → 1 ≤ length xs → get_or xs 0 0 ≡ 32 → xs ≡ 32 ∷ drop 1 xs
+begins_so [] some first = absurd (omega arith)
+begins_so (x ∷ xs) some first = rw first refl
+
+pub last_is : (text : List ℕ) (n end : ℕ) → Leads text n end → end ≡ length text → Some n ≡ last_in (fields text)
+last_is text n end leads whole =
+    let same : leading_digits text ≡ text = leads.digits ∙ take_all end text (omega (arith, whole)) in
+    let digits = rw same at (digits_of (leading_digits text) leads.spelled) in
+    rw (slice_split_none (λ b. eqb b 32) text (digits_no_space text digits)) (rw (rw same at leads.spelled, rw same at leads.number) refl)
+
+by_last : (text : List ℕ) (parts : List (List ℕ)) → fields text ≡ parts → (leading_digits text ≡ text → is_number text ≡ true → ⊥) → None ≡ last_in parts
+by_last text [] is not_so = refl
+by_last text (field ∷ []) is not_so =
+    let whole : field ≡ text = sym (ap (join_with_byte 32) is) ∙ join_with_byte-slice_split 32 text in
+    rw whole (sym (no_number text (λ number. not_so (leading_all text (digits_of text number)) number) (is_number text) refl))
+by_last text (field ∷ next ∷ more) is not_so = refl
+
+pub no_last : (text : List ℕ) → (leading_digits text ≡ text → is_number text ≡ true → ⊥) → None ≡ last_in (fields text)
+no_last text not_so = by_last text (fields text) refl not_so

@@ -6,16 +6,16 @@ use Rattle.std.specs.List.{flat_map}
 use Rattle.sp_word.specs.Word.{Pair, is_layout, max_dist, max_pred}
 use Rattle.sp_text.specs.declared.faults.Kind.{Kind}
 use Rattle.sp_text.specs.declared.faults.DimacsError.{DimacsError}
-use Rattle.sp_text.specs.Lines.{ended}
-use Rattle.sp_text.specs.First.{or_at, or_else, or_kind, size_fault, line_fault, first_after, early, cut_short, strictly_told}
+use Rattle.sp_text.specs.Lines.{ended, rest, lines}
+use Rattle.sp_text.specs.First.{or_at, or_else, or_kind, size_fault, line_fault, first_after, first_fault, early, cut_short, unfinished, told}
 use Rattle.sp_text.proofs.Cutting.{clean_parts}
 use Rattle.sp_text.proofs.Meant.{text_is}
-use Rattle.sp_text.proofs.Behind.{nothing_left}
+use Rattle.sp_text.proofs.Behind.{lines_whole}
 use Rattle.sp_tree.specs.declared.lines.Line.{Line}
 use Rattle.sp_tree.specs.declared.lines.Line.TheVariants.{Problem, Row, End}
 use Rattle.sp_tree.specs.Table.{TreeTable, IsTable, last_vertex}
 use Rattle.sp_tree.specs.TreeText.{problem_text, row_text, end_text, tree_text}
-use Rattle.sp_tree.specs.Spelling.{Spelled, Nothing, Open, Whole, next, spelled, fault, line_in, is_whole, missing_of, tree_judge}
+use Rattle.sp_tree.specs.Spelling.{Spelled, Nothing, Open, Whole, next, spelled, fault, line_in, missing_of, tree_judge}
 use Rattle.sp_tree.specs.Taking.{HasTable}
 use Rattle.sp_tree.proofs.Rising.{row_added}
 use Rattle.sp_tree.proofs.Capped.{maxima_small, range_facts, open_small, spelled_push}
@@ -108,34 +108,37 @@ pub record IsTree (P : ℕ) (text : List ℕ) : Type 0 where
   pub tree : TreeTable
   pub table : IsTable P tree
   pub is : text ≡ tree_text tree
-  pub spells : spelled (ended text) ≡ Whole tree
+  pub spells : spelled (lines text) ≡ Whole tree
 
-whole_tree : (P : ℕ) (text : List ℕ) (s : Spelled) → spelled (ended text) ≡ s → missing_of s ≡ None → text ≡ with_lf (ended text) → IsTold P (ended text) → IsTree P text
+whole_tree : (P : ℕ) (text : List ℕ) (s : Spelled) → lines text ≡ ended text → spelled (ended text) ≡ s → missing_of s ≡ None → text ≡ with_lf (ended text) → IsTold P (ended text) → IsTree P text
 unfolding text_of
-whole_tree P text Nothing is none all h = cc
-whole_tree P text (Open t) is none all h = cc
-whole_tree P text (Whole t) is none all h = record { tree = t; table = rw is at h.table; is = all ∙ (h.text ∙ ap text_of is); spells = is }
+whole_tree P text Nothing same is none all h = cc
+whole_tree P text (Open t) same is none all h = cc
+whole_tree P text (Whole t) same is none all h = record { tree = t; table = rw is at h.table; is = all ∙ (h.text ∙ ap text_of is); spells = rw same is }
 
-closed_by : (s : Spelled) → missing_of s ≡ None → is_whole s ≡ true
-closed_by Nothing none = cc
-closed_by (Open t) none = cc
-closed_by (Whole t) none = refl
+not_cut : (r : List ℕ) → cut_short r ≡ None → r ≡ []
+not_cut [] h = refl
+not_cut (b ∷ r) h = cc
 
 -- A text without a fault is that of a tree.
-pub accepted : (P : ℕ) (text : List ℕ) → is_layout P ≡ true → strictly_told (tree_judge P) text ≡ None → IsTree P text
-unfolding strictly_told
+pub accepted : (P : ℕ) (text : List ℕ) → is_layout P ≡ true → told (tree_judge P) text ≡ None → IsTree P text
+unfolding told
 accepted P text layout none =
-    let parts = else_none (early (tree_judge P) text) (or_at (length (ended text) + 1) (or_kind (cut_short (tree_judge P) text) (missing_of (spelled (ended text)))) None) none in
-    let kinds = at_none (length (ended text) + 1) (or_kind (cut_short (tree_judge P) text) (missing_of (spelled (ended text)))) None parts.1 in
-    let last = kind_none (cut_short (tree_judge P) text) (missing_of (spelled (ended text))) kinds.0 in
-    let clean = clean_parts (tree_judge P) text parts.0 in
-    let nothing = nothing_left (tree_judge P) text parts.0 (closed_by (spelled (ended text)) last.1) in
-    whole_tree P text (spelled (ended text)) refl last.1 ((text_is text).whole ∙ (ap (λ (t : List ℕ). with_lf (ended text) ++ t) nothing ∙ append-nil (with_lf (ended text)))) (told_lines P [] (ended text) layout (starts_told P) clean.0)
+    let parts = else_none (unfinished true (tree_judge P) text) (or_else (first_fault (tree_judge P) (lines text)) (or_at (length (lines text) + 1) (missing_of (spelled (lines text))) None)) none in
+    let whole = else_none (early (tree_judge P) text) (or_at (length (ended text) + 1) (cut_short (rest text)) None) parts.0 in
+    let nothing = not_cut (rest text) (at_none (length (ended text) + 1) (cut_short (rest text)) None whole.1).0 in
+    let same = lines_whole text nothing in
+    let last = else_none (first_fault (tree_judge P) (lines text)) (or_at (length (lines text) + 1) (missing_of (spelled (lines text))) None) parts.1 in
+    let missing = at_none (length (lines text) + 1) (missing_of (spelled (lines text))) None last.1 in
+    let clean = clean_parts (tree_judge P) text whole.0 in
+    whole_tree P text (spelled (ended text)) same refl (rw same at missing.0) ((text_is text).whole ∙ (ap (λ (t : List ℕ). with_lf (ended text) ++ t) nothing ∙ append-nil (with_lf (ended text)))) (told_lines P [] (ended text) layout (starts_told P) clean.0)
 
 whole_same : (t u : TreeTable) → ◌≡◌ {A = Spelled} (Whole t) (Whole u) → t ≡ u
 whole_same t u h = cc
 
-pub finished : (P : ℕ) (text : List ℕ) (tree : TreeTable) → IsTable P tree → strictly_told (tree_judge P) text ≡ None → spelled (ended text) ≡ Whole tree → text ≡ tree_text tree
-finished P text tree table none spells =
-    let h = accepted P text table.layout none in
-    h.is ∙ ap tree_text (whole_same h.tree tree (sym h.spells ∙ spells))
+-- The tree that such a text spells is a table, and the text is its text.
+pub finished : (P : ℕ) (text : List ℕ) (tree : TreeTable) → is_layout P ≡ true → told (tree_judge P) text ≡ None → spelled (lines text) ≡ Whole tree → (text ≡ tree_text tree) × IsTable P tree
+finished P text tree layout none spells =
+    let h = accepted P text layout none in
+    let same = whole_same h.tree tree (sym h.spells ∙ spells) in
+    (h.is ∙ ap tree_text same, rw same at h.table)

@@ -82,7 +82,7 @@ fault P (Open t) (Some (End count)) = in_range 82 (length t.rows) (length t.rows
 fault P Nothing (Some (Row vertex dist pred)) = Some NoProblem
 fault P Nothing (Some (End count)) = Some NoProblem
 
--- 4. The rules of the file. Nothing may stand behind a whole tree.
+-- 4. The rules of the file. Each line has its LF, and nothing may stand behind a whole tree.
 
 abbrev pub is_whole : Spelled → Bool
 is_whole Nothing = false
@@ -105,4 +105,5 @@ tree_judge P = record {
   fault = λ before line. fault P (spelled before) (line_in line);
   missing = λ lines. missing_of (spelled lines);
   is_item = λ line. is_row (line_in line);
+  needs_lf = true;
 }

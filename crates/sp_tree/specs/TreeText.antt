@@ -1,12 +1,9 @@
 -- The text of a tree.
-use Rattle.std.specs.Prelude.{ℕ, List, [], ◌++◌, length, codes, decimal}
+use Rattle.std.specs.Prelude.{ℕ, List, [], ◌++◌, length, codes}
 use Rattle.std.specs.List.{flat_map}
 use Rattle.sp_word.specs.Word.{Word, Unreached, Pair}
+use Rattle.sp_text.specs.Numeral.{number_text}
 use Rattle.sp_tree.specs.Table.{TreeTable}
-
--- a space and a number
-abbrev pub number_text : ℕ → List ℕ
-number_text n = codes " " ++ decimal n
 
 -- `p spt N S`
 abbrev pub problem_text : (n source : ℕ) → List ℕ

@@ -1,17 +1,20 @@
 //! Laws of the definitions.
 ghost use Rattle.std.specs.Prelude.{◌≡◌, ℕ, List, true, None, ◌↔◌};
 ghost use Rattle.sp_word.specs.Word.{is_layout};
-ghost use Rattle.sp_text.specs.First.{strictly_told};
+ghost use Rattle.sp_text.specs.First.{told};
 ghost use Rattle.sp_tree.specs.Table.{TreeTable, IsTable};
 ghost use Rattle.sp_tree.specs.TreeText.{tree_text};
 ghost use Rattle.sp_tree.specs.Spelling.{tree_judge};
 
 /// The texts without a fault are exactly the texts of tables.
 pub fn tree_texts_are_accepted()
-    ensures { (P : ℕ) (text : List ℕ) → is_layout P ≡ true → (strictly_told (tree_judge P) text ≡ None) ↔ ((t : TreeTable) × IsTable P t × (text ≡ tree_text t)) }
+    ensures { (P : ℕ) (text : List ℕ) → is_layout P ≡ true
+        → (told (tree_judge P) text ≡ None)
+        ↔ ((t : TreeTable) × IsTable P t × (text ≡ tree_text t)) }
 {}
 
 /// A text is that of one table.
 pub fn tree_text_is_exact()
-    ensures { (P : ℕ) (t u : TreeTable) → IsTable P t → IsTable P u → tree_text t ≡ tree_text u → t ≡ u }
+    ensures { (P : ℕ) (t u : TreeTable) → IsTable P t → IsTable P u → tree_text t ≡ tree_text u
+        → t ≡ u }
 {}

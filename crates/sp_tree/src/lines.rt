@@ -1,11 +1,10 @@
 //! The lines of a tree file, each by itself.
-ghost use Rattle.std.specs.Prelude.{◌≡◌, ◌∷◌, [], ℕ, List, Some, None, MatchOption, IfSome, true, false};
+ghost use Rattle.std.specs.Prelude.{◌≡◌, ◌∷◌, [], ℕ, List, Some, None, MatchOption};
 ghost use Rattle.sp_text.specs.Text.{is_word};
-ghost use Rattle.sp_text.specs.Numeral.{starts_number};
 ghost use Rattle.sp_tree.specs.Spelling.{fields, line_in, problem_of, spt_of, row_of, end_of};
-ghost use Rattle.sp_tree.specs.Fields.{capped_line, number_in, last_in, HasNoNext, IsFront};
+ghost use Rattle.sp_tree.specs.Fields.{capped_line, last_in, HasNoNext, IsNext};
 
-use sp_text::{Numeral, number};
+use sp_text::leading_number;
 
 /// A line of a tree file. A number above 2^64 - 1 is told as 2^64 - 1.
 #[derive(Clone, Copy, Debug, PartialEq, Eq)]
@@ -17,7 +16,8 @@ pub enum Line {
 
 // The bytes up to the first space, and what stands behind that, if there is one.
 fn first_field(text: &[u8]) -> (&[u8], Option<&[u8]>)
-    ensures { MatchOption result.1 (fields text.now ≡ result.0.now ∷ []) (λ rest. fields text.now ≡ result.0.now ∷ fields rest.now) }
+    ensures { MatchOption result.1 (fields text.now ≡ result.0.now ∷ [])
+        (λ rest. fields text.now ≡ result.0.now ∷ fields rest.now) }
 {
     for (end, byte) in text.iter().enumerate() {
         if *byte == b' ' {
@@ -29,81 +29,30 @@ fn first_field(text: &[u8]) -> (&[u8], Option<&[u8]>)
     (text, None)
 }
 
-// The number of a field.
-fn number_in(field: &[u8]) -> Option<u64>
-    ensures { result ≡ number_in field.now }
-{
-    match number(field, 0, u64::MAX) {
-        Numeral::Bad => None,
-        Numeral::Out => Some(u64::MAX),
-        Numeral::Value(n) => Some(n),
-    }
-}
-
-// A value up to this has room for one more digit.
-const ROOMY: u64 = 1_844_674_407_370_955_160;
-
-// The number of the digits at the front, and how many they are, where it isn't large.
-fn front_number(text: &[u8]) -> Option<(u64, usize)>
-    ensures { IfSome result (λ x. IsFront text.now x.0 x.1) }
-{
-    let mut value: u64 = 0;
-    for (end, byte) in text.iter().enumerate() {
-        if !byte.is_ascii_digit() {
-            return Some((value, end));
-        }
-        if value > ROOMY {
-            return None;
-        }
-        value = 10 * value + (*byte - b'0') as u64;
-    }
-    Some((value, text.len()))
-}
-
-// Whether there is a byte, and no zero leads others.
-fn starts_number(field: &[u8]) -> bool
-    ensures { result ≡ starts_number field.now }
-{
-    match field {
-        [] => false,
-        [_] => true,
-        [first, ..] => *first != b'0',
-    }
-}
-
 // The number of the first field, and what stands behind the space after it.
 fn next_number(text: &[u8]) -> Option<(u64, &[u8])>
-    ensures { MatchOption result (HasNoNext (fields text.now)) (λ x. (field : List ℕ) × (fields text.now ≡ field ∷ fields x.1.now) × (number_in field ≡ Some x.0)) }
+    ensures { MatchOption result (HasNoNext (fields text.now)) (IsNext (fields text.now)) }
 {
-    if let Some((n, end)) = front_number(text) {
-        let (field, after) = text.split_at(end);
-        if end < text.len() && text[end] == b' ' && starts_number(field) {
-            let (_, rest) = after.split_at(1);
-            return Some((n, rest));
-        }
-    }
-    let (field, Some(rest)) = first_field(text) else {
+    let (number, end) = leading_number(text)?;
+    let (_, after) = text.split_at(end);
+    let [first, rest @ ..] = after else {
         return None;
     };
-    match number_in(field) {
-        Some(n) => Some((n, rest)),
-        None => None,
+    if *first != b' ' {
+        return None;
     }
+    Some((number, rest))
 }
 
 // The number of the one field.
 fn last_number(text: &[u8]) -> Option<u64>
     ensures { result ≡ last_in (fields text.now) }
 {
-    if let Some((n, end)) = front_number(text) {
-        if end == text.len() && starts_number(text) {
-            return Some(n);
-        }
+    let (number, end) = leading_number(text)?;
+    if end < text.len() {
+        return None;
     }
-    match first_field(text) {
-        (field, None) => number_in(field),
-        (_, Some(_)) => None,
-    }
+    Some(number)
 }
 
 // `spt N S`

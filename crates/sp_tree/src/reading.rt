@@ -4,16 +4,13 @@ ghost use Rattle.sp_word.specs.Word.{is_layout};
 ghost use Rattle.sp_text.specs.First.{failed};
 ghost use Rattle.sp_tree.specs.Table.{IsTable};
 ghost use Rattle.sp_tree.specs.Spelling.{tree_judge};
-ghost use Rattle.sp_tree.specs.Reading.{IsBehindTree, IsSpentTree, TreeFed, TreeFinished, TreeRead, TreeReadOn};
+ghost use Rattle.sp_tree.specs.Reading.{IsBehindTree, IsSpentTree, TreeFed, TreeFinished, TreeRead};
 
 use crate::taking::TreeLines;
 use crate::tree::Tree;
 use sp_device::Read;
-use sp_text::{DimacsError, Feeder, Kind};
+use sp_text::{DimacsError, Feeder, Kind, read_text};
 use std::alloc::Global;
-
-// As many bytes as are read at a time.
-const PIECE: usize = 16_384;
 
 /// A reader of a tree file that comes in pieces, for words of `P` bits of predecessor. It tells the first
 /// fault of the text, as early as the bytes so far show it, and answers the same fault from then on.
@@ -35,58 +32,47 @@ impl<const P: u32> TreeReader<P> {
 
     /// Takes the next piece of the text.
     pub fn feed(&mut self, piece: &[u8]) -> Result<(), DimacsError>
-        ensures again { (e : DimacsError) → IsSpentTree e self.old → (result ≡ Err e) × (self.new ≡ self.old) }
-        ensures fed { (text : List ℕ) → length (text ++ piece.now) ≤ 2 ^ 62 → IsBehindTree text self.old → TreeFed text piece.now result self.new }
+        ensures again { (e : DimacsError) → IsSpentTree e self.old
+            → (result ≡ Err e) × (self.new ≡ self.old) }
+        ensures fed { (text : List ℕ) → length (text ++ piece.now) ≤ 2 ^ 62
+            → IsBehindTree text self.old → TreeFed text piece.now result self.new }
     {
         self.feeder.feed(piece)
     }
 
     /// The text has ended. A reader that gives its tree is a new one then.
     pub fn finish(&mut self) -> Result<Tree<P>, DimacsError>
-        ensures again { (e : DimacsError) → IsSpentTree e self.old → (result ≡ Err e) × (self.new ≡ self.old) }
-        ensures finished { (text : List ℕ) → length text ≤ 2 ^ 62 → IsBehindTree text self.old → TreeFinished text result self.new }
+        ensures again { (e : DimacsError) → IsSpentTree e self.old
+            → (result ≡ Err e) × (self.new ≡ self.old) }
+        ensures finished { (text : List ℕ) → length text ≤ 2 ^ 62 → IsBehindTree text self.old
+            → TreeFinished text result self.new }
     {
-        self.feeder.finish_closed()
+        self.feeder.finish()
     }
 
     /// The device failed: the fault that was met before, or Read at the line being read.
     pub fn fail(&mut self) -> DimacsError
-        ensures again { (e : DimacsError) → IsSpentTree e self.old → (result ≡ e) × (self.new ≡ self.old) }
-        ensures failed { (text : List ℕ) → length text ≤ 2 ^ 62 → IsBehindTree text self.old → (failed (tree_judge P) text ≡ Some result) × IsSpentTree result self.new }
+        ensures again { (e : DimacsError) → IsSpentTree e self.old
+            → (result ≡ e) × (self.new ≡ self.old) }
+        ensures failed { (text : List ℕ) → length text ≤ 2 ^ 62 → IsBehindTree text self.old
+            → (failed (tree_judge P) text ≡ Some result) × IsSpentTree result self.new }
     {
         self.feeder.fail()
     }
 }
 
-// Reads to the end, and feeds what comes.
-fn read_on<const P: u32, R: Read>(
-    reader: &mut R,
-    mut tree: TreeReader<P>,
-) -> Result<Tree<P>, DimacsError>
-    requires { IsBehindTree [] tree }
-    ensures { TreeReadOn P (R.left reader.old) (R.left reader.new) (R.has_failed reader.new) result }
-{
-    let mut buffer = [0u8; PIECE];
-    loop {
-        match reader.read(&mut buffer) {
-            Ok(0) => return tree.finish(),
-            Ok(n) => tree.feed(&buffer[..n])?,
-            Err(_) => return Err(tree.fail()),
-        }
-    }
-}
-
 /// The tree whose text the bytes of a device are from here on, or their first fault. Where a row finds no room,
 /// Memory is told of its line, if no line up to it has a fault.
-#[tactic(auto, using(crate::proofs::Ending::read_told))]
+#[tactic(auto, using(crate::proofs::Finished::tree_read, crate::proofs::Finished::tree_found))]
 pub fn read_tree<const P: u32, R: Read>(
     alloc: Global,
     reader: &mut R,
 ) -> Result<Tree<P>, DimacsError>
     requires { is_layout P ≡ true }
-    ensures exact { (text : List ℕ) → R.left reader.old ≡ Some text → TreeRead P text (R.left reader.new) (R.has_failed reader.new) result }
+    ensures exact { (text : List ℕ) → R.left reader.old ≡ Some text
+        → TreeRead P text (R.left reader.new) (R.has_failed reader.new) result }
     ensures found { IfOk result (IsTable P) }
     ensures read { IfErr result (λ e. e.kind ≡ Kind.Read → R.has_failed reader.new ≡ true) }
 {
-    read_on(reader, TreeReader::<P>::new(alloc))
+    read_text(reader, Feeder::new(TreeLines::<P>::new(alloc)))
 }

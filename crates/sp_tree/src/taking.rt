@@ -23,7 +23,8 @@ pub struct TreeLines<const P: u32> {
 // A number out of its range is told by the letter of its field.
 fn in_range(letter: u8, least: u64, most: u64, n: u64) -> Result<(), Kind>
     ensures within { IfOk result (λ u. (least ≤ n) × (n ≤ most)) }
-    ensures told { IfErr result (λ kind. (later : Option Kind) → in_range letter least most n later ≡ Some kind) }
+    ensures told { IfErr result
+        (λ kind. (later : Option Kind) → in_range letter least most n later ≡ Some kind) }
 {
     if least <= n && n <= most {
         Ok(())
@@ -51,7 +52,8 @@ impl<const P: u32> TreeLines<P> {
 
     // `p spt N S`
     fn begin(&mut self, n: u64, source: u64) -> Result<(), Kind>
-        ensures { (s : Spelled) → is_whole s ≡ false → IsAt self.old s → Answers s (Some (Problem n source)) result self.new }
+        ensures { (s : Spelled) → is_whole s ≡ false → IsAt self.old s
+            → Answers s (Some (Problem n source)) result self.new }
     {
         if self.tree.is_some() {
             return Err(Kind::SecondProblem);
@@ -64,7 +66,8 @@ impl<const P: u32> TreeLines<P> {
 
     // `v V D P`
     fn add(&mut self, vertex: u64, dist: u64, pred: u64) -> Result<(), Kind>
-        ensures { (s : Spelled) → is_whole s ≡ false → IsAt self.old s → Answers s (Some (Row vertex dist pred)) result self.new }
+        ensures { (s : Spelled) → is_whole s ≡ false → IsAt self.old s
+            → Answers s (Some (Row vertex dist pred)) result self.new }
     {
         let Some(tree) = &mut self.tree else {
             return Err(Kind::NoProblem);
@@ -81,7 +84,8 @@ impl<const P: u32> TreeLines<P> {
 
     // `e R`
     fn close(&mut self, count: u64) -> Result<(), Kind>
-        ensures { (s : Spelled) → is_whole s ≡ false → IsAt self.old s → Answers s (Some (End count)) result self.new }
+        ensures { (s : Spelled) → is_whole s ≡ false → IsAt self.old s
+            → Answers s (Some (End count)) result self.new }
     {
         let Some(tree) = &self.tree else {
             return Err(Kind::NoProblem);
@@ -109,6 +113,10 @@ impl<const P: u32> LineTaker for TreeLines<P> {
 
     fn is_closed(&self) -> bool {
         self.whole
+    }
+
+    fn needs_lf(&self) -> bool {
+        true
     }
 
     fn take_line(&mut self, line: &[u8]) -> Result<(), Kind> {

@@ -21,7 +21,8 @@ impl<const P: u32> Model for Tree<P> {
 
     ghost view = { λ t. record { n = t.n; source = t.source; rows = t.rows.items } };
 
-    ghost invariant = { λ t. IsTable P (record { n = t.n; source = t.source; rows = t.rows.items }) };
+    ghost invariant = { λ t. IsTable P
+        (record { n = t.n; source = t.source; rows = t.rows.items }) };
 }
 
 impl<const P: u32> Tree<P> {
@@ -36,7 +37,8 @@ impl<const P: u32> Tree<P> {
         requires source_most { source ≤ length words.now }
         requires preds { All (HasPredWithin (length words.now)) words.now }
         ensures tree { IfOk result (λ t. t ≡ tree_of source words.now) }
-        ensures words { IfOk result (λ t. (v : ℕ) → 1 ≤ v → v ≤ t.n → slice_get words.now (v - 1) ≡ Some (table_of t v)) }
+        ensures words { IfOk result
+            (λ t. (v : ℕ) → 1 ≤ v → v ≤ t.n → slice_get words.now (v - 1) ≡ Some (table_of t v)) }
     {
         Ok(Tree {
             n: words.len() as u32,
@@ -111,7 +113,8 @@ impl<const P: u32> Tree<P> {
 
     // The word of a vertex that has a row.
     fn word_of_row(&self, vertex: u32) -> Option<Word<P>>
-        ensures { MatchOption result (table_of self.now vertex ≡ Unreached) (λ word. table_of self.now vertex ≡ word) }
+        ensures { MatchOption result (table_of self.now vertex ≡ Unreached)
+            (λ word. table_of self.now vertex ≡ word) }
     {
         match self.rows.binary_search_by_key(
             &vertex,

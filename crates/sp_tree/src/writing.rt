@@ -2,23 +2,15 @@
 ghost use Rattle.std.specs.Prelude.{◌++◌, ◌≡◌, ◌≤◌, ◌+◌, length};
 ghost use Rattle.std.specs.List.{flat_map};
 ghost use Rattle.sp_device.specs.Printing.{Sends, Finished as Written, Counted};
-ghost use Rattle.sp_tree.specs.TreeText.{number_text, problem_text, reached_text, row_text, end_text, tree_text, far_text};
+ghost use Rattle.sp_tree.specs.TreeText.{problem_text, reached_text, row_text, end_text, tree_text, far_text};
 
 use crate::tree::Tree;
 use sp_device::{Block, Printer, Write, WriteFault, finish, make_room};
+use sp_text::push_number;
 use sp_word::Word;
 
 // As many bytes as a line has at most.
 const LINE_ROOM: usize = 65;
-
-fn push_number(block: &mut Block, n: u64)
-    requires { length block.old + 21 ≤ 8192 }
-    ensures text { block.new ≡ block.old ++ number_text n }
-    ensures short { length block.new ≤ length block.old + 21 }
-{
-    block.push(b" ");
-    block.push_number(n);
-}
 
 fn push_problem(block: &mut Block, n: u32, source: u32)
     requires { length block.old + LINE_ROOM ≤ 8192 }
@@ -65,14 +57,16 @@ fn push_far(block: &mut Block, source: u32, vertex: u32)
 }
 
 fn send_row<const P: u32, W: Write>(out: &mut W, printer: &mut Printer, vertex: u32, word: Word<P>)
-    ensures { Sends W.written W.passed W.has_failed (reached_text vertex word.entry) out.old printer.old out.new printer.new }
+    ensures { Sends W.written W.passed W.has_failed
+        (reached_text vertex word.entry) out.old printer.old out.new printer.new }
 {
     make_room(out, printer, LINE_ROOM);
     push_row(&mut printer.block, vertex, word);
 }
 
 fn send_rows<const P: u32, W: Write>(out: &mut W, printer: &mut Printer, rows: &[(u32, Word<P>)])
-    ensures { Sends W.written W.passed W.has_failed (flat_map row_text rows.now) out.old printer.old out.new printer.new }
+    ensures { Sends W.written W.passed W.has_failed
+        (flat_map row_text rows.now) out.old printer.old out.new printer.new }
 {
     for (vertex, word) in rows {
         send_row(out, printer, *vertex, *word);
@@ -99,7 +93,8 @@ pub fn write_tree<const P: u32, W: Write>(tree: &Tree<P>, out: &mut W) -> Result
 ///
 /// It takes no memory. Where the writer fails, a beginning of the line stands.
 pub fn write_far<W: Write>(source: u32, vertex: u32, out: &mut W) -> Result<u64, WriteFault>
-    ensures written { Written W.written W.has_failed (far_text source vertex) out.old result out.new }
+    ensures written { Written W.written W.has_failed
+        (far_text source vertex) out.old result out.new }
     ensures passed { Counted W.passed out.old result out.new }
 {
     let mut printer = Printer::new();

@@ -5,7 +5,7 @@ use super::samples::{Entries, Entry};
 use crate::collecting::{Collector, Keep};
 use crate::faults::{DimacsError, Kind};
 use crate::feeding::Feeder;
-use crate::layouts::{Layout, Ranges};
+use crate::formats::{FileFormat, Ranges};
 use crate::rooms::Values;
 use std::alloc::{AllocError, Global};
 use std::test::Fail;
@@ -28,8 +28,8 @@ impl Keep for Scarce {
 
     ghost Spelled = { λ ps items value. AreEntries items value.items };
 
-    fn layout(&self) -> Layout {
-        self.kept.layout()
+    fn format(&self) -> FileFormat {
+        self.kept.format()
     }
 
     fn ranges(&self) -> Ranges {

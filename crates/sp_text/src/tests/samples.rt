@@ -8,7 +8,7 @@ ghost use Rattle.sp_text.specs.Text.{Item};
 use crate::collecting::{Collector, Keep};
 use crate::faults::{DimacsError, Kind};
 use crate::feeding::Feeder;
-use crate::layouts::{Field, Form, Layout, Ranges, Top};
+use crate::formats::{Field, FileFormat, Form, Ranges, Top};
 use crate::rooms::Values;
 use crate::whole::read_text;
 use sp_device::{Read, UpTo};
@@ -17,7 +17,7 @@ use std::mem;
 
 pub const DIAMOND: &[u8] = b"p sp 4 5\na 1 2 3\na 1 3 3\na 2 4 2\na 3 4 2\na 1 4 6\n";
 
-const SAMPLE: Layout = Layout {
+const SAMPLE: FileFormat = FileFormat {
     problem: Form {
         words: b"p sp",
         fields: &[
@@ -87,7 +87,7 @@ const SAMPLE: Layout = Layout {
     needed: Top::Problem(1),
 };
 
-fn sample_layout() -> Layout
+fn sample_format() -> FileFormat
     ensures { format_of result ≡ sample }
 {
     SAMPLE
@@ -130,8 +130,8 @@ impl Keep for Entries {
 
     ghost Spelled = { λ ps items value. AreEntries items value.items };
 
-    fn layout(&self) -> Layout {
-        sample_layout()
+    fn format(&self) -> FileFormat {
+        sample_format()
     }
 
     fn ranges(&self) -> Ranges {

@@ -5,4 +5,4 @@ use Rattle.sp_text.specs.Text.{item_reading}
 use Rattle.sp_text.proofs.reading.usual_item.Given as goal
 
 abbrev pub invariant-loop-place : goal.invariant-loop-place
-invariant-loop-place l = item_reading 0 (map form_of l.layout.items.now) (parted [] l.text) ≡ item_reading l.place (map form_of (drop l.place l.layout.items.now)) (parted [] l.text)
+invariant-loop-place l = item_reading 0 (map form_of l.format.items.now) (parted [] l.text) ≡ item_reading l.place (map form_of (drop l.place l.format.items.now)) (parted [] l.text)

@@ -16,8 +16,8 @@ returns-then-not-is_empty g c = λ text small goes none h.
     let behind = c.in_ok-take_open.ensures text small goes none h in
     rw (ended_at_run text c.args.bytes.now none) at (c.end_room.ensures (text ++ c.args.bytes.now) small (run_open g.T.LineTaker.rules text c.args.bytes.now none goes) behind)
 
-pub returns-then-bytes-gt-LONGEST : goal.returns-then-bytes-gt-LONGEST
-returns-then-bytes-gt-LONGEST g c = λ text small goes none h.
+pub returns-then-bytes-gt-LONGEST_LINE : goal.returns-then-bytes-gt-LONGEST_LINE
+returns-then-bytes-gt-LONGEST_LINE g c = λ text small goes none h.
     let shorter : length text ≤ 2 ^ 62 = omega (arith, length-append text c.args.bytes.now) in
     (c.refuse.ensures.spent, rw c.refuse.ensures.line (refusal_lasts g.T.LineTaker.rules (ended text) (text ++ c.args.bytes.now) (10 ∷ []) _ (run_err g.T.LineTaker.rules g.T.LineTaker.After text c.args.bytes.now c.args.self.now shorter none goes h (omega arith))))
 

@@ -1,11 +1,9 @@
 //! The line forms of replay files and of offers files, as data.
-ghost use Rattle.std.specs.Prelude.{◌≡◌, true};
+ghost use Rattle.std.specs.Prelude.{◌≡◌};
 ghost use Rattle.sp_text.specs.Formats.{format_of, IsSmall};
-ghost use Rattle.sp_word.specs.Word.{is_layout};
-ghost use Rattle.sp_replay.specs.ReplayFormat.{replay, offers, ranges_of};
+ghost use Rattle.sp_replay.specs.ReplayFormat.{replay, offers};
 
-use sp_text::{Field, Form, Layout, Ranges, Top};
-use sp_word::Word;
+use sp_text::{Field, FileFormat, Form, Top};
 
 // The places of the forms.
 pub const START: usize = 0;
@@ -51,24 +49,34 @@ const TAIL: Field = Field {
 const LEN: Field = Field {
     letter: b'L',
     least: 1,
-    most: Top::Number(4_294_967_295),
+    most: Top::Number(LONGEST_ARC),
 };
 
-// How many items and steps may stand.
-const ITEMS: Top = Top::Number(1_048_576);
+/// As many words as a run may have.
+pub const MOST_WORDS: u64 = 65_536;
 
-const STEPS: Top = Top::Number(16_777_216);
+/// As many actors as a run may have.
+pub const MOST_ACTORS: u64 = 64;
+
+/// As many items as all actors may have.
+pub const MOST_ITEMS: u64 = 1_048_576;
+
+/// As many steps as a run may have.
+pub const MOST_STEPS: u64 = 16_777_216;
+
+/// The greatest length of an arc.
+pub const LONGEST_ARC: u64 = 4_294_967_295;
 
 const WORDS: Field = Field {
     letter: b'N',
     least: 1,
-    most: Top::Number(65_536),
+    most: Top::Number(MOST_WORDS),
 };
 
 const ACTORS: Field = Field {
     letter: b'K',
     least: 1,
-    most: Top::Number(64),
+    most: Top::Number(MOST_ACTORS),
 };
 
 const START_LINE: Form = Form {
@@ -84,7 +92,7 @@ const OFFER_LINE: Form = Form {
     fields: &[ACTOR, VERTEX, DIST, PRED],
     fresh: false,
     group: 0,
-    limit: ITEMS,
+    limit: Top::Number(MOST_ITEMS),
 };
 
 const READ_LINE: Form = Form {
@@ -92,7 +100,7 @@ const READ_LINE: Form = Form {
     fields: &[ACTOR, VERTEX],
     fresh: false,
     group: 0,
-    limit: ITEMS,
+    limit: Top::Number(MOST_ITEMS),
 };
 
 const RELAX_LINE: Form = Form {
@@ -100,7 +108,7 @@ const RELAX_LINE: Form = Form {
     fields: &[ACTOR, TAIL, VERTEX, LEN],
     fresh: false,
     group: 0,
-    limit: ITEMS,
+    limit: Top::Number(MOST_ITEMS),
 };
 
 const STEP_LINE: Form = Form {
@@ -108,10 +116,10 @@ const STEP_LINE: Form = Form {
     fields: &[ACTOR],
     fresh: false,
     group: 2,
-    limit: STEPS,
+    limit: Top::Number(MOST_STEPS),
 };
 
-const REPLAY: Layout = Layout {
+const REPLAY: FileFormat = FileFormat {
     problem: Form {
         words: b"p rep",
         fields: &[WORDS, ACTORS],
@@ -123,7 +131,7 @@ const REPLAY: Layout = Layout {
     needed: Top::Number(0),
 };
 
-const OFFERS: Layout = Layout {
+const OFFERS: FileFormat = FileFormat {
     problem: Form {
         words: b"p off",
         fields: &[WORDS, ACTORS],
@@ -136,7 +144,7 @@ const OFFERS: Layout = Layout {
 };
 
 /// The line forms of replay files.
-pub fn replay_layout() -> Layout
+pub fn replay_format() -> FileFormat
     ensures format { format_of result ≡ replay }
     ensures small { IsSmall result }
 {
@@ -144,20 +152,9 @@ pub fn replay_layout() -> Layout
 }
 
 /// The line forms of offers files.
-pub fn offers_layout() -> Layout
+pub fn offers_format() -> FileFormat
     ensures format { format_of result ≡ offers }
     ensures small { IsSmall result }
 {
     OFFERS
-}
-
-/// The limits of words with `P` bits for a predecessor.
-pub fn limits<const P: u32>() -> Ranges
-    requires { is_layout P ≡ true }
-    ensures { result ≡ ranges_of P }
-{
-    Ranges {
-        vertex: Word::<P>::max_pred() as u64,
-        dist: Word::<P>::max_dist(),
-    }
 }
