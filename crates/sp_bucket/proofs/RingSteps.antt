@@ -5,6 +5,7 @@ use Rattle.std.specs.declared.alloc.Global.{Global}
 use Rattle.std.proofs.lemmas.List.Elements.{All-nil, All-cons, All-push, All-weaker, All-head}
 use Rattle.std.proofs.lemmas.List.Sorted.{All-permutation}
 use Rattle.sp_bucket.specs.declared.entry.Entry.{Entry}
+use Rattle.sp_bucket.specs.declared.ring.TheConstants.{LONGEST_RING}
 use Rattle.sp_bucket.specs.Content.{bucket_of, no_entries, Content, Puts, Takes, IsLowest}
 use Rattle.sp_bucket.specs.Filed.{gathered}
 use Rattle.sp_bucket.specs.Window.{Window, Stand, IsRing, IsWithin, window_of, content_of}
@@ -157,7 +158,7 @@ module _ (delta first head : ℕ) (ss : Slots) (r : IsRing delta first head ss) 
       (omega arith, place ∙ ap (λ (n : ℕ). (n + k) % w.len) (sym start) ∙ ap (λ (n : ℕ). (first + k) % n) (sym len))
 
 -- empty slots are a ring without entries
-pub new_ring : (delta len : ℕ) (ss : Slots) → 0 < delta → length ss ≡ len → 0 < len → len ≤ 65536 → All (λ (s : Vec Entry Global). s.items ≡ []) ss
+pub new_ring : (delta len : ℕ) (ss : Slots) → 0 < delta → length ss ≡ len → 0 < len → len ≤ LONGEST_RING → All (λ (s : Vec Entry Global). s.items ≡ []) ss
     → IsRing delta 0 0 ss × (content_of (window_of delta 0 ss) ≡ no_entries delta (Some len))
 new_ring delta len ss width is_len some short empty =
     let none = stand_empty delta (length ss) 0 ss empty in (

@@ -2,10 +2,19 @@
 use Rattle.std.specs.Prelude.{◌≡◌, ◌≢◌, ℕ, ◌+◌, ◌/◌, ◌≤◌, List, [], ◌∷◌, ◌++◌, All, Any, Option, Some, None, IsPermutation, if◌then◌else◌, nat_le}
 use Rattle.std.specs.Int.{div_ceil}
 use Rattle.sp_bucket.specs.declared.entry.Entry.{Entry}
+use Rattle.sp_bucket.specs.declared.ring.TheConstants.{LONGEST_RING}
 
 -- bucket i has the distances from i * delta up to, not including, (i + 1) * delta
 abbrev pub bucket_of : ℕ → Entry → ℕ
 bucket_of delta entry = entry.dist / delta
+
+-- an entry stands in bucket i
+abbrev pub HasEntryIn : (delta : ℕ) → List Entry → (i : ℕ) → Type 0
+HasEntryIn delta entries i = Any (λ entry. bucket_of delta entry ≡ i) entries
+
+-- none does
+abbrev pub HasNoEntryIn : (delta : ℕ) → List Entry → (i : ℕ) → Type 0
+HasNoEntryIn delta entries i = All (λ entry. bucket_of delta entry ≢ i) entries
 
 -- the width of a bucket, the length of the ring, if there is one, and the entries in some order
 pub record Content : Type 0 where
@@ -18,9 +27,9 @@ abbrev pub no_entries : ℕ → Option ℕ → Content
 no_entries delta ring = record { delta = delta; ring = ring; entries = [] }
 
 -- While bucket i is the lowest, what is queued from it stands at most ceil(longest / delta) buckets higher, so one
--- bucket more holds all. A ring that would be longer than 65,536 buckets isn't made
+-- bucket more holds all. A ring that would be too long isn't made
 abbrev pub ring_for : ℕ → ℕ → Option ℕ
-ring_for delta longest = if nat_le (div_ceil longest delta + 1) 65536 then Some (div_ceil longest delta + 1) else None
+ring_for delta longest = let len : ℕ = div_ceil longest delta + 1 in if nat_le len LONGEST_RING then Some len else None
 
 -- one entry more stands, and nothing else changes
 pub record Puts (entry : Entry) (old new : Content) : Type 0 where

@@ -2,6 +2,7 @@
 use Rattle.std.specs.Prelude.{◌≡◌, ℕ, suc, ◌+◌, ◌%◌, ◌<◌, ◌≤◌, List, [], ◌∷◌, All, Vec, Some, length}
 use Rattle.std.specs.declared.alloc.Global.{Global}
 use Rattle.sp_bucket.specs.declared.entry.Entry.{Entry}
+use Rattle.sp_bucket.specs.declared.ring.TheConstants.{LONGEST_RING}
 use Rattle.sp_bucket.specs.Content.{Content, bucket_of}
 use Rattle.sp_bucket.specs.Filed.{gathered}
 
@@ -31,7 +32,7 @@ window_of delta first slots = record { delta = delta; first = first; len = lengt
 pub record IsRing (delta first head : ℕ) (slots : List (Vec Entry Global)) : Type 0 where
   pub width : 0 < delta
   pub some : 0 < length slots
-  pub short : length slots ≤ 65536
+  pub short : length slots ≤ LONGEST_RING
   pub begins : head ≡ first % length slots
   pub stand : Stand delta (length slots) 0 slots
   pub within : All (λ entry. IsWithin (window_of delta first slots) (bucket_of delta entry)) (gathered slots)

@@ -1,6 +1,7 @@
 //! Entries in buckets by distance.
 #![tactic(auto)]
 
+mod beside;
 mod buckets;
 mod entry;
 mod map;
@@ -8,6 +9,3 @@ mod ring;
 
 pub use buckets::Buckets;
 pub use entry::Entry;
-
-#[cfg(test)]
-mod tests;

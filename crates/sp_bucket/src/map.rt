@@ -1,7 +1,7 @@
 //! Buckets in an ordered map.
-ghost use Rattle.std.specs.Prelude.{◌≡◌, ◌≢◌, ◌<◌, ◌↔◌, [], None, All, Any, IsTrue, OnOk, OnErr, IsNone, IfSome};
+ghost use Rattle.std.specs.Prelude.{◌≡◌, ◌<◌, ◌↔◌, [], None, IsTrue, OnOk, OnErr, IsNone, IfSome};
 ghost use Rattle.std.specs.Bool.{OnFalse};
-ghost use Rattle.sp_bucket.specs.Content.{bucket_of, no_entries, Puts, Takes, IsLowest};
+ghost use Rattle.sp_bucket.specs.Content.{bucket_of, no_entries, Puts, Takes, IsLowest, HasNoEntryIn, HasEntryIn};
 
 use crate::entry::Entry;
 use std::alloc::{AllocError, Global};
@@ -24,7 +24,11 @@ impl Model for BucketMap {
 
     ghost Value = { Content };
 
-    ghost view = { λ m. record { delta = m.delta; ring = None; entries = gathered (values m.buckets) } };
+    ghost view = { λ m. record {
+      delta = m.delta;
+      ring = None;
+      entries = gathered (values m.buckets);
+    } };
 
     ghost invariant = { λ m. (0 < m.delta) × IsFiled m.delta m.buckets.entries };
 }
@@ -49,11 +53,11 @@ impl BucketMap {
     }
 
     /// Puts an entry into its bucket.
-    pub fn put(&mut self, number: u64, entry: Entry) -> Result<(), AllocError>
-        requires { number ≡ bucket_of self.old.delta entry }
+    pub fn put(&mut self, entry: Entry) -> Result<(), AllocError>
         ensures put { OnOk result (Puts entry self.old self.new) }
         ensures refused { OnErr result (self.new ≡ self.old) }
     {
+        let number = self.number_of(&entry);
         if let Some(bucket) = self.buckets.get_mut(&number) {
             bucket.push(entry)?;
             return Ok(());
@@ -77,8 +81,8 @@ impl BucketMap {
 
     /// Whether an entry of the bucket stands.
     pub fn holds(&self, number: u64) -> bool
-        ensures held { IsTrue result → Any (λ entry. bucket_of self.now.delta entry ≡ number) self.now.entries }
-        ensures free { OnFalse result (All (λ entry. bucket_of self.now.delta entry ≢ number) self.now.entries) }
+        ensures held { IsTrue result → HasEntryIn self.now.delta self.now.entries number }
+        ensures free { OnFalse result (HasNoEntryIn self.now.delta self.now.entries number) }
     {
         self.buckets.contains_key(&number)
     }

@@ -1,13 +1,16 @@
 //! Buckets in a ring of slots.
-ghost use Rattle.std.specs.Prelude.{◌≡◌, ◌≢◌, ◌+◌, ◌<◌, ◌≤◌, ◌%◌, ◌↔◌, [], Some, All, IsTrue, OnOk, OnErr, IsNone, IfSome, IfOk, vec_len};
+ghost use Rattle.std.specs.Prelude.{◌≡◌, ◌+◌, ◌<◌, ◌≤◌, ◌%◌, ◌↔◌, [], Some, All, IsTrue, OnOk, OnErr, IsNone, IfSome, IfOk, vec_len};
 ghost use Rattle.std.specs.Bool.{OnFalse};
-ghost use Rattle.sp_bucket.specs.Content.{bucket_of, no_entries, Puts, Takes, IsLowest};
+ghost use Rattle.sp_bucket.specs.Content.{bucket_of, no_entries, Puts, Takes, IsLowest, HasNoEntryIn};
 ghost use Rattle.sp_bucket.specs.Window.{IsWithin, content_of};
 
 use crate::entry::Entry;
 use std::alloc::{AllocError, Global};
 use std::marker::Model;
 use std::mem;
+
+/// The most buckets of a ring.
+pub const LONGEST_RING: u64 = 65_536;
 
 /// A window of buckets, as many as there are slots. Bucket `i` stands in slot `i % len`, so that no two
 /// buckets of the window share a slot, and a move of the window moves no entry.
@@ -38,7 +41,7 @@ impl BucketRing {
     pub fn new(alloc: Global, delta: u64, len: u32) -> Result<BucketRing, AllocError>
         requires delta { 0 < delta }
         requires some { 0 < len }
-        requires short { len ≤ 65536 }
+        requires short { len ≤ LONGEST_RING }
         ensures { IfOk result (λ ring. content_of ring ≡ no_entries delta (Some len)) }
     {
         let slots = empty_slots(alloc, len as usize)?;
@@ -61,7 +64,7 @@ impl BucketRing {
     /// Whether a bucket lies in the window.
     pub fn covers(&self, number: u64) -> bool
         ensures covered { IsTrue result → IsWithin self.now number }
-        ensures free { OnFalse result (All (λ entry. bucket_of self.now.delta entry ≢ number) self.now.entries) }
+        ensures free { OnFalse result (HasNoEntryIn self.now.delta self.now.entries number) }
     {
         number >= self.first && number - self.first < self.slots.len() as u64
     }

@@ -1,0 +1,89 @@
+//! A ring of buckets, with a map beside it for entries outside of its window.
+ghost use Rattle.std.specs.Prelude.{◌≡◌, ◌<◌, ◌≤◌, ◌↔◌, [], Some, OnOk, OnErr, IsNone, IfSome, IfOk};
+ghost use Rattle.sp_bucket.specs.Content.{no_entries, Puts, Takes, IsLowest};
+
+use crate::entry::Entry;
+use crate::map::BucketMap;
+use crate::ring::{BucketRing, LONGEST_RING};
+use std::alloc::{AllocError, Global};
+use std::marker::Model;
+
+/// Buckets in a ring where they lie in its window, else in a map. The entries of one bucket all stand in one
+/// of the two.
+#[derive(Drop)]
+pub struct RingBesideMap {
+    ring: BucketRing,
+    map: BucketMap,
+}
+
+impl Model for RingBesideMap {
+    ghost use Rattle.sp_bucket.specs.Content.{Content};
+    ghost use Rattle.sp_bucket.specs.Window.{content_of};
+    ghost use Rattle.sp_bucket.specs.Beside.{both, AreApart};
+
+    ghost Value = { Content };
+
+    ghost view = { λ b. both (content_of b.ring) b.map };
+
+    ghost invariant = { λ b. AreApart (content_of b.ring) b.map };
+}
+
+impl RingBesideMap {
+    /// No entries, in a ring of so many buckets.
+    pub fn new(alloc: Global, delta: u64, len: u32) -> Result<RingBesideMap, AllocError>
+        requires delta { 0 < delta }
+        requires some { 0 < len }
+        requires short { len ≤ LONGEST_RING }
+        ensures { IfOk result (λ buckets. buckets ≡ no_entries delta (Some len)) }
+    {
+        Ok(RingBesideMap {
+            ring: BucketRing::new(alloc, delta, len)?,
+            map: BucketMap::new(alloc, delta),
+        })
+    }
+
+    /// The number of the ring's buckets.
+    pub fn len(&self) -> u32
+        ensures { Some result ≡ self.now.ring }
+    {
+        self.ring.len()
+    }
+
+    /// Puts an entry into the ring where its bucket lies in the window and not in the map, else into the map.
+    pub fn put(&mut self, entry: Entry) -> Result<(), AllocError>
+        ensures put { OnOk result (Puts entry self.old self.new) }
+        ensures refused { OnErr result (self.new ≡ self.old) }
+    {
+        let number = self.map.number_of(&entry);
+        if self.ring.covers(number) && !self.map.holds(number) {
+            self.ring.put(number, entry)
+        } else {
+            self.map.put(entry)
+        }
+    }
+
+    /// The number of the lowest bucket with an entry.
+    pub fn lowest(&self) -> Option<u64>
+        ensures none { IsNone result ↔ (self.now.entries ≡ []) }
+        ensures lowest { IfSome result (IsLowest self.now) }
+    {
+        match (self.ring.lowest(), self.map.lowest()) {
+            (Some(a), Some(b)) => Some(a.min(b)),
+            (Some(a), None) => Some(a),
+            (None, b) => b,
+        }
+    }
+
+    /// Takes the bucket out of the ring, or out of the map where the ring has none of it. The ring's window then
+    /// begins at the bucket, where that leaves no entry outside of it.
+    pub fn take(&mut self, number: u64) -> Vec<Entry>
+        ensures { Takes number result.items self.old self.new }
+    {
+        self.ring.move_to(number);
+        let taken = self.ring.take(number);
+        if taken.is_empty() {
+            return self.map.take(number);
+        }
+        taken
+    }
+}
