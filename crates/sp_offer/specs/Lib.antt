@@ -5,3 +5,4 @@ pub mod Sight
 pub mod Rule
 pub mod Lowering
 pub mod Parts
+pub mod Calling

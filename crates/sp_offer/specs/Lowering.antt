@@ -1,8 +1,10 @@
 -- How far an offer has come.
 use Rattle.std.specs.Prelude.{◌≡◌, ◌≢◌, ℕ, ◌+◌, ◌<◌, ◌≤◌, true}
+use Rattle.atomic_table.specs.declared.shared.Seat.{Seat}
 use Rattle.sp_word.specs.Word.{Word, Fits, is_layout, is_word, bits_of, word_of}
 use Rattle.sp_offer.specs.Story.{Story, Calls, Looks, IsTried}
-use Rattle.sp_offer.specs.Rule.{answered}
+use Rattle.sp_offer.specs.Sight.{Sight}
+use Rattle.sp_offer.specs.Rule.{answered, seat_story}
 
 module _ (P : ℕ) (law : ℕ → Word → Type 0) (by vertex : ℕ) (word : Word) (bits : ℕ) where
   -- After some steps: where the bits held are no larger than those offered the call is made, and else they were
@@ -25,3 +27,12 @@ module _ (P : ℕ) (law : ℕ → Word → Type 0) (by vertex : ℕ) (word : Wor
     pub won : found ≡ held → Calls law (answered by vertex word (word_of P found)) s t
     pub kept : found ≤ bits → Calls law (answered by vertex word (word_of P found)) s t
     pub lost : found ≢ held → bits < found → Looks law vertex (word_of P found) s t
+
+  module _ {S : Type 0} where
+    -- how far the offer from a seat has come
+    abbrev pub HasCome : (held tries : ℕ) → Seat S Sight → Seat S Sight → Type 0
+    HasCome held tries p q = IsUnderWay held tries (seat_story p) (seat_story q)
+
+    -- what its exchange tells the seat
+    abbrev pub Swaps : (held found : ℕ) → Seat S Sight → Seat S Sight → Type 0
+    Swaps held found p q = IsExchanged held found (seat_story p) (seat_story q)

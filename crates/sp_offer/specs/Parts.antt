@@ -1,7 +1,12 @@
 -- The parts of a table's words that contracts name.
-use Rattle.std.specs.Prelude.{ℕ}
+use Rattle.std.specs.Prelude.{◌≡◌, ℕ}
 use Rattle.atomic_table.specs.Seated.{TableId}
+use Rattle.atomic_table.specs.declared.shared.Seat.{Seat}
+use Rattle.sp_word.specs.Word.{Word, word_of}
 use Rattle.sp_offer.specs.declared.words.Words.{Words}
+use Rattle.sp_offer.specs.Order.{lawful}
+use Rattle.sp_offer.specs.Sight.{Sight}
+use Rattle.sp_offer.specs.Rule.{Board, SeatOffers}
 
 module _ {L : Type 0} where
   abbrev pub id_of : Words L → TableId
@@ -15,3 +20,24 @@ module _ {L : Type 0} where
 
   abbrev pub law_of : Words L → L
   law_of words = words.table.shared.key.law
+
+  abbrev pub board_of : Words L → Board L
+  board_of words = record { id = id_of words; vertices = vertices_of words; law = law_of words }
+
+  -- the table was told these when it was made
+  abbrev pub HasTerms : L → (vertices layout : ℕ) → Words L → Type 0
+  HasTerms law vertices layout words =
+      words.table.shared.key ≡ record { law = law; vertices = vertices; layout = layout }
+
+  -- the word that bits of the table spell
+  abbrev pub word_in : Words L → ℕ → Word
+  word_in words bits = word_of (layout_of words) bits
+
+  module _ (allows : L → ℕ → Word → Type 0) (words : Words L) where
+    -- the words that the table takes
+    abbrev pub law_in : ℕ → Word → Type 0
+    law_in = lawful (layout_of words) (allows (law_of words))
+
+    -- the seat's own caller offered a word, and the bits found decided
+    abbrev pub Lowers : {S : Type 0} → (vertex bits found : ℕ) → Seat S Sight → Seat S Sight → Type 0
+    Lowers vertex bits found p q = SeatOffers (layout_of words) law_in p.id vertex (word_in words bits) found p q

@@ -10,8 +10,8 @@ use Rattle.sp_word.specs.Word.{Word, bits_of, is_word, word_of}
 use Rattle.sp_word.specs.History.{Event, Offer, Read, run, IsLegal}
 use Rattle.sp_word.specs.Reply.{reply_to}
 use Rattle.sp_offer.specs.Histories.{blank, event, AreLawful}
-use Rattle.sp_offer.specs.Story.{Story, times, once_below, Calls, Looks}
-use Rattle.sp_offer.specs.Sight.{Sight, story}
+use Rattle.sp_offer.specs.Story.{Story, Knowledge, IsStory, times, once_below, Calls, Looks, Follows}
+use Rattle.sp_offer.specs.Sight.{Sight, newcomer, story}
 
 -- There is one legal history, which ends in the words, and whose offers the law allows. Each caller has seen a
 -- beginning of it, and each of its calls is one caller's own.
@@ -75,11 +75,58 @@ module _ {S : Type 0} where
   abbrev pub IsAtRest : TableId → Seat S Sight → Type 0
   IsAtRest table it = (it.table_id ≡ table) × (it.me.1 ≡ []) × (it.me.0.heard ≡ [])
 
+  -- a seat of the table that holds no slot
+  abbrev pub HoldsNoSlot : TableId → Seat S Sight → Type 0
+  HoldsNoSlot table it = (it.table_id ≡ table) × (it.me.1 ≡ [])
+
+  -- the table's first seat
+  abbrev pub IsFirstSeat : TableId → Seat S Sight → Type 0
+  IsFirstSeat table it = (it.table_id ≡ table) × (it.me ≡ (newcomer, []))
+
   abbrev pub IsSameSeat : Seat S Sight → Seat S Sight → Type 0
   IsSameSeat p q = (q.table_id ≡ p.table_id) × (q.id ≡ p.id)
 
   abbrev pub seat_story : Seat S Sight → Story
   seat_story it = story it.me.0
+
+  -- what contracts see of the caller on the seat
+  abbrev pub knowledge : Seat S Sight → Knowledge
+  knowledge it = record { table = it.table_id; number = it.id; story = seat_story it }
+
+  -- what holds of a caller's seat
+  abbrev pub IsCallersSeat : Seat S Sight → Type 0
+  IsCallersSeat it = (it.me.1 ≡ []) × (it.me.0.heard ≡ []) × IsStory (seat_story it)
+
+  -- the same seat, which has seen and done no more
+  abbrev pub IsAsItWas : Seat S Sight → Seat S Sight → Type 0
+  IsAsItWas p q = IsSameSeat p q × (seat_story q ≡ seat_story p)
+
+  -- the places of the seat's own calls
+  abbrev pub own_places : Seat S Sight → List ℕ
+  own_places it = (seat_story it).own
+
+  abbrev pub HasSamePlaces : Seat S Sight → Seat S Sight → Type 0
+  HasSamePlaces p q = own_places q ≡ own_places p
+
+  -- ## What a seat is told
+
+  module _ (law : ℕ → Word → Type 0) where
+    -- it saw the history so far
+    abbrev pub SeatLooks : Seat S Sight → Seat S Sight → Type 0
+    SeatLooks p q = (found : Word) × Looks law 1 found (seat_story p) (seat_story q)
+
+    -- afterwards the first has seen what both had
+    abbrev pub SeatSees : (first second after : Seat S Sight) → Type 0
+    SeatSees first second after = Follows law (seat_story first) (seat_story second) (seat_story after)
+
+  module _ (P : ℕ) (law : ℕ → Word → Type 0) (by vertex : ℕ) where
+    -- it read these bits
+    abbrev pub SeatReads : (bits : ℕ) → Seat S Sight → Seat S Sight → Type 0
+    SeatReads bits p q = Calls law (event by vertex (Read (word_of P bits))) (seat_story p) (seat_story q)
+
+    -- it offered the word, and these bits decided
+    abbrev pub SeatOffers : Word → (bits : ℕ) → Seat S Sight → Seat S Sight → Type 0
+    SeatOffers word bits p q = Calls law (answered by vertex word (word_of P bits)) (seat_story p) (seat_story q)
 
 -- what contracts see of a table: which it is, how many vertices it has, and its law
 pub record Board (L : Type 0) : Type 0 where

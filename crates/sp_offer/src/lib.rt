@@ -15,6 +15,3 @@ pub use law::{AnyWord, Lawful};
 pub use lowering::{Loop, Lowering, OneMin};
 pub use table::{Caller, OfferTable, Offered, SplitRefused};
 pub use words::{Place, Words};
-
-#[cfg(test)]
-mod tests;

@@ -1,10 +1,9 @@
 //! The two ways to lower a word.
 ghost use Rattle.std.specs.Prelude.{◌≡◌, ℕ, ◌≤◌, ◌<◌, Bool, true, false};
-ghost use Rattle.sp_word.specs.Word.{is_word, word_of};
-ghost use Rattle.sp_offer.specs.Order.{lawful};
-ghost use Rattle.sp_offer.specs.Story.{Calls, IsTried};
-ghost use Rattle.sp_offer.specs.Parts.{id_of, vertices_of, layout_of, law_of};
-ghost use Rattle.sp_offer.specs.Rule.{seat_story, IsAtRest, IsSameSeat, answered};
+ghost use Rattle.sp_word.specs.Word.{is_word};
+ghost use Rattle.sp_offer.specs.Story.{IsTried};
+ghost use Rattle.sp_offer.specs.Parts.{id_of, vertices_of, layout_of, word_in, law_in, Lowers};
+ghost use Rattle.sp_offer.specs.Rule.{seat_story, IsAtRest, IsSameSeat};
 
 use crate::law::Lawful;
 use crate::words::{Place, Words};
@@ -20,10 +19,10 @@ pub trait Lowering {
     fn lower<L: Lawful>(words: &Words<L>, seat: &mut Place, vertex: u32, word: u64) -> (u64, u64)
         requires vertex { (0 < vertex) × (vertex ≤ vertices_of words.now) }
         requires seat { IsAtRest (id_of words.now) seat.old }
-        requires word { lawful (layout_of words.now) (L.allows (law_of words.now)) vertex (word_of (layout_of words.now) word) }
+        requires word { law_in L.allows words.now vertex (word_in words.now word) }
         ensures seat { IsAtRest (id_of words.now) seat.new × IsSameSeat seat.old seat.new }
         ensures word { is_word (layout_of words.now) result.0 ≡ true }
-        ensures call { Calls (lawful (layout_of words.now) (L.allows (law_of words.now))) (answered seat.old.id vertex (word_of (layout_of words.now) word) (word_of (layout_of words.now) result.0)) (seat_story seat.old) (seat_story seat.new) }
+        ensures call { Lowers L.allows words.now vertex word result.0 seat.old seat.new }
         ensures tries { IsTried vertex (seat_story seat.old) (seat_story seat.new) result.1 }
         ensures one { Self.is_one_step ≡ true → result.1 ≡ 1 };
 }

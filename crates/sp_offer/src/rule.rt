@@ -23,7 +23,7 @@ pub struct Terms<L> {
 pub struct InOneHistory;
 
 impl<L: Lawful> TableRule<(), View, Terms<L>> for InOneHistory {
-    ghost holds = { λ terms. rule terms.layout (lawful terms.layout (L.allows terms.law)) terms.vertices };
+    ghost holds = { λ key. rule key.layout (lawful key.layout (L.allows key.law)) key.vertices };
 
     ghost first = { λ _. newcomer };
 }

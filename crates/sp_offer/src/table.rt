@@ -1,11 +1,9 @@
 //! The table and its callers.
-ghost use Rattle.std.specs.Prelude.{◌≡◌, ℕ, ◌+◌, ◌≤◌, ◌<◌, true, [], ◌∷◌, ◌++◌, length, IfOk, IsOkAnd};
+ghost use Rattle.std.specs.Prelude.{◌≡◌, ℕ, ◌+◌, ◌≤◌, ◌<◌, true, ◌++◌, length, IfOk, IsOkAnd};
 ghost use Rattle.sp_word.specs.Word.{IsPair, is_layout};
-ghost use Rattle.sp_word.specs.History.{Offer, Read};
 ghost use Rattle.sp_word.specs.Reply.{reply_to};
-ghost use Rattle.sp_offer.specs.Order.{lawful};
-ghost use Rattle.sp_offer.specs.Histories.{event};
-ghost use Rattle.sp_offer.specs.Story.{Calls, Knows, Follows, IsTried, fresh, beside, own_calls, Reads, reads_of, IsCopy};
+ghost use Rattle.sp_offer.specs.Story.{IsTried, fresh, own_calls, reads_of};
+ghost use Rattle.sp_offer.specs.Calling.{IsSameCaller, KeepsPlaces, HasSameCalls, IsBeside, offer_of, read_of, Tells, Owns, OwnsAll, Offers, ReadsWord, ReadsWords, CopiesWords, SeesBoth};
 
 use crate::law::Lawful;
 use crate::lowering::{Loop, Lowering};
@@ -23,12 +21,13 @@ pub struct OfferTable<L: Lawful, const P: u32> {
 impl<L: Lawful, const P: u32> Model for OfferTable<L, P> {
     ghost use Rattle.std.specs.Prelude.{◌≡◌};
     ghost use Rattle.sp_offer.specs.Rule.{Board};
+    ghost use Rattle.sp_offer.specs.Parts.{board_of, layout_of};
 
     ghost Value = { Board L };
 
-    ghost view = { λ t. record { id = t.words.table.shared.table_id; vertices = t.words.table.shared.key.vertices; law = t.words.table.shared.key.law } };
+    ghost view = { λ t. board_of t.words };
 
-    ghost invariant = { λ t. t.words.table.shared.key.layout ≡ P };
+    ghost invariant = { λ t. layout_of t.words ≡ P };
 }
 
 /// What one thread knows of a table, and its right to call there. It has no bytes.
@@ -38,15 +37,14 @@ pub struct Caller {
 }
 
 impl Model for Caller {
-    ghost use Rattle.std.specs.Prelude.{◌≡◌, []};
-    ghost use Rattle.sp_offer.specs.Rule.{seat_story};
-    ghost use Rattle.sp_offer.specs.Story.{Knowledge, IsStory};
+    ghost use Rattle.sp_offer.specs.Story.{Knowledge};
+    ghost use Rattle.sp_offer.specs.Rule.{knowledge, IsCallersSeat};
 
     ghost Value = { Knowledge };
 
-    ghost view = { λ c. record { table = c.seat.table_id; number = c.seat.id; story = seat_story c.seat } };
+    ghost view = { λ c. knowledge c.seat };
 
-    ghost invariant = { λ c. (c.seat.me.1 ≡ []) × (c.seat.me.0.heard ≡ []) × IsStory (seat_story c.seat) };
+    ghost invariant = { λ c. IsCallersSeat c.seat };
 }
 
 /// There was no memory for a second caller, and the first is as it was.
@@ -86,12 +84,12 @@ impl<L: Lawful, const P: u32> OfferTable<L, P> {
         requires vertex { (0 < vertex) × (vertex ≤ self.now.vertices) }
         requires caller { caller.old.table ≡ self.now.id }
         requires word { IsPair word × L.allows self.now.law vertex word }
-        ensures caller { (caller.new.table ≡ caller.old.table) × (caller.new.number ≡ caller.old.number) }
-        ensures call { Calls (lawful P (L.allows self.now.law)) (event caller.old.number vertex (Offer word.entry result.found result.reply)) caller.old.story caller.new.story }
-        ensures known { Knows (event caller.old.number vertex (Offer word.entry result.found result.reply)) caller.old.story caller.new.story }
+        ensures caller { IsSameCaller caller.old caller.new }
+        ensures call { Offers P L.allows self.now vertex word.entry result caller.old caller.new }
+        ensures known { Tells (offer_of caller.old vertex word.entry result) caller.old caller.new }
         ensures reply { result.reply ≡ reply_to result.found word.entry }
         ensures tries { IsTried vertex caller.old.story caller.new.story result.tries }
-        ensures own { own_calls caller.new.story ≡ own_calls caller.old.story ++ event caller.old.number vertex (Offer word.entry result.found result.reply) ∷ [] }
+        ensures own { Owns (offer_of caller.old vertex word.entry result) caller.old caller.new }
     {
         self.offer_by::<Loop>(caller, vertex, word)
     }
@@ -106,13 +104,13 @@ impl<L: Lawful, const P: u32> OfferTable<L, P> {
         requires vertex { (0 < vertex) × (vertex ≤ self.now.vertices) }
         requires caller { caller.old.table ≡ self.now.id }
         requires word { IsPair word × L.allows self.now.law vertex word }
-        ensures caller { (caller.new.table ≡ caller.old.table) × (caller.new.number ≡ caller.old.number) }
-        ensures call { Calls (lawful P (L.allows self.now.law)) (event caller.old.number vertex (Offer word.entry result.found result.reply)) caller.old.story caller.new.story }
-        ensures known { Knows (event caller.old.number vertex (Offer word.entry result.found result.reply)) caller.old.story caller.new.story }
+        ensures caller { IsSameCaller caller.old caller.new }
+        ensures call { Offers P L.allows self.now vertex word.entry result caller.old caller.new }
+        ensures known { Tells (offer_of caller.old vertex word.entry result) caller.old caller.new }
         ensures reply { result.reply ≡ reply_to result.found word.entry }
         ensures tries { IsTried vertex caller.old.story caller.new.story result.tries }
         ensures one { M.is_one_step ≡ true → result.tries ≡ 1 }
-        ensures own { own_calls caller.new.story ≡ own_calls caller.old.story ++ event caller.old.number vertex (Offer word.entry result.found result.reply) ∷ [] }
+        ensures own { Owns (offer_of caller.old vertex word.entry result) caller.old caller.new }
     {
         // The word fits its layout.
         let _ = word.dist();
@@ -129,10 +127,10 @@ impl<L: Lawful, const P: u32> OfferTable<L, P> {
     pub fn read(&self, caller: &mut Caller, vertex: u32) -> Word<P>
         requires vertex { (0 < vertex) × (vertex ≤ self.now.vertices) }
         requires caller { caller.old.table ≡ self.now.id }
-        ensures caller { (caller.new.table ≡ caller.old.table) × (caller.new.number ≡ caller.old.number) }
-        ensures call { Calls (lawful P (L.allows self.now.law)) (event caller.old.number vertex (Read result)) caller.old.story caller.new.story }
-        ensures known { Knows (event caller.old.number vertex (Read result)) caller.old.story caller.new.story }
-        ensures own { own_calls caller.new.story ≡ own_calls caller.old.story ++ event caller.old.number vertex (Read result) ∷ [] }
+        ensures caller { IsSameCaller caller.old caller.new }
+        ensures call { ReadsWord P L.allows self.now vertex result caller.old caller.new }
+        ensures known { Tells (read_of caller.old vertex result) caller.old caller.new }
+        ensures own { Owns (read_of caller.old vertex result) caller.old caller.new }
     {
         Word::from_bits(self.words.read::<Brand>(&mut caller.seat, vertex))
     }
@@ -141,11 +139,11 @@ impl<L: Lawful, const P: u32> OfferTable<L, P> {
     pub fn copy_words(&self, caller: &mut Caller, words: &mut [Word<P>])
         requires caller { caller.old.table ≡ self.now.id }
         requires room { length words.old ≡ self.now.vertices }
-        ensures caller { (caller.new.table ≡ caller.old.table) × (caller.new.number ≡ caller.old.number) }
-        ensures reads { Reads (lawful P (L.allows self.now.law)) caller.old.number 1 words.new caller.old.story caller.new.story }
-        ensures copy { IsCopy (lawful P (L.allows self.now.law)) words.new caller.old.story caller.new.story }
+        ensures caller { IsSameCaller caller.old caller.new }
+        ensures reads { ReadsWords P L.allows self.now words.new caller.old caller.new }
+        ensures copy { CopiesWords P L.allows self.now words.new caller.old caller.new }
         ensures length { length words.new ≡ length words.old }
-        ensures own { own_calls caller.new.story ≡ own_calls caller.old.story ++ reads_of caller.old.number 1 words.new }
+        ensures own { OwnsAll (reads_of caller.old.number 1 words.new) caller.old caller.new }
     {
         // There is a vertex.
         let _ = &self.words;
@@ -158,9 +156,9 @@ impl<L: Lawful, const P: u32> OfferTable<L, P> {
     fn copy_word(&self, caller: &mut Caller, place: usize, copy: &mut Word<P>)
         requires caller { caller.old.table ≡ self.now.id }
         requires place { place < self.now.vertices }
-        ensures caller { (caller.new.table ≡ caller.old.table) × (caller.new.number ≡ caller.old.number) }
-        ensures call { Calls (lawful P (L.allows self.now.law)) (event caller.old.number (place + 1) (Read copy.new)) caller.old.story caller.new.story }
-        ensures own { own_calls caller.new.story ≡ own_calls caller.old.story ++ event caller.old.number (place + 1) (Read copy.new) ∷ [] }
+        ensures caller { IsSameCaller caller.old caller.new }
+        ensures call { ReadsWord P L.allows self.now (place + 1) copy.new caller.old caller.new }
+        ensures own { Owns (read_of caller.old (place + 1) copy.new) caller.old caller.new }
     {
         // There are fewer than 2^32 vertices.
         let _ = &self.words;
@@ -171,7 +169,7 @@ impl<L: Lawful, const P: u32> OfferTable<L, P> {
     pub fn split(&self, caller: Caller) -> Result<(Caller, Caller), SplitRefused>
         requires { caller.table ≡ self.now.id }
         ensures first { IsOkAnd result (λ c. c.0 ≡ caller) }
-        ensures second { IsOkAnd result (λ c. (c.1.table ≡ caller.table) × (c.1.story ≡ beside caller.story)) }
+        ensures second { IsOkAnd result (λ c. IsBeside caller c.1) }
     {
         let Caller { mut seat } = caller;
         let second = self.words.split(&mut seat);
@@ -182,8 +180,8 @@ impl<L: Lawful, const P: u32> OfferTable<L, P> {
     pub fn join(&self, first: Caller, second: Caller) -> Caller
         requires first { first.table ≡ self.now.id }
         requires second { second.table ≡ self.now.id }
-        ensures caller { (result.table ≡ first.table) × (result.number ≡ first.number) }
-        ensures story { Follows (lawful P (L.allows self.now.law)) first.story second.story result.story }
+        ensures caller { IsSameCaller first result }
+        ensures story { SeesBoth P L.allows self.now first second result }
         ensures places { result.story.own ≡ first.story.own ++ second.story.own }
         ensures own { own_calls result.story ≡ own_calls first.story ++ own_calls second.story }
     {
@@ -197,11 +195,11 @@ impl<L: Lawful, const P: u32> OfferTable<L, P> {
     pub fn meet(&self, first: &mut Caller, second: &mut Caller)
         requires first { first.old.table ≡ self.now.id }
         requires second { second.old.table ≡ self.now.id }
-        ensures first { (first.new.table ≡ first.old.table) × (first.new.number ≡ first.old.number) × (first.new.story.own ≡ first.old.story.own) }
-        ensures second { (second.new.table ≡ second.old.table) × (second.new.number ≡ second.old.number) × (second.new.story.own ≡ second.old.story.own) }
-        ensures first_sees { Follows (lawful P (L.allows self.now.law)) first.old.story second.old.story first.new.story }
-        ensures second_sees { Follows (lawful P (L.allows self.now.law)) second.old.story first.new.story second.new.story }
-        ensures own { (own_calls first.new.story ≡ own_calls first.old.story) × (own_calls second.new.story ≡ own_calls second.old.story) }
+        ensures first { KeepsPlaces first.old first.new }
+        ensures second { KeepsPlaces second.old second.new }
+        ensures first_sees { SeesBoth P L.allows self.now first.old second.old first.new }
+        ensures second_sees { SeesBoth P L.allows self.now second.old first.new second.new }
+        ensures own { HasSameCalls first.old first.new × HasSameCalls second.old second.new }
     {
         self.words.meet(&mut first.seat, &mut second.seat);
     }

@@ -36,9 +36,12 @@ offers_of max rows t = offers_along max t.dist (arcs_of rows t)
 
 -- ## What a round asks of its tasks
 
--- each offer of the task within max is a word that the table takes
+-- each offer along these arcs within max is a word that the table takes
+abbrev pub AreAllowed : (law : ℕ → Word → Type 0) → (max d : ℕ) → List Arc → Type 0
+AreAllowed law max d arcs = All (λ (a : Arc). d + a.len ≤ max → law a.head (Pair (d + a.len) a.tail)) arcs
+
 abbrev pub IsAllowed : (law : ℕ → Word → Type 0) → (max : ℕ) → Split → Task → Type 0
-IsAllowed law max rows t = All (λ (a : Arc). t.dist + a.len ≤ max → law a.head (Pair (t.dist + a.len) a.tail)) (arcs_of rows t)
+IsAllowed law max rows t = AreAllowed law max t.dist (arcs_of rows t)
 
 -- its vertex is one, and its distance within max
 abbrev pub IsTask : (law : ℕ → Word → Type 0) → (max : ℕ) → Split → Task → Type 0

@@ -67,6 +67,10 @@ pub record IsReady (P : ℕ) (law : ℕ → Word → Type 0) (vertices slots : �
 abbrev pub AreOf : TableId → TableId → Knowledge → Held → Type 0
 AreOf table claims caller claimer = (caller.table ≡ table) × (claimer.table ≡ claims)
 
+-- a claimer of this table to which nothing was granted
+abbrev pub HasNoGrants : TableId → Held → Type 0
+HasNoGrants claims claimer = (claimer.table ≡ claims) × (claimer.grants ≡ [])
+
 -- ## Calls and receipts
 
 pub record Did : Type 0 where

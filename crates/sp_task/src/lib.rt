@@ -15,6 +15,3 @@ pub use round::{run_round, run_round_by};
 pub use task::{Kind, Round, Task};
 pub use walks::{Walks, walks_allow_arcs};
 pub use work::{Receipt, RoundOut, RoundRefused};
-
-#[cfg(test)]
-mod tests;

@@ -1,12 +1,11 @@
 //! Rounds.
-ghost use Rattle.std.specs.Prelude.{◌≡◌, ℕ, ◌+◌, ◌<◌, ◌≤◌, true, false, length, vec_len, replicate, max, All, IfOk, IfErr};
-ghost use Rattle.sp_word.specs.Word.{is_layout, max_dist};
+ghost use Rattle.std.specs.Prelude.{◌≡◌, ℕ, ◌+◌, ◌<◌, ◌≤◌, true, false, length, vec_len, replicate, IfOk, IfErr};
+ghost use Rattle.sp_word.specs.Word.{is_layout};
 ghost use Rattle.sp_offer.specs.Order.{lawful};
-ghost use Rattle.sp_task.specs.Offers.{IsTask};
-ghost use Rattle.sp_offer.specs.Story.{own_calls};
+ghost use Rattle.sp_offer.specs.Calling.{HasSameCalls};
 ghost use Rattle.sp_task.specs.Later.{IsLater, HasLegalHistory};
-ghost use Rattle.sp_task.specs.Work.{IsReady, AreOf};
-ghost use Rattle.sp_task.specs.Left.{RoundDone};
+ghost use Rattle.sp_task.specs.Work.{AreOf};
+ghost use Rattle.sp_task.specs.Rounds.{TakesTasks, IsReadyRound, IsRoundDone, IsLaterIn, HasLegalHistoryIn, most_workers};
 
 use crate::gate::Gate;
 use crate::task::Round;
@@ -37,14 +36,14 @@ pub fn run_round<R: Threads + Wait + Sync, L: Lawful + Send + Sync, G: Gate + Sy
     requires slots { round.now.rows.now.graph.n ≤ round.now.claims.now.words }
     requires caller { caller.table ≡ round.now.table.now.id }
     requires claimer { claimer.table ≡ round.now.claims.now }
-    requires tasks { All (IsTask (lawful P (L.allows round.now.table.now.law)) (max_dist P) round.now.rows.now) round.now.tasks.now }
-    ensures done { IfOk result (λ o. RoundDone (lawful P (L.allows round.now.table.now.law)) (max_dist P) round.now.rows.now round.now.tasks.now caller o.caller o.found.items) }
+    requires tasks { TakesTasks L.allows round.now }
+    ensures done { IfOk result (λ o. IsRoundDone L.allows round.now caller o) }
     ensures claimer { IfOk result (λ o. o.claimer.table ≡ claimer.table) }
     ensures started { IfOk result (λ o. (1 ≤ o.started) × (o.started ≤ round.now.workers)) }
-    ensures legal { IfOk result (λ o. HasLegalHistory (lawful P (L.allows round.now.table.now.law)) o.caller) }
-    ensures refused { IfErr result (λ r. IsLater (lawful P (L.allows round.now.table.now.law)) caller r.caller) }
+    ensures legal { IfOk result (λ o. HasLegalHistoryIn L.allows round.now o.caller) }
+    ensures refused { IfErr result (λ r. IsLaterIn L.allows round.now caller r.caller) }
     ensures refused_claimer { IfErr result (λ r. r.claimer.table ≡ claimer.table) }
-    ensures refused_legal { IfErr result (λ r. HasLegalHistory (lawful P (L.allows round.now.table.now.law)) r.caller) }
+    ensures refused_legal { IfErr result (λ r. HasLegalHistoryIn L.allows round.now r.caller) }
 {
     run_round_by::<Loop, R, L, G, P>(rt, alloc, round, caller, claimer, gate)
 }
@@ -70,14 +69,14 @@ pub fn run_round_by<
     requires slots { round.now.rows.now.graph.n ≤ round.now.claims.now.words }
     requires caller { caller.table ≡ round.now.table.now.id }
     requires claimer { claimer.table ≡ round.now.claims.now }
-    requires tasks { All (IsTask (lawful P (L.allows round.now.table.now.law)) (max_dist P) round.now.rows.now) round.now.tasks.now }
-    ensures done { IfOk result (λ o. RoundDone (lawful P (L.allows round.now.table.now.law)) (max_dist P) round.now.rows.now round.now.tasks.now caller o.caller o.found.items) }
+    requires tasks { TakesTasks L.allows round.now }
+    ensures done { IfOk result (λ o. IsRoundDone L.allows round.now caller o) }
     ensures claimer { IfOk result (λ o. o.claimer.table ≡ claimer.table) }
     ensures started { IfOk result (λ o. (1 ≤ o.started) × (o.started ≤ round.now.workers)) }
-    ensures legal { IfOk result (λ o. HasLegalHistory (lawful P (L.allows round.now.table.now.law)) o.caller) }
-    ensures refused { IfErr result (λ r. IsLater (lawful P (L.allows round.now.table.now.law)) caller r.caller) }
+    ensures legal { IfOk result (λ o. HasLegalHistoryIn L.allows round.now o.caller) }
+    ensures refused { IfErr result (λ r. IsLaterIn L.allows round.now caller r.caller) }
     ensures refused_claimer { IfErr result (λ r. r.claimer.table ≡ claimer.table) }
-    ensures refused_legal { IfErr result (λ r. HasLegalHistory (lawful P (L.allows round.now.table.now.law)) r.caller) }
+    ensures refused_legal { IfErr result (λ r. HasLegalHistoryIn L.allows round.now r.caller) }
 {
     // there is a vertex, and so a slot to claim
     let _ = round.rows.n();
@@ -95,7 +94,7 @@ pub fn run_round_by<
 fn look<L: Lawful, const P: u32>(table: &OfferTable<L, P>, caller: Caller) -> Caller
     requires { caller.table ≡ table.now.id }
     ensures later { IsLater (lawful P (L.allows table.now.law)) caller result }
-    ensures own { own_calls result.story ≡ own_calls caller.story }
+    ensures own { HasSameCalls caller result }
     ensures legal { HasLegalHistory (lawful P (L.allows table.now.law)) result }
 {
     let Ok((caller, other)) = table.split(caller) else {
@@ -130,15 +129,15 @@ fn run_by_leader<M: Lowering, L: Lawful, G: Gate, const P: u32>(
     claimer: Claimer,
     gate: &G,
 ) -> Result<RoundOut, RoundRefused>
-    requires ready { IsReady P (lawful P (L.allows round.now.table.now.law)) round.now.table.now.vertices round.now.claims.now.words round.now.rows.now round.now.tasks.now }
+    requires ready { IsReadyRound L.allows round.now }
     requires caller { caller.table ≡ round.now.table.now.id }
-    ensures done { IfOk result (λ o. RoundDone (lawful P (L.allows round.now.table.now.law)) (max_dist P) round.now.rows.now round.now.tasks.now caller o.caller o.found.items) }
+    ensures done { IfOk result (λ o. IsRoundDone L.allows round.now caller o) }
     ensures claimer { IfOk result (λ o. o.claimer ≡ claimer) }
     ensures started { IfOk result (λ o. o.started ≡ 1) }
-    ensures legal { IfOk result (λ o. HasLegalHistory (lawful P (L.allows round.now.table.now.law)) o.caller) }
-    ensures refused { IfErr result (λ r. IsLater (lawful P (L.allows round.now.table.now.law)) caller r.caller) }
+    ensures legal { IfOk result (λ o. HasLegalHistoryIn L.allows round.now o.caller) }
+    ensures refused { IfErr result (λ r. IsLaterIn L.allows round.now caller r.caller) }
     ensures refused_claimer { IfErr result (λ r. r.claimer ≡ claimer) }
-    ensures refused_legal { IfErr result (λ r. HasLegalHistory (lawful P (L.allows round.now.table.now.law)) r.caller) }
+    ensures refused_legal { IfErr result (λ r. HasLegalHistoryIn L.allows round.now r.caller) }
 {
     let mut caller = look(round.table, caller);
     let mut found = Vec::new(alloc);
@@ -169,18 +168,18 @@ fn run_shared<
     claimer: Claimer,
     gate: &G,
 ) -> Result<RoundOut, RoundRefused>
-    requires ready { IsReady P (lawful P (L.allows round.now.table.now.law)) round.now.table.now.vertices round.now.claims.now.words round.now.rows.now round.now.tasks.now }
+    requires ready { IsReadyRound L.allows round.now }
     requires slots { 0 < round.now.claims.now.words }
     requires tokens { AreOf round.now.table.now.id round.now.claims.now caller claimer }
     requires marks { prepared.marks.items ≡ replicate (length round.now.tasks.now) false }
     requires len { vec_len prepared.marks ≡ length round.now.tasks.now }
-    ensures done { IfOk result (λ o. RoundDone (lawful P (L.allows round.now.table.now.law)) (max_dist P) round.now.rows.now round.now.tasks.now caller o.caller o.found.items) }
+    ensures done { IfOk result (λ o. IsRoundDone L.allows round.now caller o) }
     ensures claimer { IfOk result (λ o. o.claimer.table ≡ claimer.table) }
-    ensures started { IfOk result (λ o. (1 ≤ o.started) × (o.started ≤ max 1 (vec_len prepared.deques.owners))) }
-    ensures legal { IfOk result (λ o. HasLegalHistory (lawful P (L.allows round.now.table.now.law)) o.caller) }
-    ensures refused { IfErr result (λ r. IsLater (lawful P (L.allows round.now.table.now.law)) caller r.caller) }
+    ensures started { IfOk result (λ o. (1 ≤ o.started) × (o.started ≤ most_workers prepared)) }
+    ensures legal { IfOk result (λ o. HasLegalHistoryIn L.allows round.now o.caller) }
+    ensures refused { IfErr result (λ r. IsLaterIn L.allows round.now caller r.caller) }
     ensures refused_claimer { IfErr result (λ r. r.claimer.table ≡ claimer.table) }
-    ensures refused_legal { IfErr result (λ r. HasLegalHistory (lawful P (L.allows round.now.table.now.law)) r.caller) }
+    ensures refused_legal { IfErr result (λ r. HasLegalHistoryIn L.allows round.now r.caller) }
 {
     let Prepared { mut marks, deques } = prepared;
     let Deques {

@@ -1,10 +1,8 @@
 //! The tasks that no worker has a receipt for.
-ghost use Rattle.std.specs.Prelude.{◌≡◌, ℕ, ◌+◌, ◌<◌, ◌≤◌, [], length, vec_len, false, IsTrue, replicate, slice_index_or};
-ghost use Rattle.sp_word.specs.Word.{max_dist};
-ghost use Rattle.sp_offer.specs.Order.{lawful};
-ghost use Rattle.sp_task.specs.Later.{IsLater};
-ghost use Rattle.sp_task.specs.Work.{IsReady, AllBelow, numbers_of, jobs_of};
-ghost use Rattle.sp_task.specs.Left.{IsMarked, RanLeft};
+ghost use Rattle.std.specs.Prelude.{◌≡◌, ℕ, ◌+◌, ◌<◌, ◌≤◌, [], vec_len, false, IsTrue, replicate, slice_index_or};
+ghost use Rattle.sp_task.specs.Work.{AllBelow, numbers_of};
+ghost use Rattle.sp_task.specs.Left.{IsMarked};
+ghost use Rattle.sp_task.specs.Rounds.{IsReadyRound, IsLaterIn, RunsUnmarked};
 
 use crate::gate::Gate;
 use crate::task::Round;
@@ -42,10 +40,11 @@ pub(crate) fn run_left<M: Lowering, L: Lawful, G: Gate, const P: u32>(
     caller: &mut Caller,
     found: &mut Vec<Entry>,
 ) -> bool
-    requires ready { IsReady P (lawful P (L.allows round.now.table.now.law)) round.now.table.now.vertices round.now.claims.now.words round.now.rows.now round.now.tasks.now }
+    requires ready { IsReadyRound L.allows round.now }
     requires table { caller.old.table ≡ round.now.table.now.id }
-    ensures later { IsLater (lawful P (L.allows round.now.table.now.law)) caller.old caller.new }
-    ensures left { IsTrue result → RanLeft (lawful P (L.allows round.now.table.now.law)) (jobs_of (max_dist P) round.now.rows.now round.now.tasks.now) marks.now (length round.now.tasks.now) caller.old caller.new found.old.items found.new.items }
+    ensures later { IsLaterIn L.allows round.now caller.old caller.new }
+    ensures left { IsTrue result
+        → RunsUnmarked L.allows round.now marks.now caller.old caller.new found.old found.new }
 {
     for number in 0..round.tasks.len() {
         if is_marked(marks, number) {

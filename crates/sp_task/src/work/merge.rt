@@ -1,32 +1,45 @@
 //! Two groups of workers, brought together.
-ghost use Rattle.std.specs.Prelude.{◌≡◌, ℕ, ◌+◌, ◌<◌, ◌≤◌, IfOk, IfErr};
+ghost use Rattle.std.specs.Prelude.{◌≡◌, ℕ, ◌<◌, IfOk, IfErr};
 ghost use Rattle.sp_offer.specs.Order.{lawful};
-ghost use Rattle.sp_task.specs.Work.{AreOf, AreJoined, Joined, IsMerged, did, caller_of, claimer_of};
+ghost use Rattle.sp_task.specs.Work.{AreOf, IsMerged, caller_of, claimer_of};
+ghost use Rattle.sp_task.specs.Rounds.{JoinsTokens, JoinsTokensOf, JoinsDone, CountsBoth};
 
 use crate::work::{Done, RoundRefused};
-use sp_claim::{ClaimTable, Claimer};
-use sp_offer::{Caller, Lawful, OfferTable};
+use sp_claim::ClaimTable;
+use sp_offer::{Lawful, OfferTable};
 
 /// What a group of workers answers. A refusal means that there was no memory to bring two groups together.
 pub(crate) type Worked = Result<Done, RoundRefused>;
+
+/// The caller and the claimer of a group, whatever it answers.
+fn tokens_of(group: Worked) -> RoundRefused
+    ensures caller { result.caller ≡ caller_of group }
+    ensures claimer { result.claimer ≡ claimer_of group }
+{
+    match group {
+        Ok(done) => RoundRefused {
+            caller: done.caller,
+            claimer: done.claimer,
+        },
+        Err(refused) => refused,
+    }
+}
 
 /// One caller and one claimer for two of each.
 fn join_tokens<L: Lawful, const P: u32>(
     table: &OfferTable<L, P>,
     claims: &ClaimTable,
-    caller: Caller,
-    claimer: Claimer,
-    other_caller: Caller,
-    other_claimer: Claimer,
+    first: RoundRefused,
+    second: RoundRefused,
 ) -> RoundRefused
     requires slots { 0 < claims.now.words }
-    requires mine { AreOf table.now.id claims.now caller claimer }
-    requires theirs { AreOf table.now.id claims.now other_caller other_claimer }
-    ensures { AreJoined (lawful P (L.allows table.now.law)) caller other_caller result.caller claimer other_claimer result.claimer }
+    requires first { AreOf table.now.id claims.now first.caller first.claimer }
+    requires second { AreOf table.now.id claims.now second.caller second.claimer }
+    ensures { JoinsTokens P L.allows table.now first second result }
 {
     RoundRefused {
-        caller: table.join(caller, other_caller),
-        claimer: claims.join(claimer, other_claimer),
+        caller: table.join(first.caller, second.caller),
+        claimer: claims.join(first.claimer, second.claimer),
     }
 }
 
@@ -40,17 +53,21 @@ fn merge_done<L: Lawful, const P: u32>(
     requires slots { 0 < claims.now.words }
     requires mine { AreOf table.now.id claims.now mine.caller mine.claimer }
     requires theirs { AreOf table.now.id claims.now theirs.caller theirs.claimer }
-    ensures joined { IfOk result (λ d. Joined (lawful P (L.allows table.now.law)) (did mine) (did theirs) (did d)) }
-    ensures started { IfOk result (λ d. (mine.started ≤ d.started) × (d.started ≤ mine.started + theirs.started)) }
-    ensures refused { IfErr result (λ r. AreJoined (lawful P (L.allows table.now.law)) mine.caller theirs.caller r.caller mine.claimer theirs.claimer r.claimer) }
+    ensures joined { IfOk result (λ d. JoinsDone P L.allows table.now mine theirs d) }
+    ensures started { IfOk result (λ d. CountsBoth mine theirs d) }
+    ensures refused { IfErr result (λ r. JoinsTokensOf P L.allows table.now mine theirs r) }
 {
     let RoundRefused { caller, claimer } = join_tokens(
         table,
         claims,
-        mine.caller,
-        mine.claimer,
-        theirs.caller,
-        theirs.claimer,
+        RoundRefused {
+            caller: mine.caller,
+            claimer: mine.claimer,
+        },
+        RoundRefused {
+            caller: theirs.caller,
+            claimer: theirs.claimer,
+        },
     );
     let mut receipts = mine.receipts;
     let mut found = mine.found;
@@ -82,29 +99,6 @@ pub(crate) fn merge<L: Lawful, const P: u32>(
 {
     match (mine, theirs) {
         (Ok(mine), Ok(theirs)) => merge_done(table, claims, mine, theirs),
-        (Ok(mine), Err(theirs)) => Err(join_tokens(
-            table,
-            claims,
-            mine.caller,
-            mine.claimer,
-            theirs.caller,
-            theirs.claimer,
-        )),
-        (Err(mine), Ok(theirs)) => Err(join_tokens(
-            table,
-            claims,
-            mine.caller,
-            mine.claimer,
-            theirs.caller,
-            theirs.claimer,
-        )),
-        (Err(mine), Err(theirs)) => Err(join_tokens(
-            table,
-            claims,
-            mine.caller,
-            mine.claimer,
-            theirs.caller,
-            theirs.claimer,
-        )),
+        (mine, theirs) => Err(join_tokens(table, claims, tokens_of(mine), tokens_of(theirs))),
     }
 }

@@ -1,12 +1,10 @@
 //! Workers that take tasks from one another.
 //!
 //! What a deque hands out is a hint: nothing is known of it but that it is a number. The claim decides who runs a task.
-ghost use Rattle.std.specs.Prelude.{◌≡◌, ℕ, ◌+◌, ◌<◌, ◌≤◌, [], length, vec_len, IfOk};
-ghost use denote.Param.Send.{IsSync, IsSend};
-ghost use Rattle.sp_word.specs.Word.{max_dist};
-ghost use Rattle.sp_offer.specs.Order.{lawful};
-ghost use Rattle.sp_offer.specs.Story.{beside};
-ghost use Rattle.sp_task.specs.Work.{IsReady, Goes, did, start, AreOf, Answers, jobs_of};
+ghost use Rattle.std.specs.Prelude.{◌≡◌, ℕ, ◌+◌, ◌<◌, ◌≤◌, length, vec_len, IfOk};
+ghost use Rattle.sp_offer.specs.Calling.{IsBeside};
+ghost use Rattle.sp_task.specs.Work.{did, start, AreOf, HasNoGrants};
+ghost use Rattle.sp_task.specs.Rounds.{jobs_at, IsReadyRound, GoesOn, IsReadyFor, AreShared, CanWork, OneGives, AllGive};
 
 use crate::gate::Gate;
 use crate::task::{Round, Task};
@@ -101,10 +99,10 @@ fn try_number<M: Lowering, L: Lawful, G: Gate, const P: u32>(
     number: usize,
     done: &mut Done,
 ) -> bool
-    requires ready { IsReady P (lawful P (L.allows round.now.table.now.law)) round.now.table.now.vertices round.now.claims.now.words round.now.rows.now round.now.tasks.now }
+    requires ready { IsReadyRound L.allows round.now }
     requires table { done.old.caller.table ≡ round.now.table.now.id }
     requires claims { done.old.claimer.table ≡ round.now.claims.now }
-    ensures goes { Goes (lawful P (L.allows round.now.table.now.law)) (jobs_of (max_dist P) round.now.rows.now round.now.tasks.now) round.now.number (did done.old) (did done.new) }
+    ensures goes { GoesOn L.allows round.now (did done.old) (did done.new) }
     ensures started { done.new.started ≡ done.old.started }
 {
     if number >= round.tasks.len() {
@@ -121,9 +119,9 @@ fn run_worker<M: Lowering, L: Lawful, G: Gate, const P: u32>(
     stealers: &[Stealer<usize>],
     seat: Seat,
 ) -> Done
-    requires ready { IsReady P (lawful P (L.allows round.now.table.now.law)) round.now.table.now.vertices round.now.claims.now.words round.now.rows.now round.now.tasks.now }
+    requires ready { IsReadyRound L.allows round.now }
     requires tokens { AreOf round.now.table.now.id round.now.claims.now seat.caller seat.claimer }
-    ensures goes { Goes (lawful P (L.allows round.now.table.now.law)) (jobs_of (max_dist P) round.now.rows.now round.now.tasks.now) round.now.number (start seat.caller seat.claimer) (did result) }
+    ensures goes { GoesOn L.allows round.now (start seat.caller seat.claimer) (did result) }
     ensures started { result.started ≡ 1 }
 {
     let Seat {
@@ -162,9 +160,9 @@ fn run_alone<M: Lowering, L: Lawful, G: Gate, const P: u32>(
     stealers: &[Stealer<usize>],
     seat: Seat,
 ) -> Worked
-    requires ready { IsReady P (lawful P (L.allows table.now.law)) table.now.vertices claims.now.words rows.now tasks.now }
+    requires ready { IsReadyFor P L.allows table.now claims.now rows.now tasks.now }
     requires tokens { AreOf table.now.id claims.now seat.caller seat.claimer }
-    ensures { Answers (lawful P (L.allows table.now.law)) (jobs_of (max_dist P) rows.now tasks.now) plan.number seat.caller seat.claimer 1 result }
+    ensures { OneGives P L.allows table.now (jobs_at P rows.now tasks.now) plan seat result }
 {
     let round = Round {
         table,
@@ -187,8 +185,8 @@ fn split_seat<L: Lawful, const P: u32>(
     requires slots { 0 < claims.now.words }
     requires tokens { AreOf table.now.id claims.now seat.caller seat.claimer }
     ensures first { (result.0.caller ≡ seat.caller) × (result.0.claimer ≡ seat.claimer) }
-    ensures caller { (result.1.caller.table ≡ seat.caller.table) × (result.1.caller.story ≡ beside seat.caller.story) }
-    ensures claimer { (result.1.claimer.table ≡ seat.claimer.table) × (result.1.claimer.grants ≡ []) }
+    ensures caller { IsBeside seat.caller result.1.caller }
+    ensures claimer { HasNoGrants seat.claimer.table result.1.claimer }
 {
     let Ok((caller, other_caller)) = table.split(seat.caller) else {
         unreachable!()
@@ -232,10 +230,10 @@ pub(crate) fn run_workers<
     mut others: Vec<Worker<usize>>,
     seat: Seat,
 ) -> Worked
-    requires ready { IsReady P (lawful P (L.allows table.now.law)) table.now.vertices claims.now.words rows.now tasks.now }
+    requires ready { IsReadyFor P L.allows table.now claims.now rows.now tasks.now }
     requires slots { 0 < claims.now.words }
     requires tokens { AreOf table.now.id claims.now seat.caller seat.claimer }
-    ensures { Answers (lawful P (L.allows table.now.law)) (jobs_of (max_dist P) rows.now tasks.now) plan.number seat.caller seat.claimer (vec_len others + 1) result }
+    ensures { AllGive P L.allows table.now (jobs_at P rows.now tasks.now) plan others seat result }
 {
     let Some(own) = others.pop() else {
         return run_alone::<M, L, G, P>(
@@ -244,16 +242,19 @@ pub(crate) fn run_workers<
     };
     let (first, second) = split_seat(table, claims, seat, own);
     let theirs = move || -> Worked
-        requires { IsSync R.row × IsSync G.row × IsSync M.row × IsSend M.row × IsSync L.row × IsSend L.row × (0 < claims.now.words) × IsReady P (lawful P (L.allows table.now.law)) table.now.vertices claims.now.words rows.now tasks.now × AreOf table.now.id claims.now second.caller second.claimer }
-        ensures { Answers (lawful P (L.allows table.entry.now.law)) (jobs_of (max_dist P) rows.entry.now tasks.entry.now) plan.number second.caller second.claimer (vec_len others + 1) result }
+        requires { AreShared R.row G.row M.row L.row × (0 < claims.now.words)
+            × CanWork P L.allows table.now claims.now rows.now tasks.now second }
+        ensures { let jobs = jobs_at P rows.entry.now tasks.entry.now in
+            AllGive P L.allows table.entry.now jobs plan others second result }
     {
         run_workers::<R, M, L, G, P>(
             rt, alloc, table, claims, rows, tasks, plan, gate, stealers, others, second,
         )
     };
     let mine = move || -> Worked
-        requires { IsReady P (lawful P (L.allows table.now.law)) table.now.vertices claims.now.words rows.now tasks.now × AreOf table.now.id claims.now first.caller first.claimer }
-        ensures { Answers (lawful P (L.allows table.entry.now.law)) (jobs_of (max_dist P) rows.entry.now tasks.entry.now) plan.number first.caller first.claimer 1 result }
+        requires { CanWork P L.allows table.now claims.now rows.now tasks.now first }
+        ensures { let jobs = jobs_at P rows.entry.now tasks.entry.now in
+            OneGives P L.allows table.entry.now jobs plan first result }
     {
         run_alone::<M, L, G, P>(
             alloc, table, claims, rows, tasks, plan, gate, stealers, first,

@@ -1,11 +1,11 @@
 //! One offer, one task.
-ghost use Rattle.std.specs.Prelude.{◌≡◌, ℕ, ◌+◌, ◌-◌, ◌<◌, ◌≤◌, [], ◌∷◌, ◌++◌, true, length, slice_index_or, vec_len, vec_capacity, All, IsTrue};
+ghost use Rattle.std.specs.Prelude.{◌≡◌, ℕ, ◌+◌, ◌-◌, ◌<◌, ◌≤◌, [], ◌∷◌, ◌++◌, true, length, vec_len, vec_capacity, All, IsTrue};
 ghost use Rattle.sp_word.specs.Word.{Pair, is_layout, max_dist};
 ghost use Rattle.sp_paths.specs.Paths.{IsVertex, IsArc};
 ghost use Rattle.sp_offer.specs.Order.{lawful};
-ghost use Rattle.sp_task.specs.declared.task.Task.{Task};
-ghost use Rattle.sp_task.specs.Offers.{arcs_of, offer_along, offers_along};
-ghost use Rattle.sp_task.specs.Work.{IsReady, MadeOffers, Goes, did, jobs_of, offers_at, numbers_of};
+ghost use Rattle.sp_task.specs.Offers.{arcs_of, AreAllowed};
+ghost use Rattle.sp_task.specs.Work.{did};
+ghost use Rattle.sp_task.specs.Rounds.{IsReadyRound, HasRoom, AreArcsOfTask, IsOffer, Relaxes, RunsTask, GoesOn};
 
 use crate::gate::Gate;
 use crate::task::{Kind, Round, Task};
@@ -44,7 +44,7 @@ fn make_offer<M: Lowering, L: Lawful, G: Gate, const P: u32>(
     requires sum { dist + arc.len ≤ max_dist P }
     requires allowed { lawful P (L.allows table.now.law) arc.head (Pair (dist + arc.len) arc.tail) }
     requires room { vec_len found.old < vec_capacity found.old }
-    ensures made { MadeOffers (lawful P (L.allows table.now.law)) (offer_along dist arc ∷ []) caller.old caller.new found.old.items found.new.items }
+    ensures made { IsOffer P L.allows table.now dist arc caller.old caller.new found.old found.new }
     ensures len { vec_len found.new ≤ vec_len found.old + 1 }
     ensures capacity { vec_capacity found.old ≤ vec_capacity found.new }
 {
@@ -82,9 +82,9 @@ pub(crate) fn make_offers<M: Lowering, L: Lawful, G: Gate, const P: u32>(
     requires table { caller.old.table ≡ table.now.id }
     requires dist { dist ≤ max_dist P }
     requires arcs { All (IsArc table.now.vertices) arcs.now }
-    requires allowed { All (λ a. dist + a.len ≤ max_dist P → lawful P (L.allows table.now.law) a.head (Pair (dist + a.len) a.tail)) arcs.now }
+    requires allowed { AreAllowed (lawful P (L.allows table.now.law)) (max_dist P) dist arcs.now }
     requires room { vec_len found.old + length arcs.now ≤ vec_capacity found.old }
-    ensures { MadeOffers (lawful P (L.allows table.now.law)) (offers_along (max_dist P) dist arcs.now) caller.old caller.new found.old.items found.new.items }
+    ensures { Relaxes P L.allows table.now dist arcs.now caller.old caller.new found.old found.new }
 {
     let rest = Word::<P>::max_dist() - dist;
     for arc in arcs {
@@ -101,8 +101,8 @@ fn take_room(done: &mut Done, entries: usize) -> bool
     ensures receipts { done.new.receipts.items ≡ done.old.receipts.items }
     ensures found { done.new.found.items ≡ done.old.found.items }
     ensures started { done.new.started ≡ done.old.started }
-    ensures receipt_fits { IsTrue result → vec_len done.new.receipts < vec_capacity done.new.receipts }
-    ensures entries_fit { IsTrue result → vec_len done.new.found + entries ≤ vec_capacity done.new.found }
+    ensures receipt_fits { IsTrue result → HasRoom done.new.receipts 1 }
+    ensures entries_fit { IsTrue result → HasRoom done.new.found entries }
 {
     done.receipts.reserve(1).is_ok() && done.found.reserve(entries).is_ok()
 }
@@ -117,14 +117,14 @@ fn run_task<M: Lowering, L: Lawful, G: Gate, const P: u32>(
     done: &mut Done,
 )
     requires number { number < length round.now.tasks.now }
-    requires ready { IsReady P (lawful P (L.allows round.now.table.now.law)) round.now.table.now.vertices round.now.claims.now.words round.now.rows.now round.now.tasks.now }
-    requires row { (t : Task) → arcs.now ≡ arcs_of round.now.rows.now (slice_index_or round.now.tasks.now number t) }
+    requires ready { IsReadyRound L.allows round.now }
+    requires row { AreArcsOfTask round.now number arcs.now }
     requires arcs { All (IsArc round.now.rows.now.graph.n) arcs.now }
     requires table { done.old.caller.table ≡ round.now.table.now.id }
     requires receipts { vec_len done.old.receipts < vec_capacity done.old.receipts }
     requires found { vec_len done.old.found + length arcs.now ≤ vec_capacity done.old.found }
-    ensures made { MadeOffers (lawful P (L.allows round.now.table.now.law)) (offers_at (jobs_of (max_dist P) round.now.rows.now round.now.tasks.now) number) done.old.caller done.new.caller done.old.found.items done.new.found.items }
-    ensures receipt { numbers_of done.new.receipts.items ≡ numbers_of done.old.receipts.items ++ number ∷ [] }
+    ensures made { RunsTask L.allows round.now number done.old done.new }
+    ensures receipt { (did done.new).receipts ≡ (did done.old).receipts ++ number ∷ [] }
     ensures claimer { done.new.claimer ≡ done.old.claimer }
     ensures started { done.new.started ≡ done.old.started }
 {
@@ -153,10 +153,10 @@ pub(crate) fn try_task<M: Lowering, L: Lawful, G: Gate, const P: u32>(
     done: &mut Done,
 ) -> bool
     requires number { number < length round.now.tasks.now }
-    requires ready { IsReady P (lawful P (L.allows round.now.table.now.law)) round.now.table.now.vertices round.now.claims.now.words round.now.rows.now round.now.tasks.now }
+    requires ready { IsReadyRound L.allows round.now }
     requires table { done.old.caller.table ≡ round.now.table.now.id }
     requires claims { done.old.claimer.table ≡ round.now.claims.now }
-    ensures goes { Goes (lawful P (L.allows round.now.table.now.law)) (jobs_of (max_dist P) round.now.rows.now round.now.tasks.now) round.now.number (did done.old) (did done.new) }
+    ensures goes { GoesOn L.allows round.now (did done.old) (did done.new) }
     ensures started { done.new.started ≡ done.old.started }
 {
     let task = round.tasks[number];

@@ -20,7 +20,7 @@ run_task-requires g c = (
           (
             ap (λ (k : Knowledge). k.table) c.take_room.ensures.caller ∙ c.requires.table,
             (
-              c.if-not-take_room.ensures.receipt_fits refl,
+              (let room = c.if-not-take_room.ensures.receipt_fits refl in omega arith),
               (let room = c.if-not-take_room.ensures.entries_fit refl in omega arith),
             ),
           ),

@@ -1,4 +1,0 @@
-mod calls;
-mod contention;
-mod laws;
-mod threads;
