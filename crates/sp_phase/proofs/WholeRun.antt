@@ -21,7 +21,7 @@ use Rattle.sp_team.specs.Shown.{Shows, IsArcRelaxed, LeadsOut}
 use Rattle.sp_team.specs.declared.scan.Scan.TheVariants.{Whole, LeavesOut, Open}
 use Rattle.sp_phase.specs.Answer.{IsAnswer}
 use Rattle.sp_phase.specs.WholeRun.{IsPlace, TakesWalks, HasOpened, IsOfWalks, IsRelaxedCopy}
-use Rattle.sp_phase.proofs.Known.{zero_stays, lawful_walk}
+use Rattle.sp_phase.proofs.KnownWords.{zero_stays, lawful_walk}
 
 -- a caller that goes on still knows the source's pair
 pub still_opened : (s : ℕ) (before after : Story) → known before s ≡ Pair 0 0 → IsNoMore (known after s) (known before s) → known after s ≡ Pair 0 0

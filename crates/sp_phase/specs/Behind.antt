@@ -1,6 +1,5 @@
 -- What a run has left behind: distances below which all is final, and no entry is queued.
-use Rattle.std.specs.Prelude.{◌≡◌, ℕ, ◌+◌, ◌*◌, ◌<◌, ◌≤◌, ◌⊎◌, List, [], ◌∷◌, ◌++◌, length, Bool, true, All, Contains, Option, Some, None, IfSome, IfNone, option_to_list, slice_index}
-use Rattle.std.specs.List.Sorted.{IsPermutation}
+use Rattle.std.specs.Prelude.{◌≡◌, ℕ, ◌+◌, ◌*◌, ◌<◌, ◌≤◌, ◌⊎◌, List, [], ◌∷◌, ◌++◌, length, Bool, true, All, Contains, Option, Some, None, IsTrue, IfSome, IfNone, option_to_list, slice_index}
 use Rattle.sp_word.specs.Word.{Pair, Unreached, max_dist}
 use Rattle.sp_word.specs.History.{Table}
 use Rattle.sp_paths.specs.Paths.{IsVertex, IsSettled}
@@ -10,13 +9,11 @@ use Rattle.sp_bucket.specs.declared.entry.Entry.{Entry}
 use Rattle.sp_task.specs.declared.task.Kind.{Kind}
 use Rattle.sp_task.specs.declared.task.Kind.TheVariants.{Light, Heavy}
 use Rattle.sp_task.specs.declared.task.Task.{Task}
-use Rattle.sp_task.specs.Left.{RoundDone}
 use Rattle.sp_phase.specs.declared.marks.Mark.{Mark}
-use Rattle.sp_phase.specs.declared.marks.Marks.{Marks}
-use Rattle.sp_phase.specs.declared.leader.Leader.{Leader}
-use Rattle.sp_phase.specs.Stage.{Stage, Falls, Learns, law_of, rows_of}
-use Rattle.sp_phase.specs.Marks.{mark_of, light_at, heavy_at, SameDistances}
-use Rattle.sp_phase.specs.Running.{EntriesFrom}
+use Rattle.sp_phase.specs.Lead.{Lead}
+use Rattle.sp_phase.specs.Stage.{Stage, Falls, Learns, law_of}
+use Rattle.sp_phase.specs.Marks.{Noted, mark_of, light_at, heavy_at, SameDistances}
+use Rattle.sp_phase.specs.Running.{IsDue, IsRoundOf, HasPut, EntriesFrom}
 
 -- ## Between rounds
 
@@ -36,9 +33,9 @@ abbrev pub AreCarried : (n : ℕ) → Table → List Mark → (Owed : ℕ → Ty
 AreCarried n words marks Owed = (v d : ℕ) → IsVertex n v → light_at marks v ≡ Some d → IsCarried words marks Owed v d
 
 -- heavy arcs are owed to the vertices that are remembered
-pub record OwesHeavy (n : ℕ) (words : Table) (m : Marks) : Type 0 where
-  pub listed : (v : ℕ) → IsVertex n v → is_remembered m.each.items v ≡ true → Contains m.remembered.items v
-  pub carried : AreCarried n words m.each.items (Contains m.remembered.items)
+pub record OwesHeavy (n : ℕ) (words : Table) (m : Noted) : Type 0 where
+  pub listed : (v : ℕ) → IsVertex n v → is_remembered m.each v ≡ true → Contains m.remembered v
+  pub carried : AreCarried n words m.each (Contains m.remembered)
 
 -- what is known below `light` is final and was relaxed light there; what is known below `heavy` was relaxed heavy too
 pub record IsFinal (P : ℕ) (st : Stage) (light heavy : ℕ) (words : Table) (marks : List Mark) : Type 0 where
@@ -48,9 +45,9 @@ pub record IsFinal (P : ℕ) (st : Stage) (light heavy : ℕ) (words : Table) (m
   pub heavy_below : (v d p : ℕ) → IsVertex st.graph.n v → words v ≡ Pair d p → d < heavy → heavy_at marks v ≡ Some d
 
 -- so it is for the leader, which has no entry below `light`
-pub record IsPast (P : ℕ) (st : Stage) (light heavy : ℕ) (l : Leader) : Type 0 where
+pub record IsPast (P : ℕ) (st : Stage) (light heavy : ℕ) (l : Lead) : Type 0 where
   pub owes : OwesHeavy st.graph.n (known l.caller.story) l.marks
-  pub final : IsFinal P st light heavy (known l.caller.story) l.marks.each.items
+  pub final : IsFinal P st light heavy (known l.caller.story) l.marks.each
   pub entries : EntriesFrom light l.buckets.entries
 
 -- where the buckets after the closed one begin
@@ -59,7 +56,7 @@ end_of delta None = 0
 end_of delta (Some j) = (j + 1) * delta
 
 -- Past the closed bucket; or past one that is settled since, whose heavy arcs are owed.
-abbrev pub HasCome : (P : ℕ) → Stage → (settled closed : Option ℕ) → Leader → Type 0
+abbrev pub HasCome : (P : ℕ) → Stage → (settled closed : Option ℕ) → Lead → Type 0
 HasCome P st None closed l = IsPast P st (end_of st.delta closed) (end_of st.delta closed) l
 HasCome P st (Some i) closed l = IfSome closed (λ j. j < i) × IsPast P st ((i + 1) * st.delta) (i * st.delta) l
 
@@ -88,56 +85,120 @@ pub record WasKnown (P : ℕ) (st : Stage) (first last : Table) (t : Task) : Typ
   pub here : words t.vertex ≡ Pair t.dist pred
 
 -- what is known and written down while tasks are made of vertices that are read
-pub record MakesTasks (P : ℕ) (st : Stage) (kind : Kind) (c c' : Knowledge) (m m' : Marks) (tasks : List Task) : Type 0 where
+pub record MakesTasks (P : ℕ) (st : Stage) (kind : Kind) (c c' : Knowledge) (m m' : Noted) (tasks : List Task) : Type 0 where
   pub learns : Learns P st c c'
-  pub same : SameDistances m.each.items m'.each.items
+  pub same : SameDistances m.each m'.each
   pub known_once : All (WasKnown P st (known c.story) (known c'.story)) tasks
   pub kinds : All (λ t. t.kind ≡ kind) tasks
 
 -- light tasks: their vertices are remembered
-pub record MakesLight (P : ℕ) (st : Stage) (c c' : Knowledge) (m m' : Marks) (tasks : List Task) : Type 0 where
+pub record MakesLight (P : ℕ) (st : Stage) (c c' : Knowledge) (m m' : Noted) (tasks : List Task) : Type 0 where
   pub makes : MakesTasks P st Light c c' m m' tasks
-  pub grows : (v : ℕ) → Contains m.remembered.items v → Contains m'.remembered.items v
-  pub owes : OwesHeavy st.graph.n (known c.story) m → OwesHeavy st.graph.n (known c'.story) m' × All (λ t. Contains m'.remembered.items t.vertex) tasks
+  pub grows : (v : ℕ) → Contains m.remembered v → Contains m'.remembered v
+  pub owes : OwesHeavy st.graph.n (known c.story) m → OwesHeavy st.graph.n (known c'.story) m' × All (λ t. Contains m'.remembered t.vertex) tasks
 
 -- heavy tasks: what was remembered is no more, and its heavy arcs are owed by the tasks
-pub record MakesHeavy (P : ℕ) (st : Stage) (c c' : Knowledge) (m m' : Marks) (tasks : List Task) : Type 0 where
+pub record MakesHeavy (P : ℕ) (st : Stage) (c c' : Knowledge) (m m' : Noted) (tasks : List Task) : Type 0 where
   pub makes : MakesTasks P st Heavy c c' m m' tasks
-  pub owes : OwesHeavy st.graph.n (known c.story) m → ((v : ℕ) → IsVertex st.graph.n v → is_remembered m'.each.items v ≡ true → ⊥) × AreCarried st.graph.n (known c'.story) m'.each.items (λ v. (d : ℕ) × HasTask tasks Heavy v d)
+  pub owes : OwesHeavy st.graph.n (known c.story) m → ((v : ℕ) → IsVertex st.graph.n v → is_remembered m'.each v ≡ true → ⊥) × AreCarried st.graph.n (known c'.story) m'.each (λ v. (d : ℕ) × HasTask tasks Heavy v d)
 
 -- a round of tasks was run
-pub record HasRun (P : ℕ) (st : Stage) (tasks : List Task) (l l' : Leader) : Type 0 where
+pub record HasRun (P : ℕ) (st : Stage) (tasks : List Task) (l l' : Lead) : Type 0 where
+  pub stage : l'.stage ≡ st
   pub found : List Entry
-  pub done : RoundDone (law_of P st) (max_dist P) (rows_of st) tasks l.caller l'.caller found
-  pub marked : AreMarked tasks l.marks.each.items l'.marks.each.items
+  pub done : IsRoundOf P st tasks l.caller l'.caller found
+  pub marked : AreMarked tasks l.marks.each l'.marks.each
   pub remembered : l'.marks.remembered ≡ l.marks.remembered
-  pub entries : IsPermutation (l.buckets.entries ++ found) l'.buckets.entries
+  pub entries : HasPut found l.buckets l'.buckets
 
 -- ## Steps
 
 -- a vertex enters a round, and is remembered
-pub record Enters (before after : Marks) (v : ℕ) : Type 0 where
-  pub flags : (u : ℕ) → IsVertex (length before.each.items) u → is_remembered after.each.items u ≡ true → (u ≡ v) ⊎ (is_remembered before.each.items u ≡ true)
-  pub list : ((is_remembered before.each.items v ≡ true) × (after.remembered ≡ before.remembered)) ⊎ (after.remembered.items ≡ before.remembered.items ++ v ∷ [])
+pub record Enters (before after : Noted) (v : ℕ) : Type 0 where
+  pub flags : (u : ℕ) → IsVertex (length before.each) u → is_remembered after.each u ≡ true → (u ≡ v) ⊎ (is_remembered before.each u ≡ true)
+  pub list : ((is_remembered before.each v ≡ true) × (after.remembered ≡ before.remembered)) ⊎ (after.remembered ≡ before.remembered ++ v ∷ [])
 
 -- a vertex is remembered no more
 abbrev pub Forgets : (before after : List Mark) → (v : ℕ) → Type 0
 Forgets before after v = (u : ℕ) → IsVertex (length before) u → is_remembered after u ≡ true → (u ≡ v → ⊥) × (is_remembered before u ≡ true)
 
 -- a vertex gave its heavy task, or nothing is known of it
-pub record HandsOver (P : ℕ) (st : Stage) (c c' : Knowledge) (m m' : Marks) (v : ℕ) (task : Option Task) : Type 0 where
+pub record HandsOver (P : ℕ) (st : Stage) (c c' : Knowledge) (m m' : Noted) (v : ℕ) (task : Option Task) : Type 0 where
   pub makes : MakesTasks P st Heavy c c' m m' (option_to_list task)
   pub given : IfSome task (λ t. t.vertex ≡ v)
   pub none : IfNone task (known c'.story v ≡ Unreached)
-  pub flags : Forgets m.each.items m'.each.items v
+  pub flags : Forgets m.each m'.each v
 
 -- one of the vertices from place i on
 abbrev pub IsFrom : List ℕ → (i v : ℕ) → Type 0
 IsFrom vertices i v = (k : ℕ) × (i ≤ k) × (k < length vertices) × (slice_index vertices k ≡ v)
 
 -- the vertices before place i gave their heavy tasks
-pub record HandsSome (P : ℕ) (st : Stage) (c c' : Knowledge) (m m' : Marks) (tasks : List Task) (vertices : List ℕ) (i : ℕ) : Type 0 where
+pub record HandsSome (P : ℕ) (st : Stage) (c c' : Knowledge) (m m' : Noted) (tasks : List Task) (vertices : List ℕ) (i : ℕ) : Type 0 where
   pub makes : MakesTasks P st Heavy c c' m m' tasks
   pub owes : OwesHeavy st.graph.n (known c.story) m
-      → ((v : ℕ) → IsVertex st.graph.n v → is_remembered m'.each.items v ≡ true → IsFrom vertices i v)
-      × AreCarried st.graph.n (known c'.story) m'.each.items (λ v. IsFrom vertices i v ⊎ ((d : ℕ) × HasTask tasks Heavy v d))
+      → ((v : ℕ) → IsVertex st.graph.n v → is_remembered m'.each v ≡ true → IsFrom vertices i v)
+      × AreCarried st.graph.n (known c'.story) m'.each (λ v. IsFrom vertices i v ⊎ ((d : ℕ) × HasTask tasks Heavy v d))
+
+-- ## What a leader does
+
+-- its caller reads
+pub record Reads (P : ℕ) (l l' : Lead) : Type 0 where
+  pub rest : l' ≡ record l { caller = l'.caller }
+  pub learns : Learns P l.stage l.caller l'.caller
+
+-- it makes tasks of its stage, and what is queued stays
+pub record MakesDue (P : ℕ) (tasks : List Task) (l l' : Lead) : Type 0 where
+  pub stage : l'.stage ≡ l.stage
+  pub buckets : l'.buckets ≡ l.buckets
+  pub due : All (IsDue P l.stage) tasks
+
+-- light tasks
+pub record PreparesLight (P : ℕ) (tasks : List Task) (l l' : Lead) : Type 0 where
+  pub due : MakesDue P tasks l l'
+  pub makes : MakesLight P l.stage l.caller l'.caller l.marks l'.marks tasks
+
+-- the heavy task of a vertex
+pub record GivesHeavy (P : ℕ) (v : ℕ) (task : Option Task) (l l' : Lead) : Type 0 where
+  pub due : MakesDue P (option_to_list task) l l'
+  pub hands : HandsOver P l.stage l.caller l'.caller l.marks l'.marks v task
+  pub remembered : l'.marks.remembered ≡ l.marks.remembered
+
+-- those of the vertices before place i, and nothing is remembered any more
+pub record GivesSome (P : ℕ) (tasks : List Task) (vertices : List ℕ) (i : ℕ) (l l' : Lead) : Type 0 where
+  pub due : MakesDue P tasks l l'
+  pub hands : HandsSome P l.stage l.caller l'.caller l.marks l'.marks tasks vertices i
+  pub none : l'.marks.remembered ≡ []
+
+-- what lies behind it still does later on
+abbrev pub KeepsPast : (P : ℕ) → (before after : Lead) → Type 0
+KeepsPast P l l' = (light heavy : ℕ) → IsPast P l.stage light heavy l → IsPast P l'.stage light heavy l'
+
+-- where heavy arcs were relaxed as far as light ones
+abbrev pub KeepsLevel : (P : ℕ) → (before after : Lead) → Type 0
+KeepsLevel P l l' = (low : ℕ) → IsPast P l.stage low low l → IsPast P l'.stage low low l'
+
+-- heavy arcs are relaxed as far as light ones were
+abbrev pub CatchesUp : (P : ℕ) → (before after : Lead) → Type 0
+CatchesUp P l l' = (light heavy : ℕ) → IsPast P l.stage light heavy l → IsPast P l'.stage light light l'
+
+-- it queues nothing lower than what was queued
+abbrev pub StaysFrom : (before after : Lead) → Type 0
+StaysFrom l l' = (low : ℕ) → EntriesFrom low l.buckets.entries → EntriesFrom low l'.buckets.entries
+
+-- nor than these entries
+abbrev pub KeepsFrom : List Entry → (before after : Lead) → Type 0
+KeepsFrom entries l l' =
+    (low : ℕ) → EntriesFrom low l.buckets.entries → EntriesFrom low entries → EntriesFrom low l'.buckets.entries
+
+-- where none is queued below the bucket, none is queued below its end
+abbrev pub Empties : (bucket : ℕ) → (before after : Lead) → Type 0
+Empties i l l' = EntriesFrom (i * l.stage.delta) l.buckets.entries → EntriesFrom ((i + 1) * l.stage.delta) l'.buckets.entries
+
+-- past the same closed bucket, it comes to settle the bucket
+abbrev pub Reaches : (P : ℕ) → (bucket : Option ℕ) → (before after : Lead) → Type 0
+Reaches P bucket l l' = (closed : Option ℕ) → HasCome P l.stage None closed l → HasCome P l'.stage bucket closed l'
+
+-- only where that passed
+abbrev pub ComesOn : (P : ℕ) → (bucket : Option ℕ) → (before : Lead) → Lead × Bool → Type 0
+ComesOn P bucket l done = Reaches P None l done.0 × (IsTrue done.1 → Reaches P bucket l done.0)

@@ -1,6 +1,7 @@
 pub mod Answer
 pub mod Stage
 pub mod Marks
+pub mod Lead
 pub mod Running
 pub mod Sweep
 pub mod Behind

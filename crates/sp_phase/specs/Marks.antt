@@ -7,6 +7,14 @@ use Rattle.sp_task.specs.declared.task.Kind.{Kind}
 use Rattle.sp_task.specs.declared.task.Kind.TheVariants.{Light, Heavy}
 use Rattle.sp_task.specs.declared.task.Task.{Task}
 
+-- the marks of all vertices, and the vertices that are remembered
+pub record Noted : Type 0 where
+  pub each : List Mark
+  pub remembered : List ℕ
+
+abbrev pub noted : Marks → Noted
+noted m = record { each = m.each.items; remembered = m.remembered.items }
+
 abbrev pub no_mark : Mark
 no_mark = record { light = None; heavy = None; round = 0; remembered = false }
 
@@ -34,5 +42,5 @@ abbrev pub SameDistances : (before after : List Mark) → Type 0
 SameDistances before after = (length after ≡ length before) × ((v : ℕ) → IsVertex (length before) v → (light_at after v ≡ light_at before v) × (heavy_at after v ≡ heavy_at before v))
 
 -- a vertex is remembered
-abbrev pub Remembers : (before after : Marks) → (v : ℕ) → Type 0
-Remembers before after v = (after.remembered.items ≡ before.remembered.items) ⊎ (after.remembered.items ≡ before.remembered.items ++ v ∷ [])
+abbrev pub Remembers : (before after : Noted) → (v : ℕ) → Type 0
+Remembers before after v = (after.remembered ≡ before.remembered) ⊎ (after.remembered ≡ before.remembered ++ v ∷ [])

@@ -4,9 +4,8 @@ use Rattle.sp_word.specs.Word.{Word}
 use Rattle.sp_offer.specs.Story.{Knowledge, known}
 use Rattle.sp_phase.specs.declared.answers.RunError.{RunError}
 use Rattle.sp_phase.specs.declared.answers.RunError.TheVariants.{Memory, TooFar, NoSuchVertex}
-use Rattle.sp_phase.specs.declared.leader.Leader.{Leader}
 use Rattle.sp_phase.specs.Stage.{Stage}
-use Rattle.sp_phase.specs.Running.{Leads}
+use Rattle.sp_phase.specs.Lead.{Lead}
 use Rattle.sp_phase.specs.Behind.{HasCome}
 
 -- The store's stage, and the caller of a run that isn't spent. `settled` is the bucket of the last answer that no round
@@ -17,13 +16,14 @@ pub record Progress : Type 0 where
   pub settled : Option ℕ
   pub closed : Option ℕ
 
-abbrev pub caller_of : Option Leader → Option Knowledge
+abbrev pub caller_of : Option Lead → Option Knowledge
 caller_of None = None
 caller_of (Some l) = Some l.caller
 
-abbrev pub MayLead : (P : ℕ) → Stage → (settled closed : Option ℕ) → Option Leader → Type 0
+-- a leader of the stage, if there is one, came so far
+abbrev pub MayLead : (P : ℕ) → Stage → (settled closed : Option ℕ) → Option Lead → Type 0
 MayLead P st settled closed None = Unit {0}
-MayLead P st settled closed (Some l) = Leads P st l × HasCome P st settled closed l
+MayLead P st settled closed (Some l) = (l.stage ≡ st) × HasCome P st settled closed l
 
 abbrev pub IsUnspent : Progress → Type 0
 IsUnspent run = IsSome run.caller

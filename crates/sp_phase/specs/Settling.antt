@@ -4,6 +4,7 @@ use Rattle.sp_word.specs.Word.{max_dist}
 use Rattle.sp_paths.specs.Paths.{EndsInTree, IsSettled}
 use Rattle.sp_offer.specs.Story.{Knowledge, known}
 use Rattle.sp_phase.specs.Stage.{Stage}
+use Rattle.sp_phase.specs.Lead.{Lead}
 use Rattle.sp_phase.specs.Progress.{Progress}
 
 -- the bucket is final for the caller, and so is each below it; where none is told, all words are
@@ -11,7 +12,11 @@ abbrev pub IsTold : (P : ℕ) → Stage → Option ℕ → Knowledge → Type 0
 IsTold P st None c = EndsInTree st.graph st.source (max_dist P) (known c.story)
 IsTold P st (Some i) c = IsSettled st.graph st.source (max_dist P) ((i + 1) * st.delta) (known c.story)
 
--- so it is for the caller of a run that isn't spent
+-- so it is for the leader's caller
+abbrev pub Tells : (P : ℕ) → Option ℕ → Lead → Type 0
+Tells P bucket l = IsTold P l.stage bucket l.caller
+
+-- and for the caller of a run that isn't spent
 abbrev pub IsToldBy : (P : ℕ) → Option ℕ → Progress → Type 0
 IsToldBy P bucket run = IsSomeAnd run.caller (IsTold P run.stage bucket)
 

@@ -4,18 +4,22 @@ use Rattle.sp_word.specs.Word.{Word, Pair, max_dist}
 use Rattle.sp_word.specs.History.{Table}
 use Rattle.sp_paths.specs.Paths.{IsVertex, word_at}
 use Rattle.sp_paths.specs.Phase.{IsCopy, HasNoOpen}
-use Rattle.sp_offer.specs.Order.{IsAtMost as IsNoMore}
+use Rattle.sp_offer.specs.Order.{IsKnownWord, IsAtMost as IsNoMore}
 use Rattle.sp_offer.specs.Story.{Knowledge, known}
 use Rattle.sp_tree.specs.Table.{TreeTable, table_of}
 use Rattle.sp_bucket.specs.declared.entry.Entry.{Entry}
 use Rattle.sp_phase.specs.declared.marks.Mark.{Mark}
-use Rattle.sp_phase.specs.declared.sweep.Bounds.{Bounds}
-use Rattle.sp_phase.specs.Stage.{Stage}
-use Rattle.sp_phase.specs.Marks.{light_at, heavy_at}
+use Rattle.sp_phase.specs.declared.sweeping.Bounds.{Bounds}
+use Rattle.sp_phase.specs.Stage.{Stage, IsStage, Learns, law_of}
+use Rattle.sp_phase.specs.Marks.{mark_of, light_at, heavy_at}
+use Rattle.sp_phase.specs.Lead.{Lead}
 
 -- relaxed at the distance d, where that is below the bounds
+abbrev pub IsMarkedAt : Mark → Bounds → (d : ℕ) → Type 0
+IsMarkedAt m b d = (d < b.light → m.light ≡ Some d) × (d < b.heavy → m.heavy ≡ Some d)
+
 abbrev pub IsRelaxedAtDist : List Mark → Bounds → (u d : ℕ) → Type 0
-IsRelaxedAtDist marks b u d = (d < b.light → light_at marks u ≡ Some d) × (d < b.heavy → heavy_at marks u ≡ Some d)
+IsRelaxedAtDist marks b u d = IsMarkedAt (mark_of marks u) b d
 
 -- so is each of the first n vertices at the distance of its word
 abbrev pub AreRelaxed : List Word → List Mark → Bounds → (n : ℕ) → Type 0
@@ -30,16 +34,36 @@ abbrev pub IsOpen : List Word → List Mark → Bounds → Entry → Type 0
 IsOpen words marks b e = IsVertex (length words) e.vertex × ((p : ℕ) × (word_at words e.vertex ≡ Pair e.dist p)) × (IsRelaxedAtDist marks b e.vertex e.dist → ⊥)
 
 -- A copy of all words: lawful, no more than what was known when the marks were made, and no less than what the caller
--- knows now.
+-- knows now, which is lawful too.
 pub record IsCopied (P : ℕ) (st : Stage) (c : Knowledge) (marks : List Mark) (copy : List Word) : Type 0 where
   pub words : Table
   pub of : IsCopy st.graph st.source (max_dist P) st.delta words (word_at copy) (light_at marks) (heavy_at marks)
   pub size : length copy ≡ st.graph.n
   pub above : (v : ℕ) → IsVertex st.graph.n v → IsNoMore (known c.story v) (word_at copy v)
+  pub stage : IsStage P st
+  pub lawful : (v : ℕ) → IsKnownWord (law_of P st) v (known c.story v)
 
 -- and no vertex is open in it
 abbrev pub IsSwept : (P : ℕ) → Stage → Knowledge → List Mark → List Word → Type 0
 IsSwept P st c marks copy = IsCopied P st c marks copy × HasNoOpen st.graph (word_at copy) (light_at marks) (heavy_at marks)
+
+-- so it is of the leader's copy
+abbrev pub HasCopied : (P : ℕ) → Lead → Type 0
+HasCopied P l = IsCopied P l.stage l.caller l.marks.each l.words
+
+abbrev pub HasSwept : (P : ℕ) → Lead → Type 0
+HasSwept P l = IsSwept P l.stage l.caller l.marks.each l.words
+
+-- in the leader's copy each vertex was relaxed as far as the bounds ask
+abbrev pub HasRelaxed : Bounds → Lead → Type 0
+HasRelaxed b l = AreRelaxed l.words l.marks.each b (length l.words)
+
+-- the leader copied the words
+pub record TakesCopy (P : ℕ) (l l' : Lead) : Type 0 where
+  pub rest : l' ≡ record l { caller = l'.caller; words = l'.words }
+  pub copied : HasCopied P l'
+  pub below : (v : ℕ) → IsVertex l.stage.graph.n v → IsNoMore (word_at l'.words v) (known l.caller.story v)
+  pub learns : Learns P l.stage l.caller l'.caller
 
 -- a tree with these words
 abbrev pub HasWords : TreeTable → (n : ℕ) → Table → Type 0

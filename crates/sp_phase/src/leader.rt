@@ -1,15 +1,123 @@
-//! What the leader of a run keeps between its rounds.
+//! The leader of a run.
+ghost use Rattle.std.specs.Prelude.{◌≡◌, ◌≤◌, None, IfOk, IfSome};
+ghost use Rattle.sp_paths.specs.Paths.{IsVertex};
+ghost use Rattle.sp_offer.specs.Story.{known};
+ghost use Rattle.sp_bucket.specs.Content.{IsLowest};
+ghost use Rattle.sp_phase.specs.Stage.{IsStage};
+ghost use Rattle.sp_phase.specs.Lead.{recalled};
+ghost use Rattle.sp_phase.specs.Behind.{HasCome, Reads};
 
 use crate::marks::Marks;
-use sp_bucket::Buckets;
+use crate::store::Store;
+use sp_bucket::{Buckets, Entry};
 use sp_claim::Claimer;
 use sp_offer::Caller;
+use sp_word::Word;
+use std::alloc::{AllocError, Global};
+use std::marker::Model;
 
-/// What the leader of a run keeps between its rounds.
+/// The leader of a run over a store: it makes tasks, lets workers run them round after round, and looks at copies of all
+/// words.
+///
+/// Contracts see the store's stage, the caller, what is written down of the vertices, what is queued, and the copy.
 #[derive(Drop)]
-pub(crate) struct Leader {
-    pub caller: Caller,
-    pub claimer: Claimer,
-    pub marks: Marks,
-    pub buckets: Buckets,
+pub(crate) struct Leader<'a, 'g, const P: u32> {
+    pub(crate) alloc: Global,
+    pub(crate) store: &'a Store<'g, P>,
+    /// The most workers of a round.
+    pub(crate) workers: u32,
+    pub(crate) caller: Caller,
+    pub(crate) claimer: Claimer,
+    pub(crate) marks: Marks,
+    pub(crate) buckets: Buckets,
+    /// Room for a copy of all words.
+    pub(crate) words: Vec<Word<P>>,
+}
+
+impl<'a, 'g, const P: u32> Model for Leader<'a, 'g, P> {
+    ghost use Rattle.sp_phase.specs.Lead.{Lead, lead_of};
+
+    ghost Value = { Lead };
+
+    ghost use Rattle.sp_phase.specs.Running.{Leads, HasCrew};
+
+    ghost view = { λ l. lead_of l.store.now l.caller l.marks l.buckets l.words.items };
+
+    ghost invariant = { λ l. HasCrew l.workers l.claimer.table l.store.now
+        × Leads P l.store.now (lead_of l.store.now l.caller l.marks l.buckets l.words.items) };
+}
+
+impl<'a, 'g, const P: u32> Leader<'a, 'g, P> {
+    /// The leader of a run that begins, alone: the source has its pair, and is queued.
+    pub(crate) fn new(
+        alloc: Global,
+        store: &'a Store<'g, P>,
+        mut caller: Caller,
+        claimer: Claimer,
+    ) -> Result<Leader<'a, 'g, P>, AllocError>
+        requires caller { caller.table ≡ store.now.table }
+        requires claimer { claimer.table ≡ store.now.claims }
+        ensures stage { IfOk result (λ leader. leader.stage ≡ store.entry.now) }
+        ensures range { IfOk result (λ leader. IsStage P leader.stage) }
+        ensures come { IfOk result (λ leader. HasCome P leader.stage None None leader) }
+    {
+        let n = store.n();
+        let mut buckets = Buckets::with_longest(alloc, store.delta(), u64::from(store.longest()))?;
+        buckets.put(Entry {
+            vertex: store.source(),
+            dist: 0,
+        })?;
+        let marks = Marks::new(alloc, n)?;
+        let words = vec![in alloc; Word::unreached(); n as usize]?;
+        store.open(&mut caller);
+        Ok(Leader {
+            alloc,
+            store,
+            workers: 1,
+            caller,
+            claimer,
+            marks,
+            buckets,
+            words,
+        })
+    }
+
+    /// The same leader of so many workers.
+    pub(crate) fn with_workers(self, workers: u32) -> Leader<'a, 'g, P>
+        requires { (1 ≤ workers) × (workers ≤ 64) }
+        ensures { result ≡ self.entry }
+    {
+        Leader { workers, ..self }
+    }
+
+    /// The lowest bucket with an entry.
+    pub(crate) fn lowest(&self) -> Option<u64>
+        ensures { IfSome result (IsLowest self.now.buckets) }
+    {
+        self.buckets.lowest()
+    }
+
+    /// Reads the word of a vertex.
+    pub(crate) fn read(&mut self, vertex: u32) -> Word<P>
+        requires { IsVertex self.old.stage.graph.n vertex }
+        ensures reads { Reads P self.old self.new }
+        ensures word { known self.new.caller.story vertex ≡ result }
+    {
+        self.store.read(&mut self.caller, vertex)
+    }
+
+    /// The next round begins.
+    pub(crate) fn begin_round(&mut self)
+        ensures { self.new ≡ self.old }
+    {
+        self.marks.begin_round();
+    }
+
+    /// Hands out the vertices that are remembered.
+    pub(crate) fn recall(&mut self) -> Vec<u32>
+        ensures vertices { result.items ≡ self.old.marks.remembered }
+        ensures marks { self.new ≡ recalled self.old }
+    {
+        self.marks.recall(self.alloc)
+    }
 }

@@ -1,7 +1,7 @@
 //! What the leader writes down of each vertex.
 ghost use Rattle.std.specs.Prelude.{◌≡◌, [], false, vec_len, replicate, All, IsTrue, IfOk};
 ghost use Rattle.sp_paths.specs.Paths.{IsVertex};
-ghost use Rattle.sp_phase.specs.Marks.{no_mark, marked, SameDistances, Remembers};
+ghost use Rattle.sp_phase.specs.Marks.{no_mark, noted, marked, SameDistances, Remembers};
 ghost use Rattle.sp_phase.specs.Running.{KeepsRunning};
 ghost use Rattle.sp_phase.specs.Behind.{AreMarked, Enters, Forgets};
 
@@ -61,8 +61,7 @@ impl Marks {
 
     /// The next round begins. The greatest number stays.
     pub(crate) fn begin_round(&mut self)
-        ensures each { self.new.each ≡ self.old.each }
-        ensures remembered { self.new.remembered ≡ self.old.remembered }
+        ensures { noted self.new ≡ noted self.old }
     {
         self.round = self.round.saturating_add(1);
     }
@@ -71,8 +70,9 @@ impl Marks {
     pub(crate) fn enter(&mut self, vertex: u32) -> Result<bool, AllocError>
         requires { IsVertex (vec_len self.old.each) vertex }
         ensures distances { SameDistances self.old.each.items self.new.each.items }
-        ensures remembered { Remembers self.old self.new vertex }
-        ensures entered { IfOk result (λ entered. IsTrue entered → Enters self.old self.new vertex) }
+        ensures remembered { Remembers (noted self.old) (noted self.new) vertex }
+        ensures entered { IfOk result (λ entered. IsTrue entered
+            → Enters (noted self.old) (noted self.new) vertex) }
         ensures stayed { IfOk result (λ entered. entered ≡ false → self.new ≡ self.old) }
     {
         let place = (vertex - 1) as usize;

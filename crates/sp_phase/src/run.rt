@@ -4,26 +4,20 @@ ghost use Rattle.std.specs.Option.{option_or};
 ghost use Rattle.sp_offer.specs.Story.{known};
 ghost use Rattle.sp_paths.specs.Paths.{IsVertex};
 ghost use Rattle.sp_phase.specs.Answer.{IsAnswer, IsRefusal};
-ghost use Rattle.sp_phase.specs.Running.{Leads};
 ghost use Rattle.sp_phase.specs.Sweep.{HasWords};
 ghost use Rattle.sp_phase.specs.Progress.{IsMemory, IsUnspent, IsSpent, IsAsFar, HasRead};
-ghost use Rattle.sp_phase.specs.Settling.{IsTold, IsToldBy, IsLater};
-ghost use Rattle.sp_phase.specs.Behind.{HasCome};
+ghost use Rattle.sp_phase.specs.Settling.{IsToldBy, IsLater};
 
+use crate::advancing::{Settled, Until};
 use crate::answers::RunError;
-use crate::finish::finish;
 use crate::leader::Leader;
-use crate::marks::Marks;
-use crate::phases::heavy_round;
-use crate::settle::{Settled, settle};
 use crate::store::Store;
-use sp_bucket::{Buckets, Entry};
 use sp_claim::Claimer;
 use sp_offer::Caller;
 use sp_task::Gate;
 use sp_tree::Tree;
 use sp_word::Word;
-use std::alloc::{AllocError, Global};
+use std::alloc::Global;
 use std::marker::Model;
 use std::sync::Wait;
 use std::thread::Threads;
@@ -33,11 +27,8 @@ use std::thread::Threads;
 /// Contracts see the store's stage, the caller, if the run isn't spent, and how far the run has come.
 #[derive(Drop)]
 pub struct Run<'a, 'g, const P: u32> {
-    alloc: Global,
     store: &'a Store<'g, P>,
-    workers: u32,
-    leader: Option<Leader>,
-    words: Vec<Word<P>>,
+    leader: Option<Leader<'a, 'g, P>>,
     // the bucket of the last answer that no `heavy` has followed yet
     settled: Option<u64>,
     // the last bucket that `heavy` followed
@@ -45,42 +36,20 @@ pub struct Run<'a, 'g, const P: u32> {
 }
 
 impl<'a, 'g, const P: u32> Model for Run<'a, 'g, P> {
-    ghost use Rattle.std.specs.Prelude.{◌≡◌, ◌≤◌, vec_len};
+    ghost use Rattle.sp_phase.specs.Stage.{IsStage};
     ghost use Rattle.sp_phase.specs.Progress.{Progress, caller_of, MayLead};
 
     ghost Value = { Progress };
 
-    ghost view = { λ r. record { stage = r.store.now; caller = caller_of r.leader; settled = r.settled; closed = r.closed } };
+    ghost view = { λ r. record {
+      stage = r.store.now;
+      caller = caller_of r.leader;
+      settled = r.settled;
+      closed = r.closed;
+    } };
 
-    ghost invariant = { λ r. (1 ≤ r.workers) × (r.workers ≤ 64) × (vec_len r.words ≡ r.store.now.graph.n) × MayLead P r.store.now r.settled r.closed r.leader };
-}
-
-// The leader of a run that begins: the source has its pair, and is queued.
-fn first_leader<const P: u32>(
-    alloc: Global,
-    store: &Store<P>,
-    mut caller: Caller,
-    claimer: Claimer,
-) -> Result<Leader, AllocError>
-    requires caller { caller.table ≡ store.now.table }
-    requires claimer { claimer.table ≡ store.now.claims }
-    ensures leads { IfOk result (Leads P store.now) }
-    ensures come { IfOk result (HasCome P store.now None None) }
-{
-    let n = store.n();
-    let mut buckets = Buckets::with_longest(alloc, store.delta(), u64::from(store.longest()))?;
-    buckets.put(Entry {
-        vertex: store.source(),
-        dist: 0,
-    })?;
-    let marks = Marks::new(alloc, n)?;
-    store.open(&mut caller);
-    Ok(Leader {
-        caller,
-        claimer,
-        marks,
-        buckets,
-    })
+    ghost invariant = { λ r. IsStage P r.store.now
+        × MayLead P r.store.now r.settled r.closed r.leader };
 }
 
 // The last bucket that is closed, once heavy arcs were relaxed after the one that was settled.
@@ -88,18 +57,6 @@ fn closed_after(settled: Option<u64>, closed: Option<u64>) -> Option<u64>
     ensures { result ≡ option_or settled closed }
 {
     settled.or(closed)
-}
-
-// The word of a vertex, as the leader reads it.
-fn read_word<const P: u32>(store: &Store<P>, leader: &mut Leader, vertex: u32) -> Word<P>
-    requires vertex { IsVertex store.now.graph.n vertex }
-    requires leads { Leads P store.now leader.old }
-    ensures leads { Leads P store.now leader.new }
-    ensures word { known leader.new.caller.story vertex ≡ result }
-    ensures stays { (bucket : Option ℕ) → IsTold P store.now bucket leader.old.caller → IsTold P store.now bucket leader.new.caller }
-    ensures come { (settled closed : Option ℕ) → HasCome P store.now settled closed leader.old → HasCome P store.now settled closed leader.new }
-{
-    store.read(&mut leader.caller, vertex)
 }
 
 impl<'a, 'g, const P: u32> Run<'a, 'g, P> {
@@ -120,19 +77,12 @@ impl<'a, 'g, const P: u32> Run<'a, 'g, P> {
         ensures first { IfOk result (λ run. (run.settled ≡ None) × (run.closed ≡ None)) }
         ensures refused { IfErr result IsMemory }
     {
-        let n = store.n() as usize;
-        let Ok(leader) = first_leader(alloc, store, caller, claimer) else {
-            return Err(RunError::Memory);
-        };
-        let Ok(words) = vec![in alloc; Word::unreached(); n] else {
+        let Ok(leader) = Leader::new(alloc, store, caller, claimer) else {
             return Err(RunError::Memory);
         };
         Ok(Run {
-            alloc,
             store,
-            workers,
-            leader: Some(leader),
-            words,
+            leader: Some(leader.with_workers(workers)),
             settled: None,
             closed: None,
         })
@@ -158,16 +108,7 @@ impl<'a, 'g, const P: u32> Run<'a, 'g, P> {
         let Some(leader) = self.leader.take() else {
             return Err(RunError::Memory);
         };
-        let settled = settle(
-            rt,
-            self.alloc,
-            self.store,
-            self.workers,
-            leader,
-            &mut self.words,
-            gate,
-        );
-        match settled {
+        match leader.advance(rt, gate, Until::BucketSettled) {
             Err(_) => Err(RunError::Memory),
             Ok(settled) => {
                 let Settled { leader, bucket } = settled;
@@ -188,15 +129,17 @@ impl<'a, 'g, const P: u32> Run<'a, 'g, P> {
         ensures stage { self.new.stage ≡ self.old.stage }
         ensures unspent { OnOk result (IsUnspent self.new) }
         ensures settled { OnOk result (self.new.settled ≡ None) }
-        ensures closed { OnOk result (self.new.closed ≡ option_or self.old.settled self.old.closed) }
-        ensures stays { OnOk result ((bucket : Option ℕ) → IsToldBy P bucket self.old → IsToldBy P bucket self.new) }
+        ensures closed { OnOk result
+            (self.new.closed ≡ option_or self.old.settled self.old.closed) }
+        ensures stays { OnOk result
+            ((bucket : Option ℕ) → IsToldBy P bucket self.old → IsToldBy P bucket self.new) }
         ensures refused { IfErr result (λ e. IsMemory e × IsSpent self.new) }
         ensures spent { IsSpent self.old → IsErrAnd result IsMemory × (self.new ≡ self.old) }
     {
         let Some(leader) = self.leader.take() else {
             return Err(RunError::Memory);
         };
-        match heavy_round(rt, self.alloc, self.store, self.workers, leader, gate) {
+        match leader.heavy_round(rt, gate) {
             Err(_) => Err(RunError::Memory),
             Ok(leader) => {
                 self.leader = Some(leader);
@@ -214,10 +157,11 @@ impl<'a, 'g, const P: u32> Run<'a, 'g, P> {
         ensures stage { self.new.stage ≡ self.old.stage }
         ensures far { IsAsFar self.old self.new }
         ensures word { HasRead self.new vertex result }
-        ensures stays { (bucket : Option ℕ) → IsToldBy P bucket self.old → IsToldBy P bucket self.new }
+        ensures stays { (bucket : Option ℕ) → IsToldBy P bucket self.old
+            → IsToldBy P bucket self.new }
     {
         match &mut self.leader {
-            Some(leader) => read_word(self.store, leader, vertex),
+            Some(leader) => leader.read(vertex),
             None => unreachable!(),
         }
     }
@@ -228,24 +172,22 @@ impl<'a, 'g, const P: u32> Run<'a, 'g, P> {
         rt: &R,
         gate: &G,
     ) -> Result<(Tree<P>, Caller), RunError>
-        ensures tree { IfOk result (λ done. IsAnswer P self.entry.stage.graph self.entry.stage.source done.0) }
+        ensures tree { IfOk result
+            (λ done. IsAnswer P self.entry.stage.graph self.entry.stage.source done.0) }
         ensures caller { IfOk result (λ done. done.1.table ≡ self.entry.stage.table) }
-        ensures known { IfOk result (λ done. HasWords done.0 self.entry.stage.graph.n (known done.1.story)) }
-        ensures refused { IfErr result (IsRefusal P self.entry.stage.graph self.entry.stage.source) }
+        ensures known { IfOk result
+            (λ done. HasWords done.0 self.entry.stage.graph.n (known done.1.story)) }
+        ensures refused { IfErr result
+            (IsRefusal P self.entry.stage.graph self.entry.stage.source) }
         ensures spent { IsSpent self.entry → IsErrAnd result IsMemory }
     {
-        let Run {
-            alloc,
-            store,
-            workers,
-            leader,
-            words,
-            ..
-        } = self;
-        let _ = store.n();
+        let Run { leader, .. } = self;
         match leader {
             None => Err(RunError::Memory),
-            Some(leader) => finish(rt, alloc, store, workers, leader, words, gate),
+            Some(leader) => match leader.advance(rt, gate, Until::Swept) {
+                Err(_) => Err(RunError::Memory),
+                Ok(settled) => settled.leader.answer(),
+            },
         }
     }
 }

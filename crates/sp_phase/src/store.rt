@@ -3,10 +3,9 @@ ghost use Rattle.std.specs.Prelude.{◌≡◌, ◌<◌, ◌≤◌, [], true, len
 ghost use Rattle.sp_word.specs.Word.{Pair, is_layout, max_dist, max_pred};
 ghost use Rattle.sp_paths.specs.Paths.{IsVertex, IsArc};
 ghost use Rattle.sp_offer.specs.Story.{fresh, known, IsCopy};
-ghost use Rattle.sp_task.specs.Left.{RoundDone};
 ghost use Rattle.sp_phase.specs.Answer.{IsUnstored};
-ghost use Rattle.sp_phase.specs.Stage.{IsStage, IsOf, Learns, law_of, rows_of};
-ghost use Rattle.sp_phase.specs.Running.{IsDue};
+ghost use Rattle.sp_phase.specs.Stage.{IsStage, IsOf, Learns, law_of};
+ghost use Rattle.sp_phase.specs.Running.{HasCrew, IsDue, IsRoundOf};
 
 use crate::answers::RunError;
 use sp_claim::{ClaimTable, Claimer};
@@ -19,6 +18,16 @@ use std::alloc::{AllocError, Global};
 use std::marker::Model;
 use std::sync::Wait;
 use std::thread::Threads;
+
+/// Who runs a round, and the number by which its tasks are claimed.
+#[derive(Drop)]
+pub(crate) struct Crew {
+    pub alloc: Global,
+    pub number: u64,
+    pub workers: u32,
+    pub caller: Caller,
+    pub claimer: Claimer,
+}
 
 /// The tables of a run from one source of a graph: its rows, parted at `delta`, a word and a claim for each vertex.
 /// Callers of its table may read and offer while a run goes on.
@@ -40,9 +49,24 @@ impl<'g, const P: u32> Model for Store<'g, P> {
 
     ghost Value = { Stage };
 
-    ghost view = { λ s. record { graph = s.graph.now; source = s.source; delta = s.delta; table = s.table.id; claims = s.claims; shared_from = s.shared_from } };
+    ghost view = { λ s. record {
+      graph = s.graph.now;
+      source = s.source;
+      delta = s.delta;
+      table = s.table.id;
+      claims = s.claims;
+      shared_from = s.shared_from;
+    } };
 
-    ghost invariant = { λ s. let st : Stage = record { graph = s.graph.now; source = s.source; delta = s.delta; table = s.table.id; claims = s.claims; shared_from = s.shared_from } in IsStage P st × AreOfStage st s.rows s.table.law s.table.vertices s.claims.words };
+    ghost invariant = { λ s. let st : Stage = record {
+      graph = s.graph.now;
+      source = s.source;
+      delta = s.delta;
+      table = s.table.id;
+      claims = s.claims;
+      shared_from = s.shared_from;
+    }
+        in IsStage P st × AreOfStage st s.rows s.table.law s.table.vertices s.claims.words };
 }
 
 impl<'g, const P: u32> Store<'g, P> {
@@ -59,8 +83,10 @@ impl<'g, const P: u32> Store<'g, P> {
         ensures store { IfOk result (λ made. IsOf graph.entry.now delta source made.0) }
         ensures range { IfOk result (λ made. IsStage P made.0) }
         ensures shared_from { IfOk result (λ made. made.0.shared_from ≡ 0) }
-        ensures caller { IfOk result (λ made. (made.1.table ≡ made.0.table) × (made.1.story ≡ fresh)) }
-        ensures claimer { IfOk result (λ made. (made.2.table ≡ made.0.claims) × (made.2.grants ≡ [])) }
+        ensures caller { IfOk result
+            (λ made. (made.1.table ≡ made.0.table) × (made.1.story ≡ fresh)) }
+        ensures claimer { IfOk result
+            (λ made. (made.2.table ≡ made.0.claims) × (made.2.grants ≡ [])) }
         ensures refused { IfErr result (IsUnstored graph.entry.now source) }
     {
         let n = graph.n();
@@ -85,8 +111,10 @@ impl<'g, const P: u32> Store<'g, P> {
         ensures store { IfOk result (λ made. IsOf graph.entry.now delta source made.0) }
         ensures range { IfOk result (λ made. IsStage P made.0) }
         ensures shared_from { IfOk result (λ made. made.0.shared_from ≡ 0) }
-        ensures caller { IfOk result (λ made. (made.1.table ≡ made.0.table) × (made.1.story ≡ fresh)) }
-        ensures claimer { IfOk result (λ made. (made.2.table ≡ made.0.claims) × (made.2.grants ≡ [])) }
+        ensures caller { IfOk result
+            (λ made. (made.1.table ≡ made.0.table) × (made.1.story ≡ fresh)) }
+        ensures claimer { IfOk result
+            (λ made. (made.2.table ≡ made.0.claims) × (made.2.grants ≡ [])) }
     {
         let _ = graph.n();
         let rows = Rows::split(alloc, graph, delta)?;
@@ -185,7 +213,8 @@ impl<'g, const P: u32> Store<'g, P> {
         requires room { vec_len words.old ≡ self.now.graph.n }
         ensures caller { Learns P self.now caller.old caller.new }
         ensures length { vec_len words.new ≡ vec_len words.old }
-        ensures copy { IsCopy (law_of P self.now) words.new.items caller.old.story caller.new.story }
+        ensures copy { IsCopy
+            (law_of P self.now) words.new.items caller.old.story caller.new.story }
     {
         self.table.copy_words(caller, words);
     }
@@ -199,24 +228,20 @@ impl<'g, const P: u32> Store<'g, P> {
         if tasks < self.shared_from { 1 } else { workers }
     }
 
-    /// Runs a round of tasks. A refusal spends the caller and the claimer.
-    pub(crate) fn run_tasks<R: Threads + Wait + Sync, G: Gate + Sync>(
+    /// Runs a round of tasks. The leader is alone in a short one. A refusal spends the crew.
+    pub(crate) fn relax_tasks<R: Threads + Wait + Sync, G: Gate + Sync>(
         &self,
         rt: &R,
-        alloc: Global,
-        tasks: &[Task],
-        number: u64,
-        workers: u32,
-        caller: Caller,
-        claimer: Claimer,
         gate: &G,
+        tasks: &[Task],
+        crew: Crew,
     ) -> Result<RoundOut, AllocError>
-        requires workers { (1 ≤ workers) × (workers ≤ 64) }
-        requires caller { caller.table ≡ self.now.table }
-        requires claimer { claimer.table ≡ self.now.claims }
+        requires crew { HasCrew crew.workers crew.claimer.table self.now }
+        requires caller { crew.caller.table ≡ self.now.table }
         requires tasks { All (IsDue P self.now) tasks.now }
-        ensures done { IfOk result (λ o. RoundDone (law_of P self.now) (max_dist P) (rows_of self.now) tasks.now caller o.caller o.found.items) }
-        ensures claimer { IfOk result (λ o. o.claimer.table ≡ claimer.table) }
+        ensures done { IfOk result (λ out.
+            IsRoundOf P self.now tasks.now crew.caller out.caller out.found.items) }
+        ensures claimer { IfOk result (λ o. o.claimer.table ≡ crew.claimer.table) }
         ensures alone { IfOk result (λ o. length tasks.now < self.now.shared_from → o.started ≡ 1) }
     {
         walks_allow_arcs();
@@ -225,10 +250,10 @@ impl<'g, const P: u32> Store<'g, P> {
             claims: &self.claims,
             rows: &self.rows,
             tasks,
-            number,
-            workers: self.workers_for(tasks.len(), workers),
+            number: crew.number,
+            workers: self.workers_for(tasks.len(), crew.workers),
         };
-        match run_round(rt, alloc, &round, caller, claimer, gate) {
+        match run_round(rt, crew.alloc, &round, crew.caller, crew.claimer, gate) {
             Ok(out) => Ok(out),
             Err(_) => Err(AllocError),
         }

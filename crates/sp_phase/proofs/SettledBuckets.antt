@@ -1,0 +1,106 @@
+-- From a copy's words to what is known, and what stays known.
+use Rattle.std.proofs.Common.{◌≡◌, ℕ, true, refl, ◌+◌, ◌*◌, ◌/◌, ◌%◌, ◌<◌, ◌≤◌, List, length, Option, Some, None, sym, subst, arith}
+use Rattle.std.specs.Prelude.{All}
+use Rattle.std.proofs.lemmas.Nat.{div-add-mod'}
+use Rattle.sp_word.specs.Word.{Word, Unreached, Pair, max_dist, is_layout}
+use Rattle.sp_word.specs.History.{Table}
+use Rattle.sp_word.proofs.Layouts.{by_layout}
+use Rattle.sp_paths.specs.Paths.{IsVertex, IsNear, IsTreeWord, IsSettled, EndsInTree, word_at}
+use Rattle.sp_paths.specs.Phase.{TestedIsSettled, SweptEndsInTree}
+use Rattle.sp_paths.proofs.Least.{least_exists}
+use Rattle.sp_offer.specs.Order.{IsKnownWord}
+use Rattle.sp_offer.specs.Story.{Knowledge, known}
+use Rattle.sp_bucket.specs.declared.entry.Entry.{Entry}
+use Rattle.sp_bucket.specs.Content.{Content, IsLowest}
+use Rattle.sp_phase.specs.declared.marks.Mark.{Mark}
+use Rattle.sp_phase.specs.declared.sweeping.Bounds.{Bounds}
+use Rattle.sp_phase.specs.Stage.{Stage, IsStage, Falls, law_of}
+use Rattle.sp_phase.specs.Marks.{light_at, heavy_at}
+use Rattle.sp_phase.specs.Running.{IsQueued}
+use Rattle.sp_phase.specs.Sweep.{AreRelaxed, IsCopied, IsSwept}
+use Rattle.sp_phase.specs.Settling.{IsTold}
+use Rattle.sp_phase.proofs.KnownWords.{tree_known, known_pair, lawful_walk, walk_vertex}
+
+-- a vertex of which a pair is known is near
+module _ (P : ℕ) (st : Stage) (stage : IsStage P st) (words : Table) (lawful : (v : ℕ) → IsKnownWord (law_of P st) v (words v)) where
+  pub far_unknown : (v : ℕ) → (w : Word) → words v ≡ w → (IsNear st.graph st.source (max_dist P) v → ⊥) → w ≡ Unreached
+  far_unknown v Unreached is far = refl
+  far_unknown v (Pair d p) is far =
+      let told = known_pair P st v (words v) d p (lawful v) is in
+      let least = least_exists st.graph stage.graph st.source v d (lawful_walk st.graph st.source v d p told.0) in
+      absurd (far (least.0, least.1, (let low = least.2 in let most = told.1 in omega arith)))
+
+-- ## Copies
+
+module _ (P : ℕ) (st : Stage) (c : Knowledge) (marks : List Mark) (words : List Word) (copy : IsCopied P st c marks words) where
+  -- where the copy has the tree's word, the caller knows it
+  pub same_word : (v : ℕ) → IsVertex st.graph.n v → IsTreeWord st.graph st.source v (word_at words v) → known c.story v ≡ word_at words v
+  same_word v at tree = tree_known P st v (word_at words v) (known c.story v) tree (copy.lawful v) (copy.above v at)
+
+  tree_word : (v : ℕ) → IsVertex st.graph.n v → IsTreeWord st.graph st.source v (word_at words v) → IsTreeWord st.graph st.source v (known c.story v)
+  tree_word v at tree = subst (IsTreeWord st.graph st.source v) (sym (same_word v at tree)) tree
+
+  pub settled_known : (bound : ℕ) → IsSettled st.graph st.source (max_dist P) bound (word_at words) → IsSettled st.graph st.source (max_dist P) bound (known c.story)
+  settled_known bound settled v d least below fits = tree_word v (walk_vertex st.graph st.source v d copy.stage.graph copy.stage.source least.walk) (settled v d least below fits)
+
+  pub ends_known : EndsInTree st.graph st.source (max_dist P) (word_at words) → EndsInTree st.graph st.source (max_dist P) (known c.story)
+  ends_known ends = record {
+    near = λ v near. tree_word v (walk_vertex st.graph st.source v near.0 copy.stage.graph copy.stage.source near.1.walk) (ends.near v near);
+    others = λ v at far. far_unknown P st copy.stage (known c.story) copy.lawful v (known c.story v) refl far;
+  }
+
+  -- the test of a bucket passed
+  pub test_settled : TestedIsSettled → (i : ℕ) (b : Bounds) → b.light ≡ (i + 1) * st.delta → b.heavy ≡ i * st.delta → AreRelaxed words marks b (length words) → IsSettled st.graph st.source (max_dist P) ((i + 1) * st.delta) (word_at words)
+  test_settled law i b light heavy all =
+      let at : (u : ℕ) → IsVertex st.graph.n u → IsVertex (length words) u = λ u h. subst (λ k. IsVertex k u) (sym copy.size) h in
+      law st.graph st.source (max_dist P) st.delta i copy.words (word_at words) (light_at marks) (heavy_at marks) copy.of (record {
+        light_below = λ u d p h is lt. (all u d p (at u h) is).0 (subst (λ k. d < k) (sym light) lt);
+        heavy_below = λ u d p h is lt. (all u d p (at u h) is).1 (subst (λ k. d < k) (sym heavy) lt);
+      })
+
+  pub test_told : TestedIsSettled → (i : ℕ) (b : Bounds) → b.light ≡ (i + 1) * st.delta → b.heavy ≡ i * st.delta → AreRelaxed words marks b (length words) → IsTold P st (Some i) c
+  test_told law i b light heavy all = settled_known ((i + 1) * st.delta) (test_settled law i b light heavy all)
+
+-- a sweep found no open vertex
+pub sweep_told : (P : ℕ) (st : Stage) (c : Knowledge) (marks : List Mark) (words : List Word) → IsSwept P st c marks words → SweptEndsInTree → IsTold P st None c
+sweep_told P st c marks words swept law =
+    ends_known P st c marks words swept.0 (law st.graph st.source (max_dist P) st.delta swept.0.words (word_at words) (light_at marks) (heavy_at marks) swept.0.of swept.1)
+
+-- ## What was told stays true
+
+module _ (P : ℕ) (st : Stage) (before after : Table) (falls : Falls before after) (lawful : (v : ℕ) → IsKnownWord (law_of P st) v (after v)) where
+  -- a word of the tree falls no further
+  pub word_stays : (v : ℕ) → IsTreeWord st.graph st.source v (before v) → after v ≡ before v
+  word_stays v tree = tree_known P st v (before v) (after v) tree (lawful v) (falls v)
+
+  pub tree_stays : (v : ℕ) → IsTreeWord st.graph st.source v (before v) → IsTreeWord st.graph st.source v (after v)
+  tree_stays v tree = subst (IsTreeWord st.graph st.source v) (sym (word_stays v tree)) tree
+
+  pub settled_stays : (bound : ℕ) → IsSettled st.graph st.source (max_dist P) bound before → IsSettled st.graph st.source (max_dist P) bound after
+  settled_stays bound settled v d least below fits = tree_stays v (settled v d least below fits)
+
+module _ (P : ℕ) (st : Stage) (stage : IsStage P st) (before after : Knowledge) (falls : Falls (known before.story) (known after.story)) (lawful : (v : ℕ) → IsKnownWord (law_of P st) v (known after.story v)) where
+  pub told_stays : (bucket : Option ℕ) → IsTold P st bucket before → IsTold P st bucket after
+  told_stays None ends = record {
+    near = λ v near. tree_stays P st (known before.story) (known after.story) falls lawful v (ends.near v near);
+    others = λ v at far. far_unknown P st stage (known after.story) lawful v (known after.story v) refl far;
+  }
+  told_stays (Some i) settled = settled_stays P st (known before.story) (known after.story) falls lawful ((i + 1) * st.delta) settled
+
+-- ## The end of a bucket fits 64 bits
+
+twice_fits : (P a b : ℕ) → is_layout P ≡ true → a ≤ max_dist P → b ≤ max_dist P → a + b < 18446744073709551616
+twice_fits P a b layout one two =
+    by_layout (λ Q. a ≤ max_dist Q → b ≤ max_dist Q → a + b < 18446744073709551616) P layout (λ h k. omega arith) (λ h k. omega arith) (λ h k. omega arith) (λ h k. omega arith) one two
+
+pub bucket_fits : (P : ℕ) (st : Stage) → IsStage P st → (b : Content) (i : ℕ) → b.delta ≡ st.delta → All (IsQueued P st 0) b.entries → IsLowest b i → i * st.delta + st.delta < 18446744073709551616
+bucket_fits P st stage b i width all lowest =
+    let e : Entry = lowest.here.1 in
+    let there = all lowest.here.0 e lowest.here.2 in
+    let queued = subst (IsQueued P st 0) lowest.here.3 there in
+    let number : e.dist / b.delta ≡ i = lowest.here.4 in
+    let whole : e.dist / b.delta * b.delta + e.dist % b.delta ≡ e.dist = div-add-mod' e.dist b.delta in
+    let D : ℕ → ℕ → Type 0 = λ n m. n * m + e.dist % b.delta ≡ e.dist in
+    let same : i * st.delta + e.dist % b.delta ≡ e.dist = subst (λ m. D i m) width (subst (λ n. D n b.delta) number whole) in
+    let low = queued.2 in
+    twice_fits P (i * st.delta) st.delta stage.layout (omega arith) stage.narrow

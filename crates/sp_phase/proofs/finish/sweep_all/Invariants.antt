@@ -1,6 +1,0 @@
-use Rattle.std.proofs.Common.{◌≡◌, length}
-use Rattle.sp_phase.specs.Running.{Leads}
-use Rattle.sp_phase.proofs.finish.sweep_all.Given as goal
-
-abbrev pub invariant-loop : goal.invariant-loop
-invariant-loop g l = Leads g.row.P l.store l.leader × (length l.words.items ≡ l.store.graph.n)

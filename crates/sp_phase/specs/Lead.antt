@@ -1,0 +1,23 @@
+-- What contracts see of the leader of a run.
+use Rattle.std.specs.Prelude.{List, []}
+use Rattle.sp_word.specs.Word.{Word}
+use Rattle.sp_offer.specs.Story.{Knowledge}
+use Rattle.sp_bucket.specs.Content.{Content}
+use Rattle.sp_phase.specs.Stage.{Stage}
+use Rattle.sp_phase.specs.declared.marks.Marks.{Marks}
+use Rattle.sp_phase.specs.Marks.{Noted, noted}
+
+-- the store's stage, the caller, what is written down of the vertices, what is queued, and a copy of all words
+pub record Lead : Type 0 where
+  pub stage : Stage
+  pub caller : Knowledge
+  pub marks : Noted
+  pub buckets : Content
+  pub words : List Word
+
+abbrev pub lead_of : Stage → Knowledge → Marks → Content → List Word → Lead
+lead_of st c m b words = record { stage = st; caller = c; marks = noted m; buckets = b; words = words }
+
+-- nothing is remembered any more
+abbrev pub recalled : Lead → Lead
+recalled l = record l { marks = record l.marks { remembered = [] } }

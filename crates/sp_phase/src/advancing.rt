@@ -1,0 +1,137 @@
+//! How a leader goes on, bucket after bucket.
+ghost use Rattle.std.specs.Prelude.{◌≡◌, ◌+◌, ◌*◌, ◌<◌, Some, None, IsTrue, IfOk, IfSome, IfNone};
+ghost use Rattle.sp_bucket.specs.Content.{IsLowest};
+ghost use Rattle.sp_phase.specs.Settling.{Tells};
+ghost use Rattle.sp_phase.specs.Behind.{Reaches, ComesOn};
+ghost use Rattle.sp_phase.specs.Sweep.{HasSwept};
+
+use crate::leader::Leader;
+use crate::sweeping::Bounds;
+use sp_paths::tested_copy;
+use sp_task::Gate;
+use std::alloc::AllocError;
+use std::sync::Wait;
+use std::thread::Threads;
+
+/// What a leader goes on until.
+#[derive(Clone, Copy, Debug)]
+pub(crate) enum Until {
+    /// Until a bucket is final, or all words are. Each bucket is tested by a copy of all words, and heavy arcs are left.
+    BucketSettled,
+    /// Until all words are final. Heavy arcs are relaxed after each bucket, and words copied where no entry is queued.
+    Swept,
+}
+
+/// A leader, and the bucket that is final for its caller; none where all words are.
+#[derive(Drop)]
+pub(crate) struct Settled<'a, 'g, const P: u32> {
+    pub leader: Leader<'a, 'g, P>,
+    pub bucket: Option<u64>,
+}
+
+// Below the end of a bucket each vertex must have been relaxed light at its distance, and below its beginning heavy
+// too.
+fn bounds_of(bucket: u64, delta: u64) -> Bounds
+    requires { bucket * delta + delta < 18446744073709551616 }
+    ensures light { result.light ≡ (bucket + 1) * delta }
+    ensures heavy { result.heavy ≡ bucket * delta }
+{
+    let heavy = bucket * delta;
+    Bounds {
+        light: heavy + delta,
+        heavy,
+    }
+}
+
+impl<'a, 'g, const P: u32> Leader<'a, 'g, P> {
+    // Empties the lowest bucket, and tests it. It tells whether that passed; the vertices that failed are queued.
+    fn settle_bucket<R: Threads + Wait + Sync, G: Gate + Sync>(
+        self,
+        rt: &R,
+        gate: &G,
+        bucket: u64,
+    ) -> Result<(Leader<'a, 'g, P>, bool), AllocError>
+        requires { IsLowest self.buckets bucket }
+        ensures stage { IfOk result (λ done. done.0.stage ≡ self.entry.stage) }
+        ensures told { IfOk result (λ done. IsTrue done.1 → Tells P (Some bucket) done.0) }
+        ensures comes { IfOk result (ComesOn P (Some bucket) self.entry) }
+    {
+        tested_copy();
+        let bounds = bounds_of(bucket, self.store.delta());
+        let mut leader = self.empty_bucket(rt, gate, bucket)?;
+        let passed = leader.queue_open(bounds)?;
+        Ok((leader, passed))
+    }
+
+    // Relaxes the heavy arcs that are owed, where they aren't left.
+    fn close_bucket<R: Threads + Wait + Sync, G: Gate + Sync>(
+        self,
+        rt: &R,
+        gate: &G,
+        until: Until,
+    ) -> Result<Leader<'a, 'g, P>, AllocError>
+        ensures stage { IfOk result (λ after. after.stage ≡ self.entry.stage) }
+        ensures left { until ≡ Until.BucketSettled → IfOk result (λ after. after ≡ self.entry) }
+    {
+        match until {
+            Until::BucketSettled => Ok(self),
+            Until::Swept => self.heavy_round(rt, gate),
+        }
+    }
+
+    // Empties the bucket, the lowest one, or sweeps where there is none. It tells whether the leader has come so far.
+    fn step<R: Threads + Wait + Sync, G: Gate + Sync>(
+        mut self,
+        rt: &R,
+        gate: &G,
+        until: Until,
+        bucket: Option<u64>,
+    ) -> Result<(Leader<'a, 'g, P>, bool), AllocError>
+        requires { IfSome bucket (IsLowest self.buckets) }
+        ensures stage { IfOk result (λ done. done.0.stage ≡ self.entry.stage) }
+        ensures told { IfOk result (λ done. IsTrue done.1 → Tells P bucket done.0) }
+        ensures comes { until ≡ Until.BucketSettled → IfOk result (ComesOn P bucket self.entry) }
+        ensures swept { IfOk result (λ done. IsTrue done.1 → IfNone bucket (HasSwept P done.0)) }
+        ensures whole { IfOk result (λ done. IsTrue done.1 → until ≡ Until.Swept → bucket ≡ None) }
+    {
+        match bucket {
+            None => {
+                let none = self.sweep()?;
+                Ok((self, none))
+            }
+            Some(lowest) => match until {
+                Until::BucketSettled => self.settle_bucket(rt, gate, lowest),
+                Until::Swept => {
+                    let leader = self.empty_bucket(rt, gate, lowest)?;
+                    Ok((leader, false))
+                }
+            },
+        }
+    }
+
+    /// Goes on from bucket to bucket.
+    pub(crate) fn advance<R: Threads + Wait + Sync, G: Gate + Sync>(
+        mut self,
+        rt: &R,
+        gate: &G,
+        until: Until,
+    ) -> Result<Settled<'a, 'g, P>, AllocError>
+        ensures stage { IfOk result (λ done. done.leader.stage ≡ self.entry.stage) }
+        ensures told { IfOk result (λ done. Tells P done.bucket done.leader) }
+        ensures come { until ≡ Until.BucketSettled
+            → IfOk result (λ done. Reaches P done.bucket self.entry done.leader) }
+        ensures swept { IfOk result (λ done. IfNone done.bucket (HasSwept P done.leader)) }
+        ensures whole { IfOk result (λ done. until ≡ Until.Swept → done.bucket ≡ None) }
+    {
+        for _ in rt.forever() {
+            let leader = self.close_bucket(rt, gate, until)?;
+            let bucket = leader.lowest();
+            let (leader, done) = leader.step(rt, gate, until, bucket)?;
+            if done {
+                return Ok(Settled { leader, bucket });
+            }
+            self = leader;
+        }
+        unreachable!()
+    }
+}

@@ -1,0 +1,191 @@
+//! Rounds of tasks.
+//!
+//! A bucket is emptied by rounds of light arcs, and one round of heavy arcs follows. (U. Meyer and P. Sanders,
+//! "Delta-stepping: a parallelizable shortest path algorithm", Journal of Algorithms 49, 2003, section 2.)
+ghost use Rattle.std.specs.Prelude.{◌≡◌, ℕ, ◌++◌, All, IfOk, IfSome, OnOk, option_to_list, take};
+ghost use Rattle.sp_paths.specs.Paths.{IsVertex};
+ghost use Rattle.sp_bucket.specs.Content.{Takes};
+ghost use Rattle.sp_phase.specs.Stage.{Learns};
+ghost use Rattle.sp_phase.specs.Running.{IsDue, IsQueued, HasPut};
+ghost use Rattle.sp_phase.specs.Behind.{HasRun, PreparesLight, GivesHeavy, KeepsPast, KeepsFrom, CatchesUp, Empties};
+
+use crate::leader::Leader;
+use crate::store::Crew;
+use sp_bucket::{Buckets, Entry};
+use sp_task::{Gate, Kind, Task};
+use std::alloc::AllocError;
+use std::sync::Wait;
+use std::thread::Threads;
+
+/// One element more, if there is one.
+pub(crate) fn push_some<T: Copy>(list: &mut Vec<T>, item: Option<T>) -> Result<(), AllocError>
+    ensures { OnOk result (list.new.items ≡ list.old.items ++ option_to_list item) }
+{
+    if let Some(item) = item {
+        list.push(item)?;
+    }
+    Ok(())
+}
+
+/// Puts entries into their buckets. Refused, it has put the first ones.
+pub(crate) fn put_all(buckets: &mut Buckets, entries: &[Entry]) -> Result<(), AllocError>
+    ensures width { buckets.new.delta ≡ buckets.old.delta }
+    ensures some { (k : ℕ) × HasPut (take k entries.now) buckets.old buckets.new }
+    ensures all { OnOk result (HasPut entries.now buckets.old buckets.new) }
+{
+    for entry in entries {
+        buckets.put(*entry)?;
+    }
+    Ok(())
+}
+
+impl<'a, 'g, const P: u32> Leader<'a, 'g, P> {
+    // Runs a round of tasks, writes them down, and queues what they found. A refusal spends the leader.
+    fn run_tasks<R: Threads + Wait + Sync, G: Gate + Sync>(
+        self,
+        rt: &R,
+        gate: &G,
+        tasks: Vec<Task>,
+    ) -> Result<Leader<'a, 'g, P>, AllocError>
+        requires { All (IsDue P self.stage) tasks.items }
+        ensures { IfOk result (HasRun P self.entry.stage tasks.items self.entry) }
+    {
+        let Leader {
+            alloc,
+            store,
+            workers,
+            caller,
+            claimer,
+            mut marks,
+            mut buckets,
+            words,
+        } = self;
+        let crew = Crew {
+            alloc,
+            number: marks.round,
+            workers,
+            caller,
+            claimer,
+        };
+        let list = tasks.as_slice();
+        let out = store.relax_tasks(rt, gate, list, crew)?;
+        marks.write(list);
+        put_all(&mut buckets, out.found.as_slice())?;
+        Ok(Leader {
+            alloc,
+            store,
+            workers,
+            caller: out.caller,
+            claimer: out.claimer,
+            marks,
+            buckets,
+            words,
+        })
+    }
+
+    // The light task of an entry that is live: its vertex has the entry's distance, and isn't in this round yet.
+    fn light_task(&mut self, entry: &Entry) -> Result<Option<Task>, AllocError>
+        requires { IsVertex self.old.stage.graph.n entry.now.vertex }
+        ensures dist { IfOk result (λ found. IfSome found (λ task. task.dist ≡ entry.now.dist)) }
+        ensures prepares { IfOk result (λ t. PreparesLight P (option_to_list t) self.old self.new) }
+    {
+        let word = self.read(entry.vertex);
+        if word.dist() != Some(entry.dist) {
+            return Ok(None);
+        }
+        if !self.marks.enter(entry.vertex)? {
+            return Ok(None);
+        }
+        Ok(Some(Task {
+            vertex: entry.vertex,
+            dist: entry.dist,
+            kind: Kind::Light,
+        }))
+    }
+
+    // One round of the light arcs of the vertices among entries that are live.
+    fn light_round<R: Threads + Wait + Sync, G: Gate + Sync>(
+        mut self,
+        rt: &R,
+        gate: &G,
+        entries: &[Entry],
+    ) -> Result<Leader<'a, 'g, P>, AllocError>
+        requires { All (IsQueued P self.stage 0) entries.now }
+        ensures stage { IfOk result (λ after. after.stage ≡ self.entry.stage) }
+        ensures past { IfOk result (KeepsPast P self.entry) }
+        ensures from { IfOk result (KeepsFrom entries.now self.entry) }
+    {
+        let mut tasks = Vec::new(self.alloc);
+        self.begin_round();
+        for entry in entries {
+            let task = self.light_task(entry)?;
+            push_some(&mut tasks, task)?;
+        }
+        self.run_tasks(rt, gate, tasks)
+    }
+
+    // The heavy task of a vertex, at the distance that it has now.
+    fn heavy_task(&mut self, vertex: u32) -> Option<Task>
+        requires { IsVertex self.old.stage.graph.n vertex }
+        ensures { GivesHeavy P vertex result self.old self.new }
+    {
+        self.marks.forget(vertex);
+        let dist = self.read(vertex).dist()?;
+        Some(Task {
+            vertex,
+            dist,
+            kind: Kind::Heavy,
+        })
+    }
+
+    /// One round of the heavy arcs of the vertices that are remembered, which then are so no more.
+    pub(crate) fn heavy_round<R: Threads + Wait + Sync, G: Gate + Sync>(
+        mut self,
+        rt: &R,
+        gate: &G,
+    ) -> Result<Leader<'a, 'g, P>, AllocError>
+        ensures stage { IfOk result (λ after. after.stage ≡ self.entry.stage) }
+        ensures learns { IfOk result (λ l. Learns P self.entry.stage self.entry.caller l.caller) }
+        ensures past { IfOk result (CatchesUp P self.entry) }
+    {
+        let mut tasks = Vec::new(self.alloc);
+        self.begin_round();
+        let vertices = self.recall();
+        for vertex in vertices.as_slice() {
+            let task = self.heavy_task(*vertex);
+            push_some(&mut tasks, task)?;
+        }
+        self.run_tasks(rt, gate, tasks)
+    }
+
+    // Takes a bucket out.
+    fn take_bucket(&mut self, bucket: u64) -> Vec<Entry>
+        ensures rest { self.new ≡ record self.old { buckets = self.new.buckets } }
+        ensures queued { All (IsQueued P self.old.stage 0) result.items }
+        ensures takes { Takes bucket result.items self.old.buckets self.new.buckets }
+        ensures empties { Empties bucket self.old self.new }
+    {
+        self.buckets.take(bucket)
+    }
+
+    /// Rounds of light arcs, until the bucket is empty.
+    pub(crate) fn empty_bucket<R: Threads + Wait + Sync, G: Gate + Sync>(
+        mut self,
+        rt: &R,
+        gate: &G,
+        bucket: u64,
+    ) -> Result<Leader<'a, 'g, P>, AllocError>
+        ensures stage { IfOk result (λ after. after.stage ≡ self.entry.stage) }
+        ensures past { IfOk result (KeepsPast P self.entry) }
+        ensures empties { IfOk result (Empties bucket self.entry) }
+    {
+        for _ in rt.forever() {
+            let taken = self.take_bucket(bucket);
+            if taken.is_empty() {
+                return Ok(self);
+            }
+            self = self.light_round(rt, gate, taken.as_slice())?;
+        }
+        unreachable!()
+    }
+}
