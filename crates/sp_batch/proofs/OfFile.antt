@@ -75,7 +75,7 @@ file_begun P file list old new ok begun =
 
 -- What was answered for the rows of a file's graph was answered for the file.
 pub of_file : {W : Type 0} (P : ℕ) (file : GrFile) (list : SsFile) (graph : Graph) (device : Writer W) (old new : W) (result : Result Summary BatchError) → AreSame graph (graph_of file) → AreSources P file list
-    → AreAllAnswered P graph list.sources.items device old result new → IsBatch P file list (device.written old) (device.written new) (device.has_failed new) result
+    → AreAllAnswered P graph list.sources.items device old result new → IsBatch P file list device old new result
 of_file P file list graph device old new (Ok summary) same ok h = (h.answers, same_all P graph (graph_of file) list.sources.items h.answers same h.are, h.text.wrote, h.text.counted)
 of_file P file list graph device old new (Err Memory) same ok begun = (ok.within, file_begun P file list (device.written old) (device.written new) ok (same_begun P graph (graph_of file) list.sources.items (device.written old) (device.written new) same begun))
 of_file P file list graph device old new (Err Write) same ok (begun, failed) = (ok.within, file_begun P file list (device.written old) (device.written new) ok (same_begun P graph (graph_of file) list.sources.items (device.written old) (device.written new) same begun), failed)
@@ -84,8 +84,8 @@ of_file P file list graph device old new (Err (Ss e)) same ok is = absurd is
 of_file P file list graph device old new (Err (NoSuchVertex v)) same ok is = absurd is
 
 -- Memory was refused before anything was written.
-pub refused_early : (P : ℕ) (file : GrFile) (list : SsFile) (old : Option (List ℕ)) (has_failed : Bool) → AreSources P file list → IsBatch P file list old old has_failed (Err Memory)
-refused_early P file list old has_failed ok = (ok.within, file_begun P file list old old ok (none_begun P (graph_of file) list.sources.items old))
+pub refused_early : {W : Type 0} (P : ℕ) (file : GrFile) (list : SsFile) (device : Writer W) (old : W) → AreSources P file list → IsBatch P file list device old old (Err Memory)
+refused_early P file list device old ok = (ok.within, file_begun P file list (device.written old) (device.written old) ok (none_begun P (graph_of file) list.sources.items (device.written old)))
 
 -- Once answers are written, no file is refused.
 pub not_early : {W : Type 0} (P : ℕ) (g : Graph) (sources : List ℕ) (device : Writer W) (old new : W) (result : Result Summary BatchError) (same : Type 0) → AreAllAnswered P g sources device old result new → IfErr result (λ e. is_early e ≡ true → same)

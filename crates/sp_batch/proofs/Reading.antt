@@ -2,6 +2,8 @@
 use Rattle.std.proofs.Common.{◌≡◌, ℕ, Bool, List, Option, Some, None, Result, Ok, Err, refl}
 use Rattle.sp_text.specs.Text.{items_of}
 use Rattle.sp_text.specs.Lines.{lines}
+use Rattle.sp_device.specs.declared.devices.Read.{Ghosts as Reader}
+use Rattle.sp_device.specs.declared.devices.Write.{Ghosts as Writer}
 use Rattle.sp_dimacs.specs.declared.graphs.GrFile.{GrFile}
 use Rattle.sp_dimacs.specs.declared.sources.SsFile.{SsFile}
 use Rattle.sp_dimacs.specs.Formats.{gr, ss}
@@ -20,20 +22,20 @@ pub sources_spelled : (P : ℕ) (text : List ℕ) (left : Option (List ℕ)) (ha
 sources_spelled P text left has_failed list (_, clean, (ps, found, is)) = (ps, items_of ss (lines text), record { faultless = clean; problem_line = found; item_lines = refl }, is)
 
 -- What was answered for a graph and sources is the answer to texts that spell them.
-pub answered : (P : ℕ) (gr_text ss_text : List ℕ) (gr_left ss_left : Option (List ℕ)) (gr_failed ss_failed : Bool) (old new : Option (List ℕ)) (has_failed : Bool) (file : GrFile) (list : SsFile) (result : Result Summary BatchError)
-    → SpellsGraph P gr_text file → SpellsSources P ss_text list → IsBatch P file list old new has_failed result → BatchAnswered P gr_text ss_text gr_left ss_left gr_failed ss_failed old new has_failed result
-answered P gr_text ss_text gr_left ss_left gr_failed ss_failed old new has_failed file list (Ok summary) graph sources is = (file, list, graph, sources, is)
-answered P gr_text ss_text gr_left ss_left gr_failed ss_failed old new has_failed file list (Err (NoSuchVertex v)) graph sources is = (file, list, graph, sources, is)
-answered P gr_text ss_text gr_left ss_left gr_failed ss_failed old new has_failed file list (Err Memory) graph sources is = (file, list, graph, sources, is)
-answered P gr_text ss_text gr_left ss_left gr_failed ss_failed old new has_failed file list (Err Write) graph sources is = (file, list, graph, sources, is)
-answered P gr_text ss_text gr_left ss_left gr_failed ss_failed old new has_failed file list (Err (Gr e)) graph sources is = absurd is
-answered P gr_text ss_text gr_left ss_left gr_failed ss_failed old new has_failed file list (Err (Ss e)) graph sources is = absurd is
+pub answered : {G S W : Type 0} (P : ℕ) (gr_text ss_text : List ℕ) (g : Reader G) (gr : G) (s : Reader S) (ss : S) (w : Writer W) (old new : W) (file : GrFile) (list : SsFile) (result : Result Summary BatchError)
+    → SpellsGraph P gr_text file → SpellsSources P ss_text list → IsBatch P file list w old new result → BatchAnswered P gr_text ss_text g gr s ss w old new result
+answered P gr_text ss_text g gr s ss w old new file list (Ok summary) graph sources is = (file, list, graph, sources, is)
+answered P gr_text ss_text g gr s ss w old new file list (Err (NoSuchVertex v)) graph sources is = (file, list, graph, sources, is)
+answered P gr_text ss_text g gr s ss w old new file list (Err Memory) graph sources is = (file, list, graph, sources, is)
+answered P gr_text ss_text g gr s ss w old new file list (Err Write) graph sources is = (file, list, graph, sources, is)
+answered P gr_text ss_text g gr s ss w old new file list (Err (Gr e)) graph sources is = absurd is
+answered P gr_text ss_text g gr s ss w old new file list (Err (Ss e)) graph sources is = absurd is
 
-pub of_some : (P : ℕ) (gr_text ss_text : List ℕ) (old new : Option (List ℕ)) (has_failed : Bool) (file : GrFile) (list : SsFile) (result : Result Summary BatchError)
-    → SpellsGraph P gr_text file → SpellsSources P ss_text list → IsBatch P file list old new has_failed result → BatchOfSome P old new has_failed result
-of_some P gr_text ss_text old new has_failed file list (Ok summary) graph sources is = (gr_text, ss_text, file, list, graph, sources, is)
-of_some P gr_text ss_text old new has_failed file list (Err (NoSuchVertex v)) graph sources is = (gr_text, ss_text, file, list, graph, sources, is)
-of_some P gr_text ss_text old new has_failed file list (Err Memory) graph sources is = (gr_text, ss_text, file, list, graph, sources, is)
-of_some P gr_text ss_text old new has_failed file list (Err Write) graph sources is = (gr_text, ss_text, file, list, graph, sources, is)
-of_some P gr_text ss_text old new has_failed file list (Err (Gr e)) graph sources is = absurd is
-of_some P gr_text ss_text old new has_failed file list (Err (Ss e)) graph sources is = absurd is
+pub of_some : {W : Type 0} (P : ℕ) (gr_text ss_text : List ℕ) (w : Writer W) (old new : W) (file : GrFile) (list : SsFile) (result : Result Summary BatchError)
+    → SpellsGraph P gr_text file → SpellsSources P ss_text list → IsBatch P file list w old new result → BatchOfSome P w old new result
+of_some P gr_text ss_text w old new file list (Ok summary) graph sources is = (gr_text, ss_text, file, list, graph, sources, is)
+of_some P gr_text ss_text w old new file list (Err (NoSuchVertex v)) graph sources is = (gr_text, ss_text, file, list, graph, sources, is)
+of_some P gr_text ss_text w old new file list (Err Memory) graph sources is = (gr_text, ss_text, file, list, graph, sources, is)
+of_some P gr_text ss_text w old new file list (Err Write) graph sources is = (gr_text, ss_text, file, list, graph, sources, is)
+of_some P gr_text ss_text w old new file list (Err (Gr e)) graph sources is = absurd is
+of_some P gr_text ss_text w old new file list (Err (Ss e)) graph sources is = absurd is

@@ -50,7 +50,7 @@ pub(crate) fn answer_files<const P: u32, R: Threads + Wait + Sync + Watch, W: Wr
     requires sources { AreSourcesWithin P list.now }
     requires delta { (1 ≤ plan.delta) × (plan.delta ≤ max_dist P) }
     requires workers { (1 ≤ plan.workers) × (plan.workers ≤ 64) }
-    ensures batch { IsBatch P file list.now (W.written out.old) (W.written out.new) (W.has_failed out.new) result }
+    ensures batch { IsBatch P file list.now W.Write out.old out.new result }
     ensures untouched { IfErr result (λ e. is_early e ≡ true → out.new ≡ out.old) }
 {
     if let Some(source) = first_above(&list.sources, file.n) {
@@ -81,9 +81,12 @@ pub fn run_batch<const P: u32, R: Threads + Wait + Sync, G: Read, S: Read, W: Wr
     requires layout { is_layout P ≡ true }
     requires delta { (1 ≤ delta) × (delta ≤ max_dist P) }
     requires workers { (1 ≤ workers) × (workers ≤ 64) }
-    ensures exact { (gr_text ss_text : List ℕ) → G.left gr.old ≡ Some gr_text → S.left ss.old ≡ Some ss_text → BatchAnswered P gr_text ss_text (G.left gr.new) (S.left ss.new) (G.has_failed gr.new) (S.has_failed ss.new) (W.written out.old) (W.written out.new) (W.has_failed out.new) result }
+    ensures exact { (gr_text ss_text : List ℕ)
+        → G.left gr.old ≡ Some gr_text → S.left ss.old ≡ Some ss_text
+        → BatchAnswered P gr_text ss_text G.Read gr.new S.Read ss.new
+        W.Write out.old out.new result }
     ensures untouched { IfErr result (λ e. is_early e ≡ true → out.new ≡ out.old) }
-    ensures found { BatchOfSome P (W.written out.old) (W.written out.new) (W.has_failed out.new) result }
+    ensures found { BatchOfSome P W.Write out.old out.new result }
 {
     let file = match read_gr::<P, G>(alloc, gr) {
         Ok(file) => file,

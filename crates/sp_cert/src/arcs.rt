@@ -6,8 +6,8 @@ ghost use Rattle.sp_cert.specs.Faults.{IsFirstOf, IsBroken, BreaksBy, FaultBy, F
 
 use crate::fault::{Fault, earlier};
 use crate::rule::Rule;
-use crate::words::word_at;
 use rayon::prelude::*;
+use sp_graph::look_up;
 use sp_paths::Arc;
 use sp_word::Word;
 use std::thread::Threads;
@@ -19,10 +19,10 @@ fn broken_by<const P: u32>(words: &[Word<P>], arc: Arc) -> Option<Rule>
     requires arc { IsArc (length words.now) arc }
     ensures { IsBroken (BreaksBy (max_dist P) (word_at words.now) arc) result }
 {
-    let Some(dist) = word_at(words, arc.tail).dist() else {
+    let Some(dist) = look_up(words, arc.tail).dist() else {
         return None;
     };
-    let found = word_at(words, arc.head);
+    let found = look_up(words, arc.head);
     let sum = dist + u64::from(arc.len);
     if sum > Word::<P>::max_dist() {
         if found.is_unreached() {
@@ -42,7 +42,8 @@ fn fault_by<const P: u32>(words: &[Word<P>], arc: Arc) -> Option<Fault>
     requires layout { is_layout P ≡ true }
     requires most { length words.now ≤ max_pred P }
     requires arc { IsArc (length words.now) arc }
-    ensures { IsFirstOf (FaultBy (max_dist P) (word_at words.now) arc) result }
+    ensures { IsFirstOf
+        (FaultBy (max_dist P) (word_at words.now) arc) result }
 {
     match broken_by(words, arc) {
         Some(rule) => Some(Fault {
@@ -67,8 +68,10 @@ pub fn first_of_arcs<const P: u32, R: Threads + Sync>(
     arcs.par_iter()
         .map(
             |arc: &Arc| -> Option<Fault>
-                requires { (is_layout P ≡ true) × (length words.now ≤ max_pred P) × IsArc (length words.now) arc.now }
-                ensures { IsFirstOf (FaultBy (max_dist P) (word_at words.entry.now) arc.now) result }
+                requires { (is_layout P ≡ true) × (length words.now ≤ max_pred P)
+                    × IsArc (length words.now) arc.now }
+                ensures { IsFirstOf
+                    (FaultBy (max_dist P) (word_at words.entry.now) arc.now) result }
             { fault_by(words, *arc) },
         )
         .reduce(

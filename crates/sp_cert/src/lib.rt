@@ -12,6 +12,3 @@ mod words;
 pub use checking::{CheckError, check};
 pub use laws::checked_table;
 pub use rule::Rule;
-
-#[cfg(test)]
-mod tests;

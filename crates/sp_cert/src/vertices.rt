@@ -8,9 +8,8 @@ ghost use Rattle.sp_cert.specs.Faults.{IsRow, HasArcTo, IsFirstOf, IsBroken, Bre
 
 use crate::fault::{Fault, earlier};
 use crate::rule::Rule;
-use crate::words::word_at;
 use rayon::prelude::*;
-use sp_graph::Graph;
+use sp_graph::{Graph, look_up};
 use sp_paths::Arc;
 use sp_word::Word;
 use std::thread::Threads;
@@ -39,7 +38,7 @@ fn is_explained<const P: u32>(
     if !(1..=graph.n()).contains(&pred) {
         return false;
     }
-    match word_at(words, pred).dist() {
+    match look_up(words, pred).dist() {
         Some(before) if before <= dist => has_arc(graph.row(pred), vertex, dist - before),
         _ => false,
     }
@@ -58,7 +57,7 @@ fn broken_at<const P: u32>(
     requires vertex { IsVertex graph.now.n vertex }
     ensures { IsBroken (BreaksAt graph.now source (word_at words.now) vertex) result }
 {
-    let word = word_at(words, vertex);
+    let word = look_up(words, vertex);
     if vertex == source {
         return if word.is_same(Word::pack(0, 0)) {
             None
@@ -87,7 +86,8 @@ fn fault_at<const P: u32>(
     requires size { length words.now ≡ graph.now.n }
     requires order { IsInOrder graph.now.arcs }
     requires vertex { IsVertex graph.now.n vertex }
-    ensures { IsFirstOf (FaultAt graph.now source (word_at words.now) vertex) result }
+    ensures { IsFirstOf
+        (FaultAt graph.now source (word_at words.now) vertex) result }
 {
     match broken_at(graph, words, source, vertex) {
         Some(rule) => Some(Fault { vertex, rule }),
@@ -111,8 +111,10 @@ pub fn first_of_vertices<const P: u32, R: Threads + Sync>(
         .into_par_iter()
         .map(
             |vertex: u32| -> Option<Fault>
-                requires { (is_layout P ≡ true) × (length words.now ≡ graph.now.n) × IsInOrder graph.now.arcs × IsVertex graph.now.n vertex }
-                ensures { IsFirstOf (FaultAt graph.entry.now source (word_at words.entry.now) vertex) result }
+                requires { (is_layout P ≡ true) × (length words.now ≡ graph.now.n)
+                    × IsInOrder graph.now.arcs × IsVertex graph.now.n vertex }
+                ensures { IsFirstOf
+                    (FaultAt graph.entry.now source (word_at words.entry.now) vertex) result }
             { fault_at(graph, words, source, vertex) },
         )
         .reduce(

@@ -7,18 +7,11 @@ use sp_tree::Tree;
 use sp_word::Word;
 use std::alloc::{AllocError, Global};
 
-/// The word of a vertex, where the words are those of vertex 1, 2 and so on.
-pub fn word_at<const P: u32>(words: &[Word<P>], vertex: u32) -> Word<P>
-    requires { IsVertex (length words.now) vertex }
-    ensures { result ≡ word_at words.now vertex }
-{
-    words[(vertex - 1) as usize]
-}
-
 /// The words of vertex 1, 2 and so on.
 pub fn words_of<const P: u32>(alloc: Global, tree: &Tree<P>) -> Result<Vec<Word<P>>, AllocError>
     ensures size { IfOk result (λ words. length words.items ≡ tree.now.n) }
-    ensures words { IfOk result (λ words. (v : ℕ) → IsVertex tree.now.n v → word_at words.items v ≡ table_of tree.now v) }
+    ensures words { IfOk result (λ words. (v : ℕ) → IsVertex tree.now.n v
+        → word_at words.items v ≡ table_of tree.now v) }
 {
     let n = tree.n() as usize;
     let mut words = vec![in alloc; Word::unreached(); n]?;

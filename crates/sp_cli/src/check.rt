@@ -114,7 +114,8 @@ fn judge<const P: u32, R: Threads + Sync>(
 }
 
 fn print_verdict<W: Write>(verdict: Verdict, out: &mut W) -> Printer
-    ensures { IsSending W.written W.passed W.has_failed (verdict_text verdict) out.old out.new result }
+    ensures { IsSending W.written W.passed W.has_failed
+        (verdict_text verdict) out.old out.new result }
 {
     let mut printer = Printer::new();
     match verdict {

@@ -59,7 +59,8 @@ pub fn read_order<'a>(alloc: Global, words: &'a [&'a str]) -> Result<Order<'a>, 
 pub fn answer_to<'a>(error: Error) -> Result<Order<'a>, Fault>
     ensures memory { kind_of error ≡ ErrorKind.OutOfMemory → result ≡ Err Memory }
     ensures text { is_text (kind_of error) ≡ true → result ≡ Ok (Show error) }
-    ensures usage { kind_of error ≢ ErrorKind.OutOfMemory → is_text (kind_of error) ≡ false → result ≡ Err (Usage error) }
+    ensures usage { kind_of error ≢ ErrorKind.OutOfMemory
+        → is_text (kind_of error) ≡ false → result ≡ Err (Usage error) }
 {
     match error.kind() {
         ErrorKind::OutOfMemory => Err(Fault::Memory),

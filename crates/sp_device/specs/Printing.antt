@@ -24,6 +24,11 @@ abbrev pub Sends : {W : Type 0} → (W → Option (List ℕ)) → (W → ℕ) �
 Sends {W = W} written passed has_failed text old before new after =
     (front : List ℕ) (start : W) → IsSending written passed has_failed front start old before → IsSending written passed has_failed (front ++ text) start new after
 
+-- Whatever was sent before still is.
+abbrev pub KeepsSending : {W : Type 0} → (W → Option (List ℕ)) → (W → ℕ) → (W → Bool) → W → Printer → W → Printer → Type 0
+KeepsSending {W = W} written passed has_failed old before new after =
+    (front : List ℕ) (start : W) → IsSending written passed has_failed front start old before → IsSending written passed has_failed front start new after
+
 -- The text was written, of so many bytes; or the writer has failed, and a beginning of the text stands.
 abbrev pub Finished : {W F : Type 0} → (W → Option (List ℕ)) → (W → Bool) → List ℕ → W → Result ℕ F → W → Type 0
 Finished written has_failed text start (Ok count) out = Appends (written start) (written out) text × (count ≡ length text)
@@ -33,3 +38,13 @@ Finished written has_failed text start (Err e) out = IsBegun text (written start
 abbrev pub Counted : {W F : Type 0} → (W → ℕ) → W → Result ℕ F → W → Type 0
 Counted passed start (Ok count) out = (passed out ≡ passed start + count) × (0 < count → passed out ≤ 2 ^ 62)
 Counted passed start (Err e) out = Unit {0}
+
+-- Whatever was sent is written then, or a beginning of it where the writer has failed.
+abbrev pub EndsSending : {W F : Type 0} → (W → Option (List ℕ)) → (W → ℕ) → (W → Bool) → W → Printer → Result ℕ F → W → Type 0
+EndsSending {W = W} written passed has_failed old before result new =
+    (front : List ℕ) (start : W) → IsSending written passed has_failed front start old before → Finished written has_failed front start result new
+
+-- The bytes that were sent are counted then.
+abbrev pub EndsCounting : {W F : Type 0} → (W → Option (List ℕ)) → (W → ℕ) → (W → Bool) → W → Printer → Result ℕ F → W → Type 0
+EndsCounting {W = W} written passed has_failed old before result new =
+    (front : List ℕ) (start : W) → IsSending written passed has_failed front start old before → Counted passed start result new

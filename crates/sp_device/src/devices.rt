@@ -28,12 +28,15 @@ pub trait Read {
     fn read(&mut self, buf: &mut [u8]) -> Result<usize, Failed>
         requires { 0 < length buf.old }
         ensures within { IfOk result (λ n. n ≤ length buf.new) }
-        ensures bytes { IfOk result (λ n. Consumes (left self.old) (left self.new) (take n buf.new)) }
+        ensures bytes { IfOk result
+            (λ n. Consumes (left self.old) (left self.new) (take n buf.new)) }
         ensures end { IfOk result (λ n. n ≡ 0 → IsAtEnd (left self.new)) }
         ensures passed { IfOk result (λ n. passed self.new ≡ passed self.old + n) }
         ensures limit { OnOk result (passed self.new ≤ 2 ^ 62) }
-        ensures going { OnOk result ((has_failed self.old ≡ false) × (has_failed self.new ≡ false)) }
-        ensures kept { OnErr result (Keeps (left self.old) (left self.new) × (passed self.new ≡ passed self.old)) }
+        ensures going { OnOk result ((has_failed self.old ≡ false)
+            × (has_failed self.new ≡ false)) }
+        ensures kept { OnErr result (Keeps (left self.old) (left self.new)
+            × (passed self.new ≡ passed self.old)) }
         ensures failed { OnErr result (has_failed self.new ≡ true) }
         ensures fails { FailsBy (failing self.old) (passed self.old) result }
         ensures lasting { failing self.new ≡ failing self.old };
@@ -57,11 +60,14 @@ pub trait Write {
     fn write(&mut self, bytes: &[u8]) -> Result<usize, Failed>
         ensures within { IfOk result (λ n. n ≤ length bytes.now) }
         ensures some { IfOk result (λ n. 0 < length bytes.now → 0 < n) }
-        ensures bytes { IfOk result (λ n. Appends (written self.old) (written self.new) (take n bytes.now)) }
+        ensures bytes { IfOk result
+            (λ n. Appends (written self.old) (written self.new) (take n bytes.now)) }
         ensures passed { IfOk result (λ n. passed self.new ≡ passed self.old + n) }
         ensures limit { OnOk result (passed self.new ≤ 2 ^ 62) }
-        ensures going { OnOk result ((has_failed self.old ≡ false) × (has_failed self.new ≡ false)) }
-        ensures kept { OnErr result (Keeps (written self.old) (written self.new) × (passed self.new ≡ passed self.old)) }
+        ensures going { OnOk result ((has_failed self.old ≡ false)
+            × (has_failed self.new ≡ false)) }
+        ensures kept { OnErr result (Keeps (written self.old) (written self.new)
+            × (passed self.new ≡ passed self.old)) }
         ensures failed { OnErr result (has_failed self.new ≡ true) }
         ensures fails { 0 < length bytes.now → FailsBy (failing self.old) (passed self.old) result }
         ensures none { length bytes.now ≡ 0 → OnErr result (has_failed self.old ≡ true) }

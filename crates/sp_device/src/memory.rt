@@ -107,7 +107,8 @@ impl UpToWriter {
         ensures written { ⟦<UpToWriter as Write>⟧.written result ≡ Some [] }
         ensures passed { ⟦<UpToWriter as Write>⟧.passed result ≡ 0 }
         ensures going { ⟦<UpToWriter as Write>⟧.has_failed result ≡ false }
-        ensures fails { (⟦<UpToWriter as Write>⟧.failing result ≡ Behind room) ⊎ (⟦<UpToWriter as Write>⟧.failing result ≡ Behind 0) }
+        ensures fails { (⟦<UpToWriter as Write>⟧.failing result ≡ Behind room)
+            ⊎ (⟦<UpToWriter as Write>⟧.failing result ≡ Behind 0) }
     {
         let (taken, room) = match Vec::with_capacity(alloc, room) {
             Ok(taken) => (taken, room),

@@ -1,6 +1,6 @@
 //! A text that is written in blocks.
-ghost use Rattle.std.specs.Prelude.{◌≡◌, ◌+◌, ◌≤◌, ℕ, List, [], ◌++◌, length, decimal, false};
-ghost use Rattle.sp_device.specs.Printing.{IsSending, Sends, Finished, Counted};
+ghost use Rattle.std.specs.Prelude.{◌≡◌, ◌+◌, ◌≤◌, [], length, decimal, false};
+ghost use Rattle.sp_device.specs.Printing.{Sends, KeepsSending, EndsSending, EndsCounting};
 
 use crate::block::Block;
 use crate::devices::{Write, write_all};
@@ -39,7 +39,8 @@ impl Printer {
 // Writes what waits.
 fn flush<W: Write>(out: &mut W, printer: &mut Printer)
     ensures block { printer.new.block ≡ [] }
-    ensures sends { (front : List ℕ) (start : W) → IsSending W.written W.passed W.has_failed front start out.old printer.old → IsSending W.written W.passed W.has_failed front start out.new printer.new }
+    ensures sends { KeepsSending W.written W.passed W.has_failed
+        out.old printer.old out.new printer.new }
 {
     if printer.failed {
         printer.block.clear();
@@ -61,7 +62,8 @@ fn flush<W: Write>(out: &mut W, printer: &mut Printer)
 // Writes bytes while nothing waits.
 fn write_on<W: Write>(out: &mut W, printer: &mut Printer, bytes: &[u8])
     requires { printer.old.block ≡ [] }
-    ensures { Sends W.written W.passed W.has_failed bytes.now out.old printer.old out.new printer.new }
+    ensures { Sends W.written W.passed W.has_failed bytes.now
+        out.old printer.old out.new printer.new }
 {
     if printer.failed {
         return;
@@ -76,7 +78,8 @@ fn write_on<W: Write>(out: &mut W, printer: &mut Printer, bytes: &[u8])
 pub fn make_room<W: Write>(out: &mut W, printer: &mut Printer, room: usize)
     requires { room ≤ 8192 }
     ensures room { length printer.new.block + room ≤ 8192 }
-    ensures sends { (front : List ℕ) (start : W) → IsSending W.written W.passed W.has_failed front start out.old printer.old → IsSending W.written W.passed W.has_failed front start out.new printer.new }
+    ensures sends { KeepsSending W.written W.passed W.has_failed
+        out.old printer.old out.new printer.new }
 {
     if printer.block.room_left() < room {
         flush(out, printer);
@@ -85,7 +88,8 @@ pub fn make_room<W: Write>(out: &mut W, printer: &mut Printer, room: usize)
 
 /// Sends these bytes too.
 pub fn print_text<W: Write>(out: &mut W, printer: &mut Printer, bytes: &[u8])
-    ensures { Sends W.written W.passed W.has_failed bytes.now out.old printer.old out.new printer.new }
+    ensures { Sends W.written W.passed W.has_failed bytes.now
+        out.old printer.old out.new printer.new }
 {
     if bytes.len() <= ROOM {
         make_room(out, printer, bytes.len());
@@ -98,7 +102,8 @@ pub fn print_text<W: Write>(out: &mut W, printer: &mut Printer, bytes: &[u8])
 
 /// Sends a number in decimal.
 pub fn print_number<W: Write>(out: &mut W, printer: &mut Printer, n: u64)
-    ensures { Sends W.written W.passed W.has_failed (decimal n) out.old printer.old out.new printer.new }
+    ensures { Sends W.written W.passed W.has_failed (decimal n)
+        out.old printer.old out.new printer.new }
 {
     let mut buffer = Buffer::new();
     print_text(out, printer, buffer.format(n).as_bytes());
@@ -106,8 +111,10 @@ pub fn print_number<W: Write>(out: &mut W, printer: &mut Printer, n: u64)
 
 /// Writes what waits, and tells how many bytes were written.
 pub fn finish<W: Write>(out: &mut W, mut printer: Printer) -> Result<u64, WriteFault>
-    ensures written { (front : List ℕ) (start : W) → IsSending W.written W.passed W.has_failed front start out.old printer → Finished W.written W.has_failed front start result out.new }
-    ensures passed { (front : List ℕ) (start : W) → IsSending W.written W.passed W.has_failed front start out.old printer → Counted W.passed start result out.new }
+    ensures written { EndsSending W.written W.passed W.has_failed
+        out.old printer result out.new }
+    ensures passed { EndsCounting W.written W.passed W.has_failed
+        out.old printer result out.new }
 {
     flush(out, &mut printer);
     if printer.failed {

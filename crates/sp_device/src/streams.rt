@@ -102,8 +102,10 @@ impl<W: io::Write> OfWrite<W> {
 impl<W: io::Write> OfWrite<W> {
     /// Hands on what the writer of std may have kept back.
     pub fn flush(&mut self) -> Result<(), WriteFault>
-        ensures kept { Keeps (⟦<OfWrite<W> as Write>⟧.written self.old) (⟦<OfWrite<W> as Write>⟧.written self.new) }
-        ensures passed { ⟦<OfWrite<W> as Write>⟧.passed self.new ≡ ⟦<OfWrite<W> as Write>⟧.passed self.old }
+        ensures kept { Keeps (⟦<OfWrite<W> as Write>⟧.written self.old)
+            (⟦<OfWrite<W> as Write>⟧.written self.new) }
+        ensures passed { ⟦<OfWrite<W> as Write>⟧.passed self.new
+            ≡ ⟦<OfWrite<W> as Write>⟧.passed self.old }
         ensures going { OnOk result (⟦<OfWrite<W> as Write>⟧.has_failed self.new ≡ false) }
         ensures failed { OnErr result (⟦<OfWrite<W> as Write>⟧.has_failed self.new ≡ true) }
     {

@@ -37,7 +37,8 @@ fn is_item_closed<const P: u32>(
     words: &[Word<P>],
     done: &HashSet<Relaxation>,
 ) -> bool
-    ensures { (relaxed : List Finish) → HasJust done.now relaxed → IsTrue result ↔ IsItemClosed words.now relaxed item.now }
+    ensures { (relaxed : List Finish) → HasJust done.now relaxed
+        → IsTrue result ↔ IsItemClosed words.now relaxed item.now }
 {
     let Item::Relax { tail, head, len } = *item else {
         return true;
@@ -58,7 +59,8 @@ fn is_row_closed<const P: u32>(
     words: &[Word<P>],
     done: &HashSet<Relaxation>,
 ) -> bool
-    ensures { (relaxed : List Finish) → HasJust done.now relaxed → IsTrue result ↔ All (IsItemClosed words.now relaxed) row.now }
+    ensures { (relaxed : List Finish) → HasJust done.now relaxed
+        → IsTrue result ↔ All (IsItemClosed words.now relaxed) row.now }
 {
     for item in row {
         if !is_item_closed(item, words, done) {
@@ -74,7 +76,8 @@ pub(crate) fn is_closed<const P: u32>(
     words: &[Word<P>],
     done: &HashSet<Relaxation>,
 ) -> bool
-    ensures { (relaxed : List Finish) → HasJust done.now relaxed → IsTrue result ↔ All (λ row. All (IsItemClosed words.now relaxed) row.items) rows.now }
+    ensures { (relaxed : List Finish) → HasJust done.now relaxed
+        → IsTrue result ↔ All (λ row. All (IsItemClosed words.now relaxed) row.items) rows.now }
 {
     for row in rows {
         if !is_row_closed(row, words, done) {

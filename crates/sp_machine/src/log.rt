@@ -91,7 +91,8 @@ fn push_call<const P: u32>(
     first: u64,
     last: u64,
 ) -> Result<(), AllocError>
-    ensures { OnOk result (calls.new.items ≡ with_call calls.old.items (option_copied ended.entry) first last) }
+    ensures { OnOk result (calls.new.items
+        ≡ with_call calls.old.items (option_copied ended.entry) first last) }
 {
     if let Some(ended) = ended {
         calls.push(Finished {

@@ -43,8 +43,18 @@ impl<const P: u32> Programme<P> {
         rows: Vec<Vec<Item<P>>>,
     ) -> Programme<P>
         requires layout { is_layout P ≡ true }
-        requires programme { let plan : Plan P = record { words = words; actors = actors; named = named.items; rows = map (λ row. row.items) rows.items } in IsProgramme plan }
-        ensures { result ≡ record { words = words; actors = actors; named = named.entry.items; rows = map (λ row. row.items) rows.entry.items } }
+        requires programme { let plan : Plan P = record {
+          words = words;
+          actors = actors;
+          named = named.items;
+          rows = map (λ row. row.items) rows.items;
+        } in IsProgramme plan }
+        ensures { result ≡ record {
+          words = words;
+          actors = actors;
+          named = named.entry.items;
+          rows = map (λ row. row.items) rows.entry.items;
+        } }
     {
         Programme {
             words,

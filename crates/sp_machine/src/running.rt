@@ -1,11 +1,7 @@
 //! Replays.
-ghost use Rattle.std.specs.Prelude.{ℕ, ◌-◌, ◌*◌, ◌≤◌, All, IfOk, IsTrue};
-ghost use Rattle.sp_word.specs.Word.{max_dist};
-ghost use Rattle.sp_paths.specs.Paths.{word_at, EndsInTree};
-ghost use Rattle.sp_machine.specs.Programme.{IsNumber, opening_words};
-ghost use Rattle.sp_machine.specs.Linear.{IsLinear};
-ghost use Rattle.sp_machine.specs.Relaxing.{graph_of, RelaxesFrom};
-ghost use Rattle.sp_machine.specs.ReportOf.{IsReportOf};
+ghost use Rattle.std.specs.Prelude.{All, IfOk};
+ghost use Rattle.sp_machine.specs.Programme.{IsNumber};
+ghost use Rattle.sp_machine.specs.ReportOf.{IsReportOf, IsOfLinearRun, IsTreeIfClosed, HasFewLosses};
 
 use crate::closing::{is_closed, set_of};
 use crate::log::Log;
@@ -25,9 +21,9 @@ pub fn replay<const P: u32>(
 ) -> Result<Report<P>, AllocError>
     requires { All (IsNumber programme.now.actors) schedule.now }
     ensures report { IfOk result (IsReportOf programme.now schedule.now) }
-    ensures linear { IfOk result (λ report. IsLinear programme.now.words (word_at (opening_words programme.now)) report.calls.items (word_at report.words.items)) }
-    ensures tree { IfOk result (λ report. (s : ℕ) → RelaxesFrom programme.now s → IsTrue report.closed → EndsInTree (graph_of programme.now) s (max_dist P) (word_at report.words.items)) }
-    ensures losses { IfOk result (λ report. report.losses ≤ (programme.now.actors - 1) * report.wins) }
+    ensures linear { IfOk result (IsOfLinearRun programme.now) }
+    ensures tree { IfOk result (IsTreeIfClosed programme.now) }
+    ensures losses { IfOk result (HasFewLosses programme.now) }
 {
     let mut machine = programme.machine(alloc)?;
     let mut log = Log::new(alloc, programme.actors())?;

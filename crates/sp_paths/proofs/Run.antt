@@ -12,10 +12,6 @@ use Rattle.sp_paths.proofs.Least.{least_exists}
 pub not_both : (w : Word) (d p : ℕ) → w ≡ Pair d p → w ≡ Unreached → ⊥
 not_both w d p e f = cc
 
--- an unreached word is of no walk; a pair is a least length
-tree_word_walk : (g : Graph) (s v : ℕ) (w : Word) → IsTreeWord g s v w → w ≡ Unreached → (d : ℕ) → HasWalk g s v d → ⊥
-tree_word_walk g s v w t e = rw e at t
-
 module _ (g : Graph) (gr : IsGraph g) (s : ℕ) (in' : IsVertex g.n s) (max : ℕ) (words : Table) (table : IsTableFrom g s words) (closed : IsClosed g max words) (within : IsWithin g.n max words) where
   -- a vertex near the source is reached, and what is reached is near
   pub near_reached : (v : ℕ) → IsNear g s max v → (d p : ℕ) × (words v ≡ Pair d p) × (d ≤ max)

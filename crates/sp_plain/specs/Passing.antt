@@ -2,7 +2,8 @@
 use Rattle.std.specs.Prelude.{◌≡◌, ℕ, replicate, ◌+◌, ◌-◌, ◌*◌, ◌≤◌, List, length, slice_set, All, sum_by, Option, Some, None}
 use Rattle.sp_word.specs.Word.{Word, Unreached, Pair, IsBelow, dist_of}
 use Rattle.sp_paths.specs.declared.arc.Arc.{Arc}
-use Rattle.sp_paths.specs.Paths.{Graph, IsVertex, IsTree, IsFar, IsTableFrom, word_at}
+use Rattle.sp_paths.specs.Paths.{Graph, IsVertex, IsTree, IsFar, IsTableFrom, IsClosed, word_at}
+use Rattle.sp_graph.specs.LeftOut.{network}
 use Rattle.sp_paths.specs.Theorems.{IsFinished}
 
 -- the pair that the arc makes of the word `from`, within max, and less than the word found
@@ -24,6 +25,14 @@ IsSmallTable max words = All (IsSmall (length words) max) words
 -- what was the table of a run is one still
 abbrev pub KeepsTables : Graph → List Word → List Word → Type 0
 KeepsTables g before after = (s : ℕ) → IsVertex g.n s → IsTableFrom g s (word_at before) → IsTableFrom g s (word_at after)
+
+-- the same for the graph of n vertices with these arcs
+abbrev pub KeepsTablesOf : ℕ → List Arc → List Word → List Word → Type 0
+KeepsTablesOf n arcs before after = KeepsTables (network n arcs) before after
+
+-- every one of these arcs between n vertices is relaxed
+abbrev pub IsClosedTable : (n max : ℕ) → List Arc → List Word → Type 0
+IsClosedTable n max arcs words = IsClosed (network n arcs) max (word_at words)
 
 -- the place of a word in the order of words
 abbrev pub rank : (n max : ℕ) → Word → ℕ

@@ -9,7 +9,8 @@ use sp_word::Word;
 // The vertex that is too far, if there is one, by the words of a table in which every arc is relaxed.
 pub fn first_too_far<const P: u32>(graph: &Graph, words: &[Word<P>]) -> Option<u32>
     requires { length words.now ≡ graph.now.n }
-    ensures { (s : ℕ) → IsFinishedTable graph.now s (max_dist P) words.now → IsOutcome graph.now s (max_dist P) words.now result }
+    ensures { (s : ℕ) → IsFinishedTable graph.now s (max_dist P) words.now
+        → IsOutcome graph.now s (max_dist P) words.now result }
 {
     left_out(words, graph.arcs())
 }

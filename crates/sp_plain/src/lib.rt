@@ -12,6 +12,3 @@ mod random;
 
 pub use plain::{Answer, plain_tree};
 pub use random::{Kind, Random, random_graph};
-
-#[cfg(test)]
-mod tests;

@@ -2,9 +2,8 @@
 ghost use Rattle.std.specs.Prelude.{◌≡◌, ℕ, ◌+◌, ◌≤◌, true, length, vec_len, All, IfOk, IfSome, IfNone, cond};
 ghost use Rattle.std.specs.Bool.{OnFalse};
 ghost use Rattle.sp_word.specs.Word.{is_layout, max_dist, max_pred};
-ghost use Rattle.sp_paths.specs.Paths.{IsArc, IsVertex, IsClosed, word_at};
-ghost use Rattle.sp_graph.specs.LeftOut.{network};
-ghost use Rattle.sp_plain.specs.Passing.{KeepsTables, IsLesserOffer, IsNoLesser, IsSmallTable, total_rank, first_words, IsFinishedTable};
+ghost use Rattle.sp_paths.specs.Paths.{IsArc, IsVertex};
+ghost use Rattle.sp_plain.specs.Passing.{KeepsTablesOf, IsClosedTable, IsLesserOffer, IsNoLesser, IsSmallTable, total_rank, first_words, IsFinishedTable};
 
 use sp_graph::{Graph, look_up};
 use sp_paths::Arc;
@@ -15,7 +14,8 @@ use std::alloc::{AllocError, Global};
 fn offer<const P: u32>(from: Word<P>, arc: Arc, found: Word<P>) -> Option<Word<P>>
     requires layout { is_layout P ≡ true }
     requires tail { arc.tail ≤ max_pred P }
-    ensures some { IfSome result (λ word. IsLesserOffer (max_dist P) from.entry arc found.entry word) }
+    ensures some { IfSome result
+        (λ word. IsLesserOffer (max_dist P) from.entry arc found.entry word) }
     ensures none { IfNone result (IsNoLesser (max_dist P) from.entry arc found.entry) }
 {
     let dist = from.dist()?;
@@ -39,9 +39,11 @@ fn pass<const P: u32>(words: &mut Vec<Word<P>>, arcs: &[Arc]) -> bool
     requires small { IsSmallTable (max_dist P) words.old.items }
     ensures size { vec_len words.new ≡ vec_len words.old }
     ensures small { IsSmallTable (max_dist P) words.new.items }
-    ensures kept { KeepsTables (network (vec_len words.old) arcs.now) words.old.items words.new.items }
-    ensures closed { OnFalse result (IsClosed (network (vec_len words.old) arcs.now) (max_dist P) (word_at words.new.items)) }
-    ensures less { total_rank (max_dist P) words.new.items + cond result 1 0 ≤ total_rank (max_dist P) words.old.items }
+    ensures kept { KeepsTablesOf (vec_len words.old) arcs.now words.old.items words.new.items }
+    ensures closed { OnFalse result
+        (IsClosedTable (vec_len words.old) (max_dist P) arcs.now words.new.items) }
+    ensures less { total_rank (max_dist P) words.new.items + cond result 1 0
+        ≤ total_rank (max_dist P) words.old.items }
 {
     let mut changed = false;
     for arc in arcs {
@@ -63,8 +65,8 @@ fn relax_all<const P: u32>(words: &mut Vec<Word<P>>, arcs: &[Arc])
     requires small { IsSmallTable (max_dist P) words.old.items }
     ensures size { vec_len words.new ≡ vec_len words.old }
     ensures small { IsSmallTable (max_dist P) words.new.items }
-    ensures kept { KeepsTables (network (vec_len words.old) arcs.now) words.old.items words.new.items }
-    ensures closed { IsClosed (network (vec_len words.old) arcs.now) (max_dist P) (word_at words.new.items) }
+    ensures kept { KeepsTablesOf (vec_len words.old) arcs.now words.old.items words.new.items }
+    ensures closed { IsClosedTable (vec_len words.old) (max_dist P) arcs.now words.new.items }
 {
     let mut changed = true;
     while changed {

@@ -41,8 +41,10 @@ pub fn plain_tree<const P: u32>(
 // What is told by the words of a table in which every arc is relaxed.
 fn answer_of<const P: u32>(graph: &Graph, words: Vec<Word<P>>) -> Answer<P>
     requires { vec_len words ≡ graph.now.n }
-    ensures answer { (s : ℕ) → IsFinishedTable graph.now s (max_dist P) words.entry.items → IsAnswer graph.now s (max_dist P) result }
-    ensures predecessors { (s : ℕ) → IsFinishedTable graph.now s (max_dist P) words.entry.items → ArePredsWithin graph.now.n result }
+    ensures answer { (s : ℕ) → IsFinishedTable graph.now s (max_dist P) words.entry.items
+        → IsAnswer graph.now s (max_dist P) result }
+    ensures predecessors { (s : ℕ) → IsFinishedTable graph.now s (max_dist P) words.entry.items
+        → ArePredsWithin graph.now.n result }
 {
     match first_too_far(graph, &words) {
         Some(vertex) => Answer::TooFar(vertex),

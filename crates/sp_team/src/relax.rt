@@ -3,7 +3,7 @@ ghost use Rattle.std.specs.Prelude.{◌≡◌, ℕ, ◌+◌, ◌≤◌, true, Al
 ghost use Rattle.sp_word.specs.Word.{Pair, is_layout, max_dist};
 ghost use Rattle.sp_paths.specs.Paths.{IsVertex, IsArc};
 ghost use Rattle.sp_offer.specs.Order.{lawful};
-ghost use Rattle.sp_team.specs.Law.{IsReady};
+ghost use Rattle.sp_team.specs.Law.{IsReady, AllowsSum};
 ghost use Rattle.sp_team.specs.Later.{IsLater};
 
 use crate::bins::Bins;
@@ -23,7 +23,8 @@ pub(crate) fn read_dist<L: Lawful, const P: u32>(
     requires vertex { IsVertex table.now.vertices vertex }
     requires caller { caller.old.table ≡ table.now.id }
     ensures later { IsLater (lawful P (L.allows table.now.law)) caller.old caller.new }
-    ensures lawful { IfSome result (λ dist. (pred : ℕ) × lawful P (L.allows table.now.law) vertex (Pair dist pred)) }
+    ensures lawful { IfSome result
+        (λ dist. (pred : ℕ) × lawful P (L.allows table.now.law) vertex (Pair dist pred)) }
 {
     table.read(caller, vertex).dist()
 }
@@ -65,7 +66,8 @@ fn relax_row<L: Lawful, const P: u32>(
     requires layout { is_layout P ≡ true }
     requires dist { dist ≤ max_dist P }
     requires arcs { All (IsArc table.now.vertices) row.now }
-    requires allowed { All (λ a. dist + a.len ≤ max_dist P → lawful P (L.allows table.now.law) a.head (Pair (dist + a.len) a.tail)) row.now }
+    requires allowed { All
+        (AllowsSum (lawful P (L.allows table.now.law)) (max_dist P) dist) row.now }
     requires caller { caller.old.table ≡ table.now.id }
     ensures { IsLater (lawful P (L.allows table.now.law)) caller.old caller.new }
 {

@@ -85,7 +85,8 @@ fn push_tail<const P: u32>(
     requires layout { is_layout P ≡ true }
     requires most { length words.now ≤ max_pred P }
     requires arc { IsArc (length words.now) arc }
-    ensures { OnOk result (TakesArc (max_dist P) (word_at words.now) arc tails.old.items tails.new.items) }
+    ensures { OnOk result
+        (TakesArc (max_dist P) (word_at words.now) arc tails.old.items tails.new.items) }
 {
     match scan_arc(words, arc) {
         Scan::Open => Ok(tails.push(arc.tail)?),
@@ -103,7 +104,8 @@ pub fn open_tails<const P: u32>(
     requires layout { is_layout P ≡ true }
     requires most { length words.now ≤ max_pred P }
     requires arcs { All (IsArc (length words.now)) arcs.now }
-    ensures { IfOk result (λ tails. AreOpenTails (max_dist P) (word_at words.now) arcs.now tails.items) }
+    ensures { IfOk result
+        (λ tails. AreOpenTails (max_dist P) (word_at words.now) arcs.now tails.items) }
 {
     let mut tails = Vec::new(alloc);
     for arc in arcs {
@@ -132,11 +134,13 @@ pub fn scan_arcs<R: Threads + Sync, const P: u32>(
     let (second, first) = join(
         rt,
         || -> Scan
-            requires { IsSync R.row × (is_layout P ≡ true) × (length words.now ≤ max_pred P) × All (IsArc (length words.now)) right.now }
+            requires { IsSync R.row × (is_layout P ≡ true) × (length words.now ≤ max_pred P)
+                × All (IsArc (length words.now)) right.now }
             ensures { Shows (max_dist P) (word_at words.entry.now) right.entry.now result }
         { scan_arcs(rt, words, right, fewer) },
         || -> Scan
-            requires { (is_layout P ≡ true) × (length words.now ≤ max_pred P) × All (IsArc (length words.now)) left.now }
+            requires { (is_layout P ≡ true) × (length words.now ≤ max_pred P)
+                × All (IsArc (length words.now)) left.now }
             ensures { Shows (max_dist P) (word_at words.entry.now) left.entry.now result }
         { scan_part(words, left) },
     );

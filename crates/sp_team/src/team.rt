@@ -199,8 +199,10 @@ fn merge<L: Lawful, const P: u32>(
     requires mine { mine.caller.table ≡ table.now.id }
     requires theirs { theirs.caller.table ≡ table.now.id }
     ensures later { IsLater (lawful P (L.allows table.now.law)) mine.caller result.caller }
-    ensures both { Follows (lawful P (L.allows table.now.law)) mine.caller.story theirs.caller.story result.caller.story }
-    ensures own { own_calls result.caller.story ≡ own_calls mine.caller.story ++ own_calls theirs.caller.story }
+    ensures both { Follows (lawful P (L.allows table.now.law))
+        mine.caller.story theirs.caller.story result.caller.story }
+    ensures own { own_calls result.caller.story
+        ≡ own_calls mine.caller.story ++ own_calls theirs.caller.story }
     ensures lost { result.lost ≡ (mine.lost || theirs.lost) }
 {
     Relaxed {
@@ -249,7 +251,9 @@ fn run_workers<R: Threads + Wait + Sync, L: Lawful + Send + Sync, const P: u32>(
         caller: other,
     };
     let theirs = move || -> Relaxed
-        requires { IsSync R.row × IsSync L.row × IsSend L.row × IsReady P (lawful P (L.allows table.now.law)) table.now.vertices graph.now × (second.caller.table ≡ table.now.id) }
+        requires { IsSync R.row × IsSync L.row × IsSend L.row
+            × IsReady P (lawful P (L.allows table.now.law)) table.now.vertices graph.now
+            × (second.caller.table ≡ table.now.id) }
         ensures { IsLater (lawful P (L.allows table.entry.now.law)) second.caller result.caller }
     {
         run_workers(
@@ -257,7 +261,8 @@ fn run_workers<R: Threads + Wait + Sync, L: Lawful + Send + Sync, const P: u32>(
         )
     };
     let mine = move || -> Relaxed
-        requires { IsReady P (lawful P (L.allows table.now.law)) table.now.vertices graph.now × (first.caller.table ≡ table.now.id) }
+        requires { IsReady P (lawful P (L.allows table.now.law)) table.now.vertices graph.now
+            × (first.caller.table ≡ table.now.id) }
         ensures { IsLater (lawful P (L.allows table.entry.now.law)) first.caller result.caller }
     {
         run_worker(

@@ -1,4 +1,3 @@
-//! A worker's bins, and what arcs show of words.
+//! A worker's bins.
 
 mod bins;
-mod scan;

@@ -8,7 +8,7 @@ returns-in_err-graph-clause-batch g c =
     let p = err_from_is_err_and c.from_residual.result c.from_residual.ensures.1 in
     let within = rw c.deref.ensures.value at c.in_default.ensures.none in
     let ok : AreSources g.row.P c.args.file c.args.list.now = record { layout = c.requires.layout; network = c.requires.network; named = c.requires.sources; within = within } in
-    rw (p.1, p.2) (refused_early g.row.P c.args.file c.args.list.now (g.W.Write.written c.args.out.now) (g.W.Write.has_failed c.args.out.now) ok)
+    rw (p.1, p.2) (refused_early g.row.P c.args.file c.args.list.now g.W.Write c.args.out.now ok)
 
 pub returns-clause-batch : goal.returns-clause-batch
 returns-clause-batch g c =
