@@ -11,6 +11,3 @@ mod words;
 pub use graph::Graph;
 pub use rows::Rows;
 pub use words::{left_out, look_up};
-
-#[cfg(test)]
-mod tests;

@@ -1,0 +1,9 @@
+//! Tests of rounds, of what arcs show, and of whole runs, by their public calls.
+#![tactic(auto)]
+
+#[cfg(test)]
+mod phase;
+#[cfg(test)]
+mod scan;
+#[cfg(test)]
+mod task;

@@ -1,0 +1,73 @@
+//! Two workers of a run meet, at a gate that holds the first for a bounded number of loads.
+use super::graph_of;
+use sp_phase::run_source_with;
+use sp_task::Gate;
+use sp_tree::Tree;
+use std::sync::atomic::{AtomicBool, AtomicU64, Ordering};
+use std::test::Fail;
+
+const MOST_LOADS: u64 = 1_000_000_000;
+
+/// Counts offers. It lets the first two pass, then holds the first worker that comes until another has come, and records
+/// whether it came.
+#[derive(Drop)]
+struct Meeting {
+    offers: AtomicU64,
+    // 0 while none came; then the first worker's number and one more
+    first: AtomicU64,
+    other_came: AtomicBool,
+    met: AtomicBool,
+}
+
+impl Meeting {
+    fn new() -> Meeting {
+        Meeting {
+            offers: AtomicU64::new(0),
+            first: AtomicU64::new(0),
+            other_came: AtomicBool::new(false),
+            met: AtomicBool::new(false),
+        }
+    }
+
+    fn hold(&self) {
+        for _ in 0..MOST_LOADS {
+            if self.other_came.load(Ordering::SeqCst) {
+                self.met.store(true, Ordering::SeqCst);
+                return;
+            }
+        }
+    }
+}
+
+impl Gate for Meeting {
+    fn before_offer(&self, worker: u32) {
+        if self.offers.fetch_add(1, Ordering::SeqCst) < 2 {
+            return;
+        }
+        let me = (worker as u64).saturating_add(1);
+        match self
+            .first
+            .compare_exchange(0, me, Ordering::SeqCst, Ordering::SeqCst)
+        {
+            Ok(_) => self.hold(),
+            Err(first) => {
+                if first != me {
+                    self.other_came.store(true, Ordering::SeqCst);
+                }
+            }
+        }
+    }
+
+    fn after_offer(&self, _worker: u32) {}
+}
+
+#[test]
+fn run_meets(rt: HostRuntime) -> Result<(), Fail> {
+    let graph = graph_of(&rt, 5, &[(1, 2, 1), (1, 3, 1), (2, 4, 1), (3, 5, 1)])?;
+    let gate = Meeting::new();
+    let tree: Tree<28> = run_source_with(&rt, rt.alloc(), &graph, 1, 2, 1, &gate)?;
+    assert_eq!(rt; tree.rows().len(), 5);
+    assert!(rt; gate.met.load(Ordering::SeqCst));
+    assert_eq!(rt; gate.offers.load(Ordering::SeqCst), 4);
+    Ok(())
+}

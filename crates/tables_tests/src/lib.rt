@@ -1,0 +1,13 @@
+//! Tests of graphs, buckets, the offer table, the plain program and the checker, by their public calls.
+#![tactic(auto)]
+
+#[cfg(test)]
+mod bucket;
+#[cfg(test)]
+mod cert;
+#[cfg(test)]
+mod graph;
+#[cfg(test)]
+mod offer;
+#[cfg(test)]
+mod plain;

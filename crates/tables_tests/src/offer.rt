@@ -1,0 +1,4 @@
+mod calls;
+mod contention;
+mod laws;
+mod threads;
