@@ -30,7 +30,7 @@ def imported(text):
     """The crate of each definition that a file of code takes from specs/, by the name that the file has for it."""
     found = {}
     for crate, module, names in IMPORT.findall(text):
-        if module.startswith("declared."):
+        if module.startswith(("declared.", "contracts.")):
             continue
         for name in names.split(","):
             own, _, other = name.strip().partition(" as ")
@@ -64,11 +64,12 @@ def contracts(text, public):
             own, in_trait = owner(line), line.startswith("pub trait")
         head = re.match(r"\s*(pub (?:const )?)?fn (\w+)", line)
         if head and (head.group(1) or in_trait) and (own or head.group(2)) in public:
-            clauses = []
+            clauses, depth = [], 0
             for other in lines[k:]:
-                if re.match(r"\s*(requires|ensures) ", other):
+                if depth or re.match(r"\s*(requires|ensures\*?) ", other):
                     clauses.append(other)
-                if other.rstrip().endswith(";") or re.fullmatch(r"\s*\{", other):
+                    depth += other.count("{") - other.count("}")
+                if not depth and (other.rstrip().endswith(";") or re.fullmatch(r"\s*\{", other)):
                     break
             yield "\n".join(clauses)
 
