@@ -48,6 +48,16 @@ struct Seat {
     caller: Caller,
 }
 
+/// Workers that follow one another, before they begin.
+#[derive(Drop)]
+struct Crew {
+    /// The number of the first of them.
+    worker: usize,
+    /// Their deques.
+    owners: Vec<Worker<Block>>,
+    caller: Caller,
+}
+
 // Works off some entries.
 fn run_some<L: Lawful, const P: u32>(
     graph: &Graph,
@@ -211,7 +221,68 @@ fn merge<L: Lawful, const P: u32>(
     }
 }
 
-// A worker on this thread, and those of the other deques on threads that it starts.
+// A crew in two: the second one has these deques, and a caller of its own.
+fn part<L: Lawful, const P: u32>(
+    table: &OfferTable<L, P>,
+    crew: Crew,
+    owners: Vec<Worker<Block>>,
+) -> (Crew, Crew)
+    requires { crew.caller.table ≡ table.now.id }
+    ensures first { IsLater (lawful P (L.allows table.now.law)) crew.caller result.0.caller }
+    ensures second { result.1.caller.table ≡ table.now.id }
+    ensures first_owners { result.0.owners ≡ crew.owners }
+    ensures second_owners { result.1.owners ≡ owners }
+{
+    let Ok((caller, other)) = table.split(crew.caller) else {
+        unreachable!()
+    };
+    let second = Crew {
+        worker: crew.worker.saturating_add(crew.owners.len()),
+        owners,
+        caller: other,
+    };
+    let first = Crew {
+        worker: crew.worker,
+        owners: crew.owners,
+        caller,
+    };
+    (first, second)
+}
+
+// The first worker of a crew, on this thread.
+fn run_first<R: Wait, L: Lawful, const P: u32>(
+    rt: &R,
+    alloc: Global,
+    graph: &Graph,
+    table: &OfferTable<L, P>,
+    board: &Board,
+    stealers: &[Stealer<Block>],
+    queue: &[u32],
+    delta: u64,
+    crew: Crew,
+) -> Relaxed
+    requires ready { IsReady P (lawful P (L.allows table.now.law)) table.now.vertices graph.now }
+    requires caller { crew.caller.table ≡ table.now.id }
+    ensures { IsLater (lawful P (L.allows table.now.law)) crew.caller result.caller }
+{
+    let Crew {
+        worker,
+        mut owners,
+        caller,
+    } = crew;
+    let Some(own) = owners.pop() else {
+        return Relaxed { caller, lost: true };
+    };
+    let seat = Seat {
+        worker,
+        own,
+        caller,
+    };
+    run_worker(rt, alloc, graph, table, board, stealers, queue, delta, seat)
+}
+
+// A worker for each of the deques, one on this thread and the others on threads that it starts. Each half starts its own,
+// so that the last of many workers starts soon. Where memory is refused there are fewer.
 #[cycle(workers)]
 fn run_workers<R: Threads + Wait + Sync, L: Lawful + Send + Sync, const P: u32>(
     rt: &R,
@@ -222,34 +293,20 @@ fn run_workers<R: Threads + Wait + Sync, L: Lawful + Send + Sync, const P: u32>(
     stealers: &[Stealer<Block>],
     queue: &[u32],
     delta: u64,
-    mut others: Vec<Worker<Block>>,
-    seat: Seat,
+    mut crew: Crew,
 ) -> Relaxed
     requires ready { IsReady P (lawful P (L.allows table.now.law)) table.now.vertices graph.now }
-    requires caller { seat.caller.table ≡ table.now.id }
-    ensures { IsLater (lawful P (L.allows table.now.law)) seat.caller result.caller }
+    requires caller { crew.caller.table ≡ table.now.id }
+    ensures { IsLater (lawful P (L.allows table.now.law)) crew.caller result.caller }
 {
-    let Some(own) = others.pop() else {
-        return run_worker(rt, alloc, graph, table, board, stealers, queue, delta, seat);
+    let half = crew.owners.len() / 2;
+    if half == 0 {
+        return run_first(rt, alloc, graph, table, board, stealers, queue, delta, crew);
+    }
+    let Ok(owners) = crew.owners.split_off(half) else {
+        return run_first(rt, alloc, graph, table, board, stealers, queue, delta, crew);
     };
-    let Seat {
-        worker,
-        own: first_own,
-        caller,
-    } = seat;
-    let Ok((caller, other)) = table.split(caller) else {
-        unreachable!()
-    };
-    let first = Seat {
-        worker,
-        own: first_own,
-        caller,
-    };
-    let second = Seat {
-        worker: worker.saturating_add(1),
-        own,
-        caller: other,
-    };
+    let (first, second) = part(table, crew, owners);
     let theirs = move || -> Relaxed
         requires { IsSync R.row × IsSync L.row × IsSend L.row
             × IsReady P (lawful P (L.allows table.now.law)) table.now.vertices graph.now
@@ -257,15 +314,16 @@ fn run_workers<R: Threads + Wait + Sync, L: Lawful + Send + Sync, const P: u32>(
         ensures { IsLater (lawful P (L.allows table.entry.now.law)) second.caller result.caller }
     {
         run_workers(
-            rt, alloc, graph, table, board, stealers, queue, delta, others, second,
+            rt, alloc, graph, table, board, stealers, queue, delta, second,
         )
     };
     let mine = move || -> Relaxed
-        requires { IsReady P (lawful P (L.allows table.now.law)) table.now.vertices graph.now
+        requires { IsSync R.row × IsSync L.row × IsSend L.row
+            × IsReady P (lawful P (L.allows table.now.law)) table.now.vertices graph.now
             × (first.caller.table ≡ table.now.id) }
         ensures { IsLater (lawful P (L.allows table.entry.now.law)) first.caller result.caller }
     {
-        run_worker(
+        run_workers(
             rt, alloc, graph, table, board, stealers, queue, delta, first,
         )
     };
@@ -273,7 +331,7 @@ fn run_workers<R: Threads + Wait + Sync, L: Lawful + Send + Sync, const P: u32>(
     merge(table, sooner, later)
 }
 
-/// The deques of a team: the workers' own, the first one's last, and a thief's side of each.
+/// The deques of a team: the workers' own, and a thief's side of each.
 #[derive(Drop)]
 struct Deques {
     owners: Vec<Worker<Block>>,
@@ -313,16 +371,10 @@ pub fn relax_all<R: Threads + Wait + Sync, L: Lawful + Send + Sync, const P: u32
         (Ok(board), Ok(deques)) => (board, deques),
         _ => return Relaxed { caller, lost: true },
     };
-    let Deques {
-        mut owners,
-        stealers,
-    } = deques;
-    let Some(own) = owners.pop() else {
-        return Relaxed { caller, lost: true };
-    };
-    let seat = Seat {
+    let Deques { owners, stealers } = deques;
+    let crew = Crew {
         worker: 0,
-        own,
+        owners,
         caller,
     };
     run_workers(
@@ -334,7 +386,6 @@ pub fn relax_all<R: Threads + Wait + Sync, L: Lawful + Send + Sync, const P: u32
         stealers.as_slice(),
         queue,
         team.delta,
-        owners,
-        seat,
+        crew,
     )
 }

@@ -14,6 +14,9 @@ use std::thread::Threads;
 
 const TEAMS: [u32; 5] = [1, 2, 3, 8, 64];
 
+// A team larger than this answers for one graph of five: on busy processors the start of its threads takes most of the time.
+const MANY: u32 = 8;
+
 // The width of a bucket: 1, an arc, some arcs, or all in one.
 fn width_of<const P: u32>(graph: &Graph, number: u32) -> u64
     requires { is_layout P ≡ true }
@@ -40,6 +43,9 @@ fn compare_teams<const P: u32>(
     let want: Answer<P> = plain(rt, graph, source)?;
     let delta = width_of::<P>(graph, number);
     for workers in TEAMS {
+        if workers > MANY && number % 5 > 0 {
+            continue;
+        }
         let told = run_by_team(rt, graph, delta, workers, source);
         assert!(rt;
             same(&told, &want),
