@@ -90,7 +90,7 @@ def spoken(crate):
 
 
 def listed():
-    """The names in backquotes of each row of docs/DEFINITIONS.md, with the crates whose specs its section or it names."""
+    """The names in backquotes of each row of docs/DEFINITIONS.md whose section or which itself names specs, with their crates."""
     crates = []
     with open(f"{HOME}/docs/DEFINITIONS.md") as file:
         for line in file:
@@ -98,7 +98,9 @@ def listed():
                 crates = re.findall(r"(sp_\w+)/specs", line)
             elif line.startswith("|"):
                 first = line.split("|")[1]
-                yield re.findall(r"(sp_\w+)/specs", line) or crates, WORD.findall(" ".join(re.findall(r"`([^`]*)`", first)))
+                homes = re.findall(r"(sp_\w+)/specs", line) or crates
+                if homes:
+                    yield homes, WORD.findall(" ".join(re.findall(r"`([^`]*)`", first)))
 
 
 def defined(crate):

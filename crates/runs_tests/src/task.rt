@@ -12,7 +12,7 @@ use sp_claim::{ClaimTable, Claimer};
 use sp_graph::{Graph, Rows};
 use sp_offer::{AnyWord, Caller, Loop, Lowering, OfferTable, OneMin};
 use sp_paths::Arc;
-use sp_task::{Gate, Kind, OpenGate, Round, RoundOut, RoundRefused, Task, run_round, run_round_by};
+use sp_task::{Gate, TaskKind, OpenGate, Round, RoundOut, RoundRefused, Task, run_round, run_round_by};
 use sp_word::Word;
 use std::alloc::{AllocError, Global};
 use std::sync::Wait;
@@ -216,7 +216,7 @@ fn light(vertex: u32, dist: u64) -> Task {
     Task {
         vertex,
         dist,
-        kind: Kind::Light,
+        kind: TaskKind::Light,
     }
 }
 

@@ -1,4 +1,4 @@
-pub mod Going
-pub mod Existing
+pub mod AnswersInOrder
+pub mod AnswersExist
 pub mod OfFile
-pub mod Reading
+pub mod TextsToAnswers

@@ -20,8 +20,8 @@ use Rattle.sp_batch.specs.declared.answers.BatchError.TheVariants.{Gr, Ss, NoSuc
 use Rattle.sp_batch.specs.Batch.{Answer, TreeOf, FarFrom, IsAnswerTo, AreAnswers, HasBegun}
 use Rattle.sp_batch.specs.Steps.{HasBegunFirst, AreAllAnswered}
 use Rattle.sp_batch.specs.Answered.{IsBatch, is_early}
-use Rattle.sp_batch.proofs.Going.{none_begun}
-use Rattle.sp_batch.proofs.Existing.{begun_whole}
+use Rattle.sp_batch.proofs.AnswersInOrder.{none_begun}
+use Rattle.sp_batch.proofs.AnswersExist.{begun_whole}
 
 same_answer : (P : ℕ) (g h : Graph) (s : ℕ) (answer : Answer) → AreSame g h → IsAnswerTo P g s answer → IsAnswerTo P h s answer
 same_answer P g h s (TreeOf t) same is =

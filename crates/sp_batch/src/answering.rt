@@ -42,7 +42,7 @@ fn count_at_once<R: Threads>(
 }
 
 // Finds the answer for one source, writes and counts it.
-#[tactic(auto, using(crate::proofs::Going::none_begun))]
+#[tactic(auto, using(crate::proofs::AnswersInOrder::none_begun))]
 fn answer_source<const P: u32, R: Threads + Wait + Sync + Watch, W: Write>(
     rt: &R,
     alloc: Global,

@@ -12,7 +12,7 @@ use Rattle.sp_bucket.specs.declared.entry.Entry.{Entry}
 use Rattle.sp_bucket.specs.Content.{bucket_of, Content, Puts, Takes, IsLowest}
 use Rattle.sp_bucket.specs.Beside.{both, AreApart}
 use Rattle.sp_bucket.proofs.Shuffles.{one_more_behind, to_front}
-use Rattle.sp_bucket.proofs.Standing.{Any-before, Any-behind, All-behind, empty_is}
+use Rattle.sp_bucket.proofs.EntryPlaces.{Any-before, Any-behind, All-behind, empty_is}
 
 abbrev pub IsOf : ℕ → ℕ → Entry → Type 0
 IsOf delta i e = bucket_of delta e ≡ i

@@ -1,6 +1,6 @@
 pub mod Shuffles
-pub mod Standing
-pub mod Filing
+pub mod EntryPlaces
+pub mod BucketMap
 pub mod Slots
 pub mod RingSteps
 pub mod BesideSteps

@@ -9,7 +9,7 @@ use Rattle.sp_bucket.specs.declared.ring.TheConstants.{LONGEST_RING}
 use Rattle.sp_bucket.specs.Content.{bucket_of, no_entries, Content, Puts, Takes, IsLowest}
 use Rattle.sp_bucket.specs.Filed.{gathered}
 use Rattle.sp_bucket.specs.Window.{Window, Stand, IsRing, IsWithin, window_of, content_of}
-use Rattle.sp_bucket.proofs.Standing.{Any-head, Any-before, Any-behind, All-before, All-behind}
+use Rattle.sp_bucket.proofs.EntryPlaces.{Any-head, Any-before, Any-behind, All-before, All-behind}
 use Rattle.sp_bucket.proofs.Slots.{Slots, Stands, StandsElsewhere, stands_at, none_in_empty, stand_set, stand_empty, shuffled_put, shuffled_take, same_slots, same_slot}
 
 -- what holds of all entries holds of those in one slot, and of those that are behind others

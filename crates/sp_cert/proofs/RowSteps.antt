@@ -12,6 +12,7 @@ use Rattle.sp_word.specs.Word.{Word, Unreached, Pair, dist_of, pred_of}
 use Rattle.sp_word.specs.History.{Table}
 use Rattle.sp_paths.specs.Paths.{Graph, HasArc}
 use Rattle.sp_paths.specs.Rows.{row_of}
+use Rattle.sp_paths.proofs.RowSteps.{kept}
 use Rattle.sp_paths.proofs.Core.{pair_dist, pair_pred}
 use Rattle.sp_paths.proofs.RowSteps.{rows_hold_arcs}
 use Rattle.sp_graph.specs.Order.{IsNoGreater, IsInOrder}
@@ -51,22 +52,6 @@ below_rest x (z ∷ xs) h y (suc k, lt, e) =
 chain_of : (xs : List Arc) → IsInOrder xs → Chain xs
 chain_of [] h = tt
 chain_of (x ∷ xs) h = (below_rest x xs h, chain_of xs (in_order_rest x xs h))
-
--- what a filter keeps is in the list
-kept : (p : Arc → Bool) (xs : List Arc) (a : Arc) → Contains (filter p xs) a → Contains xs a × (p a ≡ true)
-kept p [] a c = absurd (omega (arith, c.1))
-kept p (x ∷ xs) a c = go (cases_Bool (p x)) (kept p xs a)
-  where
-    later : Contains xs a × (p a ≡ true) → Contains (x ∷ xs) a × (p a ≡ true)
-    later h = ((suc h.0.0, omega (arith, h.0.1), h.0.2), h.1)
-
-    at : p x ≡ true → (Contains (filter p xs) a → Contains xs a × (p a ≡ true)) → Contains (x ∷ filter p xs) a → Contains (x ∷ xs) a × (p a ≡ true)
-    at t rest (zero, lt, e) = ((zero, omega arith, e), ap p (sym e) ∙ t)
-    at t rest (suc k, lt, e) = later (rest (k, omega arith, e))
-
-    go : (p x ≡ true) ⊎ (p x ≡ false) → (Contains (filter p xs) a → Contains xs a × (p a ≡ true)) → Contains (x ∷ xs) a × (p a ≡ true)
-    go (inl t) rest = at t rest (rw (cond-true (p x) (x ∷ filter p xs) (filter p xs) t) at c)
-    go (inr f) rest = later (rest (rw (cond-false (p x) (x ∷ filter p xs) (filter p xs) f) at c))
 
 chain_filter : (p : Arc → Bool) (xs : List Arc) → Chain xs → Chain (filter p xs)
 chain_filter p [] h = tt

@@ -9,7 +9,7 @@ use Rattle.sp_text.specs.declared.faults.Kind.TheVariants.{LongLine, Read}
 use Rattle.sp_text.specs.declared.faults.DimacsError.{DimacsError}
 use Rattle.sp_text.specs.Lines.{cut, ended, rest, lines, last_line}
 use Rattle.sp_text.specs.Meaning.{HasNoLf}
-use Rattle.sp_text.proofs.Cutting.{cut-append, front_byte, ended_at_run, rest_at_run, ended_at_lf, rest_at_lf}
+use Rattle.sp_text.proofs.LineCuts.{cut-append, front_byte, ended_at_run, rest_at_run, ended_at_lf, rest_at_lf}
 use Rattle.sp_dimacs.specs.declared.lines.Lines.{Lines}
 use Rattle.sp_dimacs.specs.declared.lines.State.{State}
 use Rattle.sp_dimacs.specs.declared.lines.State.TheVariants.{Going, Over, Refused}

@@ -17,7 +17,7 @@ use Rattle.sp_text.specs.Text.{Item, judge, first_out, top, count, items_of}
 use Rattle.sp_text.specs.Accepted.{IsAllowed, IsAccepted}
 use Rattle.sp_text.specs.Collecting.{SpelledBy}
 use Rattle.sp_text.specs.Whole.{IsSpelled}
-use Rattle.sp_text.proofs.Allowed.{accepted}
+use Rattle.sp_text.proofs.FaultlessText.{accepted}
 use Rattle.sp_dimacs.specs.Formats.{gr, ss, pairs, arc_line, source_line, pair_line}
 use Rattle.sp_dimacs.specs.declared.graphs.GrFile.{GrFile}
 use Rattle.sp_dimacs.specs.declared.sources.SsFile.{SsFile}

@@ -1,6 +1,6 @@
 //! Readers of texts that come in pieces.
 ghost use Rattle.std.specs.Prelude.{◌≡◌, ◌≤◌, ◌^◌, ◌++◌, ℕ, List, [], length, Err, Some};
-ghost use Rattle.sp_text.specs.First.{failed};
+ghost use Rattle.sp_text.specs.First.{fault_at_failure};
 ghost use Rattle.sp_text.specs.Feeding.{IsBehind};
 ghost use Rattle.sp_dimacs.specs.Reading.{IsBehindText, IsSpent, FedText, FinishedText};
 
@@ -61,7 +61,7 @@ impl<T: LineTaker> TextReader<T> {
             → (result ≡ e) × (self.new ≡ self.old) }
         ensures failed { (text : List ℕ) → length text ≤ 2 ^ 62
             → IsBehindText T.rules T.After text self.old
-            → (failed T.rules text ≡ Some result) × IsSpent result self.new }
+            → (fault_at_failure T.rules text ≡ Some result) × IsSpent result self.new }
     {
         self.feeder.fail()
     }

@@ -1,9 +1,9 @@
 pub mod Compare
 pub mod Orders
 pub mod Keys
-pub mod Rising
+pub mod KeyOrder
 pub mod Scatter
-pub mod Sorting
+pub mod SortedRows
 pub mod Starts
 pub mod Cuts
 pub mod LeftOut

@@ -16,9 +16,9 @@ use Rattle.sp_machine.specs.LogView.{log_of}
 use Rattle.sp_machine.specs.Linear.{IsLinear}
 use Rattle.sp_machine.specs.Relaxing.{graph_of, RelaxesFrom}
 use Rattle.sp_machine.specs.ReportOf.{IsReportOf}
-use Rattle.sp_machine.proofs.Closed.{closed_run_ends_in_tree}
+use Rattle.sp_machine.proofs.ClosedRuns.{closed_run_ends_in_tree}
 use Rattle.sp_machine.proofs.RunSteps.{run_is_linear}
-use Rattle.sp_machine.proofs.Stale.{losses_are_few}
+use Rattle.sp_machine.proofs.LostExchanges.{losses_are_few}
 
 -- no step is left
 pub whole_run : {P : ℕ} (r : Run P) (p : Programme P) (schedule : List ℕ) (i : ℕ) → run_from r (drop i schedule) ≡ run_of p schedule → length schedule ≤ i → r ≡ run_of p schedule

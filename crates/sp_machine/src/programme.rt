@@ -19,9 +19,9 @@ pub struct Programme<const P: u32> {
 impl<const P: u32> Model for Programme<P> {
     ghost use Rattle.std.specs.Prelude.{◌≡◌, true, map};
     ghost use Rattle.sp_word.specs.Word.{is_layout};
-    ghost use Rattle.sp_machine.specs.Programme.{Programme as Plan};
+    ghost use Rattle.sp_machine.specs.Programme.{Programme as ProgrammeModel};
 
-    ghost Value = { Plan P };
+    ghost Value = { ProgrammeModel P };
 
     ghost use Rattle.sp_machine.specs.ProgrammeView.{plan_of};
     ghost use Rattle.sp_machine.specs.Programme.{IsProgramme};
@@ -32,7 +32,7 @@ impl<const P: u32> Model for Programme<P> {
 }
 
 impl<const P: u32> Programme<P> {
-    ghost use Rattle.sp_machine.specs.Programme.{Programme as Plan, IsProgramme};
+    ghost use Rattle.sp_machine.specs.Programme.{Programme as ProgrammeModel, IsProgramme};
 
     /// A programme of so many words and actors, in which these vertices have a word at the start and row
     /// `a - 1` has the items of actor `a`, in order; actors beyond the last row have none.
@@ -43,7 +43,7 @@ impl<const P: u32> Programme<P> {
         rows: Vec<Vec<Item<P>>>,
     ) -> Programme<P>
         requires layout { is_layout P ≡ true }
-        requires programme { let plan : Plan P = record {
+        requires programme { let plan : ProgrammeModel P = record {
           words = words;
           actors = actors;
           named = named.items;

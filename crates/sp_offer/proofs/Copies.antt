@@ -2,11 +2,11 @@
 use Rattle.std.proofs.Common.{◌≡◌, ℕ, ◌+◌, ◌-◌, ◌<◌, ◌≤◌, zero, suc, List, [], ◌∷◌, ◌++◌, length, get_or, refl, sym, ap, ◌∙◌, subst, arith, append_assoc}
 use Rattle.sp_word.specs.Word.{Word, Unreached}
 use Rattle.sp_word.specs.History.{Event, Read}
-use Rattle.sp_offer.specs.Order.{IsAtMost, IsKnownWord}
+use Rattle.sp_offer.specs.Order.{IsNoMore, IsKnownWord}
 use Rattle.sp_offer.specs.Histories.{event}
 use Rattle.sp_offer.specs.Story.{Story, Calls, known, Reads, reads_of, copied, IsCopy}
 use Rattle.sp_offer.proofs.Orders.{at_most-refl, at_most-trans}
-use Rattle.sp_offer.proofs.Knowing.{knows}
+use Rattle.sp_offer.proofs.CallKnowledge.{knows}
 
 -- one more read, at the end
 pub reads_more : (law : ℕ → Word → Type 0) (by k : ℕ) (xs : List Word) (x : Word) (s m t : Story) → Reads law by k xs s m → Calls law (event by (k + length xs) (Read x)) m t → Reads law by k (xs ++ x ∷ []) s t
@@ -21,8 +21,8 @@ reads_of_more by k (y ∷ ys) x = let shift : k + 1 + length ys ≡ k + length (
     ap (λ (es : List Event). event by k (Read y) ∷ es) (reads_of_more by (k + 1) ys x ∙ ap (λ (j : ℕ). reads_of by (k + 1) ys ++ event by j (Read x) ∷ []) shift)
 
 module _ (law : ℕ → Word → Type 0) (by : ℕ) where
-  falls : (k : ℕ) (xs : List Word) (s t : Story) → Reads law by k xs s t → (v : ℕ) → IsAtMost (known t v) (known s v)
-  falls k [] s t same v = subst (λ (m : Story). IsAtMost (known m v) (known s v)) same (at_most-refl (known s v))
+  falls : (k : ℕ) (xs : List Word) (s t : Story) → Reads law by k xs s t → (v : ℕ) → IsNoMore (known t v) (known s v)
+  falls k [] s t same v = subst (λ (m : Story). IsNoMore (known m v) (known s v)) same (at_most-refl (known s v))
   falls k (x ∷ xs) s t (m, call, rest) v = at_most-trans (known t v) (known m v) (known s v) (falls (k + 1) xs m t rest v) ((knows law (event by k (Read x)) s m call).falls v)
 
   words : (k : ℕ) (x : Word) (xs : List Word) (s t : Story) → Reads law by k (x ∷ xs) s t → (v : ℕ) → IsKnownWord law v (known t v)
@@ -31,14 +31,14 @@ module _ (law : ℕ → Word → Type 0) (by : ℕ) where
 
   -- the word that was read of a vertex
   abbrev Between : ℕ → Word → Story → Story → Type 0
-  Between v x s t = IsKnownWord law v x × IsAtMost x (known s v) × IsAtMost (known t v) x
+  Between v x s t = IsKnownWord law v x × IsNoMore x (known s v) × IsNoMore (known t v) x
 
   between : (k : ℕ) (xs : List Word) (s t : Story) → Reads law by k xs s t → (i : ℕ) → i < length xs → Between (k + i) (get_or xs i Unreached) s t
   between k [] s t same i inside = absurd (omega arith)
   between k (x ∷ xs) s t (m, call, rest) zero inside =
       let at_k : k ≡ k + 0 = omega arith in
       let told = knows law (event by k (Read x)) s m call in
-      subst (λ (v : ℕ). Between v x s t) at_k (call.lawful, told.below, subst (IsAtMost (known t k)) told.here (falls (k + 1) xs m t rest k))
+      subst (λ (v : ℕ). Between v x s t) at_k (call.lawful, told.below, subst (IsNoMore (known t k)) told.here (falls (k + 1) xs m t rest k))
   between k (x ∷ xs) s t (m, call, rest) (suc i) inside =
       let shift : k + 1 + i ≡ k + suc i = omega arith in
       let h = between (k + 1) xs m t rest i (omega arith) in

@@ -7,7 +7,7 @@ use native.Mathlib.Decide.{ℕ_discrete, dec_le}
 use Rattle.sp_word.specs.Word.{Word, Fits, is_layout, is_word, bits_of, word_of}
 use Rattle.sp_word.specs.History.{Table, Event, run, IsLegal}
 use Rattle.sp_word.specs.Reply.{reply_to}
-use Rattle.sp_offer.specs.Order.{IsAtMost}
+use Rattle.sp_offer.specs.Order.{IsNoMore}
 use Rattle.sp_offer.specs.Histories.{blank, is_smaller, lowerings}
 use Rattle.sp_offer.specs.Story.{Story, Looks, Calls, IsTried, known}
 use Rattle.sp_offer.specs.Rule.{answered}
@@ -15,7 +15,7 @@ use Rattle.sp_offer.specs.Lowering.{IsUnderWay, IsExchanged}
 use Rattle.sp_offer.proofs.Orders.{smaller_is_below}
 use Rattle.sp_offer.proofs.Ties.{spelled, word_fits, pair_small, bits_below, at_most_bits}
 use Rattle.sp_offer.proofs.Histories.{run_append, legal_rest, legal_begin, falls_along}
-use Rattle.sp_offer.proofs.Knowing.{look_then_look, look_then_call, lowers, one_or_none, lowered_between, tried_more}
+use Rattle.sp_offer.proofs.CallKnowledge.{look_then_look, look_then_call, lowers, one_or_none, lowered_between, tried_more}
 
 -- a word that is another after a part of a legal history was lowered in that part
 changed : (vertex : ℕ) (x y : Word) (s : Story) (more : List Event) → IsLegal blank (s.seen ++ more) → run blank s.seen vertex ≡ x → run blank (s.seen ++ more) vertex ≡ y → y ≢ x → 1 ≤ lowerings vertex more
@@ -27,7 +27,7 @@ fallen : (P : ℕ) (law : ℕ → Word → Type 0) (by vertex : ℕ) (word : Wor
     → IsExchanged P law by vertex word bits held found s t → found ≢ held → found < held
 fallen P law by vertex word bits held found s t layout less holds was step miss = dite (dec_le found bits) (λ small. omega arith) (λ more.
     let look = step.lost miss (omega arith) in
-    let fall : IsAtMost (word_of P found) (word_of P held) = subst (IsAtMost (word_of P found)) was (subst (λ (w : Word). IsAtMost w (run blank s.seen vertex)) look.last (falls_along s.seen t.seen vertex (look.between, sym look.seen))) in
+    let fall : IsNoMore (word_of P found) (word_of P held) = subst (IsNoMore (word_of P found)) was (subst (λ (w : Word). IsNoMore w (run blank s.seen vertex)) look.last (falls_along s.seen t.seen vertex (look.between, sym look.seen))) in
     let le : bits_of P (word_of P found) ≤ bits_of P (word_of P held) = at_most_bits P (word_of P found) (word_of P held) layout (word_fits P found layout step.is_word) (word_fits P held layout holds) fall in
     let sx : held ≡ bits_of P (word_of P held) = spelled P held layout in let sy : found ≡ bits_of P (word_of P found) = spelled P found layout in omega arith)
 

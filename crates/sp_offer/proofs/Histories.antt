@@ -4,7 +4,7 @@ use Rattle.std.proofs.lemmas.Bool.{cond_both, eqb-true}
 use mathlib.Core.List.{IsPrefix}
 use Rattle.sp_word.specs.Word.{Word, is_below}
 use Rattle.sp_word.specs.History.{Table, Event, Call, Offer, Read, IsAnswered, left_by, after, run, IsLegal}
-use Rattle.sp_offer.specs.Order.{IsAtMost, IsKnownWord}
+use Rattle.sp_offer.specs.Order.{IsNoMore, IsKnownWord}
 use Rattle.sp_offer.specs.Histories.{blank, found_by, IsLawful, AreLawful}
 use Rattle.sp_offer.proofs.Orders.{at_most-refl, at_most-trans, lesser_at_most}
 
@@ -28,21 +28,21 @@ pub lawful_append : (law : ℕ → Word → Type 0) (xs ys : List Event) → Are
 lawful_append law [] ys a b = b
 lawful_append law (x ∷ xs) ys a b = (a.0, lawful_append law xs ys a.1 b)
 
-left_at_most : (c : Call) (x : Word) → IsAtMost (left_by c x) x
+left_at_most : (c : Call) (x : Word) → IsNoMore (left_by c x) x
 left_at_most (Offer word found reply) x = lesser_at_most x word
 left_at_most (Read found) x = at_most-refl x
 
-after_at_most : (t : Table) (e : Event) (v : ℕ) → IsAtMost (after t e v) (t v)
-after_at_most t e v = cond_both (v == e.vertex) (left_by e.call (t v)) (t v) (λ (w : Word). IsAtMost w (t v)) (λ _. left_at_most e.call (t v)) (λ _. at_most-refl (t v))
+after_at_most : (t : Table) (e : Event) (v : ℕ) → IsNoMore (after t e v) (t v)
+after_at_most t e v = cond_both (v == e.vertex) (left_by e.call (t v)) (t v) (λ (w : Word). IsNoMore w (t v)) (λ _. left_at_most e.call (t v)) (λ _. at_most-refl (t v))
 
 -- words only fall
-pub falls : (t : Table) (es : List Event) (v : ℕ) → IsAtMost (run t es v) (t v)
+pub falls : (t : Table) (es : List Event) (v : ℕ) → IsNoMore (run t es v) (t v)
 falls t [] v = at_most-refl (t v)
 falls t (e ∷ es) v = at_most-trans (run (after t e) es v) (after t e v) (t v) (falls (after t e) es v) (after_at_most t e v)
 
-pub falls_along : (xs ys : List Event) (v : ℕ) → IsPrefix xs ys → IsAtMost (run blank ys v) (run blank xs v)
-falls_along xs ys v (rest, same) = subst (λ (zs : List Event). IsAtMost (run blank zs v) (run blank xs v)) same
-    (subst (λ (t : Table). IsAtMost (t v) (run blank xs v)) (sym (run_append blank xs rest)) (falls (run blank xs) rest v))
+pub falls_along : (xs ys : List Event) (v : ℕ) → IsPrefix xs ys → IsNoMore (run blank ys v) (run blank xs v)
+falls_along xs ys v (rest, same) = subst (λ (zs : List Event). IsNoMore (run blank zs v) (run blank xs v)) same
+    (subst (λ (t : Table). IsNoMore (t v) (run blank xs v)) (sym (run_append blank xs rest)) (falls (run blank xs) rest v))
 
 known_left : (law : ℕ → Word → Type 0) (v : ℕ) (c : Call) (x : Word) → IsLawful law v c → IsKnownWord law v x → IsKnownWord law v (left_by c x)
 known_left law v (Offer word found reply) x fits known = cond_both (is_below word x) word x (IsKnownWord law v) (λ _. inr fits) (λ _. known)

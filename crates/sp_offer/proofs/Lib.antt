@@ -3,7 +3,7 @@ pub mod Ties
 pub mod Histories
 pub mod Steps
 pub mod Moves
-pub mod Knowing
+pub mod CallKnowledge
 pub mod Own
 pub mod Copies
 pub mod Exchanges

@@ -4,14 +4,14 @@ use Rattle.std.proofs.lemmas.Bool.{cond_both, or_cases, and_parts, ltb-true, eqb
 use Rattle.sp_word.specs.declared.reply.Reply.TheVariants.{Shorter, SmallerPred, Kept}
 use Rattle.sp_word.specs.Word.{Word, Unreached, Pair, is_below, lesser}
 use Rattle.sp_word.specs.Reply.{reply_to}
-use Rattle.sp_offer.specs.Order.{IsAtMost}
+use Rattle.sp_offer.specs.Order.{IsNoMore}
 use Rattle.sp_offer.specs.Histories.{is_smaller}
 
-pub at_most-refl : (a : Word) → IsAtMost a a
+pub at_most-refl : (a : Word) → IsNoMore a a
 at_most-refl Unreached = tt
 at_most-refl (Pair d p) = inr (refl, le_refl p)
 
-pub at_most-trans : (a b c : Word) → IsAtMost a b → IsAtMost b c → IsAtMost a c
+pub at_most-trans : (a b c : Word) → IsNoMore a b → IsNoMore b c → IsNoMore a c
 at_most-trans a b Unreached x y = tt
 at_most-trans a Unreached (Pair f r) x y = absurd y
 at_most-trans Unreached (Pair e q) (Pair f r) x y = absurd x
@@ -22,7 +22,7 @@ at_most-trans (Pair d p) (Pair e q) (Pair f r) x y =
     x
 
 -- words that are at most each other are the same
-pub at_most-both : (a b : Word) → IsAtMost a b → IsAtMost b a → a ≡ b
+pub at_most-both : (a b : Word) → IsNoMore a b → IsNoMore b a → a ≡ b
 at_most-both Unreached Unreached x y = refl
 at_most-both (Pair d p) Unreached x y = absurd y
 at_most-both Unreached (Pair e q) x y = absurd x
@@ -36,7 +36,7 @@ at_most-both (Pair d p) (Pair e q) x y =
     same_pair h k i = Pair (h i) (k i)
 
 -- a word that is below another is at most that
-pub below_at_most : (a b : Word) → is_below a b ≡ true → IsAtMost a b
+pub below_at_most : (a b : Word) → is_below a b ≡ true → IsNoMore a b
 below_at_most a Unreached below = tt
 below_at_most Unreached (Pair e q) below = cc
 below_at_most (Pair d p) (Pair e q) below =
@@ -46,8 +46,8 @@ below_at_most (Pair d p) (Pair e q) below =
     (or_cases (nat_lt d e) ((d == e) && nat_lt p q) below)
 
 -- what an offer leaves is at most what was there
-pub lesser_at_most : (a b : Word) → IsAtMost (lesser a b) a
-lesser_at_most a b = cond_both (is_below b a) b a (λ (w : Word). IsAtMost w a) (below_at_most b a) (λ _. at_most-refl a)
+pub lesser_at_most : (a b : Word) → IsNoMore (lesser a b) a
+lesser_at_most a b = cond_both (is_below b a) b a (λ (w : Word). IsNoMore w a) (below_at_most b a) (λ _. at_most-refl a)
 
 either_way : (a b : Bool) → is_smaller (cond a Shorter (cond b SmallerPred Kept)) ≡ a || b
 either_way true b = refl

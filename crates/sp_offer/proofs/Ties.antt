@@ -4,7 +4,7 @@ use Rattle.std.proofs.lemmas.Bool.{cond_both, cond-false, ltb-true, ltb-false, l
 use Rattle.std.proofs.lemmas.Bool.Decides.{nat_tests}
 use Rattle.sp_word.specs.Word.{Word, Unreached, Pair, Fits, is_layout, is_word, is_below, lesser, bits_of, word_of}
 use Rattle.sp_word.proofs.Layouts.{by_layout}
-use Rattle.sp_offer.specs.Order.{IsAtMost}
+use Rattle.sp_offer.specs.Order.{IsNoMore}
 
 -- the halves of a pair's bits
 abbrev Halves : ℕ → ℕ → ℕ → Type 0
@@ -91,14 +91,14 @@ bits_below P Unreached b layout f g = let h = bits_few P b layout g in sym (le-l
 bits_below P (Pair d p) Unreached layout f g = let h = (halves P d p layout f).2 in sym (lt-ltb _ _ (omega arith))
 bits_below P (Pair d p) (Pair e q) layout f g = ordered P d p e q layout f g
 
-at_most_pairs : (P d p e q : ℕ) → is_layout P ≡ true → Fits P (Pair d p) → Fits P (Pair e q) → IsAtMost (Pair d p) (Pair e q) → d * 2 ^ P + p ≤ e * 2 ^ P + q
-at_most_pairs P d p e q layout = by_layout (λ (r : ℕ). Fits r (Pair d p) → Fits r (Pair e q) → IsAtMost (Pair d p) (Pair e q) → d * 2 ^ r + p ≤ e * 2 ^ r + q) P layout
+at_most_pairs : (P d p e q : ℕ) → is_layout P ≡ true → Fits P (Pair d p) → Fits P (Pair e q) → IsNoMore (Pair d p) (Pair e q) → d * 2 ^ P + p ≤ e * 2 ^ P + q
+at_most_pairs P d p e q layout = by_layout (λ (r : ℕ). Fits r (Pair d p) → Fits r (Pair e q) → IsNoMore (Pair d p) (Pair e q) → d * 2 ^ r + p ≤ e * 2 ^ r + q) P layout
     (λ f g. let a = f.1 in ⊎_elim (λ (h : d < e). omega arith) (λ (h : (d ≡ e) × (p ≤ q)). let x = h.0 in let y = h.1 in omega arith))
     (λ f g. let a = f.1 in ⊎_elim (λ (h : d < e). omega arith) (λ (h : (d ≡ e) × (p ≤ q)). let x = h.0 in let y = h.1 in omega arith))
     (λ f g. let a = f.1 in ⊎_elim (λ (h : d < e). omega arith) (λ (h : (d ≡ e) × (p ≤ q)). let x = h.0 in let y = h.1 in omega arith))
     (λ f g. let a = f.1 in ⊎_elim (λ (h : d < e). omega arith) (λ (h : (d ≡ e) × (p ≤ q)). let x = h.0 in let y = h.1 in omega arith))
 
-pub at_most_bits : (P : ℕ) (a b : Word) → is_layout P ≡ true → Fits P a → Fits P b → IsAtMost a b → bits_of P a ≤ bits_of P b
+pub at_most_bits : (P : ℕ) (a b : Word) → is_layout P ≡ true → Fits P a → Fits P b → IsNoMore a b → bits_of P a ≤ bits_of P b
 at_most_bits P a Unreached layout f g h = let few = bits_few P a layout f in omega arith
 at_most_bits P Unreached (Pair e q) layout f g h = absurd h
 at_most_bits P (Pair d p) (Pair e q) layout f g h = at_most_pairs P d p e q layout f g h

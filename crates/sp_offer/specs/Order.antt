@@ -3,10 +3,10 @@ use Rattle.std.specs.Prelude.{◌≡◌, ℕ, ◌<◌, ◌≤◌, ◌⊎◌}
 use Rattle.sp_word.specs.Word.{Word, Unreached, Pair, IsPair, Fits}
 
 -- Pairs are ordered by distance, then by predecessor; every word is at most unreached.
-abbrev pub IsAtMost : Word → Word → Type 0
-IsAtMost a Unreached = Unit {0}
-IsAtMost Unreached (Pair e q) = ⊥
-IsAtMost (Pair d p) (Pair e q) = (d < e) ⊎ ((d ≡ e) × (p ≤ q))
+abbrev pub IsNoMore : Word → Word → Type 0
+IsNoMore a Unreached = Unit {0}
+IsNoMore Unreached (Pair e q) = ⊥
+IsNoMore (Pair d p) (Pair e q) = (d < e) ⊎ ((d ≡ e) × (p ≤ q))
 
 -- the words that a table of the layout P takes: pairs that fit, and that its law allows for the vertex
 abbrev pub lawful : ℕ → (ℕ → Word → Type 0) → ℕ → Word → Type 0

@@ -4,7 +4,7 @@ use mathlib.Core.List.{IsPrefix}
 use Rattle.atomic_table.specs.Seated.{TableId}
 use Rattle.sp_word.specs.Word.{Word, Unreached}
 use Rattle.sp_word.specs.History.{Table, Event, Read, left_by, run, IsLegal}
-use Rattle.sp_offer.specs.Order.{IsAtMost, IsKnownWord}
+use Rattle.sp_offer.specs.Order.{IsNoMore, IsKnownWord}
 use Rattle.sp_offer.specs.Histories.{blank, event, found_by, lowerings}
 
 -- the history that a caller has seen, and the places in it of the caller's own calls
@@ -87,9 +87,9 @@ module _ (law : ℕ → Word → Type 0) where
 -- The word found is at most what was known; then the word is known that the call left, and of no vertex is less
 -- known than before.
 pub record Knows (e : Event) (s t : Story) : Type 0 where
-  pub below : IsAtMost (found_by e.call) (known s e.vertex)
+  pub below : IsNoMore (found_by e.call) (known s e.vertex)
   pub here : known t e.vertex ≡ left_by e.call (found_by e.call)
-  pub falls : (v : ℕ) → IsAtMost (known t v) (known s v)
+  pub falls : (v : ℕ) → IsNoMore (known t v) (known s v)
 
 -- each lost exchange found that the vertex had been lowered
 abbrev pub IsTried : ℕ → Story → Story → ℕ → Type 0
@@ -99,7 +99,7 @@ IsTried vertex s t tries = (0 < tries) × (tries ≤ lowerings vertex (gained s 
 pub record Follows (law : ℕ → Word → Type 0) (r s t : Story) : Type 0 where
   pub first : IsPrefix r.seen t.seen
   pub second : IsPrefix s.seen t.seen
-  pub falls : (v : ℕ) → IsAtMost (known t v) (known r v) × IsAtMost (known t v) (known s v)
+  pub falls : (v : ℕ) → IsNoMore (known t v) (known r v) × IsNoMore (known t v) (known s v)
   pub words : (v : ℕ) → IsKnownWord law v (known t v)
   pub is_story : IsStory t
 
@@ -122,7 +122,7 @@ copied words v = slice_index_or words (v - 1) Unreached
 -- Each word of a copy is unreached or lawful, at most what was known before, and at least what is known afterwards.
 pub record IsCopy (law : ℕ → Word → Type 0) (words : List Word) (s t : Story) : Type 0 where
   pub lawful : (v : ℕ) → 0 < v → v ≤ length words → IsKnownWord law v (copied words v)
-  pub below : (v : ℕ) → 0 < v → v ≤ length words → IsAtMost (copied words v) (known s v)
-  pub above : (v : ℕ) → 0 < v → v ≤ length words → IsAtMost (known t v) (copied words v)
-  pub falls : (v : ℕ) → IsAtMost (known t v) (known s v)
+  pub below : (v : ℕ) → 0 < v → v ≤ length words → IsNoMore (copied words v) (known s v)
+  pub above : (v : ℕ) → 0 < v → v ≤ length words → IsNoMore (known t v) (copied words v)
+  pub falls : (v : ℕ) → IsNoMore (known t v) (known s v)
   pub words_known : (v : ℕ) → IsKnownWord law v (known t v)

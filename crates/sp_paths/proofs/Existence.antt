@@ -11,7 +11,7 @@ use Rattle.sp_paths.specs.Theorems.{IsFinished, HasTree, TreesExist, PairsExist}
 use Rattle.sp_paths.proofs.Walks.{arc_in, walk_none, walk_by, walk_more, walk_cases, least_same}
 use Rattle.sp_paths.proofs.Core.{cases_word, pair_dist}
 use Rattle.sp_paths.proofs.Least.{smallest, any_decided, least_below, least_exists}
-use Rattle.sp_paths.proofs.Proved.{finished_is_tree, finished_is_far, finished_is_pair}
+use Rattle.sp_paths.proofs.TheoremProofs.{finished_is_tree, finished_is_far, finished_is_pair}
 
 -- whether a vertex is left out
 module _ (g : Graph) (words : Table) where

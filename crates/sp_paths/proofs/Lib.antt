@@ -4,7 +4,7 @@ pub mod Least
 pub mod Run
 pub mod Settle
 pub mod Only
-pub mod Proved
+pub mod TheoremProofs
 pub mod Existence
 pub mod Sweep
 pub mod SameArcs

@@ -1,7 +1,7 @@
 -- The arcs of the rows are the arcs of the graph.
 use Rattle.std.proofs.Common.{◌≡◌, ℕ, zero, suc, ◌<◌, ◌≤◌, ◌⊎◌, inl, inr, Bool, true, false, eqb, leb, ltb, List, [], ◌∷◌, sym, refl, ap, ◌∙◌, arith}
 use Rattle.std.specs.Prelude.{Contains, filter}
-use Rattle.std.proofs.lemmas.Bool.{cases_Bool, cond-true, cond-false, eq-eqb, le-leb, leb-true, lt-ltb, ltb-true}
+use Rattle.std.proofs.lemmas.Bool.{cases_Bool, cond-true, cond-false, eq-eqb, eqb-true, le-leb, leb-true, lt-ltb, ltb-true}
 use Rattle.std.proofs.lemmas.List.Elements.{All-contains}
 use Rattle.sp_paths.specs.declared.arc.Arc.{Arc}
 use Rattle.sp_paths.specs.Paths.{Graph, HasArc}
@@ -10,7 +10,7 @@ use Rattle.sp_paths.proofs.Walks.{arc_in}
 
 module _ (p : Arc → Bool) where
   -- what a filter keeps
-  kept : (xs : List Arc) (a : Arc) → Contains (filter p xs) a → Contains xs a × (p a ≡ true)
+  pub kept : (xs : List Arc) (a : Arc) → Contains (filter p xs) a → Contains xs a × (p a ≡ true)
   kept [] a c = absurd (omega (arith, c.1))
   kept (x ∷ xs) a c = go (cases_Bool (p x)) (kept xs a)
     where
@@ -33,6 +33,10 @@ module _ (p : Arc → Bool) where
       go : (p x ≡ true) ⊎ (p x ≡ false) → Contains (filter p xs) a → Contains (filter p (x ∷ xs)) a
       go (inl y) h = rw (cond-true (p x) (x ∷ filter p xs) (filter p xs) y) (suc h.0, omega (arith, h.1), h.2)
       go (inr n) h = rw (cond-false (p x) (x ∷ filter p xs) (filter p xs) n) h
+
+-- an arc of a row is one of the graph, and leaves the row's vertex
+pub in_row : (arcs : List Arc) (v : ℕ) (a : Arc) → Contains (row_of arcs v) a → Contains arcs a × (a.tail ≡ v)
+in_row arcs v a c = let h = kept (λ x. eqb x.tail v) arcs a c in (h.0, eqb-true a.tail v h.1)
 
 module _ (g : Graph) (u v l : ℕ) where
   abbrev arc : Arc

@@ -5,15 +5,15 @@ use Rattle.sp_word.specs.History.{Table}
 use Rattle.sp_word.specs.Word.{Word, Pair, Unreached}
 use Rattle.sp_paths.specs.Paths.{Graph, HasWalk, IsLeast, IsTreeWord, IsLawful, IsAtMost, IsClosed}
 use Rattle.sp_paths.specs.Theorems.{IsFinished, HasPassed}
-use Rattle.sp_paths.specs.Phase.{IsCopy, HasNoOpen, PassesTest, SweptEndsInTree, SweptIsTree, SweptIsFar, TestedIsSettled, SettledIsLeast, IsShorter, ShorterIsLater, TestedIsPair, SweptIsPair}
+use Rattle.sp_paths.specs.Phase.{IsMarkedCopy, HasNoOpen, PassesTest, SweptEndsInTree, SweptIsTree, SweptIsFar, TestedIsSettled, SettledIsLeast, IsShorter, ShorterIsLater, TestedIsPair, SweptIsPair}
 use Rattle.sp_paths.proofs.Walks.{arc_in, walk_none, walk_from_by}
 use Rattle.sp_paths.proofs.Core.{cases_word}
 use Rattle.sp_paths.proofs.Least.{least_exists}
 use Rattle.sp_paths.proofs.Only.{tree_pair_least}
-use Rattle.sp_paths.proofs.Proved.{finished_ends_in_tree, finished_is_tree, finished_is_far, finished_is_pair, passed_is_settled, passed_is_pair}
+use Rattle.sp_paths.proofs.TheoremProofs.{finished_ends_in_tree, finished_is_tree, finished_is_far, finished_is_pair, passed_is_settled, passed_is_pair}
 use Rattle.sp_paths.proofs.Walks.{least_same}
 
-module _ (g : Graph) (s max delta : ℕ) (known words : Table) (light heavy : ℕ → Option ℕ) (copy : IsCopy g s max delta known words light heavy) where
+module _ (g : Graph) (s max delta : ℕ) (known words : Table) (light heavy : ℕ → Option ℕ) (copy : IsMarkedCopy g s max delta known words light heavy) where
   swept_closed : HasNoOpen g words light heavy → IsClosed g max words
   swept_closed done u v l a d p e fits = by_kind (cases_lt delta l)
     where

@@ -16,7 +16,7 @@ abbrev pub IsNoGreater : Table → Table → Type 0
 IsNoGreater words known = (v d p : ℕ) → IsAtMost (known v) d p → IsAtMost (words v) d p
 
 -- a copy of lawful words, made after the relaxations
-pub record IsCopy (g : Graph) (s max delta : ℕ) (known words : Table) (light heavy : ℕ → Option ℕ) : Type 0 where
+pub record IsMarkedCopy (g : Graph) (s max delta : ℕ) (known words : Table) (light heavy : ℕ → Option ℕ) : Type 0 where
   pub graph : IsGraph g
   pub source : IsVertex g.n s
   pub wide : 1 ≤ delta
@@ -31,14 +31,14 @@ HasNoOpen g words light heavy = (u d p : ℕ) → IsVertex g.n u → words u ≡
 
 -- then the copy ends in the tree
 abbrev pub SweptEndsInTree : Type 0
-SweptEndsInTree = (g : Graph) (s max delta : ℕ) (known words : Table) (light heavy : ℕ → Option ℕ) → IsCopy g s max delta known words light heavy → HasNoOpen g words light heavy → EndsInTree g s max words
+SweptEndsInTree = (g : Graph) (s max delta : ℕ) (known words : Table) (light heavy : ℕ → Option ℕ) → IsMarkedCopy g s max delta known words light heavy → HasNoOpen g words light heavy → EndsInTree g s max words
 
 -- and where nothing is left out it is the tree
 abbrev pub SweptIsTree : Type 0
-SweptIsTree = (g : Graph) (s max delta : ℕ) (known words : Table) (light heavy : ℕ → Option ℕ) → IsCopy g s max delta known words light heavy → HasNoOpen g words light heavy → ((v : ℕ) → IsLeftOut g words v → ⊥) → IsTree g s words × IsFar g s max None
+SweptIsTree = (g : Graph) (s max delta : ℕ) (known words : Table) (light heavy : ℕ → Option ℕ) → IsMarkedCopy g s max delta known words light heavy → HasNoOpen g words light heavy → ((v : ℕ) → IsLeftOut g words v → ⊥) → IsTree g s words × IsFar g s max None
 
 abbrev pub SweptIsFar : Type 0
-SweptIsFar = (g : Graph) (s max delta : ℕ) (known words : Table) (light heavy : ℕ → Option ℕ) → IsCopy g s max delta known words light heavy → HasNoOpen g words light heavy → (v : ℕ) → IsLeftOut g words v → ((w : ℕ) → IsLeftOut g words w → v ≤ w) → IsFar g s max (Some v)
+SweptIsFar = (g : Graph) (s max delta : ℕ) (known words : Table) (light heavy : ℕ → Option ℕ) → IsMarkedCopy g s max delta known words light heavy → HasNoOpen g words light heavy → (v : ℕ) → IsLeftOut g words v → ((w : ℕ) → IsLeftOut g words w → v ≤ w) → IsFar g s max (Some v)
 
 -- bucket i's test: below its end each distance was last relaxed light, and below its beginning heavy too
 pub record PassesTest (g : Graph) (delta i : ℕ) (words : Table) (light heavy : ℕ → Option ℕ) : Type 0 where
@@ -47,7 +47,7 @@ pub record PassesTest (g : Graph) (delta i : ℕ) (words : Table) (light heavy :
 
 -- then the bucket is final
 abbrev pub TestedIsSettled : Type 0
-TestedIsSettled = (g : Graph) (s max delta i : ℕ) (known words : Table) (light heavy : ℕ → Option ℕ) → IsCopy g s max delta known words light heavy → PassesTest g delta i words light heavy → IsSettled g s max ((i + 1) * delta) words
+TestedIsSettled = (g : Graph) (s max delta i : ℕ) (known words : Table) (light heavy : ℕ → Option ℕ) → IsMarkedCopy g s max delta known words light heavy → PassesTest g delta i words light heavy → IsSettled g s max ((i + 1) * delta) words
 
 -- and from then on no lawful pair below its end is shorter than the word that it meets
 abbrev pub SettledIsLeast : Type 0
@@ -63,8 +63,8 @@ ShorterIsLater = (g : Graph) (s max bound : ℕ) (words : Table) → IsGraph g �
 
 -- a target whose copied word lies in a tested bucket or before it has its answer
 abbrev pub TestedIsPair : Type 0
-TestedIsPair = (g : Graph) (s max delta i : ℕ) (known words : Table) (light heavy : ℕ → Option ℕ) → IsCopy g s max delta known words light heavy → PassesTest g delta i words light heavy → (t d p : ℕ) → IsVertex g.n t → words t ≡ Pair d p → d < (i + 1) * delta → IsPair g s t max (Found d p)
+TestedIsPair = (g : Graph) (s max delta i : ℕ) (known words : Table) (light heavy : ℕ → Option ℕ) → IsMarkedCopy g s max delta known words light heavy → PassesTest g delta i words light heavy → (t d p : ℕ) → IsVertex g.n t → words t ≡ Pair d p → d < (i + 1) * delta → IsPair g s t max (Found d p)
 
 -- what a swept copy answers for one target
 abbrev pub SweptIsPair : Type 0
-SweptIsPair = (g : Graph) (s max delta : ℕ) (known words : Table) (light heavy : ℕ → Option ℕ) → IsCopy g s max delta known words light heavy → HasNoOpen g words light heavy → (t : ℕ) → FinishedAnswers g s max words t
+SweptIsPair = (g : Graph) (s max delta : ℕ) (known words : Table) (light heavy : ℕ → Option ℕ) → IsMarkedCopy g s max delta known words light heavy → HasNoOpen g words light heavy → (t : ℕ) → FinishedAnswers g s max words t

@@ -13,7 +13,7 @@ use Rattle.sp_word.specs.History.{Table}
 use Rattle.sp_paths.specs.Paths.{IsVertex, IsSettled, IsLawful, word_at}
 use Rattle.sp_paths.specs.Phase.{TestedIsSettled}
 use Rattle.sp_paths.proofs.Least.{least_exists}
-use Rattle.sp_offer.specs.Order.{IsKnownWord, IsAtMost as IsNoMore}
+use Rattle.sp_offer.specs.Order.{IsKnownWord, IsNoMore}
 use Rattle.sp_offer.specs.Story.{Knowledge, known}
 use Rattle.sp_offer.proofs.Orders.{at_most-both}
 use Rattle.sp_bucket.specs.declared.entry.Entry.{Entry}
@@ -25,7 +25,7 @@ use Rattle.sp_phase.specs.Stage.{Stage, IsStage, Learns, law_of}
 use Rattle.sp_phase.specs.Marks.{no_mark, light_at}
 use Rattle.sp_phase.specs.Running.{IsQueued, EntriesFrom, Leads}
 use Rattle.sp_phase.specs.Sweep.{AreRelaxed, IsOpen, IsCopied, HasCopied, TakesCopy}
-use Rattle.sp_phase.specs.Settling.{IsLater}
+use Rattle.sp_phase.specs.Settling.{IsLaterBucket}
 use Rattle.sp_phase.specs.Progress.{MayLead}
 use Rattle.sp_phase.specs.Behind.{is_remembered, IsFinal, IsPast, HasCome, end_of, KeepsPast, KeepsLevel, CatchesUp, StaysFrom, Empties, Reaches}
 use Rattle.sp_phase.proofs.KnownWords.{known_pair, known_lawful, lawful_walk, tree_lowest}
@@ -164,7 +164,7 @@ come_to P st bucket closed l l' here same reaches come =
     let to : l'.stage ≡ st = same ∙ here in
     subst (λ s. HasCome P s bucket closed l') to (reaches closed (subst (λ s. HasCome P s None closed l) (sym here) come))
 
-pub come_later : (P : ℕ) (st : Stage) (settled closed : Option ℕ) (l : Lead) → HasCome P st settled closed l → IsLater closed settled
+pub come_later : (P : ℕ) (st : Stage) (settled closed : Option ℕ) (l : Lead) → HasCome P st settled closed l → IsLaterBucket closed settled
 come_later P st None closed l come = tt
 come_later P st (Some i) closed l come = come.0
 

@@ -13,11 +13,11 @@ use Rattle.sp_word.specs.History.{Table}
 use Rattle.sp_word.proofs.Layouts.{by_layout}
 use Rattle.sp_paths.specs.Paths.{Graph, IsGraph, IsVertex, IsLawful, IsAtMost, IsTree, IsTreeWord, IsFar, word_at}
 use Rattle.sp_paths.specs.declared.arc.Arc.{Arc}
-use Rattle.sp_paths.specs.Phase.{IsCopy, SweptIsTree, SweptIsFar}
+use Rattle.sp_paths.specs.Phase.{IsMarkedCopy, SweptIsTree, SweptIsFar}
 use Rattle.sp_graph.specs.LeftOut.{network, IsLeastLeftOut}
 use Rattle.sp_paths.proofs.Walks.{arc_in, walk_by_parts}
-use Rattle.sp_offer.specs.Order.{IsKnownWord, IsAtMost as IsNoMore}
-use Rattle.sp_offer.specs.Story.{Knowledge, known, IsCopy as IsWordsCopy}
+use Rattle.sp_offer.specs.Order.{IsKnownWord, IsNoMore}
+use Rattle.sp_offer.specs.Story.{Knowledge, known, IsCopy}
 use Rattle.sp_bucket.specs.declared.entry.Entry.{Entry}
 use Rattle.sp_tree.specs.Table.{TreeTable, HasPredWithin, table_of, tree_of}
 use Rattle.sp_phase.specs.declared.marks.Mark.{Mark}
@@ -29,7 +29,7 @@ use Rattle.sp_phase.specs.Sweep.{IsMarkedAt, IsRelaxedAtDist, IsRelaxedHere, Are
 use Rattle.sp_phase.specs.Answer.{IsAnswer, IsRefusal}
 use Rattle.sp_phase.specs.declared.answers.RunError.TheVariants.{TooFar}
 use Rattle.sp_phase.proofs.KnownWords.{at_most_pair, zero_stays, known_pair, known_lawful, lawful_walk, walk_vertex, tree_known}
-use Rattle.sp_phase.proofs.Marking.{some_same}
+use Rattle.sp_phase.proofs.TaskMarks.{some_same}
 use Rattle.sp_phase.proofs.LeaderHolds.{dist_pair}
 
 -- nothing is known of what is no vertex
@@ -46,7 +46,7 @@ is_vertex n v = go (cases_lt 0 v) (cases_lt n v)
     go (inl low) (inl high) = inr (λ at. absurd (let h = at.1 in omega arith))
     go (inl low) (inr high) = inl (omega arith, high)
 
-module _ (P : ℕ) (st : Stage) (stage : IsStage P st) (before after : Knowledge) (m : Noted) (words : List Word) (h : Holds P st before m) (size : length words ≡ st.graph.n) (copy : IsWordsCopy (law_of P st) words before.story after.story) (lawful : (v : ℕ) → IsKnownWord (law_of P st) v (known after.story v)) where
+module _ (P : ℕ) (st : Stage) (stage : IsStage P st) (before after : Knowledge) (m : Noted) (words : List Word) (h : Holds P st before m) (size : length words ≡ st.graph.n) (copy : IsCopy (law_of P st) words before.story after.story) (lawful : (v : ℕ) → IsKnownWord (law_of P st) v (known after.story v)) where
   low_enough : (v : ℕ) → IsVertex st.graph.n v → v ≤ length words
   low_enough v at = let k = at.1 in omega arith
 
@@ -60,7 +60,7 @@ module _ (P : ℕ) (st : Stage) (stage : IsStage P st) (before after : Knowledge
   no_greater v d p (inl at) le = at_most_pair (word_at words v) (known before.story v) d p (below v at) le
   no_greater v d p (inr out) le = absurd (known_outside P st v (known before.story v) d p stage out (h.running.lawful v) le)
 
-  of_copy : IsCopy st.graph st.source (max_dist P) st.delta (known before.story) (word_at words) (light_at m.each) (heavy_at m.each)
+  of_copy : IsMarkedCopy st.graph st.source (max_dist P) st.delta (known before.story) (word_at words) (light_at m.each) (heavy_at m.each)
   of_copy = record {
     graph = stage.graph;
     source = stage.source;

@@ -4,7 +4,7 @@ use Rattle.sp_word.specs.Word.{Word, Unreached, Pair, max_dist}
 use Rattle.sp_word.specs.History.{Table}
 use Rattle.sp_paths.specs.Paths.{IsVertex, IsTreeWord, IsSettled}
 use Rattle.sp_paths.proofs.Least.{least_exists}
-use Rattle.sp_offer.specs.Order.{IsKnownWord, IsAtMost as IsNoMore}
+use Rattle.sp_offer.specs.Order.{IsKnownWord, IsNoMore}
 use Rattle.sp_offer.specs.Story.{Knowledge, known}
 use Rattle.sp_offer.proofs.Orders.{at_most-refl, at_most-trans}
 use Rattle.sp_task.specs.declared.task.Task.{Task}

@@ -13,8 +13,8 @@ use Rattle.sp_paths.specs.Paths.{IsGraph, IsVertex, IsArc, IsAtMost}
 use Rattle.sp_paths.specs.Rows.{row_of, IsArcRelaxed}
 use Rattle.sp_bucket.specs.declared.entry.Entry.{Entry}
 use Rattle.sp_graph.specs.RowsValue.{Split}
-use Rattle.sp_task.specs.declared.task.Kind.{Kind}
-use Rattle.sp_task.specs.declared.task.Kind.TheVariants.{Light, Heavy}
+use Rattle.sp_task.specs.declared.task.TaskKind.{TaskKind}
+use Rattle.sp_task.specs.declared.task.TaskKind.TheVariants.{Light, Heavy}
 use Rattle.sp_task.specs.declared.task.Task.{Task}
 use Rattle.sp_task.specs.Offers.{Asked, arcs_of, arcs_of_kind, offer_along, offers_along, offers_of, AreSameOffers}
 use Rattle.sp_task.specs.Calls.{asked, entries, entry_of_reply, entry_of_call, word_offered}
@@ -100,7 +100,7 @@ queued_means n low max v d h =
     let two = and_parts (nat_le low d) (nat_le d max) both.1 in
     ((leb-true 1 v one.0, leb-true v n one.1), leb-true low d two.0, leb-true d max two.1)
 
-row_arcs : (rows : Split) (kind : Kind) (v : ℕ) → IsGraph rows.graph → All (IsArc rows.graph.n) (arcs_of_kind rows kind v)
+row_arcs : (rows : Split) (kind : TaskKind) (v : ℕ) → IsGraph rows.graph → All (IsArc rows.graph.n) (arcs_of_kind rows kind v)
 row_arcs rows Light v gr = All-filter _ (IsArc rows.graph.n) (row_of rows.graph.arcs v) (All-filter _ (IsArc rows.graph.n) rows.graph.arcs gr)
 row_arcs rows Heavy v gr = All-filter _ (IsArc rows.graph.n) (row_of rows.graph.arcs v) (All-filter _ (IsArc rows.graph.n) rows.graph.arcs gr)
 

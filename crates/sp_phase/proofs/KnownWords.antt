@@ -5,7 +5,7 @@ use Rattle.sp_word.specs.Word.{Word, Unreached, Pair, Fits, max_dist}
 use Rattle.sp_word.specs.History.{Table}
 use Rattle.sp_paths.specs.Paths.{Graph, IsGraph, IsVertex, HasArc, HasWalk, HasWalkBy, IsLeast, IsPredecessor, IsTreePair, IsLawful, IsTreeWord, IsAtMost}
 use Rattle.sp_paths.proofs.Walks.{arc_in, walk_none, walk_from_by, walk_by_parts, walk_cases, walk_more}
-use Rattle.sp_offer.specs.Order.{IsKnownWord, IsAtMost as IsNoMore}
+use Rattle.sp_offer.specs.Order.{IsKnownWord, IsNoMore}
 use Rattle.sp_offer.proofs.Orders.{at_most-both}
 use Rattle.sp_phase.specs.declared.marks.Mark.{Mark}
 use Rattle.sp_phase.specs.Stage.{Stage, law_of, Falls}

@@ -13,8 +13,8 @@ use Rattle.sp_paths.specs.Paths.{IsGraph, IsVertex}
 use Rattle.sp_offer.specs.Story.{Knowledge, known}
 use Rattle.sp_bucket.specs.declared.entry.Entry.{Entry}
 use Rattle.sp_bucket.specs.Content.{Content, bucket_of, Puts, Takes}
-use Rattle.sp_bucket.proofs.Standing.{All-before, All-behind}
-use Rattle.sp_task.specs.declared.task.Kind.{Kind}
+use Rattle.sp_bucket.proofs.EntryPlaces.{All-before, All-behind}
+use Rattle.sp_task.specs.declared.task.TaskKind.{TaskKind}
 use Rattle.sp_task.specs.declared.task.Task.{Task}
 use Rattle.sp_task.specs.Left.{RoundDone}
 use Rattle.sp_phase.specs.declared.marks.Mark.{Mark}
@@ -24,7 +24,7 @@ use Rattle.sp_phase.specs.Marks.{Noted, no_mark, mark_of, light_at, heavy_at, Sa
 use Rattle.sp_phase.specs.Running.{IsRunning, IsDue, IsQueued, KeepsRunning, Holds, Leads, TasksFrom, EntriesFrom}
 use Rattle.sp_phase.specs.Behind.{IsPast}
 use Rattle.sp_phase.proofs.KnownWords.{running_falls, lawful_walk, known_pair}
-use Rattle.sp_phase.proofs.Marking.{running_same}
+use Rattle.sp_phase.proofs.TaskMarks.{running_same}
 use Rattle.sp_phase.proofs.FoundEntries.{found_queued}
 
 -- a caller that learns more holds what it held
@@ -67,7 +67,7 @@ dist_pair Unreached d is = absurd (cc)
 dist_pair (Pair e q) d is = let same : e ≡ d = cc in (q, λ i. Pair (same i) q)
 
 -- a vertex at the distance that was read is due
-pub read_due : (P : ℕ) (st : Stage) (c : Knowledge) (m : Noted) (v d : ℕ) (w : Word) (kind : Kind) → Holds P st c m → IsVertex st.graph.n v → known c.story v ≡ w → dist_of w ≡ Some d → IsDue P st (record { vertex = v; dist = d; kind = kind })
+pub read_due : (P : ℕ) (st : Stage) (c : Knowledge) (m : Noted) (v d : ℕ) (w : Word) (kind : TaskKind) → Holds P st c m → IsVertex st.graph.n v → known c.story v ≡ w → dist_of w ≡ Some d → IsDue P st (record { vertex = v; dist = d; kind = kind })
 read_due P st c m v d w kind h at read is =
     let pair = dist_pair w d is in
     let told = known_pair P st v (known c.story v) d pair.0 (h.running.lawful v) (read ∙ pair.1) in

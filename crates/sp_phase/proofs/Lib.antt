@@ -1,12 +1,12 @@
 pub mod KnownWords
-pub mod Marking
+pub mod TaskMarks
 pub mod FoundEntries
-pub mod Staging
+pub mod StageTasks
 pub mod LeaderHolds
 pub mod CopiedWords
 pub mod SettledBuckets
 pub mod FallingWords
-pub mod Marked
+pub mod RoundMarks
 pub mod PastRounds
 pub mod MadeTasks
 pub mod BucketsBehind

@@ -8,8 +8,8 @@ use Rattle.sp_word.specs.Word.{Word, Unreached, Pair, dist_of}
 use Rattle.sp_paths.specs.Paths.{IsVertex}
 use Rattle.sp_offer.specs.Order.{IsKnownWord}
 use Rattle.sp_offer.specs.Story.{Knowledge, known}
-use Rattle.sp_task.specs.declared.task.Kind.{Kind}
-use Rattle.sp_task.specs.declared.task.Kind.TheVariants.{Light, Heavy}
+use Rattle.sp_task.specs.declared.task.TaskKind.{TaskKind}
+use Rattle.sp_task.specs.declared.task.TaskKind.TheVariants.{Light, Heavy}
 use Rattle.sp_task.specs.declared.task.Task.{Task}
 use Rattle.sp_phase.specs.declared.marks.Mark.{Mark}
 use Rattle.sp_phase.specs.Lead.{Lead, recalled}
@@ -17,7 +17,7 @@ use Rattle.sp_phase.specs.Stage.{Stage, Learns, law_of}
 use Rattle.sp_phase.specs.Marks.{Noted, SameDistances}
 use Rattle.sp_phase.specs.Behind.{is_remembered, AreCarried, OwesHeavy, HasTask, WasKnown, MakesTasks, MakesLight, MakesHeavy, Enters, Forgets, HandsOver, IsFrom, HandsSome, Reads, MakesDue, PreparesLight, GivesHeavy, GivesSome}
 use Rattle.sp_phase.specs.Running.{IsDue, Holds, Leads}
-use Rattle.sp_phase.proofs.Marking.{task_of}
+use Rattle.sp_phase.proofs.TaskMarks.{task_of}
 use Rattle.sp_phase.proofs.LeaderHolds.{dist_pair, read_due, holds_learns}
 use Rattle.sp_phase.proofs.FallingWords.{falls_refl, learns_none, same_refl, carried_falls, carried_as}
 use Rattle.sp_phase.proofs.PastRounds.{owes_falls, makes_more, light_more}
@@ -25,7 +25,7 @@ use Rattle.sp_phase.proofs.PastRounds.{owes_falls, makes_more, light_more}
 -- ## Light tasks
 
 module _ (P : ℕ) (st : Stage) where
-  pub makes_none : (kind : Kind) (c c' : Knowledge) (m m' : Noted) → Learns P st c c' → SameDistances m.each m'.each → MakesTasks P st kind c c' m m' []
+  pub makes_none : (kind : TaskKind) (c c' : Knowledge) (m m' : Noted) → Learns P st c c' → SameDistances m.each m'.each → MakesTasks P st kind c c' m m' []
   makes_none kind c c' m m' learns same = record {
     learns = learns;
     same = same;
@@ -34,7 +34,7 @@ module _ (P : ℕ) (st : Stage) where
   }
 
   -- a task at the distance that was read
-  pub makes_one : (kind : Kind) (c c' : Knowledge) (m m' : Noted) (v d : ℕ) (w : Word) → Learns P st c c' → SameDistances m.each m'.each → known c'.story v ≡ w → dist_of w ≡ Some d → MakesTasks P st kind c c' m m' (task_of kind v d ∷ [])
+  pub makes_one : (kind : TaskKind) (c c' : Knowledge) (m m' : Noted) (v d : ℕ) (w : Word) → Learns P st c c' → SameDistances m.each m'.each → known c'.story v ≡ w → dist_of w ≡ Some d → MakesTasks P st kind c c' m m' (task_of kind v d ∷ [])
   makes_one kind c c' m m' v d w learns same read is =
       let pair = dist_pair w d is in
       record {

@@ -10,8 +10,8 @@ use Rattle.sp_paths.specs.Paths.{IsVertex, IsSettled}
 use Rattle.sp_offer.specs.Order.{IsKnownWord}
 use Rattle.sp_offer.specs.Story.{Knowledge, known}
 use Rattle.sp_bucket.specs.declared.entry.Entry.{Entry}
-use Rattle.sp_task.specs.declared.task.Kind.{Kind}
-use Rattle.sp_task.specs.declared.task.Kind.TheVariants.{Light, Heavy}
+use Rattle.sp_task.specs.declared.task.TaskKind.{TaskKind}
+use Rattle.sp_task.specs.declared.task.TaskKind.TheVariants.{Light, Heavy}
 use Rattle.sp_task.specs.declared.task.Task.{Task}
 use Rattle.sp_task.specs.Left.{RoundDone}
 use Rattle.sp_phase.specs.declared.marks.Mark.{Mark}
@@ -20,8 +20,8 @@ use Rattle.sp_phase.specs.Stage.{Stage, IsStage, Falls, Learns, law_of, rows_of}
 use Rattle.sp_phase.specs.Marks.{Noted, light_at, heavy_at, SameDistances}
 use Rattle.sp_phase.specs.Running.{TasksFrom, EntriesFrom, Holds, Leads}
 use Rattle.sp_phase.specs.Behind.{is_remembered, IsCarried, AreCarried, OwesHeavy, IsFinal, IsPast, HasTask, IsMarkedBy, AreMarked, WasKnown, MakesTasks, MakesLight, MakesHeavy, HasRun, MakesDue, PreparesLight, KeepsPast, CatchesUp}
-use Rattle.sp_phase.proofs.Marking.{some_same, task_of}
-use Rattle.sp_phase.proofs.Marked.{light_heavy, heavy_light}
+use Rattle.sp_phase.proofs.TaskMarks.{some_same, task_of}
+use Rattle.sp_phase.proofs.RoundMarks.{light_heavy, heavy_light}
 use Rattle.sp_phase.proofs.FallingWords.{pair_same, pair_below, falls_refl, falls_trans, learns_trans, learns_round, same_trans, carried_falls, carried_as, known_before, final_falls, final_same}
 use Rattle.sp_phase.proofs.SettledBuckets.{settled_stays}
 use Rattle.sp_phase.proofs.FoundEntries.{found_known}
@@ -48,7 +48,7 @@ module _ (P : ℕ) (st : Stage) where
     here = w.here;
   }
 
-  pub makes_more : (kind : Kind) (a b c : Knowledge) (m m1 m2 : Noted) (ts us : List Task) → MakesTasks P st kind a b m m1 ts → MakesTasks P st kind b c m1 m2 us → MakesTasks P st kind a c m m2 (ts ++ us)
+  pub makes_more : (kind : TaskKind) (a b c : Knowledge) (m m1 m2 : Noted) (ts us : List Task) → MakesTasks P st kind a b m m1 ts → MakesTasks P st kind b c m1 m2 us → MakesTasks P st kind a c m m2 (ts ++ us)
   makes_more kind a b c m m1 m2 ts us one two =
       let first = known a.story in
       let later = known b.story in
@@ -75,17 +75,17 @@ module _ (P : ℕ) (st : Stage) where
 -- ## Tasks that were run
 
 module _ (P : ℕ) (st : Stage) (stage : IsStage P st) (first last : Table) (tasks : List Task) (known_once : All (WasKnown P st first last) tasks) (lawful : (v : ℕ) → IsKnownWord (law_of P st) v (last v)) where
-  was_known : (kind : Kind) (v d : ℕ) → HasTask tasks kind v d → WasKnown P st first last (task_of kind v d)
+  was_known : (kind : TaskKind) (v d : ℕ) → HasTask tasks kind v d → WasKnown P st first last (task_of kind v d)
   was_known kind v d there = All-contains (WasKnown P st first last) tasks (task_of kind v d) known_once there
 
   -- where a distance is final, tasks have it
-  on_time : (bound : ℕ) → IsSettled st.graph st.source (max_dist P) bound first → (kind : Kind) (v e d p : ℕ) → HasTask tasks kind v e → last v ≡ Pair d p → d < bound → e ≡ d
+  on_time : (bound : ℕ) → IsSettled st.graph st.source (max_dist P) bound first → (kind : TaskKind) (v e d p : ℕ) → HasTask tasks kind v e → last v ≡ Pair d p → d < bound → e ≡ d
   on_time bound settled kind v e d p there is below =
       let w = was_known kind v e there in
       let then = settled_stays P st first w.words w.since w.lawful bound settled in
       pair_same e w.pred d p (sym w.here ∙ known_before P st stage w.words last w.until lawful bound then v d p is below)
 
-  marked_at : (bound : ℕ) → IsSettled st.graph st.source (max_dist P) bound first → (kind : Kind) (v d p : ℕ) (before after : Option ℕ) → last v ≡ Pair d p → d < bound → before ≡ Some d → IsMarkedBy tasks kind v before after → after ≡ Some d
+  marked_at : (bound : ℕ) → IsSettled st.graph st.source (max_dist P) bound first → (kind : TaskKind) (v d p : ℕ) (before after : Option ℕ) → last v ≡ Pair d p → d < bound → before ≡ Some d → IsMarkedBy tasks kind v before after → after ≡ Some d
   marked_at bound settled kind v d p before after is below was (inl (e, there, at)) = at ∙ ap (λ x. Some x) (on_time bound settled kind v e d p there is below)
   marked_at bound settled kind v d p before after is below was (inr stays) = stays.0 ∙ was
 
@@ -101,11 +101,11 @@ module _ (P : ℕ) (st : Stage) (stage : IsStage P st) (first last : Table) (tas
       }
 
   -- no task has less than what is known
-  pub no_less : (kind : Kind) (v e : ℕ) → HasTask tasks kind v e → (d p : ℕ) × (last v ≡ Pair d p) × (d ≤ e)
+  pub no_less : (kind : TaskKind) (v e : ℕ) → HasTask tasks kind v e → (d p : ℕ) × (last v ≡ Pair d p) × (d ≤ e)
   no_less kind v e there = let w = was_known kind v e there in pair_below (last v) (w.words v) e w.pred w.here (w.until v)
 
   -- nor more than what was
-  pub no_more : (kind : Kind) (v e d p : ℕ) → HasTask tasks kind v e → first v ≡ Pair d p → e ≤ d
+  pub no_more : (kind : TaskKind) (v e d p : ℕ) → HasTask tasks kind v e → first v ≡ Pair d p → e ≤ d
   no_more kind v e d p there is =
       let w = was_known kind v e there in
       let low = pair_below (w.words v) (first v) d p is (w.since v) in
@@ -207,11 +207,11 @@ module _ (P : ℕ) (st : Stage) (stage : IsStage P st) where
       (λ (above : light ≤ e.dist). above) (cases_lt e.dist light)
 
   module _ (c : Knowledge) (m : Noted) (l l' : Lead) (tasks : List Task) (h : Holds P st c m) (ran : HasRun P st tasks l l') (light heavy : ℕ) (entries : EntriesFrom light l.buckets.entries) (final : IsFinal P st light heavy (known c.story) m.each) where
-    lawful_then : (kind : Kind) → MakesTasks P st kind c l.caller m l.marks tasks → (v : ℕ) → IsKnownWord (law_of P st) v (known l.caller.story v)
+    lawful_then : (kind : TaskKind) → MakesTasks P st kind c l.caller m l.marks tasks → (v : ℕ) → IsKnownWord (law_of P st) v (known l.caller.story v)
     lawful_then kind makes = makes.learns.lawful
 
     -- the round keeps what is final
-    round_final : (kind : Kind) → MakesTasks P st kind c l.caller m l.marks tasks → IsFinal P st light heavy (known l'.caller.story) l'.marks.each
+    round_final : (kind : TaskKind) → MakesTasks P st kind c l.caller m l.marks tasks → IsFinal P st light heavy (known l'.caller.story) l'.marks.each
     round_final kind makes =
         let size : length m.each ≡ st.graph.n = h.running.size in
         let then = final_falls P st stage light heavy (known c.story) (known l.caller.story) m.each makes.learns.falls makes.learns.lawful final in
@@ -219,7 +219,7 @@ module _ (P : ℕ) (st : Stage) (stage : IsStage P st) where
         let done = final_marked P st stage (known c.story) (known l.caller.story) tasks makes.known_once makes.learns.lawful light heavy l.marks.each l'.marks.each (makes.same.0 ∙ size) final.settled ran.marked made in
         final_falls P st stage light heavy (known l.caller.story) (known l'.caller.story) l'.marks.each ran.done.later.falls (ran.done.later.stays makes.learns.lawful) done
 
-    round_entries_later : (kind : Kind) → MakesTasks P st kind c l.caller m l.marks tasks → EntriesFrom light l'.buckets.entries
+    round_entries_later : (kind : TaskKind) → MakesTasks P st kind c l.caller m l.marks tasks → EntriesFrom light l'.buckets.entries
     round_entries_later kind makes =
         let settled = settled_stays P st (known c.story) (known l.caller.story) makes.learns.falls makes.learns.lawful light final.settled in
         All-permutation (λ e. light ≤ e.dist) (l.buckets.entries ++ ran.found) l'.buckets.entries ran.entries

@@ -12,7 +12,7 @@ use Rattle.sp_paths.specs.Paths.{Graph, IsGraph, IsVertex, HasArc, HasWalk, IsLa
 use Rattle.sp_paths.specs.Theorems.{IsFinished, FinishedIsTree, FinishedIsFar}
 use Rattle.sp_paths.proofs.Walks.{arc_in, walk_by, walk_by_parts}
 use Rattle.sp_graph.specs.LeftOut.{IsLeastLeftOut}
-use Rattle.sp_offer.specs.Order.{IsKnownWord, lawful, IsAtMost as IsNoMore}
+use Rattle.sp_offer.specs.Order.{IsKnownWord, lawful, IsNoMore}
 use Rattle.sp_offer.specs.Story.{Story, Knowledge, known, IsCopy}
 use Rattle.sp_tree.specs.Table.{TreeTable, HasPredWithin, table_of, tree_of}
 use Rattle.sp_task.specs.Walking.{WalksFrom}

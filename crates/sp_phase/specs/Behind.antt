@@ -6,8 +6,8 @@ use Rattle.sp_paths.specs.Paths.{IsVertex, IsSettled}
 use Rattle.sp_offer.specs.Order.{IsKnownWord}
 use Rattle.sp_offer.specs.Story.{Knowledge, known}
 use Rattle.sp_bucket.specs.declared.entry.Entry.{Entry}
-use Rattle.sp_task.specs.declared.task.Kind.{Kind}
-use Rattle.sp_task.specs.declared.task.Kind.TheVariants.{Light, Heavy}
+use Rattle.sp_task.specs.declared.task.TaskKind.{TaskKind}
+use Rattle.sp_task.specs.declared.task.TaskKind.TheVariants.{Light, Heavy}
 use Rattle.sp_task.specs.declared.task.Task.{Task}
 use Rattle.sp_phase.specs.declared.marks.Mark.{Mark}
 use Rattle.sp_phase.specs.Lead.{Lead}
@@ -62,11 +62,11 @@ HasCome P st (Some i) closed l = IfSome closed (λ j. j < i) × IsPast P st ((i 
 
 -- ## In a round
 
-abbrev pub HasTask : List Task → Kind → (v d : ℕ) → Type 0
+abbrev pub HasTask : List Task → TaskKind → (v d : ℕ) → Type 0
 HasTask tasks kind v d = Contains tasks (record { vertex = v; dist = d; kind = kind })
 
 -- a task of the kind at the vertex gave its distance; where there is none, what was written down stays
-abbrev pub IsMarkedBy : List Task → Kind → (v : ℕ) → (before after : Option ℕ) → Type 0
+abbrev pub IsMarkedBy : List Task → TaskKind → (v : ℕ) → (before after : Option ℕ) → Type 0
 IsMarkedBy tasks kind v before after = ((d : ℕ) × HasTask tasks kind v d × (after ≡ Some d)) ⊎ ((after ≡ before) × ((d : ℕ) → HasTask tasks kind v d → ⊥))
 
 pub record AreMarked (tasks : List Task) (before after : List Mark) : Type 0 where
@@ -85,7 +85,7 @@ pub record WasKnown (P : ℕ) (st : Stage) (first last : Table) (t : Task) : Typ
   pub here : words t.vertex ≡ Pair t.dist pred
 
 -- what is known and written down while tasks are made of vertices that are read
-pub record MakesTasks (P : ℕ) (st : Stage) (kind : Kind) (c c' : Knowledge) (m m' : Noted) (tasks : List Task) : Type 0 where
+pub record MakesTasks (P : ℕ) (st : Stage) (kind : TaskKind) (c c' : Knowledge) (m m' : Noted) (tasks : List Task) : Type 0 where
   pub learns : Learns P st c c'
   pub same : SameDistances m.each m'.each
   pub known_once : All (WasKnown P st (known c.story) (known c'.story)) tasks

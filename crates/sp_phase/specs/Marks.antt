@@ -3,8 +3,8 @@ use Rattle.std.specs.Prelude.{◌≡◌, ℕ, ◌-◌, ◌⊎◌, List, [], ◌�
 use Rattle.sp_paths.specs.Paths.{IsVertex}
 use Rattle.sp_phase.specs.declared.marks.Mark.{Mark}
 use Rattle.sp_phase.specs.declared.marks.Marks.{Marks}
-use Rattle.sp_task.specs.declared.task.Kind.{Kind}
-use Rattle.sp_task.specs.declared.task.Kind.TheVariants.{Light, Heavy}
+use Rattle.sp_task.specs.declared.task.TaskKind.{TaskKind}
+use Rattle.sp_task.specs.declared.task.TaskKind.TheVariants.{Light, Heavy}
 use Rattle.sp_task.specs.declared.task.Task.{Task}
 
 -- the marks of all vertices, and the vertices that are remembered
@@ -30,7 +30,7 @@ abbrev pub heavy_at : List Mark → (v : ℕ) → Option ℕ
 heavy_at marks v = (mark_of marks v).heavy
 
 -- a task of the kind was run at the distance
-abbrev pub with_task : Kind → (dist : ℕ) → Mark → Mark
+abbrev pub with_task : TaskKind → (dist : ℕ) → Mark → Mark
 with_task Light dist mark = record mark { light = Some dist }
 with_task Heavy dist mark = record mark { heavy = Some dist }
 

@@ -21,5 +21,5 @@ abbrev pub IsToldBy : (P : ℕ) → Option ℕ → Progress → Type 0
 IsToldBy P bucket run = IsSomeAnd run.caller (IsTold P run.stage bucket)
 
 -- a bucket that is told is later than the closed one, if there is one
-abbrev pub IsLater : (closed bucket : Option ℕ) → Type 0
-IsLater closed bucket = IfSome bucket (λ i. IfSome closed (λ j. j < i))
+abbrev pub IsLaterBucket : (closed bucket : Option ℕ) → Type 0
+IsLaterBucket closed bucket = IfSome bucket (λ i. IfSome closed (λ j. j < i))

@@ -5,7 +5,7 @@ use Rattle.sp_word.specs.Word.{Word, is_layout, max_dist, max_pred}
 use Rattle.sp_paths.specs.Paths.{Graph, IsGraph, IsVertex, IsLawful}
 use Rattle.sp_graph.specs.RowsValue.{Split}
 use Rattle.sp_word.specs.History.{Table}
-use Rattle.sp_offer.specs.Order.{IsAtMost, IsKnownWord, lawful}
+use Rattle.sp_offer.specs.Order.{IsNoMore, IsKnownWord, lawful}
 use Rattle.sp_offer.specs.Story.{Knowledge, known}
 use Rattle.sp_task.specs.Walking.{WalksFrom}
 
@@ -48,7 +48,7 @@ pub record AreOfStage (st : Stage) (split : Split) (walks : WalksFrom) (words cl
 
 -- of no vertex is less known than before
 abbrev pub Falls : (before after : Table) → Type 0
-Falls before after = (v : ℕ) → IsAtMost (after v) (before v)
+Falls before after = (v : ℕ) → IsNoMore (after v) (before v)
 
 -- A caller of the stage's table went on: nowhere does it know less than before, and what it knows is lawful.
 pub record Learns (P : ℕ) (st : Stage) (before after : Knowledge) : Type 0 where

@@ -3,8 +3,8 @@ use Rattle.std.specs.Prelude.{◌≡◌, ℕ, ◌<◌, List, length, Some}
 use Rattle.sp_word.specs.Word.{Word, Pair, max_dist}
 use Rattle.sp_word.specs.History.{Table}
 use Rattle.sp_paths.specs.Paths.{IsVertex, word_at}
-use Rattle.sp_paths.specs.Phase.{IsCopy, HasNoOpen}
-use Rattle.sp_offer.specs.Order.{IsKnownWord, IsAtMost as IsNoMore}
+use Rattle.sp_paths.specs.Phase.{IsMarkedCopy, HasNoOpen}
+use Rattle.sp_offer.specs.Order.{IsKnownWord, IsNoMore}
 use Rattle.sp_offer.specs.Story.{Knowledge, known}
 use Rattle.sp_tree.specs.Table.{TreeTable, table_of}
 use Rattle.sp_bucket.specs.declared.entry.Entry.{Entry}
@@ -37,7 +37,7 @@ IsOpen words marks b e = IsVertex (length words) e.vertex × ((p : ℕ) × (word
 -- knows now, which is lawful too.
 pub record IsCopied (P : ℕ) (st : Stage) (c : Knowledge) (marks : List Mark) (copy : List Word) : Type 0 where
   pub words : Table
-  pub of : IsCopy st.graph st.source (max_dist P) st.delta words (word_at copy) (light_at marks) (heavy_at marks)
+  pub of : IsMarkedCopy st.graph st.source (max_dist P) st.delta words (word_at copy) (light_at marks) (heavy_at marks)
   pub size : length copy ≡ st.graph.n
   pub above : (v : ℕ) → IsVertex st.graph.n v → IsNoMore (known c.story v) (word_at copy v)
   pub stage : IsStage P st

@@ -5,7 +5,7 @@ ghost use Rattle.sp_phase.specs.Marks.{no_mark, noted, marked, SameDistances, Re
 ghost use Rattle.sp_phase.specs.Running.{KeepsRunning};
 ghost use Rattle.sp_phase.specs.Behind.{AreMarked, Enters, Forgets};
 
-use sp_task::{Kind, Task};
+use sp_task::{TaskKind, Task};
 use std::alloc::{AllocError, Global};
 use std::mem;
 
@@ -128,8 +128,8 @@ fn mark_task(marks: &mut Vec<Mark>, task: Task)
 {
     let place = (task.vertex - 1) as usize;
     match task.kind {
-        Kind::Light => marks[place].light = Some(task.dist),
-        Kind::Heavy => marks[place].heavy = Some(task.dist),
+        TaskKind::Light => marks[place].light = Some(task.dist),
+        TaskKind::Heavy => marks[place].heavy = Some(task.dist),
     }
 }
 

@@ -12,7 +12,7 @@ ghost use Rattle.sp_phase.specs.Behind.{HasRun, PreparesLight, GivesHeavy, Keeps
 use crate::leader::Leader;
 use crate::store::Crew;
 use sp_bucket::{Buckets, Entry};
-use sp_task::{Gate, Kind, Task};
+use sp_task::{Gate, TaskKind, Task};
 use std::alloc::AllocError;
 use std::sync::Wait;
 use std::thread::Threads;
@@ -99,7 +99,7 @@ impl<'a, 'g, const P: u32> Leader<'a, 'g, P> {
         Ok(Some(Task {
             vertex: entry.vertex,
             dist: entry.dist,
-            kind: Kind::Light,
+            kind: TaskKind::Light,
         }))
     }
 
@@ -134,7 +134,7 @@ impl<'a, 'g, const P: u32> Leader<'a, 'g, P> {
         Some(Task {
             vertex,
             dist,
-            kind: Kind::Heavy,
+            kind: TaskKind::Heavy,
         })
     }
 

@@ -6,7 +6,7 @@ ghost use Rattle.sp_paths.specs.Paths.{IsVertex};
 ghost use Rattle.sp_phase.specs.Answer.{IsAnswer, IsRefusal};
 ghost use Rattle.sp_phase.specs.Sweep.{HasWords};
 ghost use Rattle.sp_phase.specs.Progress.{IsMemory, IsUnspent, IsSpent, IsAsFar, HasRead};
-ghost use Rattle.sp_phase.specs.Settling.{IsToldBy, IsLater};
+ghost use Rattle.sp_phase.specs.Settling.{IsToldBy, IsLaterBucket};
 
 use crate::advancing::{Settled, Until};
 use crate::answers::RunError;
@@ -99,7 +99,7 @@ impl<'a, 'g, const P: u32> Run<'a, 'g, P> {
     ) -> Result<Option<u64>, RunError>
         ensures stage { self.new.stage ≡ self.old.stage }
         ensures told { IfOk result (λ bucket. IsToldBy P bucket self.new) }
-        ensures later { IfOk result (IsLater self.old.closed) }
+        ensures later { IfOk result (IsLaterBucket self.old.closed) }
         ensures settled { IfOk result (λ bucket. self.new.settled ≡ bucket) }
         ensures closed { self.new.closed ≡ self.old.closed }
         ensures refused { IfErr result (λ e. IsMemory e × IsSpent self.new) }

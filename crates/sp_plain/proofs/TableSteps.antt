@@ -10,7 +10,7 @@ use Rattle.sp_paths.specs.Theorems.{IsFinished}
 use Rattle.sp_graph.specs.LeftOut.{network, IsLeastLeftOut}
 use Rattle.sp_plain.specs.Passing.{IsSmall, IsSmallTable, KeepsTables, first_words, IsFinishedTable, IsOutcome}
 use Rattle.sp_plain.proofs.PassSteps.{word_other, word_same}
-use Rattle.sp_paths.proofs.Proved.{finished_is_tree, finished_is_far}
+use Rattle.sp_paths.proofs.TheoremProofs.{finished_is_tree, finished_is_far}
 
 -- what holds between two passes
 pub record IsRelaxing (n max : ℕ) (arcs : List Arc) (initial words : List Word) (changed : Bool) : Type 0 where

@@ -11,4 +11,4 @@ mod plain;
 mod random;
 
 pub use plain::{Answer, plain_tree};
-pub use random::{Kind, Random, random_graph};
+pub use random::{GraphKind, Random, random_graph};

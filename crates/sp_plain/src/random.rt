@@ -47,7 +47,7 @@ impl Random {
 
 /// Kinds of random graphs.
 #[derive(Clone, Copy, Debug, PartialEq, Eq)]
-pub enum Kind {
+pub enum GraphKind {
     /// Two arcs a vertex.
     Sparse,
     /// Each vertex has arcs to half of the others, or there are 40,000 arcs.
@@ -81,17 +81,17 @@ struct Shape {
 }
 
 // A graph of so many vertices, of a kind.
-fn shape_of(kind: Kind, n: u32) -> Shape
+fn shape_of(kind: GraphKind, n: u32) -> Shape
     requires { (1 ≤ n) × (n ≤ 2000) }
     ensures { result.n ≡ n }
 {
     let (arcs, longest, reach, part) = match kind {
-        Kind::Sparse => (2 * n, 1000, n, n),
-        Kind::Dense => ((n * n / 2).min(MOST_ARCS), 1000, n, n),
-        Kind::Ties => (4 * n, 3, n, n),
-        Kind::Parallel => (8 * n, 100, n.min(3), n),
-        Kind::Parts => (3 * n, 1000, n, n / 4 + 1),
-        Kind::Long => (4 * n, u32::MAX, n.min(5), n),
+        GraphKind::Sparse => (2 * n, 1000, n, n),
+        GraphKind::Dense => ((n * n / 2).min(MOST_ARCS), 1000, n, n),
+        GraphKind::Ties => (4 * n, 3, n, n),
+        GraphKind::Parallel => (8 * n, 100, n.min(3), n),
+        GraphKind::Parts => (3 * n, 1000, n, n / 4 + 1),
+        GraphKind::Long => (4 * n, u32::MAX, n.min(5), n),
     };
     Shape {
         n,
@@ -131,7 +131,7 @@ fn random_arcs(alloc: Global, random: &mut Random, shape: Shape) -> Result<Vec<A
 pub fn random_graph(
     alloc: Global,
     random: &mut Random,
-    kind: Kind,
+    kind: GraphKind,
     n: u32,
 ) -> Result<Graph, AllocError>
     requires { (1 ≤ n) × (n ≤ 2000) }

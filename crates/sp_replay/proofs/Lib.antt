@@ -1,6 +1,6 @@
-pub mod Sent
+pub mod TextPieces
 pub mod RowSteps
 pub mod Bounds
 pub mod KeepSteps
 pub mod Legal
-pub mod Counted
+pub mod ReachedWords

@@ -8,7 +8,7 @@ ghost use Rattle.sp_replay.specs.ReplayFormat.{replay};
 ghost use Rattle.sp_replay.specs.Replay.{offer_of};
 
 use crate::formats::{MOST_WORDS, OFFER, READ, RELAX, START, STEP, replay_format};
-use crate::rows::Rows;
+use crate::rows::ActorItems;
 use sp_machine::Item;
 use sp_text::{FileFormat, Keep, Ranges, Values, ranges_of};
 use sp_word::Word;
@@ -23,7 +23,7 @@ pub struct Keeper<const P: u32> {
     /// The vertices that have a word at the start.
     known: HashSet<u64>,
     named: Vec<(u32, Word<P>)>,
-    rows: Rows<P>,
+    rows: ActorItems<P>,
     steps: Vec<u32>,
     ghost layout: { is_layout P ≡ true },
 }
@@ -74,7 +74,7 @@ impl<const P: u32> Keeper<P> {
             alloc,
             known: HashSet::new(alloc),
             named: Vec::new(alloc),
-            rows: Rows::new(alloc),
+            rows: ActorItems::new(alloc),
             steps: Vec::new(alloc),
         }
     }

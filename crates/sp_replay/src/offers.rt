@@ -6,7 +6,7 @@ ghost use Rattle.sp_replay.specs.Offers.{IsOffersFile, OffersRead};
 
 use crate::formats::offers_format;
 use crate::keeper::offer_at;
-use crate::rows::Rows;
+use crate::rows::ActorItems;
 use sp_device::Read;
 use sp_machine::{Item, Programme};
 use sp_text::{
@@ -17,7 +17,7 @@ use std::alloc::{AllocError, Global};
 /// The offers so far.
 #[derive(Drop)]
 pub struct OfferKeeper<const P: u32> {
-    rows: Rows<P>,
+    rows: ActorItems<P>,
     ghost layout: { is_layout P ≡ true },
 }
 
@@ -38,7 +38,7 @@ impl<const P: u32> OfferKeeper<P> {
         ensures { KeepsOffers result [] }
     {
         OfferKeeper {
-            rows: Rows::new(alloc),
+            rows: ActorItems::new(alloc),
         }
     }
 }

@@ -10,12 +10,12 @@ use std::mem;
 
 /// The items of the actors so far. There are no more rows than actors need.
 #[derive(Drop)]
-pub struct Rows<const P: u32> {
+pub struct ActorItems<const P: u32> {
     alloc: Global,
     rows: Vec<Vec<Item<P>>>,
 }
 
-impl<const P: u32> Model for Rows<P> {
+impl<const P: u32> Model for ActorItems<P> {
     ghost use Rattle.std.specs.Prelude.{List, map};
     ghost use Rattle.sp_machine.specs.declared.item.Item.{Item};
 
@@ -24,12 +24,12 @@ impl<const P: u32> Model for Rows<P> {
     ghost view = { λ r. map (λ row. row.items) r.rows.items };
 }
 
-impl<const P: u32> Rows<P> {
+impl<const P: u32> ActorItems<P> {
     /// No item.
     pub fn new(alloc: Global) -> Self
         ensures { result ≡ [] }
     {
-        Rows {
+        ActorItems {
             alloc,
             rows: Vec::new(alloc),
         }

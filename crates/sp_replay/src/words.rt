@@ -9,7 +9,7 @@ use sp_device::{Printer, Write, WriteFault, finish, make_room};
 use sp_word::Word;
 
 // How many of the words are reached.
-#[tactic(auto, using(crate::proofs::Counted::count_next, crate::proofs::Counted::unreached_counts_none, crate::proofs::Counted::reached_counts_one))]
+#[tactic(auto, using(crate::proofs::ReachedWords::count_next, crate::proofs::ReachedWords::unreached_counts_none, crate::proofs::ReachedWords::reached_counts_one))]
 fn count_reached<const P: u32>(words: &[Word<P>]) -> usize
     ensures count { result ≡ reached_count words.now }
 {

@@ -11,8 +11,8 @@ use Rattle.sp_graph.specs.RowsValue.{Split}
 use Rattle.sp_task.specs.declared.task.Task.{Task}
 use Rattle.sp_task.specs.Offers.{Asked, arcs_of, offer_along, offers_along}
 use Rattle.sp_task.specs.Work.{MadeOffers, jobs_of, offers_at}
-use Rattle.sp_task.proofs.Going.{offers_at-is}
-use Rattle.sp_task.proofs.Making.{map-append, offers_more}
+use Rattle.sp_task.proofs.WorkerSteps.{offers_at-is}
+use Rattle.sp_task.proofs.CallsInRow.{map-append, offers_more}
 
 filter-append : {A : Type 0} (p : A → Bool) (xs ys : List A) → filter p (xs ++ ys) ≡ filter p xs ++ filter p ys
 filter-append p [] ys = refl

@@ -7,7 +7,7 @@ use Rattle.sp_graph.specs.RowsValue.{Split}
 use Rattle.sp_offer.specs.Order.{lawful}
 use Rattle.sp_task.specs.declared.task.Task.{Task}
 use Rattle.sp_task.specs.Offers.{IsTask}
-use Rattle.sp_task.proofs.Walking.{tail_inside}
+use Rattle.sp_task.proofs.WalkLaw.{tail_inside}
 
 -- the elements below i, and the one at i
 pub all_more : {X : Type 0} (P : X → Type 0) (xs : List X) (i : ℕ) (e : X) → i < length xs → ((k : ℕ) (d : X) → k < i → P (get_or xs k d)) → P (get_or xs i e) → (k : ℕ) (d : X) → k < i + 1 → P (get_or xs k d)

@@ -23,8 +23,8 @@ use Rattle.sp_task.specs.Work.{Job, job_of, jobs_of, offers_at, slot_at, grant_a
 use Rattle.sp_task.specs.Left.{tally, upto, unmarked, IsMarked, RanLeft, IsTaskDone, RoundDone}
 use Rattle.sp_task.proofs.Words.{not_above, at_most, within_pair}
 use Rattle.sp_task.specs.Later.{IsLater}
-use Rattle.sp_task.proofs.Making.{made_more, made_none, nearer_along, later_along}
-use Rattle.sp_task.proofs.Going.{calls_weight-append, length-map}
+use Rattle.sp_task.proofs.CallsInRow.{made_more, made_none, nearer_along, later_along}
+use Rattle.sp_task.proofs.WorkerSteps.{calls_weight-append, length-map}
 use Rattle.sp_task.proofs.Sums.{sum-tally, in_or_left, all_left, weight-upto, sum_by-map, sum_by-flat_map}
 
 module _ (law : ℕ → Word → Type 0) (jobs : List Job) (marks : List Bool) where

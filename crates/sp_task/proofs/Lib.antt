@@ -1,10 +1,10 @@
 pub mod Words
-pub mod Making
+pub mod CallsInRow
 pub mod Arcs
-pub mod Going
+pub mod WorkerSteps
 pub mod Both
 pub mod Sums
 pub mod Marks
 pub mod Left
-pub mod Walking
+pub mod WalkLaw
 pub mod Checks

@@ -5,14 +5,14 @@ use Rattle.std.proofs.lemmas.Bool.Decides.{nat_tests}
 use Rattle.sp_word.specs.Word.{Word, Unreached, Pair, is_below, lesser}
 use Rattle.sp_word.specs.Reply.{reply_to}
 use Rattle.sp_word.specs.declared.reply.Reply.TheVariants.{Shorter, SmallerPred, Kept}
-use Rattle.sp_offer.specs.Order.{IsAtMost}
+use Rattle.sp_offer.specs.Order.{IsNoMore}
 use Rattle.sp_paths.specs.Paths.{IsAtMost as IsWithinPair}
 
-pub at_most_itself : (a : Word) → IsAtMost a a
+pub at_most_itself : (a : Word) → IsNoMore a a
 at_most_itself Unreached = tt
 at_most_itself (Pair d p) = inr (refl, omega arith)
 
-pub at_most_along : (a b c : Word) → IsAtMost a b → IsAtMost b c → IsAtMost a c
+pub at_most_along : (a b c : Word) → IsNoMore a b → IsNoMore b c → IsNoMore a c
 at_most_along a b Unreached h k = tt
 at_most_along a Unreached (Pair f r) h k = absurd k
 at_most_along Unreached (Pair e q) (Pair f r) h k = absurd h
@@ -23,7 +23,7 @@ at_most_along (Pair d p) (Pair e q) (Pair f r) h k =
     ]
 
 -- what is at most a pair, in the words of the graph's theorems
-pub within_pair : (a : Word) (d p : ℕ) → IsAtMost a (Pair d p) → IsWithinPair a d p
+pub within_pair : (a : Word) (d p : ℕ) → IsNoMore a (Pair d p) → IsWithinPair a d p
 within_pair Unreached d p h = h
 within_pair (Pair e q) d p h = h
 
@@ -34,26 +34,26 @@ not_below_pair : (d p e q : ℕ) → (nat_lt d e || ((d == e) && nat_lt p q)) �
 not_below_pair d p e q h = grind (arith, nat_tests, h)
 
 -- the test says whether a word is above another
-pub not_above : (known word : Word) → IsAtMost known word → is_below word known ≡ false
+pub not_above : (known word : Word) → IsNoMore known word → is_below word known ≡ false
 not_above known Unreached h = refl
 not_above Unreached (Pair d p) h = absurd h
 not_above (Pair e q) (Pair d p) h = below_pair d p e q h
 
-pub at_most : (known word : Word) → is_below word known ≡ false → IsAtMost known word
+pub at_most : (known word : Word) → is_below word known ≡ false → IsNoMore known word
 at_most known Unreached h = tt
 at_most Unreached (Pair d p) h = absurd (cc)
 at_most (Pair e q) (Pair d p) h = not_below_pair d p e q h
 
 -- an offer leaves a word that is at most the one offered
-pub lesser_at_most : (found word : Word) → IsAtMost (lesser found word) word
+pub lesser_at_most : (found word : Word) → IsNoMore (lesser found word) word
 lesser_at_most found word =
     let same = at_most_itself word in
     let other = at_most found word in
-    elim (is_below word found) as (λ b. is_below word found ≡ b → IsAtMost (if b then word else found) word)
+    elim (is_below word found) as (λ b. is_below word found ≡ b → IsNoMore (if b then word else found) word)
     [ true ↦ (λ e. same) | false ↦ (λ e. other e) ] refl
 
 -- of two pairs the lesser has no greater distance
-pub no_farther : (d p e q : ℕ) → IsAtMost (Pair d p) (Pair e q) → d ≤ e
+pub no_farther : (d p e q : ℕ) → IsNoMore (Pair d p) (Pair e q) → d ≤ e
 no_farther d p e q h = elim h as (λ _. d ≤ e) [ inl x ↦ omega arith | inr x ↦ (let s = x.0 in omega arith) ]
 
 shorter_if : (a b : Bool) → (if a then Shorter else if b then SmallerPred else Kept) ≡ Shorter → a ≡ true
@@ -68,6 +68,6 @@ shorter_pair : (f r d p : ℕ) → reply_to (Pair f r) (Pair d p) ≡ Shorter �
 shorter_pair f r d p h = is_less d f (shorter_if (nat_lt d f) ((d == f) && nat_lt p r) h)
 
 -- an offer that made the distance smaller offered less than any word above the one found
-pub shorter_below : (found : Word) (d p e q : ℕ) → reply_to found (Pair d p) ≡ Shorter → IsAtMost found (Pair e q) → d < e
+pub shorter_below : (found : Word) (d p e q : ℕ) → reply_to found (Pair d p) ≡ Shorter → IsNoMore found (Pair e q) → d < e
 shorter_below Unreached d p e q h k = absurd k
 shorter_below (Pair f r) d p e q h k = let a = shorter_pair f r d p h in let b = no_farther f r e q k in omega arith

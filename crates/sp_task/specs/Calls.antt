@@ -4,7 +4,7 @@ use Rattle.sp_word.specs.Word.{Word, Unreached, Pair}
 use Rattle.sp_word.specs.History.{Table, Call, Offer, Read, Event}
 use Rattle.sp_word.specs.declared.reply.Reply.{Reply}
 use Rattle.sp_word.specs.declared.reply.Reply.TheVariants.{Shorter, SmallerPred, Kept}
-use Rattle.sp_offer.specs.Order.{IsAtMost}
+use Rattle.sp_offer.specs.Order.{IsNoMore}
 use Rattle.sp_offer.specs.Story.{Story, known}
 use Rattle.sp_bucket.specs.declared.entry.Entry.{Entry}
 use Rattle.sp_task.specs.Offers.{Asked}
@@ -40,4 +40,4 @@ IsNearer t e = (d p : ℕ) → t e.vertex ≡ Pair d p → e.dist < d
 -- what is known is at most each word that was offered
 abbrev pub AllKnown : Story → List Event → Type 0
 AllKnown s [] = Unit {0}
-AllKnown s (e ∷ es) = IsAtMost (known s e.vertex) (word_offered e.call) × AllKnown s es
+AllKnown s (e ∷ es) = IsNoMore (known s e.vertex) (word_offered e.call) × AllKnown s es

@@ -2,7 +2,7 @@
 use Rattle.std.specs.Prelude.{◌≡◌, ℕ}
 use mathlib.Core.List.{IsPrefix}
 use Rattle.sp_word.specs.Word.{Word}
-use Rattle.sp_offer.specs.Order.{IsAtMost, IsKnownWord}
+use Rattle.sp_offer.specs.Order.{IsNoMore, IsKnownWord}
 use Rattle.sp_offer.specs.Story.{Knowledge, known, IsStory}
 
 -- The caller's history is legal, its calls stand there, each once, and every word that it knows is unreached or lawful.
@@ -15,6 +15,6 @@ pub record HasLegalHistory (law : ℕ → Word → Type 0) (caller : Knowledge) 
 pub record IsLater (law : ℕ → Word → Type 0) (before after : Knowledge) : Type 0 where
   pub table : after.table ≡ before.table
   pub begins : IsPrefix before.story.seen after.story.seen
-  pub falls : (v : ℕ) → IsAtMost (known after.story v) (known before.story v)
+  pub falls : (v : ℕ) → IsNoMore (known after.story v) (known before.story v)
   pub stays : ((v : ℕ) → IsKnownWord law v (known before.story v)) → (v : ℕ) → IsKnownWord law v (known after.story v)
   pub legal : IsStory before.story → IsStory after.story

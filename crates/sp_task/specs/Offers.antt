@@ -5,8 +5,8 @@ use Rattle.sp_paths.specs.declared.arc.Arc.{Arc}
 use Rattle.sp_paths.specs.Paths.{IsVertex}
 use Rattle.sp_paths.specs.Rows.{light_of, heavy_of}
 use Rattle.sp_graph.specs.RowsValue.{Split}
-use Rattle.sp_task.specs.declared.task.Kind.{Kind}
-use Rattle.sp_task.specs.declared.task.Kind.TheVariants.{Light, Heavy}
+use Rattle.sp_task.specs.declared.task.TaskKind.{TaskKind}
+use Rattle.sp_task.specs.declared.task.TaskKind.TheVariants.{Light, Heavy}
 use Rattle.sp_task.specs.declared.task.Task.{Task}
 
 -- a word that is offered to a vertex
@@ -15,7 +15,7 @@ pub record Asked : Type 0 where
   pub word : Word
 
 -- the arcs of a kind that leave a vertex
-abbrev pub arcs_of_kind : Split → Kind → ℕ → List Arc
+abbrev pub arcs_of_kind : Split → TaskKind → ℕ → List Arc
 arcs_of_kind rows Light v = light_of rows.graph.arcs rows.delta v
 arcs_of_kind rows Heavy v = heavy_of rows.graph.arcs rows.delta v
 

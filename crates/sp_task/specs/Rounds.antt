@@ -14,11 +14,11 @@ use Rattle.sp_bucket.specs.declared.entry.Entry.{Entry}
 use Rattle.sp_task.specs.declared.task.Task.{Task}
 use Rattle.sp_task.specs.declared.task.Round.{Round}
 use Rattle.sp_task.specs.declared.round.Prepared.{Prepared}
-use Rattle.sp_task.specs.declared.work.Done.{Done}
-use Rattle.sp_task.specs.declared.work.RoundOut.{RoundOut}
-use Rattle.sp_task.specs.declared.work.RoundRefused.{RoundRefused}
-use Rattle.sp_task.specs.declared.work.stealing.Plan.{Plan}
-use Rattle.sp_task.specs.declared.work.stealing.Seat.{Seat}
+use Rattle.sp_task.specs.declared.workers.Done.{Done}
+use Rattle.sp_task.specs.declared.workers.RoundOut.{RoundOut}
+use Rattle.sp_task.specs.declared.workers.RoundRefused.{RoundRefused}
+use Rattle.sp_task.specs.declared.workers.stealing.Roster.{Roster}
+use Rattle.sp_task.specs.declared.workers.stealing.Seat.{Seat}
 use Rattle.sp_task.specs.Offers.{IsTask, arcs_of, offer_along, offers_along}
 use Rattle.sp_task.specs.Later.{IsLater, HasLegalHistory}
 use Rattle.sp_task.specs.Work.{Job, jobs_of, offers_at, IsReady, AreOf, AreJoined, Joined, MadeOffers, Did, did, Goes, Answers}
@@ -112,13 +112,13 @@ module _ {L : Type 0} (P : ℕ) (allows : L → ℕ → Word → Type 0) (board 
   CanWork claims rows tasks seat = IsReadyFor claims rows tasks × AreOf board.id claims seat.caller seat.claimer
 
   -- what one worker gives back, and what it and those of the other deques do
-  abbrev pub OneGives : List Job → Plan → Seat → Result Done RoundRefused → Type 0
-  OneGives jobs plan seat result =
-      Answers (lawful P (allows board.law)) jobs plan.number seat.caller seat.claimer 1 result
+  abbrev pub OneGives : List Job → Roster → Seat → Result Done RoundRefused → Type 0
+  OneGives jobs roster seat result =
+      Answers (lawful P (allows board.law)) jobs roster.number seat.caller seat.claimer 1 result
 
-  abbrev pub AllGive : {A : Type 0} → List Job → Plan → Vec A Global → Seat → Result Done RoundRefused → Type 0
-  AllGive jobs plan others seat result =
-      Answers (lawful P (allows board.law)) jobs plan.number seat.caller seat.claimer (vec_len others + 1) result
+  abbrev pub AllGive : {A : Type 0} → List Job → Roster → Vec A Global → Seat → Result Done RoundRefused → Type 0
+  AllGive jobs roster others seat result =
+      Answers (lawful P (allows board.law)) jobs roster.number seat.caller seat.claimer (vec_len others + 1) result
 
   -- two callers and two claimers became one of each
   abbrev pub JoinsTokens : (first second both : RoundRefused) → Type 0

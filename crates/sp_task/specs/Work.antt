@@ -10,9 +10,9 @@ use Rattle.sp_claim.specs.Grants.{grant, times}
 use Rattle.sp_bucket.specs.declared.entry.Entry.{Entry}
 use Rattle.sp_graph.specs.RowsValue.{Split}
 use Rattle.sp_task.specs.declared.task.Task.{Task}
-use Rattle.sp_task.specs.declared.work.Receipt.{Receipt}
-use Rattle.sp_task.specs.declared.work.Done.{Done}
-use Rattle.sp_task.specs.declared.work.RoundRefused.{RoundRefused}
+use Rattle.sp_task.specs.declared.workers.Receipt.{Receipt}
+use Rattle.sp_task.specs.declared.workers.Done.{Done}
+use Rattle.sp_task.specs.declared.workers.RoundRefused.{RoundRefused}
 use Rattle.sp_task.specs.Offers.{Asked, offers_of, IsTask}
 use Rattle.sp_task.specs.Calls.{asked, entries, IsNearer, AllKnown}
 use Rattle.sp_task.specs.Later.{IsLater}

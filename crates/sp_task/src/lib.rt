@@ -8,10 +8,10 @@ mod gate;
 mod round;
 mod task;
 mod walks;
-mod work;
+mod workers;
 
 pub use gate::{Gate, OpenGate};
 pub use round::{run_round, run_round_by};
-pub use task::{Kind, Round, Task};
+pub use task::{TaskKind, Round, Task};
 pub use walks::{Walks, walks_allow_arcs};
-pub use work::{Receipt, RoundOut, RoundRefused};
+pub use workers::{Receipt, RoundOut, RoundRefused};

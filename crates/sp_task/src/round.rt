@@ -9,9 +9,9 @@ ghost use Rattle.sp_task.specs.Rounds.{TakesTasks, IsReadyRound, IsRoundDone, Is
 
 use crate::gate::Gate;
 use crate::task::Round;
-use crate::work::left::{mark, run_left};
-use crate::work::stealing::{Deques, Plan, Seat, deal, run_workers};
-use crate::work::{Done, RoundOut, RoundRefused};
+use crate::workers::unfinished::{mark, run_left};
+use crate::workers::stealing::{Deques, Roster, Seat, deal, run_workers};
+use crate::workers::{Done, RoundOut, RoundRefused};
 use sp_claim::Claimer;
 use sp_offer::{Caller, Lawful, Loop, Lowering, OfferTable};
 use std::alloc::{AllocError, Global};
@@ -90,7 +90,7 @@ pub fn run_round_by<
 }
 
 /// The same caller, which has looked at the table: its history is known to be legal.
-#[tactic(auto, using(crate::proofs::Making::later_joined, crate::proofs::Making::legal_joined))]
+#[tactic(auto, using(crate::proofs::CallsInRow::later_joined, crate::proofs::CallsInRow::legal_joined))]
 fn look<L: Lawful, const P: u32>(table: &OfferTable<L, P>, caller: Caller) -> Caller
     requires { caller.table ≡ table.now.id }
     ensures later { IsLater (lawful P (L.allows table.now.law)) caller result }
@@ -189,7 +189,7 @@ fn run_shared<
     let Some(own) = owners.pop() else {
         return run_by_leader::<M, L, G, P>(alloc, round, caller, claimer, gate);
     };
-    let plan = Plan {
+    let roster = Roster {
         number: round.number,
         workers: round.workers,
     };
@@ -206,7 +206,7 @@ fn run_shared<
         round.claims,
         round.rows,
         round.tasks,
-        plan,
+        roster,
         gate,
         stealers.as_slice(),
         owners,

@@ -6,7 +6,7 @@ use sp_offer::{Lawful, OfferTable};
 
 /// Which arcs of a vertex a task relaxes.
 #[derive(Clone, Copy, Debug, PartialEq, Eq)]
-pub enum Kind {
+pub enum TaskKind {
     /// Those of a length of at most the width of a bucket.
     Light,
     /// The longer ones.
@@ -19,7 +19,7 @@ pub enum Kind {
 pub struct Task {
     pub vertex: u32,
     pub dist: u64,
-    pub kind: Kind,
+    pub kind: TaskKind,
 }
 
 /// What a round borrows, with its number, by which tasks are claimed, and the number of workers that may share it.

@@ -9,9 +9,9 @@ use Rattle.sp_text.specs.declared.faults.DimacsError.{DimacsError}
 use Rattle.sp_text.specs.declared.feeding.Feeder.{Feeder}
 use Rattle.sp_text.specs.Lines.{cut, ended, rest, lines, last_line}
 use Rattle.sp_text.specs.Meaning.{HasNoLf}
-use Rattle.sp_text.specs.First.{Judge, or_at, line_fault, first_after, first_fault, rest_fault, early, failed, cut_short, unfinished, told}
+use Rattle.sp_text.specs.First.{Judge, or_at, line_fault, first_after, first_fault, rest_fault, fault_so_far, fault_at_failure, cut_short, unfinished, fault_at_end}
 use Rattle.sp_text.specs.Feeding.{IsBehind, Refused, IsMemory, Fed, lines_taken, IsToldOf, IsClosed, Closed}
-use Rattle.sp_text.proofs.Cutting.{cut-append, front_byte, or_else_none, ended_at_lf, rest_at_lf, ended_at_run, rest_at_run, early_at_run, clean_parts, open_while, first_push, early_at_lf, early_at_other, fault_lasts}
+use Rattle.sp_text.proofs.LineCuts.{cut-append, front_byte, or_else_none, ended_at_lf, rest_at_lf, ended_at_run, rest_at_run, early_at_run, clean_parts, open_while, first_push, early_at_lf, early_at_other, fault_lasts}
 
 -- the fault of the line that is being read
 abbrev pub at_line : ℕ → Kind → DimacsError
@@ -40,7 +40,7 @@ short_line : (judge : Judge) (before : List (List ℕ)) (line : List ℕ) → ju
 short_line judge before line goes short = rw (goes, le-ltb 1024 (length line) short) refl
 
 -- the fault of the line whose LF comes now
-pub early_lf : (judge : Judge) (text : List ℕ) → judge.closed (ended text) ≡ false → early judge text ≡ None → early judge (text ++ 10 ∷ []) ≡ or_at (length (ended text) + 1) (judge.fault (ended text) (rest text)) None
+pub early_lf : (judge : Judge) (text : List ℕ) → judge.closed (ended text) ≡ false → fault_so_far judge text ≡ None → fault_so_far judge (text ++ 10 ∷ []) ≡ or_at (length (ended text) + 1) (judge.fault (ended text) (rest text)) None
 early_lf judge text goes clean =
     let parts = clean_parts judge text clean in
     early_at_lf judge text ∙ rw (parts.0, short_line judge (ended text) (rest text) goes parts.1) refl
@@ -225,12 +225,12 @@ closed_whole judge After text old h empty =
     }
 
 -- A text that ends with an LF has no fault but in its lines.
-early_whole : (judge : Judge) (text : List ℕ) → rest text ≡ [] → early judge text ≡ first_fault judge (ended text)
-unfolding early
+early_whole : (judge : Judge) (text : List ℕ) → rest text ≡ [] → fault_so_far judge text ≡ first_fault judge (ended text)
+unfolding fault_so_far
 early_whole judge text none = rw none (or_else_none (first_fault judge (ended text)))
 
-told_first : (judge : Judge) (text : List ℕ) (e : DimacsError) → judge.needs_lf ≡ false → first_fault judge (lines text) ≡ Some e → told judge text ≡ Some e
-unfolding told first_after
+told_first : (judge : Judge) (text : List ℕ) (e : DimacsError) → judge.needs_lf ≡ false → first_fault judge (lines text) ≡ Some e → fault_at_end judge text ≡ Some e
+unfolding fault_at_end first_after
 told_first judge text e lenient is = rw (lenient, is) refl
 
 cut_open : (r : List ℕ) → 0 < length r → cut_short r ≡ Some TooFew
@@ -240,7 +240,7 @@ cut_open (b ∷ r) some = refl
 -- A line without the LF that it needs.
 pub told_unfinished : {T : Type 0} (judge : Judge) (After : T → List (List ℕ) → Type 0) (text : List ℕ) (old : Feeder T) → length text ≤ 2 ^ 62 → judge.needs_lf ≡ true → IsBehind judge After text old → 0 < length old.room
     → IsToldOf judge text (at_line old.ends TooFew)
-unfolding told early first_after
+unfolding fault_at_end fault_so_far first_after
 told_unfinished judge After text old small strict h some =
     inl (rw (strict, h.clean, cut_open (rest text) (rw (← h.room) some)) (same_error (length (ended text) + 1) (min (old.ends + 1) (2 ^ 64 - 1)) TooFew (line_is text old.ends small h.ends)))
 
@@ -267,8 +267,8 @@ closed_open judge After text old new (Err e) lenient h some (spent, inr memory) 
     let same : lines text ≡ ended (text ++ 10 ∷ []) = lines_open text (rw (← h.room) some) in
     (spent, inr (subst (λ (all : List (List ℕ)). IsMemory judge (ended text) all e) (sym (taken_lines judge.needs_lf text lenient ∙ same)) memory))
 
-pub failed_here : {T : Type 0} (judge : Judge) (After : T → List (List ℕ) → Type 0) (text : List ℕ) (old : Feeder T) → length text ≤ 2 ^ 62 → IsBehind judge After text old → failed judge text ≡ Some (at_line old.ends Read)
-unfolding failed
+pub failed_here : {T : Type 0} (judge : Judge) (After : T → List (List ℕ) → Type 0) (text : List ℕ) (old : Feeder T) → length text ≤ 2 ^ 62 → IsBehind judge After text old → fault_at_failure judge text ≡ Some (at_line old.ends Read)
+unfolding fault_at_failure
 failed_here judge After text old small h = rw h.clean (same_error (length (ended text) + 1) (min (old.ends + 1) (2 ^ 64 - 1)) Read (line_is text old.ends small h.ends))
 
 last_short : (r : List ℕ) → length (last_line r) ≤ 1
@@ -283,23 +283,23 @@ unfinished_none : (needs_lf : Bool) (judge : Judge) (text : List ℕ) → first_
 unfinished_none false judge text clean whole = refl
 unfinished_none true judge text clean whole =
     let none : rest text ≡ [] = whole refl in
-    let in_order : early judge text ≡ None = early_whole judge text none ∙ (ap (first_fault judge) (sym (lines_whole text none)) ∙ clean) in
+    let in_order : fault_so_far judge text ≡ None = early_whole judge text none ∙ (ap (first_fault judge) (sym (lines_whole text none)) ∙ clean) in
     rw (in_order, none) refl
 
-pub told_none : {T : Type 0} (judge : Judge) (After : T → List (List ℕ) → Type 0) (text : List ℕ) (reader : Feeder T) → IsClosed judge After text reader → judge.missing (lines text) ≡ None → told judge text ≡ None
-unfolding told
+pub told_none : {T : Type 0} (judge : Judge) (After : T → List (List ℕ) → Type 0) (text : List ℕ) (reader : Feeder T) → IsClosed judge After text reader → judge.missing (lines text) ≡ None → fault_at_end judge text ≡ None
+unfolding fault_at_end
 told_none judge After text reader h none = rw (unfinished_none judge.needs_lf judge text h.clean h.whole, h.clean, none) refl
 
 pub told_missing : {T : Type 0} (judge : Judge) (After : T → List (List ℕ) → Type 0) (text : List ℕ) (reader : Feeder T) (kind : Kind) → length text ≤ 2 ^ 62 → IsClosed judge After text reader
-    → judge.missing (lines text) ≡ Some kind → told judge text ≡ Some (at_line reader.ends kind)
-unfolding told
+    → judge.missing (lines text) ≡ Some kind → fault_at_end judge text ≡ Some (at_line reader.ends kind)
+unfolding fault_at_end
 told_missing judge After text reader kind small h is =
     let line : min (reader.ends + 1) (2 ^ 64 - 1) ≡ length (lines text) + 1 = omega (arith, lines_short text, h.ends) in
     rw (unfinished_none judge.needs_lf judge text h.clean h.whole, h.clean, is) (same_error (length (lines text) + 1) (min (reader.ends + 1) (2 ^ 64 - 1)) kind line)
 
 pub starts : {T : Type 0} (judge : Judge) (After : T → List (List ℕ) → Type 0) (taker : T) (room : List ℕ) (spent : Option DimacsError) → After taker [] → room ≡ [] → spent ≡ None
     → IsBehind judge After [] (record { taker = taker; room = room; ends = 0; spent = spent })
-unfolding ended rest early first_after
+unfolding ended rest fault_so_far first_after
 starts judge After taker room spent taken empty going = record { going = going; clean = refl; room = empty; ends = refl; taken = taken }
 
 pub open_behind : {T : Type 0} (judge : Judge) (After : T → List (List ℕ) → Type 0) (text : List ℕ) (old : Feeder T) → IsBehind judge After text old → 0 < length old.room → judge.closed (ended text) ≡ false

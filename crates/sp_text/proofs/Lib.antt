@@ -1,16 +1,16 @@
 pub mod Digits
-pub mod Cutting
+pub mod LineCuts
 pub mod Meant
 pub mod Behind
-pub mod Parting
+pub mod FieldRuns
 pub mod Quick
-pub mod Usual
+pub mod UsualLines
 pub mod Lanes
 pub mod Forms
 pub mod LineForms
-pub mod Collected
-pub mod Lasting
-pub mod Allowed
+pub mod KeptLine
+pub mod EarlyFaults
+pub mod FaultlessText
 pub mod Silent
-pub mod Taken
+pub mod DeviceBytes
 mod Examples

@@ -8,7 +8,7 @@ use Rattle.sp_text.specs.declared.faults.DimacsError.{DimacsError}
 use Rattle.sp_text.specs.Lines.{cut, ended, rest}
 use Rattle.sp_text.specs.First.{Judge, or_at, line_fault, first_after, first_fault}
 use Rattle.sp_text.specs.Meaning.{IsFirstFault, HasNoLf, IsCut}
-use Rattle.sp_text.proofs.Cutting.{front_byte}
+use Rattle.sp_text.proofs.LineCuts.{front_byte}
 
 -- behind some lines before
 record Later (rules : Judge) (before more : List (List ℕ)) (e : DimacsError) : Type 0 where

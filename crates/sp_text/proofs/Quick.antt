@@ -8,7 +8,7 @@ use Rattle.std.specs.Char.{is_ascii_digit}
 use Rattle.sp_text.specs.Lines.{is_blank, is_number, parted, value}
 use Rattle.sp_text.specs.Numeral.{ranged, numeral, starts_number, begins_number, capped, leading_digits, Leads, AreDigits, IsFront, IsQuick}
 use Rattle.sp_text.proofs.Digits.{and_parts, no_blank, is_number_parts, digits_no_blanks}
-use Rattle.sp_text.proofs.Parting.{later_field}
+use Rattle.sp_text.proofs.FieldRuns.{later_field}
 
 numeral_is : (field : List ℕ) (n least most : ℕ) → starts_number field ≡ true → list_all is_ascii_digit field ≡ true → n ≡ value field → ranged n least most ≡ numeral field least most
 numeral_is field n least most some digits number = rw (is_number_parts field, some, digits, number) refl

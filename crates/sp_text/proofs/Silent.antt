@@ -5,7 +5,7 @@ use Rattle.sp_text.specs.declared.faults.Kind.{Kind}
 use Rattle.sp_text.specs.declared.faults.Kind.TheVariants.{LongLine, TooMany, TooFew, Read}
 use Rattle.sp_text.specs.declared.faults.DimacsError.{DimacsError}
 use Rattle.sp_text.specs.Lines.{ended, rest, lines}
-use Rattle.sp_text.specs.First.{Judge, IsSilent, or_at, or_else, or_kind, size_fault, line_fault, first_after, first_fault, rest_fault, early, cut_short, unfinished, told}
+use Rattle.sp_text.specs.First.{Judge, IsSilent, or_at, or_else, or_kind, size_fault, line_fault, first_after, first_fault, rest_fault, fault_so_far, cut_short, unfinished, fault_at_end}
 use Rattle.sp_text.specs.Text.{judge}
 
 at_silent : (n : ℕ) (kind : Option Kind) (later : Option DimacsError) (e : DimacsError) → kind ≢ Some Read → (later ≡ Some e → e.kind ≢ Read) → or_at n kind later ≡ Some e → e.kind ≢ Read
@@ -45,8 +45,8 @@ rest_silent : (judge : Judge) (before : List (List ℕ)) (r : List ℕ) → rest
 rest_silent judge before [] h = cc
 rest_silent judge before (b ∷ r) h = size_silent (judge.closed before) (nat_lt 1024 (length (b ∷ r))) h
 
-pub early_silent : (judge : Judge) → IsSilent judge → (text : List ℕ) (e : DimacsError) → early judge text ≡ Some e → e.kind ≢ Read
-unfolding early
+pub early_silent : (judge : Judge) → IsSilent judge → (text : List ℕ) (e : DimacsError) → fault_so_far judge text ≡ Some e → e.kind ≢ Read
+unfolding fault_so_far
 early_silent judge silent text e h =
     else_silent (first_fault judge (ended text)) (or_at (length (ended text) + 1) (rest_fault judge (ended text) (rest text)) None) e (after_silent judge silent [] (ended text) e)
     (at_silent (length (ended text) + 1) (rest_fault judge (ended text) (rest text)) None e (rest_silent judge (ended text) (rest text)) (no_more e)) h
@@ -58,11 +58,11 @@ short_silent (b ∷ r) h = cc
 unfinished_silent : (needs_lf : Bool) (judge : Judge) → IsSilent judge → (text : List ℕ) (e : DimacsError) → unfinished needs_lf judge text ≡ Some e → e.kind ≢ Read
 unfinished_silent false judge silent text e h is = cc
 unfinished_silent true judge silent text e h is =
-    else_silent (early judge text) (or_at (length (ended text) + 1) (cut_short (rest text)) None) e (early_silent judge silent text e)
+    else_silent (fault_so_far judge text) (or_at (length (ended text) + 1) (cut_short (rest text)) None) e (early_silent judge silent text e)
     (at_silent (length (ended text) + 1) (cut_short (rest text)) None e (short_silent (rest text)) (no_more e)) h is
 
-pub told_silent : (judge : Judge) → IsSilent judge → (text : List ℕ) (e : DimacsError) → told judge text ≡ Some e → e.kind ≢ Read
-unfolding told
+pub told_silent : (judge : Judge) → IsSilent judge → (text : List ℕ) (e : DimacsError) → fault_at_end judge text ≡ Some e → e.kind ≢ Read
+unfolding fault_at_end
 told_silent judge silent text e h =
     let ending = or_at (length (lines text) + 1) (judge.missing (lines text)) None in
     else_silent (unfinished judge.needs_lf judge text) (or_else (first_fault judge (lines text)) ending) e (unfinished_silent judge.needs_lf judge silent text e)

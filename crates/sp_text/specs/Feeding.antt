@@ -5,7 +5,7 @@ use Rattle.sp_text.specs.declared.faults.Kind.TheVariants.{Memory}
 use Rattle.sp_text.specs.declared.faults.DimacsError.{DimacsError}
 use Rattle.sp_text.specs.declared.feeding.Feeder.{Feeder}
 use Rattle.sp_text.specs.Lines.{ended, rest, lines}
-use Rattle.sp_text.specs.First.{Judge, first_fault, early, told}
+use Rattle.sp_text.specs.First.{Judge, first_fault, fault_so_far, fault_at_end}
 
 -- What a taker of lines answers to a line: its fault; else that state follows, or the value of an item line
 -- found no room.
@@ -17,7 +17,7 @@ Takes judge After before line (Err kind) new = (judge.fault before line ≡ Some
 -- The reader stands behind this text, in which there is no fault yet.
 pub record IsBehind {T : Type 0} (judge : Judge) (After : T → List (List ℕ) → Type 0) (text : List ℕ) (reader : Feeder T) : Type 0 where
   pub going : reader.spent ≡ None
-  pub clean : early judge text ≡ None
+  pub clean : fault_so_far judge text ≡ None
   pub room : reader.room ≡ rest text
   pub ends : reader.ends ≡ length (ended text)
   pub taken : After reader.taker (ended text)
@@ -37,7 +37,7 @@ pub record IsMemory (judge : Judge) (before all : List (List ℕ)) (e : DimacsEr
 
 -- The answer to a text that may go on. The lines of `before` had ended before its last piece.
 abbrev pub Refused : Judge → List (List ℕ) → List ℕ → DimacsError → Type 0
-Refused judge before text e = (early judge text ≡ Some e) ⊎ IsMemory judge before (ended text) e
+Refused judge before text e = (fault_so_far judge text ≡ Some e) ⊎ IsMemory judge before (ended text) e
 
 abbrev pub Fed : {T U : Type 0} → Judge → (T → List (List ℕ) → Type 0) → List (List ℕ) → List ℕ → Result U DimacsError → Feeder T → Type 0
 Fed judge After before text (Ok u) new = IsBehind judge After text new
@@ -55,12 +55,12 @@ lines_taken true text = ended text
 
 -- a fault of a whole text, or the value of its last line found no room
 abbrev pub IsToldOf : Judge → List ℕ → DimacsError → Type 0
-IsToldOf judge text e = (told judge text ≡ Some e) ⊎ IsMemory judge (ended text) (lines_taken judge.needs_lf text) e
+IsToldOf judge text e = (fault_at_end judge text ≡ Some e) ⊎ IsMemory judge (ended text) (lines_taken judge.needs_lf text) e
 
 -- The answer where the text ends; only a last line that lacks its LF is taken now. A reader that gave its value
 -- begins again.
 abbrev pub Finished : {T V : Type 0} → Judge → (T → List (List ℕ) → Type 0) → (List (List ℕ) → V → Type 0) → List ℕ → Result V DimacsError → Feeder T → Type 0
-Finished judge After Spelled text (Ok value) new = (told judge text ≡ None) × Spelled (lines text) value × IsBehind judge After [] new
+Finished judge After Spelled text (Ok value) new = (fault_at_end judge text ≡ None) × Spelled (lines text) value × IsBehind judge After [] new
 Finished judge After Spelled text (Err e) new = (new.spent ≡ Some e) × IsToldOf judge text e
 
 -- All lines of the text were taken, the last one too, which has its LF where it needs one.

@@ -53,12 +53,12 @@ abbrev pub rest_fault : Judge → List (List ℕ) → List ℕ → Option Kind
 rest_fault judge before [] = None
 rest_fault judge before (b ∷ bytes) = size_fault judge before (b ∷ bytes)
 
-unfoldable pub early : Judge → List ℕ → Option DimacsError
-early judge text = or_else (first_fault judge (ended text)) (or_at (length (ended text) + 1) (rest_fault judge (ended text) (rest text)) None)
+unfoldable pub fault_so_far : Judge → List ℕ → Option DimacsError
+fault_so_far judge text = or_else (first_fault judge (ended text)) (or_at (length (ended text) + 1) (rest_fault judge (ended text) (rest text)) None)
 
 -- The device failed after this text: a fault that came earlier, or Read at the line that was being read.
-unfoldable pub failed : Judge → List ℕ → Option DimacsError
-failed judge text = or_else (early judge text) (or_at (length (ended text) + 1) (Some Read) None)
+unfoldable pub fault_at_failure : Judge → List ℕ → Option DimacsError
+fault_at_failure judge text = or_else (fault_so_far judge text) (or_at (length (ended text) + 1) (Some Read) None)
 
 -- The text has ended within a line: a fault that came earlier, or TooFew at that line.
 abbrev pub cut_short : List ℕ → Option Kind
@@ -67,10 +67,10 @@ cut_short (b ∷ bytes) = Some TooFew
 
 abbrev pub unfinished : (needs_lf : Bool) → Judge → List ℕ → Option DimacsError
 unfinished false judge text = None
-unfinished true judge text = or_else (early judge text) (or_at (length (ended text) + 1) (cut_short (rest text)) None)
+unfinished true judge text = or_else (fault_so_far judge text) (or_at (length (ended text) + 1) (cut_short (rest text)) None)
 
 -- The text has ended: its last line lacks an LF that it needs, or a line has a fault, or something is missing at the
 -- line after the last.
-unfoldable pub told : Judge → List ℕ → Option DimacsError
-told judge text = or_else (unfinished judge.needs_lf judge text)
+unfoldable pub fault_at_end : Judge → List ℕ → Option DimacsError
+fault_at_end judge text = or_else (unfinished judge.needs_lf judge text)
     (or_else (first_fault judge (lines text)) (or_at (length (lines text) + 1) (judge.missing (lines text)) None))

@@ -9,7 +9,7 @@ use Rattle.sp_text.specs.declared.formats.Ranges.{Ranges}
 use Rattle.sp_text.specs.declared.formats.Field.{Field}
 use Rattle.sp_text.specs.Formats.{LineForm, Format}
 use Rattle.sp_text.specs.Lines.{lines, fields, is_number, value}
-use Rattle.sp_text.specs.First.{Judge, told}
+use Rattle.sp_text.specs.First.{Judge, fault_at_end}
 
 -- 1. A line by itself.
 
@@ -196,6 +196,6 @@ judge format ranges = record {
 
 -- 6. What a text spells.
 pub record Spells (format : Format) (ranges : Ranges) (text : List ℕ) (problem : List ℕ) (items : List Item) : Type 0 where
-  pub faultless : told (judge format ranges) text ≡ None
+  pub faultless : fault_at_end (judge format ranges) text ≡ None
   pub problem_line : problem_of format (lines text) ≡ Some problem
   pub item_lines : items_of format (lines text) ≡ items

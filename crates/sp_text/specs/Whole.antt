@@ -3,22 +3,22 @@ use Rattle.std.specs.Prelude.{◌≡◌, ℕ, ◌⊎◌, Bool, true, List, [], �
 use Rattle.std.specs.Io.KnownBytes.{Consumes, IsAtEnd}
 use Rattle.sp_text.specs.declared.faults.DimacsError.{DimacsError}
 use Rattle.sp_text.specs.Lines.{lines}
-use Rattle.sp_text.specs.First.{Judge, failed, told}
+use Rattle.sp_text.specs.First.{Judge, fault_at_failure, fault_at_end}
 use Rattle.sp_text.specs.Feeding.{IsToldOf, Refused}
 
 -- Of the whole text a beginning was read, and the rest is left. All of it was read, and the value is what its
 -- lines spell, or the fault is its first one; or what was read shows the fault; or the device has failed.
 abbrev pub AllRead : {V : Type 0} → Judge → (List (List ℕ) → V → Type 0) → List ℕ → Option (List ℕ) → Bool → Result V DimacsError → Type 0
-AllRead judge Spelled text left has_failed (Ok value) = (left ≡ Some []) × (told judge text ≡ None) × Spelled (lines text) value
+AllRead judge Spelled text left has_failed (Ok value) = (left ≡ Some []) × (fault_at_end judge text ≡ None) × Spelled (lines text) value
 AllRead judge Spelled text left has_failed (Err e) = (front more : List ℕ) × (text ≡ front ++ more) × (left ≡ Some more) ×
-    (Refused judge [] front e ⊎ ((more ≡ []) × IsToldOf judge text e) ⊎ ((has_failed ≡ true) × (failed judge front ≡ Some e)))
+    (Refused judge [] front e ⊎ ((more ≡ []) × IsToldOf judge text e) ⊎ ((has_failed ≡ true) × (fault_at_failure judge front ≡ Some e)))
 
 -- A text spells this value.
 abbrev pub IsSpelled : {V : Type 0} → Judge → (List (List ℕ) → V → Type 0) → V → Type 0
-IsSpelled judge Spelled value = (text : List ℕ) × (told judge text ≡ None) × Spelled (lines text) value
+IsSpelled judge Spelled value = (text : List ℕ) × (fault_at_end judge text ≡ None) × Spelled (lines text) value
 
 -- The same where the bytes of the device are perhaps not known: this text came from it.
 abbrev pub ReadOn : {V : Type 0} → Judge → (List (List ℕ) → V → Type 0) → Option (List ℕ) → Option (List ℕ) → Bool → Result V DimacsError → Type 0
-ReadOn judge Spelled old new has_failed (Ok value) = (text : List ℕ) × Consumes old new text × IsAtEnd new × (told judge text ≡ None) × Spelled (lines text) value
+ReadOn judge Spelled old new has_failed (Ok value) = (text : List ℕ) × Consumes old new text × IsAtEnd new × (fault_at_end judge text ≡ None) × Spelled (lines text) value
 ReadOn judge Spelled old new has_failed (Err e) = (front : List ℕ) × Consumes old new front ×
-    (Refused judge [] front e ⊎ (IsAtEnd new × IsToldOf judge front e) ⊎ ((has_failed ≡ true) × (failed judge front ≡ Some e)))
+    (Refused judge [] front e ⊎ (IsAtEnd new × IsToldOf judge front e) ⊎ ((has_failed ≡ true) × (fault_at_failure judge front ≡ Some e)))

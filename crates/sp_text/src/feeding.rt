@@ -3,7 +3,7 @@ ghost use Rattle.std.specs.Prelude.{◌≡◌, ◌+◌, ◌-◌, ◌^◌, ◌<�
 ghost use Rattle.sp_text.specs.declared.faults.DimacsError.{DimacsError};
 ghost use Rattle.sp_text.specs.Lines.{ended};
 ghost use Rattle.sp_text.specs.Meaning.{HasNoLf};
-ghost use Rattle.sp_text.specs.First.{Judge, IsSilent, failed};
+ghost use Rattle.sp_text.specs.First.{Judge, IsSilent, fault_at_failure};
 ghost use Rattle.sp_text.specs.Feeding.{Takes, Ends, IsBehind, Fed, Refused, Closed, Finished};
 
 use crate::endings::cut_line;
@@ -230,7 +230,7 @@ impl<T: LineTaker> Feeder<T> {
             → (result ≡ e) × (self.new ≡ self.old) }
         ensures failed { (text : List ℕ) → length text ≤ 2 ^ 62
             → IsBehind T.rules T.After text self.old
-            → (failed T.rules text ≡ Some result) × (self.new.spent ≡ Some result) }
+            → (fault_at_failure T.rules text ≡ Some result) × (self.new.spent ≡ Some result) }
     {
         match self.spent {
             Some(error) => error,

@@ -5,14 +5,14 @@ ghost use Rattle.sp_text.specs.declared.formats.Ranges.{Ranges};
 ghost use Rattle.sp_text.specs.Formats.{Format};
 ghost use Rattle.sp_text.specs.Text.{Item, Spells};
 ghost use Rattle.sp_text.specs.Accepted.{IsAccepted};
-ghost use Rattle.sp_text.specs.First.{Judge, first_fault, early, told};
+ghost use Rattle.sp_text.specs.First.{Judge, first_fault, fault_so_far, fault_at_end};
 ghost use Rattle.sp_text.specs.Lines.{ended, rest};
 ghost use Rattle.sp_text.specs.Meaning.{IsFirstFault, IsCut};
 
 /// A fault that a text shows before its end is the first fault of each text that begins so.
 pub fn early_fault_is_first()
-    ensures { (rules : Judge) (text more : List ℕ) (e : DimacsError) → early rules text ≡ Some e
-        → told rules (text ++ more) ≡ Some e }
+    ensures { (rules : Judge) (text more : List ℕ) (e : DimacsError) → fault_so_far rules text ≡ Some e
+        → fault_at_end rules (text ++ more) ≡ Some e }
 {}
 
 /// The first fault of a text's lines is that of the first line that has one.

@@ -1,9 +1,9 @@
 pub mod Parts
-pub mod Rising
-pub mod Sent
+pub mod RisingRows
+pub mod TreePieces
 pub mod Numerals
 pub mod Canonical
-pub mod Told
-pub mod Accepted
-pub mod Finished
-pub mod Capped
+pub mod TreeTexts
+pub mod SpelledTables
+pub mod FileEnds
+pub mod CappedNumbers

@@ -2,7 +2,7 @@
 use Rattle.std.specs.Prelude.{◌≡◌, ℕ, ◌⊎◌, Bool, true, List, [], ◌++◌, Option, Some, Result, Ok, Err}
 use Rattle.sp_text.specs.declared.faults.DimacsError.{DimacsError}
 use Rattle.sp_text.specs.Lines.{ended}
-use Rattle.sp_text.specs.First.{failed, told}
+use Rattle.sp_text.specs.First.{fault_at_failure, fault_at_end}
 use Rattle.sp_text.specs.Feeding.{IsBehind, Fed, Refused}
 use Rattle.sp_tree.specs.declared.reading.TreeReader.{TreeReader}
 use Rattle.sp_tree.specs.declared.taking.TreeLines.{TreeLines}
@@ -27,11 +27,11 @@ TreeFed {P} text piece result new = Fed (tree_judge P) (λ (k : TreeLines P) (li
 -- The answer where the text ends: the tree whose text it is, and a reader behind no text; or its first fault.
 abbrev pub TreeFinished : {P : ℕ} → List ℕ → Result TreeTable DimacsError → TreeReader P → Type 0
 TreeFinished {P} text (Ok tree) new = (text ≡ tree_text tree) × IsTable P tree × IsBehindTree [] new
-TreeFinished {P} text (Err e) new = IsSpentTree e new × (told (tree_judge P) text ≡ Some e)
+TreeFinished {P} text (Err e) new = IsSpentTree e new × (fault_at_end (tree_judge P) text ≡ Some e)
 
 -- The answer to the whole text of a device. All of it was read, and it is the text of the tree; or a beginning was
 -- read, and shows the fault, or is all and has it, or the device has failed.
 abbrev pub TreeRead : (P : ℕ) → List ℕ → Option (List ℕ) → Bool → Result TreeTable DimacsError → Type 0
 TreeRead P text left has_failed (Ok tree) = (left ≡ Some []) × (text ≡ tree_text tree)
 TreeRead P text left has_failed (Err e) = (front more : List ℕ) × (text ≡ front ++ more) × (left ≡ Some more) ×
-    (Refused (tree_judge P) [] front e ⊎ ((more ≡ []) × (told (tree_judge P) text ≡ Some e)) ⊎ ((has_failed ≡ true) × (failed (tree_judge P) front ≡ Some e)))
+    (Refused (tree_judge P) [] front e ⊎ ((more ≡ []) × (fault_at_end (tree_judge P) text ≡ Some e)) ⊎ ((has_failed ≡ true) × (fault_at_failure (tree_judge P) front ≡ Some e)))

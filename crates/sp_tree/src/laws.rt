@@ -1,7 +1,7 @@
 //! Laws of the definitions.
 ghost use Rattle.std.specs.Prelude.{◌≡◌, ℕ, List, true, None, ◌↔◌};
 ghost use Rattle.sp_word.specs.Word.{is_layout};
-ghost use Rattle.sp_text.specs.First.{told};
+ghost use Rattle.sp_text.specs.First.{fault_at_end};
 ghost use Rattle.sp_tree.specs.Table.{TreeTable, IsTable};
 ghost use Rattle.sp_tree.specs.TreeText.{tree_text};
 ghost use Rattle.sp_tree.specs.Spelling.{tree_judge};
@@ -9,7 +9,7 @@ ghost use Rattle.sp_tree.specs.Spelling.{tree_judge};
 /// The texts without a fault are exactly the texts of tables.
 pub fn tree_texts_are_accepted()
     ensures { (P : ℕ) (text : List ℕ) → is_layout P ≡ true
-        → (told (tree_judge P) text ≡ None)
+        → (fault_at_end (tree_judge P) text ≡ None)
         ↔ ((t : TreeTable) × IsTable P t × (text ≡ tree_text t)) }
 {}
 

@@ -1,7 +1,7 @@
 //! Tree files, read whole or fed in pieces.
 ghost use Rattle.std.specs.Prelude.{◌≡◌, ◌≤◌, ◌^◌, ◌++◌, ℕ, List, [], length, true, Err, Some, IfOk, IfErr};
 ghost use Rattle.sp_word.specs.Word.{is_layout};
-ghost use Rattle.sp_text.specs.First.{failed};
+ghost use Rattle.sp_text.specs.First.{fault_at_failure};
 ghost use Rattle.sp_tree.specs.Table.{IsTable};
 ghost use Rattle.sp_tree.specs.Spelling.{tree_judge};
 ghost use Rattle.sp_tree.specs.Reading.{IsBehindTree, IsSpentTree, TreeFed, TreeFinished, TreeRead};
@@ -55,7 +55,7 @@ impl<const P: u32> TreeReader<P> {
         ensures again { (e : DimacsError) → IsSpentTree e self.old
             → (result ≡ e) × (self.new ≡ self.old) }
         ensures failed { (text : List ℕ) → length text ≤ 2 ^ 62 → IsBehindTree text self.old
-            → (failed (tree_judge P) text ≡ Some result) × IsSpentTree result self.new }
+            → (fault_at_failure (tree_judge P) text ≡ Some result) × IsSpentTree result self.new }
     {
         self.feeder.fail()
     }
@@ -63,7 +63,7 @@ impl<const P: u32> TreeReader<P> {
 
 /// The tree whose text the bytes of a device are from here on, or their first fault. Where a row finds no room,
 /// Memory is told of its line, if no line up to it has a fault.
-#[tactic(auto, using(crate::proofs::Finished::tree_read, crate::proofs::Finished::tree_found))]
+#[tactic(auto, using(crate::proofs::FileEnds::tree_read, crate::proofs::FileEnds::tree_found))]
 pub fn read_tree<const P: u32, R: Read>(
     alloc: Global,
     reader: &mut R,

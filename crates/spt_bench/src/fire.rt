@@ -5,7 +5,7 @@ ghost use Rattle.sp_paths.specs.Paths.{IsVertex};
 
 use sp_graph::Graph;
 use sp_phase::{RunError, run_by_team};
-use sp_plain::{Answer, Kind, Random, plain_tree, random_graph};
+use sp_plain::{Answer, GraphKind, Random, plain_tree, random_graph};
 use sp_team::Team;
 use sp_tree::Tree;
 use std::io;
@@ -14,13 +14,13 @@ use std::thread::Threads;
 
 const TEAMS: [u32; 5] = [1, 2, 3, 8, 64];
 
-const KINDS: [Kind; 6] = [
-    Kind::Sparse,
-    Kind::Dense,
-    Kind::Ties,
-    Kind::Parallel,
-    Kind::Parts,
-    Kind::Long,
+const KINDS: [GraphKind; 6] = [
+    GraphKind::Sparse,
+    GraphKind::Dense,
+    GraphKind::Ties,
+    GraphKind::Parallel,
+    GraphKind::Parts,
+    GraphKind::Long,
 ];
 
 /// How many answers were those of the plain program.

@@ -13,7 +13,7 @@ use sp_claim::{ClaimTable, Claimer};
 use sp_graph::{Graph, Rows};
 use sp_offer::{AnyWord, Caller, OfferTable};
 use sp_paths::Arc;
-use sp_task::{Kind, OpenGate, Round, Task, run_round};
+use sp_task::{TaskKind, OpenGate, Round, Task, run_round};
 use std::alloc::{AllocError, Global};
 use std::io;
 use std::sync::Wait;
@@ -129,7 +129,7 @@ fn tasks_at(alloc: Global, n: u32, dist: u64) -> Result<Vec<Task>, AllocError> {
         tasks.push(Task {
             vertex,
             dist,
-            kind: Kind::Light,
+            kind: TaskKind::Light,
         })?;
     }
     Ok(tasks)

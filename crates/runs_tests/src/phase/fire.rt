@@ -5,7 +5,7 @@ ghost use Rattle.sp_word.specs.Word.{is_layout};
 use super::compare::{mean, plain, same};
 use super::run_by_team;
 use sp_graph::Graph;
-use sp_plain::{Answer, Kind, Random, random_graph};
+use sp_plain::{Answer, GraphKind, Random, random_graph};
 use sp_word::Word;
 use std::process::Abort;
 use std::sync::Wait;
@@ -58,7 +58,7 @@ fn compare_teams<const P: u32>(
 // The same for random graphs of a kind, from a random source each.
 fn fire<const P: u32>(
     rt: &(impl Abort + AllocGlobal + Threads + Wait + Sync),
-    kind: Kind,
+    kind: GraphKind,
     seed: u64,
     graphs: u32,
 ) -> Result<(), Fail>
@@ -76,50 +76,50 @@ fn fire<const P: u32>(
 
 #[test]
 fn sparse_under_fire(rt: HostRuntime) -> Result<(), Fail> {
-    fire::<28>(&rt, Kind::Sparse, 1, 125)
+    fire::<28>(&rt, GraphKind::Sparse, 1, 125)
 }
 
 #[test]
 fn wide_words_under_fire(rt: HostRuntime) -> Result<(), Fail> {
-    fire::<20>(&rt, Kind::Sparse, 2, 100)
+    fire::<20>(&rt, GraphKind::Sparse, 2, 100)
 }
 
 #[test]
 fn dense_under_fire(rt: HostRuntime) -> Result<(), Fail> {
-    fire::<28>(&rt, Kind::Dense, 3, 65)
+    fire::<28>(&rt, GraphKind::Dense, 3, 65)
 }
 
 #[test]
 fn more_dense_under_fire(rt: HostRuntime) -> Result<(), Fail> {
-    fire::<24>(&rt, Kind::Dense, 9, 60)
+    fire::<24>(&rt, GraphKind::Dense, 9, 60)
 }
 
 #[test]
 fn ties_under_fire(rt: HostRuntime) -> Result<(), Fail> {
-    fire::<24>(&rt, Kind::Ties, 4, 150)
+    fire::<24>(&rt, GraphKind::Ties, 4, 150)
 }
 
 #[test]
 fn parallel_arcs_under_fire(rt: HostRuntime) -> Result<(), Fail> {
-    fire::<32>(&rt, Kind::Parallel, 5, 125)
+    fire::<32>(&rt, GraphKind::Parallel, 5, 125)
 }
 
 #[test]
 fn parts_under_fire(rt: HostRuntime) -> Result<(), Fail> {
-    fire::<28>(&rt, Kind::Parts, 6, 125)
+    fire::<28>(&rt, GraphKind::Parts, 6, 125)
 }
 
 #[test]
 fn long_arcs_under_fire(rt: HostRuntime) -> Result<(), Fail> {
-    fire::<28>(&rt, Kind::Long, 7, 65)
+    fire::<28>(&rt, GraphKind::Long, 7, 65)
 }
 
 #[test]
 fn more_long_arcs_under_fire(rt: HostRuntime) -> Result<(), Fail> {
-    fire::<28>(&rt, Kind::Long, 10, 60)
+    fire::<28>(&rt, GraphKind::Long, 10, 60)
 }
 
 #[test]
 fn short_words_under_fire(rt: HostRuntime) -> Result<(), Fail> {
-    fire::<32>(&rt, Kind::Long, 8, 125)
+    fire::<32>(&rt, GraphKind::Long, 8, 125)
 }

@@ -6,7 +6,7 @@ ghost use Rattle.sp_word.specs.Word.{is_layout};
 use super::compare::same;
 use super::run_by_team;
 use sp_phase::RunError;
-use sp_plain::{Kind, Random, plain_tree, random_graph};
+use sp_plain::{GraphKind, Random, plain_tree, random_graph};
 use sp_word::Word;
 use std::process::Abort;
 use std::sync::Wait;
@@ -18,7 +18,7 @@ const TEAMS: [u32; 3] = [1, 2, 3];
 // Lets each team answer for the first vertex of a small graph.
 fn run_short_of_memory<const P: u32>(
     rt: &(impl Abort + AllocGlobal + Threads + Wait + Sync),
-    kind: Kind,
+    kind: GraphKind,
     n: u32,
 )
     requires { is_layout P ≡ true }
@@ -52,10 +52,10 @@ fn refusals_have_numbers(rt: HostRuntime) -> Result<(), Fail> {
 
 #[test]
 fn tree_or_memory(rt: HostRuntime) {
-    run_short_of_memory::<28>(&rt, Kind::Sparse, 20);
+    run_short_of_memory::<28>(&rt, GraphKind::Sparse, 20);
 }
 
 #[test]
 fn too_far_or_memory(rt: HostRuntime) {
-    run_short_of_memory::<32>(&rt, Kind::Long, 20);
+    run_short_of_memory::<32>(&rt, GraphKind::Long, 20);
 }

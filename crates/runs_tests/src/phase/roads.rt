@@ -19,7 +19,7 @@ const N: u32 = 10_000;
 
 // Streets lead both ways between neighbours on the grid, and roads between any two vertices.
 #[derive(Clone, Copy)]
-struct Plan {
+struct RoadMap {
     // how many of a hundred streets there are
     kept: u32,
     // a street's length is from 1 more than this ..
@@ -33,7 +33,7 @@ struct Plan {
     ghost some: { 1 ≤ spread },
 }
 
-const TOWN: Plan = Plan {
+const TOWN: RoadMap = RoadMap {
     kept: 64,
     base: 49,
     spread: 1451,
@@ -41,7 +41,7 @@ const TOWN: Plan = Plan {
     parts: 1,
 };
 
-const TIES: Plan = Plan {
+const TIES: RoadMap = RoadMap {
     kept: 100,
     base: 0,
     spread: 1,
@@ -49,7 +49,7 @@ const TIES: Plan = Plan {
     parts: 1,
 };
 
-const PARTS: Plan = Plan {
+const PARTS: RoadMap = RoadMap {
     kept: 100,
     base: 0,
     spread: 100,
@@ -69,13 +69,13 @@ fn push_both(
 }
 
 // In which part a vertex lies.
-fn part_of(plan: Plan, vertex: u32) -> u64 {
-    u64::from(vertex.saturating_sub(1)) * u64::from(plan.parts) / u64::from(N)
+fn part_of(map: RoadMap, vertex: u32) -> u64 {
+    u64::from(vertex.saturating_sub(1)) * u64::from(map.parts) / u64::from(N)
 }
 
 // Perhaps a street from a vertex to the one so many steps later.
 fn push_street(
-    plan: Plan,
+    map: RoadMap,
     random: &mut Random,
     arcs: &mut Vec<(u32, u32, u32)>,
     tail: u32,
@@ -83,25 +83,25 @@ fn push_street(
 ) -> Result<(), AllocError> {
     let head = tail.saturating_add(step);
     let is_round_the_edge = step == 1 && tail % SIDE == 0;
-    let is_apart = part_of(plan, tail) != part_of(plan, head);
-    if head > N || is_round_the_edge || is_apart || random.below(100) >= plan.kept {
+    let is_apart = part_of(map, tail) != part_of(map, head);
+    if head > N || is_round_the_edge || is_apart || random.below(100) >= map.kept {
         return Ok(());
     }
-    let len = plan.base.saturating_add(random.up_to(plan.spread));
+    let len = map.base.saturating_add(random.up_to(map.spread));
     push_both(arcs, tail, head, len)
 }
 
 fn graph_by(
     rt: &(impl Abort + AllocGlobal),
-    plan: Plan,
+    map: RoadMap,
     random: &mut Random,
 ) -> Result<Graph, Fail> {
     let mut arcs = Vec::new(rt.alloc());
     for place in 0..N {
-        push_street(plan, random, &mut arcs, place + 1, 1)?;
-        push_street(plan, random, &mut arcs, place + 1, SIDE)?;
+        push_street(map, random, &mut arcs, place + 1, 1)?;
+        push_street(map, random, &mut arcs, place + 1, SIDE)?;
     }
-    for _ in 0..plan.roads {
+    for _ in 0..map.roads {
         let (tail, head) = (random.up_to(N), random.up_to(N));
         push_both(
             &mut arcs,
@@ -154,11 +154,11 @@ fn compare_shared(
 // Compares both on the graph that the seed gives, from a source that it gives too.
 fn compare(
     rt: &(impl Abort + AllocGlobal + Threads + Wait + Sync),
-    plan: Plan,
+    map: RoadMap,
     seed: u64,
 ) -> Result<(), Fail> {
     let mut random = Random::new(seed);
-    let graph = graph_by(rt, plan, &mut random)?;
+    let graph = graph_by(rt, map, &mut random)?;
     let source = random.up_to(N);
     let want = plain(rt, &graph, source)?;
     compare_widths(rt, &graph, source, &want);

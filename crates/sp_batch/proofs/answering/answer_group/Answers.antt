@@ -3,7 +3,7 @@ use Rattle.std.proofs.lemmas.List.{append-nil, length-map}
 use Rattle.std.proofs.lemmas.Result.{err_from_is_err_and}
 use Rattle.sp_batch.specs.Found.{answer_of, AreFound}
 use Rattle.sp_batch.specs.Steps.{IsWritten}
-use Rattle.sp_batch.proofs.Going.{same_length, counts_fit, done_both, refused_later}
+use Rattle.sp_batch.proofs.AnswersInOrder.{same_length, counts_fit, done_both, refused_later}
 use Rattle.sp_batch.proofs.answering.answer_group.Goals as goal
 
 pub returns-in_err-more-in-Err : goal.returns-in_err-more-in-Err

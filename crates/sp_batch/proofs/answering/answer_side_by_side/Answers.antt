@@ -6,7 +6,7 @@ use Rattle.sp_paths.specs.Paths.{IsVertex}
 use Rattle.sp_batch.specs.declared.finding.Found.{Found}
 use Rattle.sp_batch.specs.Found.{answer_of}
 use Rattle.sp_batch.specs.Steps.{AreWritten}
-use Rattle.sp_batch.proofs.Going.{two_parts, all_behind, none_left, none_between, between_refused, between_step, step_fits, between_last, last_fits, last_refused}
+use Rattle.sp_batch.proofs.AnswersInOrder.{two_parts, all_behind, none_left, none_between, between_refused, between_step, step_fits, between_last, last_fits, last_refused}
 use Rattle.sp_batch.proofs.answering.answer_side_by_side.Goals as goal
 
 pub loop-rest-init : goal.loop-rest-init

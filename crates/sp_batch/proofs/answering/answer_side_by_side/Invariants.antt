@@ -1,5 +1,5 @@
 use Rattle.std.proofs.Common.{length}
-use Rattle.sp_batch.proofs.Going.{IsBetween}
+use Rattle.sp_batch.proofs.AnswersInOrder.{IsBetween}
 use Rattle.sp_batch.proofs.answering.answer_side_by_side.Given as goal
 
 abbrev pub invariant-loop-rest : goal.invariant-loop-rest

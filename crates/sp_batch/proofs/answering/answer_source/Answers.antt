@@ -1,6 +1,6 @@
 use Rattle.std.proofs.Common.{[], ◌∷◌}
 use Rattle.sp_batch.specs.Found.{answer_of}
-use Rattle.sp_batch.proofs.Going.{all_written}
+use Rattle.sp_batch.proofs.AnswersInOrder.{all_written}
 use Rattle.sp_batch.proofs.answering.answer_source.Goals as goal
 
 pub returns-in-Ok : goal.returns-in-Ok

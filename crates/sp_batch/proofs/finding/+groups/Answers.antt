@@ -1,7 +1,7 @@
 use Rattle.std.proofs.Common.{◌≡◌, ℕ, List, ◌++◌, Vec, subst}
 use Rattle.std.proofs.lemmas.Result.{IfOk-weaker}
 use Rattle.sp_batch.specs.Found.{AreFound}
-use Rattle.sp_batch.proofs.Going.{found_both, two_parts}
+use Rattle.sp_batch.proofs.AnswersInOrder.{found_both, two_parts}
 use Rattle.sp_batch.proofs.finding.+groups.Goals as goal
 
 pub returns : goal.returns

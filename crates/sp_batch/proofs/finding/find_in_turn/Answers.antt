@@ -1,4 +1,4 @@
-use Rattle.sp_batch.proofs.Going.{found_more}
+use Rattle.sp_batch.proofs.AnswersInOrder.{found_more}
 use Rattle.sp_batch.proofs.finding.find_in_turn.Goals as goal
 
 pub loop-source-preserved : goal.loop-source-preserved

@@ -1,7 +1,7 @@
 use Rattle.std.proofs.Common.{[], ◌∷◌, ◌+◌, map, take, drop}
 use Rattle.std.proofs.lemmas.Result.{err_from_is_err_and}
 use Rattle.sp_batch.specs.Found.{answer_of}
-use Rattle.sp_batch.proofs.Going.{group_parts, written_refused}
+use Rattle.sp_batch.proofs.AnswersInOrder.{group_parts, written_refused}
 use Rattle.sp_batch.proofs.writing.write_group.Goals as goal
 
 pub returns-in_err-write_one : goal.returns-in_err-write_one

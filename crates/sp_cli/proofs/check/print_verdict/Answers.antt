@@ -1,5 +1,5 @@
 use Rattle.std.proofs.Common.{[]}
-use Rattle.sp_device.proofs.Printed.{unsent}
+use Rattle.sp_device.proofs.TextSteps.{unsent}
 use Rattle.sp_cli.proofs.check.print_verdict.Goals as goal
 
 pub returns-in-Yes : goal.returns-in-Yes

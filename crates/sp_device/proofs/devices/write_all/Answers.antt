@@ -1,7 +1,7 @@
 use Rattle.std.proofs.Common.{◌∙◌, ◌++◌, ◌+◌, ◌≡◌, length, take, length-append, arith}
 use Rattle.std.proofs.lemmas.List.{length-take-le}
 use Rattle.std.proofs.KnownBytes.{Appends-trans}
-use Rattle.sp_device.proofs.Printed.{split_on}
+use Rattle.sp_device.proofs.TextSteps.{split_on}
 use Rattle.sp_device.proofs.devices.write_all.Goals as goal
 
 pub loop-rest-preserved : goal.loop-rest-preserved

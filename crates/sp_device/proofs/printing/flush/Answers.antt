@@ -1,5 +1,5 @@
 use Rattle.std.proofs.Common.{◌≡◌, ◌+◌, ◌-◌, ◌^◌, length, min, refl, arith, ap}
-use Rattle.sp_device.proofs.Printed.{begun_behind, flushed, sends_ok, sends_failed}
+use Rattle.sp_device.proofs.TextSteps.{begun_behind, flushed, sends_ok, sends_failed}
 use Rattle.sp_device.proofs.printing.flush.Goals as goal
 
 pub returns-in-Ok-clause-sends : goal.returns-in-Ok-clause-sends

@@ -1,6 +1,6 @@
 use Rattle.std.proofs.Common.{◌++◌, ap, refl, ◌∙◌}
 use Rattle.std.proofs.lemmas.List.{append-nil}
-use Rattle.sp_device.proofs.Printed.{begun_behind, written_on, sends_ok, sends_failed}
+use Rattle.sp_device.proofs.TextSteps.{begun_behind, written_on, sends_ok, sends_failed}
 use Rattle.sp_device.proofs.printing.write_on.Goals as goal
 
 pub returns-in-Ok : goal.returns-in-Ok

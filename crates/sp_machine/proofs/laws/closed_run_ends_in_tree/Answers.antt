@@ -1,4 +1,4 @@
-use Rattle.sp_machine.proofs.Closed.{closed_run_ends_in_tree}
+use Rattle.sp_machine.proofs.ClosedRuns.{closed_run_ends_in_tree}
 use Rattle.sp_machine.proofs.laws.closed_run_ends_in_tree.Goals as goal
 
 pub returns : goal.returns

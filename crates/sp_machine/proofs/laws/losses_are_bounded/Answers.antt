@@ -1,4 +1,4 @@
-use Rattle.sp_machine.proofs.Stale.{losses_are_few}
+use Rattle.sp_machine.proofs.LostExchanges.{losses_are_few}
 use Rattle.sp_machine.proofs.laws.losses_are_bounded.Goals as goal
 
 pub returns : goal.returns

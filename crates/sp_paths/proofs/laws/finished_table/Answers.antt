@@ -1,4 +1,4 @@
-use Rattle.sp_paths.proofs.Proved.{finished_ends_in_tree, finished_is_tree, finished_is_far, finished_is_pair}
+use Rattle.sp_paths.proofs.TheoremProofs.{finished_ends_in_tree, finished_is_tree, finished_is_far, finished_is_pair}
 use Rattle.sp_paths.proofs.laws.finished_table.Goals as goal
 
 pub returns-clause-ends_in_tree : goal.returns-clause-ends_in_tree

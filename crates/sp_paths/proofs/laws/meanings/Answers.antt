@@ -1,4 +1,4 @@
-use Rattle.sp_paths.proofs.Proved.{least_exists_law, answers_are_one, far_is_meant}
+use Rattle.sp_paths.proofs.TheoremProofs.{least_exists_law, answers_are_one, far_is_meant}
 use Rattle.sp_paths.proofs.laws.meanings.Goals as goal
 
 pub returns-clause-least : goal.returns-clause-least

@@ -1,11 +1,11 @@
 use Rattle.std.proofs.Common.{◌≡◌, ℕ, ◌-◌, ◌<◌, length, get_or, refl, ap, ◌∙◌, sym, arith, length-set}
 use Rattle.sp_paths.specs.Paths.{IsVertex}
-use Rattle.sp_task.specs.declared.task.Kind.TheVariants.{Light}
+use Rattle.sp_task.specs.declared.task.TaskKind.TheVariants.{Light}
 use Rattle.sp_task.specs.declared.task.Task.{Task}
 use Rattle.sp_phase.specs.declared.marks.Mark.{Mark}
 use Rattle.sp_phase.specs.Marks.{mark_of, with_task}
-use Rattle.sp_phase.proofs.Marking.{task_marked}
-use Rattle.sp_phase.proofs.Marked.{marked_more, marked_none}
+use Rattle.sp_phase.proofs.TaskMarks.{task_marked}
+use Rattle.sp_phase.proofs.RoundMarks.{marked_more, marked_none}
 use Rattle.sp_phase.proofs.marks.mark_tasks.Goals as goal
 
 pub loop-task-preserved : goal.loop-task-preserved

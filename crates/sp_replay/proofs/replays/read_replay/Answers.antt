@@ -1,7 +1,7 @@
 use Rattle.std.proofs.Common.{refl, lit<}
 use Rattle.sp_text.specs.Text.{items_of, Spells}
 use Rattle.sp_text.specs.Lines.{lines}
-use Rattle.sp_text.proofs.Allowed.{accepted}
+use Rattle.sp_text.proofs.FaultlessText.{accepted}
 use Rattle.sp_text.specs.Formats.{ranges_of}
 use Rattle.sp_replay.specs.ReplayFormat.{replay}
 use Rattle.sp_replay.proofs.Legal.{is_programme, steps_in}

@@ -1,6 +1,6 @@
 use Rattle.std.proofs.Common.{[]}
-use Rattle.sp_device.proofs.Printed.{unsent}
-use Rattle.sp_replay.proofs.Sent.{report_is}
+use Rattle.sp_device.proofs.TextSteps.{unsent}
+use Rattle.sp_replay.proofs.TextPieces.{report_is}
 use Rattle.sp_replay.proofs.reports.print_report.Goals as goal
 
 pub returns : goal.returns

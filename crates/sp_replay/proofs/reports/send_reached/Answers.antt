@@ -1,4 +1,4 @@
-use Rattle.sp_device.proofs.Printed.{pushed}
+use Rattle.sp_device.proofs.TextSteps.{pushed}
 use Rattle.sp_replay.specs.ReportText.{reached_text}
 use Rattle.sp_replay.proofs.reports.send_reached.Goals as goal
 

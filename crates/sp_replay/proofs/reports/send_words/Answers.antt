@@ -1,6 +1,6 @@
 use Rattle.std.proofs.Common.{◌++◌, take}
 use Rattle.sp_replay.specs.ReportText.{reached_from}
-use Rattle.sp_replay.proofs.Sent.{reached_next}
+use Rattle.sp_replay.proofs.TextPieces.{reached_next}
 use Rattle.sp_replay.proofs.reports.send_words.Goals as goal
 
 pub loop-place-preserved : goal.loop-place-preserved

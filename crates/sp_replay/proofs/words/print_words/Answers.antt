@@ -1,5 +1,5 @@
 use Rattle.std.proofs.Common.{[]}
-use Rattle.sp_device.proofs.Printed.{unsent}
+use Rattle.sp_device.proofs.TextSteps.{unsent}
 use Rattle.sp_replay.proofs.words.print_words.Goals as goal
 
 pub returns : goal.returns

@@ -3,8 +3,8 @@ use Rattle.sp_word.specs.Word.{max_dist}
 use Rattle.sp_offer.specs.Order.{lawful}
 use Rattle.sp_task.specs.Work.{job_of, jobs_of, did, numbers_of}
 use Rattle.sp_task.specs.Left.{IsMarked}
-use Rattle.sp_task.proofs.Going.{length-map}
-use Rattle.sp_task.proofs.Making.{later_along}
+use Rattle.sp_task.proofs.WorkerSteps.{length-map}
+use Rattle.sp_task.proofs.CallsInRow.{later_along}
 use Rattle.sp_task.proofs.Left.{once, below, round_done, done_after}
 use Rattle.sp_task.proofs.round.run_shared.Goals as goal
 

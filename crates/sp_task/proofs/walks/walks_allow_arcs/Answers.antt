@@ -1,4 +1,4 @@
-use Rattle.sp_task.proofs.Walking.{walks_allow}
+use Rattle.sp_task.proofs.WalkLaw.{walks_allow}
 use Rattle.sp_task.proofs.walks.walks_allow_arcs.Goals as goal
 
 pub returns : goal.returns

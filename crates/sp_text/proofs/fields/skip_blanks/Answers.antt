@@ -1,5 +1,5 @@
 use Rattle.std.proofs.Common.{sym}
-use Rattle.sp_text.proofs.Parting.{skip_blanks}
+use Rattle.sp_text.proofs.FieldRuns.{skip_blanks}
 use Rattle.sp_text.proofs.fields.skip_blanks.Goals as goal
 
 pub returns : goal.returns

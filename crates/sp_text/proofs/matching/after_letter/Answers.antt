@@ -1,6 +1,6 @@
 use Rattle.std.proofs.Common.{sym, ◌∙◌}
 use Rattle.std.proofs.lemmas.List.{take_rest}
-use Rattle.sp_text.proofs.Usual.{letter_begins}
+use Rattle.sp_text.proofs.UsualLines.{letter_begins}
 use Rattle.sp_text.proofs.matching.after_letter.Goals as goal
 
 pub returns : goal.returns

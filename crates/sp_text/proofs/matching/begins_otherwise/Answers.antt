@@ -1,5 +1,5 @@
 use Rattle.std.proofs.Common.{refl}
-use Rattle.sp_text.proofs.Parting.{no_words}
+use Rattle.sp_text.proofs.FieldRuns.{no_words}
 use Rattle.sp_text.proofs.matching.begins_otherwise.Goals as goal
 
 pub returns-then-starts_otherwise : goal.returns-then-starts_otherwise

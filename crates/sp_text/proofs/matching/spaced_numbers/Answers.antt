@@ -1,7 +1,7 @@
 use Rattle.std.proofs.Common.{◌≡◌, ◌<◌, [], ◌∷◌, length, drop, arith, length-append, append_assoc, refl, sym, ◌∙◌}
 use Rattle.std.proofs.lemmas.Bool.{eqb-true}
 use Rattle.std.proofs.lemmas.List.{take_rest, append-nil, drop_all, nil_from_length}
-use Rattle.sp_text.proofs.Usual.{spaced_more, spaced_none}
+use Rattle.sp_text.proofs.UsualLines.{spaced_more, spaced_none}
 use Rattle.sp_text.proofs.matching.spaced_numbers.Goals as goal
 
 pub loop-place-preserved : goal.loop-place-preserved

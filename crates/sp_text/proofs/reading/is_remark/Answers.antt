@@ -1,5 +1,5 @@
 use Rattle.std.proofs.Common.{sym}
-use Rattle.sp_text.proofs.Parting.{no_remark}
+use Rattle.sp_text.proofs.FieldRuns.{no_remark}
 use Rattle.sp_text.proofs.reading.is_remark.Goals as goal
 
 pub returns-then-starts_otherwise : goal.returns-then-starts_otherwise

@@ -1,6 +1,6 @@
 use Rattle.std.proofs.Common.{arith, sym}
 use Rattle.sp_text.proofs.LineForms.{found_usual, next_form}
-use Rattle.sp_text.proofs.Parting.{no_remark}
+use Rattle.sp_text.proofs.FieldRuns.{no_remark}
 use Rattle.sp_text.proofs.reading.usual_item.Goals as goal
 
 pub loop-place-preserved : goal.loop-place-preserved

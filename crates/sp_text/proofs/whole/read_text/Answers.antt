@@ -1,4 +1,4 @@
-use Rattle.sp_text.proofs.Taken.{all_read, is_spelled, read_told}
+use Rattle.sp_text.proofs.DeviceBytes.{all_read, is_spelled, read_told}
 use Rattle.sp_text.proofs.whole.read_text.Goals as goal
 
 pub returns-clause-exact : goal.returns-clause-exact

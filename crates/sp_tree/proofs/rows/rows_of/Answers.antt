@@ -1,6 +1,6 @@
 use Rattle.std.proofs.Common.{refl}
 use Rattle.sp_word.specs.Word.{dist_of}
-use Rattle.sp_tree.proofs.Rising.{row_pushed, row_passed}
+use Rattle.sp_tree.proofs.RisingRows.{row_pushed, row_passed}
 use Rattle.sp_tree.proofs.rows.rows_of.Goals as goal
 use Rattle.sp_tree.proofs.rows.rows_of.Goals.{then-is_reached+in_ok-push, else-is_reached}
 

@@ -1,4 +1,4 @@
-use Rattle.sp_device.proofs.Printed.{pushed}
+use Rattle.sp_device.proofs.TextSteps.{pushed}
 use Rattle.sp_tree.specs.TreeText.{reached_text}
 use Rattle.sp_tree.proofs.writing.send_row.Goals as goal
 

@@ -1,5 +1,5 @@
 use Rattle.std.proofs.Common.{[]}
-use Rattle.sp_device.proofs.Printed.{unsent, pushed}
+use Rattle.sp_device.proofs.TextSteps.{unsent, pushed}
 use Rattle.sp_tree.specs.TreeText.{far_text}
 use Rattle.sp_tree.proofs.writing.write_far.Goals as goal
 

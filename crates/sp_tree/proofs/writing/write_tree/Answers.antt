@@ -1,8 +1,8 @@
 use Rattle.std.proofs.Common.{[], ◌++◌, length}
 use Rattle.std.specs.List.{flat_map}
-use Rattle.sp_device.proofs.Printed.{unsent, pushed}
+use Rattle.sp_device.proofs.TextSteps.{unsent, pushed}
 use Rattle.sp_tree.specs.TreeText.{problem_text, row_text, end_text}
-use Rattle.sp_tree.proofs.Sent.{tree_is}
+use Rattle.sp_tree.proofs.TreePieces.{tree_is}
 use Rattle.sp_tree.proofs.writing.write_tree.Goals as goal
 
 pub returns-clause-written : goal.returns-clause-written

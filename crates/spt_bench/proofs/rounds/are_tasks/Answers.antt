@@ -1,7 +1,7 @@
 use Rattle.std.proofs.Common.{arith, ◌≤◌}
 use Rattle.sp_paths.specs.Paths.{IsVertex}
 use Rattle.sp_task.specs.declared.task.Task.{Task}
-use Rattle.sp_task.specs.declared.task.Kind.TheVariants.{Light}
+use Rattle.sp_task.specs.declared.task.TaskKind.TheVariants.{Light}
 use Rattle.sp_task.proofs.Checks.{all_more}
 use Rattle.spt_bench.proofs.rounds.are_tasks.Goals as goal
 

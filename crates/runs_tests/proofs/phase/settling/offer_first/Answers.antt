@@ -5,7 +5,7 @@ use Rattle.sp_word.specs.Word.{IsPair}
 use Rattle.sp_paths.specs.declared.arc.Arc.{Arc}
 use Rattle.sp_paths.specs.Paths.{Graph, IsArc, IsLawful}
 use Rattle.sp_task.specs.Walking.{WalksFrom}
-use Rattle.runs_tests.proofs.Tested.{first_arc}
+use Rattle.runs_tests.proofs.ArcOffers.{first_arc}
 use Rattle.runs_tests.proofs.phase.settling.offer_first.Goals as goal
 
 pub pack-word-requires : goal.pack-word-requires

@@ -1,4 +1,4 @@
-use Rattle.runs_tests.proofs.Tested.{told_unspent}
+use Rattle.runs_tests.proofs.ArcOffers.{told_unspent}
 use Rattle.runs_tests.proofs.phase.settling.settle_next.Goals as goal
 
 pub returns-clause-unspent : goal.returns-clause-unspent

@@ -1,7 +1,7 @@
 use Rattle.std.proofs.Common.{◌≡◌, ◌≢◌, Any, All, Bool, true, false, refl, sym, subst, ◌∙◌}
 use Rattle.std.specs.Bool.{OnFalse}
 use Rattle.sp_bucket.specs.Content.{Content, bucket_of}
-use Rattle.sp_bucket.proofs.Filing.{held, free}
+use Rattle.sp_bucket.proofs.BucketMap.{held, free}
 use Rattle.sp_bucket.proofs.map.BucketMap.holds.Goals as goal
 
 pub returns-clause-held : goal.returns-clause-held

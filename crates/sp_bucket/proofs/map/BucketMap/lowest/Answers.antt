@@ -1,7 +1,7 @@
 use Rattle.std.proofs.Common.{◌≢◌, [], subst, true≢false}
 use Rattle.sp_bucket.specs.Content.{IsLowest}
-use Rattle.sp_bucket.proofs.Filing.{lowest_there}
-use Rattle.sp_bucket.proofs.Standing.{Any-nonempty}
+use Rattle.sp_bucket.proofs.BucketMap.{lowest_there}
+use Rattle.sp_bucket.proofs.EntryPlaces.{Any-nonempty}
 use Rattle.sp_bucket.proofs.map.BucketMap.lowest.Goals as goal
 
 pub returns-in-Some-clause-none : goal.returns-in-Some-clause-none

@@ -5,7 +5,7 @@ use Rattle.std.specs.declared.alloc.Global.{Global}
 use Rattle.sp_bucket.specs.declared.entry.Entry.{Entry}
 use Rattle.sp_bucket.specs.Content.{Content, Puts, bucket_of}
 use Rattle.sp_bucket.specs.Filed.{IsFiled}
-use Rattle.sp_bucket.proofs.Filing.{content_of, put_there, refused_there, put_first}
+use Rattle.sp_bucket.proofs.BucketMap.{content_of, put_there, refused_there, put_first}
 use Rattle.sp_bucket.proofs.map.BucketMap.put.Goals as goal
 
 pub invariant_of-self : goal.invariant_of-self

@@ -1,7 +1,7 @@
 use Rattle.std.proofs.Common.{sym, subst, ◌∙◌}
 use Rattle.sp_bucket.specs.Content.{Takes}
 use Rattle.sp_bucket.specs.Filed.{IsFiled}
-use Rattle.sp_bucket.proofs.Filing.{content_of, taken_there, none_taken}
+use Rattle.sp_bucket.proofs.BucketMap.{content_of, taken_there, none_taken}
 use Rattle.sp_bucket.proofs.map.BucketMap.take.Goals as goal
 use Rattle.sp_bucket.proofs.map.BucketMap.take.Goals.{in-Some, in-None}
 

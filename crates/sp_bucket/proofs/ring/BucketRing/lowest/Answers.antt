@@ -3,7 +3,7 @@ use Rattle.sp_bucket.specs.declared.entry.Entry.{Entry}
 use Rattle.sp_bucket.specs.Content.{IsLowest, bucket_of}
 use Rattle.sp_bucket.specs.Window.{Window, window_of, content_of}
 use Rattle.sp_bucket.proofs.RingSteps.{first_found, next_up, all_passed, offset_slot}
-use Rattle.sp_bucket.proofs.Standing.{Any-nonempty, first_is, empty_is}
+use Rattle.sp_bucket.proofs.EntryPlaces.{Any-nonempty, first_is, empty_is}
 use Rattle.sp_bucket.proofs.ring.BucketRing.lowest.Goals as goal
 
 -- no entry is below the bucket that the loop has come to

@@ -1,5 +1,5 @@
 use Rattle.std.proofs.Common.{rules, ◌≡◌, ◌<◌}
-use Rattle.sp_claim.proofs.Keeping.{checks}
+use Rattle.sp_claim.proofs.RuleSteps.{checks}
 use Rattle.sp_claim.proofs.table.ClaimTable.load_once.Goals as goal
 
 pub load-requires : goal.load-requires

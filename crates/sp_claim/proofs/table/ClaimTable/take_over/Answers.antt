@@ -1,5 +1,5 @@
 use Rattle.std.proofs.Common.{rules, ◌≡◌, ◌<◌}
-use Rattle.sp_claim.proofs.Keeping.{joins}
+use Rattle.sp_claim.proofs.RuleSteps.{joins}
 use Rattle.sp_claim.proofs.table.ClaimTable.take_over.Goals as goal
 
 pub join_seat-requires : goal.join_seat-requires

@@ -3,7 +3,7 @@ use Rattle.sp_word.specs.Word.{max_dist}
 use Rattle.sp_machine.specs.Programme.{IsNumber}
 use Rattle.sp_machine.specs.Step.{turn, words_after, Machine}
 use Rattle.sp_machine.specs.MachineView.{state_of}
-use Rattle.sp_machine.proofs.Going.{is_at, ready_there, pair_there, goes_on}
+use Rattle.sp_machine.proofs.ActorSteps.{is_at, ready_there, pair_there, goes_on}
 use Rattle.sp_machine.proofs.machine.Machine.step.Goals as goal
 
 pub place_of-place-requires : goal.place_of-place-requires

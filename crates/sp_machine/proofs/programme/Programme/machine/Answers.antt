@@ -1,7 +1,7 @@
 use Rattle.std.proofs.Common.{ℕ, ap, ◌∙◌, length, replicate}
 use Rattle.std.proofs.lemmas.List.{length-replicate}
 use Rattle.sp_machine.specs.Step.{fresh_actor}
-use Rattle.sp_machine.proofs.Going.{opens}
+use Rattle.sp_machine.proofs.ActorSteps.{opens}
 use Rattle.sp_machine.proofs.programme.Programme.machine.Goals as goal
 
 pub invariant_of-result : goal.invariant_of-result

@@ -1,6 +1,6 @@
 use Rattle.std.proofs.Common.{rules, subst}
 use Rattle.sp_offer.specs.Story.{Knowledge, IsStory}
-use Rattle.sp_offer.proofs.Knowing.{knows}
+use Rattle.sp_offer.proofs.CallKnowledge.{knows}
 use Rattle.sp_offer.proofs.Own.{own_more}
 use Rattle.sp_offer.proofs.table.OfferTable.offer_by.Goals as goal
 

@@ -3,7 +3,7 @@ use Rattle.sp_offer.specs.Order.{lawful}
 use Rattle.sp_offer.specs.Story.{Looks}
 use Rattle.sp_offer.specs.Sight.{Sight, story}
 use Rattle.sp_offer.specs.Rule.{Hears}
-use Rattle.sp_offer.proofs.Knowing.{follows}
+use Rattle.sp_offer.proofs.CallKnowledge.{follows}
 use Rattle.sp_offer.proofs.words.Words.take_over.Goals as goal
 
 pub returns-clause-story : goal.returns-clause-story

@@ -5,7 +5,7 @@ use Rattle.std.proofs.lemmas.Bool.{eqb-true}
 use Rattle.sp_word.specs.Word.{Word}
 use Rattle.sp_bucket.specs.declared.entry.Entry.{Entry}
 use Rattle.sp_bucket.specs.Content.{Content}
-use Rattle.sp_bucket.proofs.Standing.{empty_is}
+use Rattle.sp_bucket.proofs.EntryPlaces.{empty_is}
 use Rattle.sp_phase.specs.declared.marks.Mark.{Mark}
 use Rattle.sp_phase.specs.Lead.{Lead, lead_of}
 use Rattle.sp_phase.specs.Marks.{noted}

@@ -1,6 +1,6 @@
 use Rattle.std.proofs.Common.{ℕ, Option, refl, ap, ◌∙◌, subst}
 use Rattle.sp_phase.specs.Stage.{Stage}
-use Rattle.sp_phase.specs.Settling.{IsTold, IsLater}
+use Rattle.sp_phase.specs.Settling.{IsTold, IsLaterBucket}
 use Rattle.sp_phase.proofs.BucketsBehind.{led, come_back, come_to, come_later}
 use Rattle.sp_phase.proofs.run.Run.settle.Goals as goal
 
@@ -28,5 +28,5 @@ returns-in-Ok-clause-later g c =
     let s = c.in-Ok.settled in
     let may = led g.row.P st r.settled r.closed r.leader l c.in-Some.ensures.value c.self.invariant.1 in
     let now = come_to g.row.P st s.bucket r.closed l s.leader may.0 c.in-Ok.ensures.stage (c.in-Ok.ensures.come refl) (come_back g.row.P st r.settled r.closed l may.1) in
-    let L : Option ℕ → Type 0 = λ closed. IsLater closed s.bucket in
+    let L : Option ℕ → Type 0 = λ closed. IsLaterBucket closed s.bucket in
     subst L (ap (λ p. p.closed) c.self.view_is) (come_later g.row.P st s.bucket r.closed s.leader now)

@@ -2,7 +2,7 @@ use Rattle.std.proofs.Common.{◌≡◌, ◌≤◌, ◌∙◌, sym, ap, subst, a
 use Rattle.std.specs.Prelude.{All}
 use Rattle.sp_phase.specs.Stage.{Stage}
 use Rattle.sp_phase.specs.Running.{IsDue}
-use Rattle.sp_phase.proofs.Staging.{tasks_allowed}
+use Rattle.sp_phase.proofs.StageTasks.{tasks_allowed}
 use Rattle.sp_phase.proofs.store.Store.relax_tasks.Goals as goal
 
 pub run_round-requires-after_bounds : goal.run_round-requires-after_bounds

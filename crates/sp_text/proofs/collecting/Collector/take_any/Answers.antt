@@ -2,7 +2,7 @@ use Rattle.std.proofs.Common.{inl}
 use Rattle.sp_text.specs.Text.{problem_of, items_of, judge}
 use Rattle.sp_text.specs.Formats.{format_of}
 use Rattle.sp_text.specs.Collecting.{IsAfter}
-use Rattle.sp_text.proofs.Collected.{comment_taken, bad_taken, problem_taken, item_taken, takes_from, found_at, are_seen}
+use Rattle.sp_text.proofs.KeptLine.{comment_taken, bad_taken, problem_taken, item_taken, takes_from, found_at, are_seen}
 use Rattle.sp_text.proofs.collecting.Collector.take_any.Goals as goal
 
 pub returns-in-Comment : goal.returns-in-Comment

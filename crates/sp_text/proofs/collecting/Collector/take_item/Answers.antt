@@ -2,7 +2,7 @@ use Rattle.std.proofs.Common.{◌≤◌, ◌<◌, true, false, refl, sym, ◌∙
 use Rattle.std.proofs.lemmas.Bool.{le-leb, lt-leb}
 use Rattle.std.proofs.lemmas.List.{length-set}
 use Rattle.sp_text.specs.Text.{top, count}
-use Rattle.sp_text.proofs.Collected.{is_fresh_place, count_fault, numbers_are, on_ok_at, counted}
+use Rattle.sp_text.proofs.KeptLine.{is_fresh_place, count_fault, numbers_are, on_ok_at, counted}
 use Rattle.sp_text.proofs.collecting.Collector.take_item.Goals as goal
 
 pub named_letter-requires : goal.named_letter-requires

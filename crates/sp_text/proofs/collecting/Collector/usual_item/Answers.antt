@@ -1,6 +1,6 @@
 use Rattle.std.proofs.Common.{sym}
 use Rattle.sp_text.specs.Formats.{format_of}
-use Rattle.sp_text.proofs.Collected.{usual_at}
+use Rattle.sp_text.proofs.KeptLine.{usual_at}
 use Rattle.sp_text.proofs.collecting.Collector.usual_item.Goals as goal
 
 pub returns : goal.returns

@@ -1,7 +1,7 @@
 use Rattle.std.proofs.Common.{◌≤◌, ◌^◌, [], ◌∷◌, ◌++◌, length, length-append, arith, refl, ap}
 use Rattle.std.proofs.lemmas.Result.{err_from_is_err_and}
 use Rattle.sp_text.specs.Lines.{ended}
-use Rattle.sp_text.proofs.Cutting.{ended_at_run}
+use Rattle.sp_text.proofs.LineCuts.{ended_at_run}
 use Rattle.sp_text.proofs.Behind.{run_ok, run_err, run_open, refusal_lasts}
 use Rattle.sp_text.proofs.feeding.Feeder.take_rest.Goals as goal
 

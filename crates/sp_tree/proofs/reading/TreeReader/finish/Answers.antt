@@ -1,4 +1,4 @@
-use Rattle.sp_tree.proofs.Finished.{tree_finished}
+use Rattle.sp_tree.proofs.FileEnds.{tree_finished}
 use Rattle.sp_tree.proofs.reading.TreeReader.finish.Goals as goal
 
 pub returns-clause-finished : goal.returns-clause-finished

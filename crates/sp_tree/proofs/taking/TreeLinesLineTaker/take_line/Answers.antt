@@ -1,6 +1,6 @@
 use Rattle.std.proofs.Common.{sym, ◌∙◌}
 use Rattle.sp_tree.specs.Spelling.{spelled}
-use Rattle.sp_tree.proofs.Capped.{taken}
+use Rattle.sp_tree.proofs.CappedNumbers.{taken}
 use Rattle.sp_tree.proofs.taking.TreeLinesLineTaker.take_line.Goals as goal
 
 pub returns-in-Problem : goal.returns-in-Problem

@@ -1,4 +1,4 @@
-use Rattle.sp_tree.proofs.Rising.{last_is}
+use Rattle.sp_tree.proofs.RisingRows.{last_is}
 use Rattle.sp_tree.proofs.tree.Tree.last.Goals as goal
 
 pub returns-in-Some : goal.returns-in-Some

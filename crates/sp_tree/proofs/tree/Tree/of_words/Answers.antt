@@ -1,5 +1,5 @@
 use Rattle.std.proofs.Common.{refl, length}
-use Rattle.sp_tree.proofs.Rising.{tree_is_table, words_are}
+use Rattle.sp_tree.proofs.RisingRows.{tree_is_table, words_are}
 use Rattle.sp_tree.proofs.tree.Tree.of_words.Goals as goal
 
 pub invariant_of-result : goal.invariant_of-result

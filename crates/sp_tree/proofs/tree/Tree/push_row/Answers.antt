@@ -1,4 +1,4 @@
-use Rattle.sp_tree.proofs.Rising.{row_added}
+use Rattle.sp_tree.proofs.RisingRows.{row_added}
 use Rattle.sp_tree.proofs.tree.Tree.push_row.Goals as goal
 
 pub invariant_of-self-2 : goal.invariant_of-self-2

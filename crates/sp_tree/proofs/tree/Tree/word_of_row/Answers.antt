@@ -1,7 +1,7 @@
 use Rattle.std.proofs.Common.{rules, sym}
 use Rattle.std.proofs.lemmas.List.Sorted.{answers_always}
 use Rattle.sp_word.specs.Word.{max_dist}
-use Rattle.sp_tree.proofs.Rising.{word_found, word_missing}
+use Rattle.sp_tree.proofs.RisingRows.{word_found, word_missing}
 use Rattle.sp_tree.proofs.tree.Tree.word_of_row.Goals as goal
 
 pub returns-in-Ok : goal.returns-in-Ok

@@ -1,0 +1,61 @@
+//! The tasks that no worker has a receipt for.
+ghost use Rattle.std.specs.Prelude.{◌≡◌, ℕ, ◌+◌, ◌<◌, ◌≤◌, [], vec_len, false, IsTrue, replicate, slice_index_or};
+ghost use Rattle.sp_task.specs.Work.{AllBelow, numbers_of};
+ghost use Rattle.sp_task.specs.Left.{IsMarked};
+ghost use Rattle.sp_task.specs.Rounds.{IsReadyRound, IsLaterIn, RunsUnmarked};
+
+use crate::gate::Gate;
+use crate::task::Round;
+use crate::workers::Receipt;
+use crate::workers::steps::{make_offers, task_arcs};
+use sp_bucket::Entry;
+use sp_offer::{Caller, Lawful, Lowering};
+
+/// Marks each task that has a receipt.
+pub(crate) fn mark(marks: &mut Vec<bool>, receipts: &[Receipt])
+    requires clean { marks.old.items ≡ replicate (vec_len marks.old) false }
+    requires below { AllBelow (vec_len marks.old) (numbers_of receipts.now) }
+    ensures { IsMarked (vec_len marks.old) (numbers_of receipts.now) marks.new.items }
+{
+    let mut rest = receipts;
+    while let Some((first, others)) = rest.split_first() {
+        marks[first.task] = true;
+        rest = others;
+    }
+}
+
+/// Whether the number has a mark. With no marks at all, none has.
+fn is_marked(marks: &[bool], number: usize) -> bool
+    ensures { result ≡ slice_index_or marks.now number false }
+{
+    number < marks.len() && marks[number]
+}
+
+/// The leader runs the tasks that have no mark, each with no claim. `false` says that there was no room, and the
+/// tasks before were run.
+pub(crate) fn run_left<M: Lowering, L: Lawful, G: Gate, const P: u32>(
+    round: &Round<L, P>,
+    gate: &G,
+    marks: &[bool],
+    caller: &mut Caller,
+    found: &mut Vec<Entry>,
+) -> bool
+    requires ready { IsReadyRound L.allows round.now }
+    requires table { caller.old.table ≡ round.now.table.now.id }
+    ensures later { IsLaterIn L.allows round.now caller.old caller.new }
+    ensures left { IsTrue result
+        → RunsUnmarked L.allows round.now marks.now caller.old caller.new found.old found.new }
+{
+    for number in 0..round.tasks.len() {
+        if is_marked(marks, number) {
+            continue;
+        }
+        let task = round.tasks[number];
+        let arcs = task_arcs(round.rows, task);
+        if found.reserve(arcs.len()).is_err() {
+            return false;
+        }
+        make_offers::<M, L, G, P>(round.table, gate, 0, task.dist, arcs, caller, found);
+    }
+    true
+}
