@@ -78,7 +78,7 @@ module _ (P : ℕ) (st : Stage) (stage : IsStage P st) where
       → AreRelaxed words marks b (length words) → IsFinal P st ((i + 1) * st.delta) (i * st.delta) (known c.story) marks
   final_tested law c marks words copy i b light heavy all =
       let there : (v : ℕ) → IsVertex st.graph.n v → IsVertex (length words) v = λ v at. subst (λ k. IsVertex k v) (sym copy.size) at in
-      let settled = test_settled P st c marks words copy law i b light heavy all in
+      let settled = test_settled P st c marks words copy i b light heavy all law in
       let was : (v d p : ℕ) → IsVertex st.graph.n v → known c.story v ≡ Pair d p → d < (i + 1) * st.delta → word_at words v ≡ Pair d p
       = λ v d p at is below. pair_was ((i + 1) * st.delta) (word_at words) settled v d p (known c.story v) is below (known_pair P st v (known c.story v) d p (copy.lawful v) is).1 (known_lawful P st v (known c.story v) (copy.lawful v)) (copy.above v at) in
       record {

@@ -5,9 +5,10 @@ use Rattle.std.proofs.lemmas.Nat.{div-add-mod'}
 use Rattle.sp_word.specs.Word.{Word, Unreached, Pair, max_dist, is_layout}
 use Rattle.sp_word.specs.History.{Table}
 use Rattle.sp_word.proofs.Layouts.{by_layout}
-use Rattle.sp_paths.specs.Paths.{IsVertex, IsNear, IsTreeWord, IsSettled, EndsInTree, word_at}
-use Rattle.sp_paths.specs.Phase.{TestedIsSettled, SweptEndsInTree}
+use Rattle.sp_paths.specs.Paths.{IsVertex, IsNear, IsTreeWord, IsSettled, EndsInTree, IsPair, Found, TooFar, NoWalk, word_at}
+use Rattle.sp_paths.specs.Phase.{PassesTest, TestedIsSettled, TestedIsPair, SweptEndsInTree, SweptIsPair}
 use Rattle.sp_paths.proofs.Least.{least_exists}
+use Rattle.sp_graph.specs.LeftOut.{IsLeastLeftOut}
 use Rattle.sp_offer.specs.Order.{IsKnownWord}
 use Rattle.sp_offer.specs.Story.{Knowledge, known}
 use Rattle.sp_bucket.specs.declared.entry.Entry.{Entry}
@@ -50,21 +51,48 @@ module _ (P : ℕ) (st : Stage) (c : Knowledge) (marks : List Mark) (words : Lis
   }
 
   -- the test of a bucket passed
-  pub test_settled : TestedIsSettled → (i : ℕ) (b : Bounds) → b.light ≡ (i + 1) * st.delta → b.heavy ≡ i * st.delta → AreRelaxed words marks b (length words) → IsSettled st.graph st.source (max_dist P) ((i + 1) * st.delta) (word_at words)
-  test_settled law i b light heavy all =
-      let at : (u : ℕ) → IsVertex st.graph.n u → IsVertex (length words) u = λ u h. subst (λ k. IsVertex k u) (sym copy.size) h in
-      law st.graph st.source (max_dist P) st.delta i copy.words (word_at words) (light_at marks) (heavy_at marks) copy.of (record {
-        light_below = λ u d p h is lt. (all u d p (at u h) is).0 (subst (λ k. d < k) (sym light) lt);
-        heavy_below = λ u d p h is lt. (all u d p (at u h) is).1 (subst (λ k. d < k) (sym heavy) lt);
-      })
+  module _ (i : ℕ) (b : Bounds) (light : b.light ≡ (i + 1) * st.delta) (heavy : b.heavy ≡ i * st.delta) (all : AreRelaxed words marks b (length words)) where
+    in_copy : (u : ℕ) → IsVertex st.graph.n u → IsVertex (length words) u
+    in_copy u h = subst (λ k. IsVertex k u) (sym copy.size) h
+
+    passes : PassesTest st.graph st.delta i (word_at words) (light_at marks) (heavy_at marks)
+    passes = record {
+      light_below = λ u d p h is lt. (all u d p (in_copy u h) is).0 (subst (λ k. d < k) (sym light) lt);
+      heavy_below = λ u d p h is lt. (all u d p (in_copy u h) is).1 (subst (λ k. d < k) (sym heavy) lt);
+    }
+
+    pub test_settled : TestedIsSettled → IsSettled st.graph st.source (max_dist P) ((i + 1) * st.delta) (word_at words)
+    test_settled law = law st.graph st.source (max_dist P) st.delta i copy.words (word_at words) (light_at marks) (heavy_at marks) copy.of passes
+
+    -- so a target whose copied word lies below its end has its answer
+    pub test_pair : TestedIsPair → (t d p : ℕ) → IsVertex st.graph.n t → word_at words t ≡ Pair d p → d < b.light → IsPair st.graph st.source t (max_dist P) (Found d p)
+    test_pair law t d p vertex is low =
+        law st.graph st.source (max_dist P) st.delta i copy.words (word_at words) (light_at marks) (heavy_at marks) copy.of passes t d p vertex is (subst (λ k. d < k) light low)
 
   pub test_told : TestedIsSettled → (i : ℕ) (b : Bounds) → b.light ≡ (i + 1) * st.delta → b.heavy ≡ i * st.delta → AreRelaxed words marks b (length words) → IsTold P st (Some i) c
-  test_told law i b light heavy all = settled_known ((i + 1) * st.delta) (test_settled law i b light heavy all)
+  test_told law i b light heavy all = settled_known ((i + 1) * st.delta) (test_settled i b light heavy all law)
 
 -- a sweep found no open vertex
 pub sweep_told : (P : ℕ) (st : Stage) (c : Knowledge) (marks : List Mark) (words : List Word) → IsSwept P st c marks words → SweptEndsInTree → IsTold P st None c
 sweep_told P st c marks words swept law =
     ends_known P st c marks words swept.0 (law st.graph st.source (max_dist P) st.delta swept.0.words (word_at words) (light_at marks) (heavy_at marks) swept.0.of swept.1)
+
+-- and the copy has the answer for each target that it has a word of
+pub sweep_pair : (P : ℕ) (st : Stage) (c : Knowledge) (marks : List Mark) (words : List Word) → IsSwept P st c marks words → SweptIsPair
+    → (t d p : ℕ) → IsVertex st.graph.n t → word_at words t ≡ Pair d p → IsPair st.graph st.source t (max_dist P) (Found d p)
+sweep_pair P st c marks words swept law t d p vertex is =
+    (law st.graph st.source (max_dist P) st.delta swept.0.words (word_at words) (light_at marks) (heavy_at marks) swept.0.of swept.1 t).found d p vertex is
+
+-- where it has none, the vertex left out tells what is so
+pub sweep_far : (P : ℕ) (st : Stage) (c : Knowledge) (marks : List Mark) (words : List Word) → IsSwept P st c marks words → SweptIsPair
+    → (t v : ℕ) → word_at words t ≡ Unreached → IsLeastLeftOut st.graph (word_at words) (Some v) → IsPair st.graph st.source t (max_dist P) (TooFar v)
+sweep_far P st c marks words swept law t v none out =
+    (law st.graph st.source (max_dist P) st.delta swept.0.words (word_at words) (light_at marks) (heavy_at marks) swept.0.of swept.1 t).too_far v none out.0 out.1
+
+pub sweep_none : (P : ℕ) (st : Stage) (c : Knowledge) (marks : List Mark) (words : List Word) → IsSwept P st c marks words → SweptIsPair
+    → (t : ℕ) → word_at words t ≡ Unreached → IsLeastLeftOut st.graph (word_at words) None → IsPair st.graph st.source t (max_dist P) NoWalk
+sweep_none P st c marks words swept law t none out =
+    (law st.graph st.source (max_dist P) st.delta swept.0.words (word_at words) (light_at marks) (heavy_at marks) swept.0.of swept.1 t).no_walk none out
 
 -- ## What was told stays true
 

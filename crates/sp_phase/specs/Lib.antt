@@ -8,3 +8,4 @@ pub mod Behind
 pub mod Progress
 pub mod Settling
 pub mod WholeRun
+pub mod Pairs

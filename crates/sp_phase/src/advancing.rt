@@ -1,14 +1,18 @@
 //! How a leader goes on, bucket after bucket.
 ghost use Rattle.std.specs.Prelude.{◌≡◌, ◌+◌, ◌*◌, ◌<◌, Some, None, IsTrue, IfOk, IfSome, IfNone};
+ghost use Rattle.sp_paths.specs.Paths.{IsVertex};
 ghost use Rattle.sp_bucket.specs.Content.{IsLowest};
 ghost use Rattle.sp_phase.specs.Settling.{Tells};
 ghost use Rattle.sp_phase.specs.Behind.{Reaches, ComesOn};
 ghost use Rattle.sp_phase.specs.Sweep.{HasSwept};
+ghost use Rattle.sp_phase.specs.Pairs.{IsBelowDist, IsWithinGraph, KnowsFinal, KnowsTarget};
 
 use crate::leader::Leader;
 use crate::sweeping::Bounds;
+use sp_graph::look_up;
 use sp_paths::tested_copy;
 use sp_task::Gate;
+use sp_word::Word;
 use std::alloc::AllocError;
 use std::sync::Wait;
 use std::thread::Threads;
@@ -20,6 +24,9 @@ pub(crate) enum Until {
     BucketSettled,
     /// Until all words are final. Heavy arcs are relaxed after each bucket, and words copied where no entry is queued.
     Swept,
+    /// Until the word of this vertex is final, or all are. Heavy arcs are relaxed after each bucket, and words copied where
+    /// a bucket was emptied and the vertex lies below its end, or where no entry is queued.
+    Final(u32),
 }
 
 /// A leader, and the bucket that is final for its caller; none where all words are.
@@ -43,6 +50,16 @@ fn bounds_of(bucket: u64, delta: u64) -> Bounds
     }
 }
 
+// Whether the word has a distance below this one.
+fn is_within<const P: u32>(word: Word<P>, end: u64) -> bool
+    ensures { IsTrue result → IsBelowDist word.entry end }
+{
+    match word.dist() {
+        Some(dist) => dist < end,
+        None => false,
+    }
+}
+
 impl<'a, 'g, const P: u32> Leader<'a, 'g, P> {
     // Empties the lowest bucket, and tests it. It tells whether that passed; the vertices that failed are queued.
     fn settle_bucket<R: Threads + Wait + Sync, G: Gate + Sync>(
@@ -63,6 +80,35 @@ impl<'a, 'g, const P: u32> Leader<'a, 'g, P> {
         Ok((leader, passed))
     }
 
+    // Empties the lowest bucket. Where the target's word then lies below its end, it is tested, and the vertices that
+    // failed are queued. It tells whether the target's word is final.
+    fn settle_target<R: Threads + Wait + Sync, G: Gate + Sync>(
+        self,
+        rt: &R,
+        gate: &G,
+        bucket: u64,
+        target: u32,
+    ) -> Result<(Leader<'a, 'g, P>, bool), AllocError>
+        requires lowest { IsLowest self.buckets bucket }
+        requires target { IsVertex self.stage.graph.n target }
+        ensures stage { IfOk result (λ done. done.0.stage ≡ self.entry.stage) }
+        ensures told { IfOk result (λ done. IsTrue done.1 → Tells P (Some bucket) done.0) }
+        ensures found { IfOk result (λ done. IsTrue done.1 → KnowsTarget P target done.0) }
+    {
+        tested_copy();
+        let bounds = bounds_of(bucket, self.store.delta());
+        let mut leader = self.empty_bucket(rt, gate, bucket)?;
+        if !is_within(leader.read(target), bounds.light) {
+            return Ok((leader, false));
+        }
+        let passed = leader.queue_open(bounds)?;
+        if !passed {
+            return Ok((leader, false));
+        }
+        let found = is_within(look_up(leader.words.as_slice(), target), bounds.light);
+        Ok((leader, found))
+    }
+
     // Relaxes the heavy arcs that are owed, where they aren't left.
     fn close_bucket<R: Threads + Wait + Sync, G: Gate + Sync>(
         self,
@@ -75,7 +121,7 @@ impl<'a, 'g, const P: u32> Leader<'a, 'g, P> {
     {
         match until {
             Until::BucketSettled => Ok(self),
-            Until::Swept => self.heavy_round(rt, gate),
+            Until::Swept | Until::Final(_) => self.heavy_round(rt, gate),
         }
     }
 
@@ -87,12 +133,14 @@ impl<'a, 'g, const P: u32> Leader<'a, 'g, P> {
         until: Until,
         bucket: Option<u64>,
     ) -> Result<(Leader<'a, 'g, P>, bool), AllocError>
-        requires { IfSome bucket (IsLowest self.buckets) }
+        requires lowest { IfSome bucket (IsLowest self.buckets) }
+        requires target { IsWithinGraph self.stage.graph until }
         ensures stage { IfOk result (λ done. done.0.stage ≡ self.entry.stage) }
         ensures told { IfOk result (λ done. IsTrue done.1 → Tells P bucket done.0) }
         ensures comes { until ≡ Until.BucketSettled → IfOk result (ComesOn P bucket self.entry) }
         ensures swept { IfOk result (λ done. IsTrue done.1 → IfNone bucket (HasSwept P done.0)) }
         ensures whole { IfOk result (λ done. IsTrue done.1 → until ≡ Until.Swept → bucket ≡ None) }
+        ensures target { IfOk result (λ done. IsTrue done.1 → KnowsFinal P until done.0) }
     {
         match bucket {
             None => {
@@ -101,6 +149,7 @@ impl<'a, 'g, const P: u32> Leader<'a, 'g, P> {
             }
             Some(lowest) => match until {
                 Until::BucketSettled => self.settle_bucket(rt, gate, lowest),
+                Until::Final(target) => self.settle_target(rt, gate, lowest, target),
                 Until::Swept => {
                     let leader = self.empty_bucket(rt, gate, lowest)?;
                     Ok((leader, false))
@@ -116,12 +165,14 @@ impl<'a, 'g, const P: u32> Leader<'a, 'g, P> {
         gate: &G,
         until: Until,
     ) -> Result<Settled<'a, 'g, P>, AllocError>
+        requires { IsWithinGraph self.stage.graph until }
         ensures stage { IfOk result (λ done. done.leader.stage ≡ self.entry.stage) }
         ensures told { IfOk result (λ done. Tells P done.bucket done.leader) }
         ensures come { until ≡ Until.BucketSettled
             → IfOk result (λ done. Reaches P done.bucket self.entry done.leader) }
         ensures swept { IfOk result (λ done. IfNone done.bucket (HasSwept P done.leader)) }
         ensures whole { IfOk result (λ done. until ≡ Until.Swept → done.bucket ≡ None) }
+        ensures target { IfOk result (λ done. KnowsFinal P until done.leader) }
     {
         for _ in rt.forever() {
             let leader = self.close_bucket(rt, gate, until)?;

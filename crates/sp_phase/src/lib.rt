@@ -7,6 +7,7 @@ mod finish;
 mod leader;
 mod marks;
 mod relaxing;
+mod pair;
 mod rounds;
 mod run;
 mod source;
@@ -15,6 +16,7 @@ mod sweeping;
 mod whole;
 
 pub use answers::RunError;
+pub use pair::{run_pair, run_pair_with};
 pub use run::Run;
 pub use source::{run_by_team, run_source, run_source_with};
 pub use store::Store;

@@ -1,0 +1,118 @@
+//! Runs for one target.
+ghost use Rattle.std.specs.Prelude.{◌≡◌, ◌≤◌, true, IfOk, IfErr};
+ghost use Rattle.sp_word.specs.Word.{is_layout, max_dist, max_pred};
+ghost use Rattle.sp_paths.specs.Paths.{IsVertex};
+ghost use Rattle.sp_phase.specs.Stage.{IsStage};
+ghost use Rattle.sp_phase.specs.Pairs.{IsPairAnswer, IsPairRefusal, KnowsTarget};
+
+use crate::advancing::Until;
+use crate::answers::RunError;
+use crate::leader::Leader;
+use crate::store::Store;
+use sp_claim::Claimer;
+use sp_graph::{Graph, left_out, look_up};
+use sp_offer::Caller;
+use sp_paths::swept_copy;
+use sp_task::{Gate, OpenGate};
+use sp_word::Word;
+use std::alloc::Global;
+use std::sync::Wait;
+use std::thread::Threads;
+
+impl<'a, 'g, const P: u32> Leader<'a, 'g, P> {
+    // What a copy of the words shows of a target, once its word in there is final.
+    fn pair_answer(&self, target: u32) -> Result<Option<Word<P>>, RunError>
+        requires target { IsVertex self.now.stage.graph.n target }
+        requires known { KnowsTarget P target self.now }
+        ensures pair { IfOk result
+            (IsPairAnswer P self.now.stage.graph self.now.stage.source target) }
+        ensures refused { IfErr result
+            (IsPairRefusal P self.now.stage.graph self.now.stage.source target) }
+    {
+        swept_copy();
+        let words = self.words.as_slice();
+        let word = look_up(words, target);
+        if !word.is_unreached() {
+            return Ok(Some(word));
+        }
+        match left_out(words, self.store.arcs()) {
+            Some(vertex) => Err(RunError::TooFar(vertex)),
+            None => Ok(None),
+        }
+    }
+}
+
+/// The target's word of the source's shortest-path tree, or None where no walk leads to it. The run ends as soon as that
+/// word is final: it goes on from bucket to bucket, by at most so many workers, until the target lies in one that is.
+pub fn run_pair<const P: u32, R: Threads + Wait + Sync>(
+    rt: &R,
+    alloc: Global,
+    graph: &Graph,
+    delta: u64,
+    workers: u32,
+    source: u32,
+    target: u32,
+) -> Result<Option<Word<P>>, RunError>
+    requires layout { is_layout P ≡ true }
+    requires n { graph.now.n ≤ max_pred P }
+    requires delta { (1 ≤ delta) × (delta ≤ max_dist P) }
+    requires workers { (1 ≤ workers) × (workers ≤ 64) }
+    ensures pair { IfOk result (IsPairAnswer P graph.now source target) }
+    ensures refused { IfErr result (IsPairRefusal P graph.now source target) }
+{
+    run_pair_with(rt, alloc, graph, delta, workers, source, target, &OpenGate)
+}
+
+/// The same, with a gate round every offer, and every round shared among the workers.
+pub fn run_pair_with<const P: u32, R: Threads + Wait + Sync, G: Gate + Sync>(
+    rt: &R,
+    alloc: Global,
+    graph: &Graph,
+    delta: u64,
+    workers: u32,
+    source: u32,
+    target: u32,
+    gate: &G,
+) -> Result<Option<Word<P>>, RunError>
+    requires layout { is_layout P ≡ true }
+    requires n { graph.now.n ≤ max_pred P }
+    requires delta { (1 ≤ delta) × (delta ≤ max_dist P) }
+    requires workers { (1 ≤ workers) × (workers ≤ 64) }
+    ensures pair { IfOk result (IsPairAnswer P graph.now source target) }
+    ensures refused { IfErr result (IsPairRefusal P graph.now source target) }
+{
+    if target < 1 || target > graph.n() {
+        return Err(RunError::NoSuchVertex);
+    }
+    let (store, caller, claimer) = Store::new(alloc, graph, delta, source)?;
+    run_stored_pair(rt, alloc, &store, caller, claimer, workers, target, gate)
+}
+
+// A run over a store, for one target.
+fn run_stored_pair<const P: u32, R: Threads + Wait + Sync, G: Gate + Sync>(
+    rt: &R,
+    alloc: Global,
+    store: &Store<P>,
+    caller: Caller,
+    claimer: Claimer,
+    workers: u32,
+    target: u32,
+    gate: &G,
+) -> Result<Option<Word<P>>, RunError>
+    requires workers { (1 ≤ workers) × (workers ≤ 64) }
+    requires caller { caller.table ≡ store.now.table }
+    requires claimer { claimer.table ≡ store.now.claims }
+    requires stage { IsStage P store.now }
+    requires target { IsVertex store.now.graph.n target }
+    ensures pair { IfOk result (IsPairAnswer P store.now.graph store.now.source target) }
+    ensures refused { IfErr result (IsPairRefusal P store.now.graph store.now.source target) }
+{
+    let Ok(leader) = Leader::new(alloc, store, caller, claimer) else {
+        return Err(RunError::Memory);
+    };
+    let leader = leader.with_workers(workers);
+    match leader.advance(rt, gate, Until::Final(target)) {
+        Err(_) => Err(RunError::Memory),
+        Ok(settled) => settled.leader.pair_answer(target),
+    }
+}
