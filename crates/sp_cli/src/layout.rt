@@ -7,18 +7,14 @@ ghost use Rattle.sp_cli.specs.Words.{ReadsSpelling};
 
 use crate::faults::{Fault, Status};
 use crate::inputs::Inputs;
-use clap::{Arg, ArgMatches};
+use clap::Arg;
 use sp_device::Write;
 use std::alloc::Global;
 use std::str::FromStr;
 use std::sync::Wait;
 use std::thread::Threads;
 
-const OPTION: &str = "pred-bits";
-
-const ABOUT: &str = "Bits of a word that hold the predecessor";
-
-const LONG_ABOUT: &str = "\
+const HELP: &str = "\
 Bits of a word that hold the predecessor; the others of its 64 hold the distance. So distances D
 and predecessors P range
   with 20 from 0 to 17592186044414 and from 0 to 1048574
@@ -58,20 +54,18 @@ impl FromStr for PredBits {
 }
 
 impl PredBits {
+    /// What `clap` knows the option by.
+    pub const ID: &'static str = "pred-bits";
+
     /// The option that says how many.
     pub fn option<'a>(alloc: Global) -> Arg<'a> {
-        Arg::new(alloc, OPTION)
-            .long(OPTION)
+        Arg::new(alloc, Self::ID)
+            .long(Self::ID)
             .value_name("P")
             .value_parser(SPELLINGS.as_slice())
             .default_value("28")
-            .help(ABOUT)
-            .long_help(LONG_ABOUT)
-    }
-
-    /// What the option says.
-    pub fn given(matches: &ArgMatches<'_>) -> Option<PredBits> {
-        matches.get_one(OPTION)
+            .help("Bits of a word that hold the predecessor")
+            .long_help(HELP)
     }
 }
 
@@ -91,13 +85,8 @@ pub trait Run<const P: u32> {
             (λ fault. code_of (status_of fault) ≤ 2 → out.new ≡ out.old) };
 }
 
-/// What runs in every layout.
-pub trait RunInAny: Run<20> + Run<24> + Run<28> + Run<32> {}
-
-impl<C: Run<20> + Run<24> + Run<28> + Run<32>> RunInAny for C {}
-
 /// Runs it in the layout that has so many bits of predecessor.
-pub fn run_in<C: RunInAny, R: Threads + Wait + Sync, F: Inputs, W: Write>(
+pub fn run_in<C, R: Threads + Wait + Sync, F: Inputs, W: Write>(
     command: &C,
     pred_bits: PredBits,
     rt: &R,
@@ -105,6 +94,8 @@ pub fn run_in<C: RunInAny, R: Threads + Wait + Sync, F: Inputs, W: Write>(
     files: &F,
     out: &mut W,
 ) -> Result<Status, Fault>
+where
+    C: Run<20> + Run<24> + Run<28> + Run<32>,
     ensures done { IfOk result (λ status. is_done status ≡ true) }
     ensures unwritten { IfErr result (λ fault. code_of (status_of fault) ≤ 2 → out.new ≡ out.old) }
 {

@@ -2,9 +2,9 @@
 ghost use Rattle.std.specs.Prelude.{◌≡◌, ◌≤◌, true, IfOk, IfErr};
 ghost use Rattle.sp_cli.specs.Faults.{code_of, is_done, status_of};
 
-use crate::commands::Commands;
 use crate::faults::{Fault, Status};
 use crate::inputs::Inputs;
+use crate::layout::run_in;
 use crate::text::print;
 use crate::words::{Order, read_order};
 use sp_device::Write;
@@ -54,6 +54,6 @@ fn obey<R: Threads + Wait + Sync, F: Inputs, W: Write>(
             print(out, &text)?;
             Ok(Status::Done)
         }
-        Order::Run { command, pred_bits } => command.obey(pred_bits, rt, alloc, files, out),
+        Order::Run { command, pred_bits } => run_in(&command, pred_bits, rt, alloc, files, out),
     }
 }

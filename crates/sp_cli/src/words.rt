@@ -60,8 +60,8 @@ fn match_words<'a>(alloc: Global, words: &'a [&'a str]) -> Result<Order<'a>, Err
 fn order_of<'a>(matches: &ArgMatches<'a>) -> Option<Order<'a>> {
     let (name, given) = matches.subcommand()?;
     Some(Order::Run {
-        command: AnyCommand::read(name, given)?,
-        pred_bits: PredBits::given(given)?,
+        command: AnyCommand::read_named(name, given)?,
+        pred_bits: given.get_one(PredBits::ID)?,
     })
 }
 

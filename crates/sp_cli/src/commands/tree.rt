@@ -18,14 +18,10 @@ use std::thread::Threads;
 // The greatest distance of any word.
 const MAX_DELTA: i64 = 17_592_186_044_414;
 
-const DELTA: &str = "The width of a bucket of tentative distances";
-
 const DELTA_LONG: &str = "\
 The width of a bucket of tentative distances, from 1 to the greatest distance of a word. The mean
 length of an arc is a good choice, and so are a third of it and thirty times as much. Any delta gives
 the same bytes";
-
-const WORKERS: &str = "Threads that may work at once";
 
 const WORKERS_LONG: &str = "\
 Threads that may work at once, from 1 to 64, the main thread counted. As many as there are processors
@@ -146,7 +142,7 @@ fn delta<'a>(alloc: Global) -> Arg<'a> {
         .value_name("D")
         .value_parser(value_parser!(u64).range(1..=MAX_DELTA))
         .required(true)
-        .help(DELTA)
+        .help("The width of a bucket of tentative distances")
         .long_help(DELTA_LONG)
 }
 
@@ -156,7 +152,7 @@ fn workers<'a>(alloc: Global) -> Arg<'a> {
         .value_name("W")
         .value_parser(value_parser!(u32).range(1..=64))
         .default_value("1")
-        .help(WORKERS)
+        .help("Threads that may work at once")
         .long_help(WORKERS_LONG)
 }
 
