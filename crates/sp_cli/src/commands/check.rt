@@ -12,7 +12,7 @@ use crate::inputs::Inputs;
 use crate::layout::Run;
 use clap::ArgMatches;
 use sp_cert::{CheckError, Rule};
-use sp_device::{Printer, Read, Write, WriteFault, finish, print_number, print_text};
+use sp_device::{Printer, Write, WriteFault, finish, print_number, print_text};
 use sp_dimacs::read_gr;
 use sp_graph::Graph;
 use sp_tree::{Tree, read_tree};
@@ -64,11 +64,11 @@ kinds are those of `spt tree --help`. In a tree file
   7 TooFew         the file ends before the e line
 ",
         statuses:
-        0 "yes"
-        1 "the command line is wrong"
-        2 "a file is refused"
-        3 "no";
-        "a file" "the answer"
+            0 "yes"
+            1 "the command line is wrong"
+            2 "a file is refused"
+            3 "no";
+            "a file" "the answer"
     );
 
     fn words(alloc: Global) -> Words<'a> {
@@ -93,29 +93,29 @@ impl<const P: u32> Run<P> for Check<'_> {
         files: &F,
         out: &mut W,
     ) -> Result<Status, Fault> {
-        let mut gr = FileKind::Graph.open(files, self.graph)?;
-        let mut tree = FileKind::Tree.open(files, self.tree)?;
-        check_files::<P, R, _, _, W>(rt, alloc, &mut gr, &mut tree, out)
+        check_files::<P, R, F, W>(rt, alloc, self, files, out)
     }
 }
 
 // Checks the tree against the graph, and writes the verdict.
-fn check_files<const P: u32, R: Threads + Sync, G: Read, T: Read, W: Write>(
+fn check_files<const P: u32, R: Threads + Sync, F: Inputs, W: Write>(
     rt: &R,
     alloc: Global,
-    gr: &mut G,
-    tree: &mut T,
+    given: &Check<'_>,
+    files: &F,
     out: &mut W,
 ) -> Result<Status, Fault>
     requires layout { is_layout P ≡ true }
     ensures done { IfOk result (λ status. is_done status ≡ true) }
     ensures unwritten { IfErr result (λ fault. fault ≢ Fault.WriteFailed → out.new ≡ out.old) }
 {
-    let file = match read_gr::<P, G>(alloc, gr) {
+    let mut gr = FileKind::Graph.open(files, given.graph)?;
+    let mut tree = FileKind::Tree.open(files, given.tree)?;
+    let file = match read_gr::<P, _>(alloc, &mut gr) {
         Ok(file) => file,
         Err(error) => return Err(FileKind::Graph.fault(error)),
     };
-    let tree = match read_tree::<P, T>(alloc, tree) {
+    let tree = match read_tree::<P, _>(alloc, &mut tree) {
         Ok(tree) => tree,
         Err(error) => return Err(FileKind::Tree.fault(error)),
     };

@@ -10,7 +10,7 @@ use crate::help::after_help;
 use crate::inputs::Inputs;
 use crate::layout::Run;
 use clap::ArgMatches;
-use sp_device::{Read, Write};
+use sp_device::Write;
 use sp_machine::Programme;
 use sp_offer::{AnyWord, OfferTable};
 use sp_replay::{read_offers, write_words};
@@ -65,10 +65,10 @@ A fault is told with its line, as in `spt: offers: line 2: 5 OutOfRange A`:
 ",
         faults: "  6 TooMany        an offer is one too many\n",
         statuses:
-        0 "done"
-        1 "the command line is wrong"
-        2 "the file is refused";
-        "the file" "the output"
+            0 "done"
+            1 "the command line is wrong"
+            2 "the file is refused";
+            "the file" "the output"
     );
 
     fn words(alloc: Global) -> Words<'a> {
@@ -90,23 +90,24 @@ impl<const P: u32> Run<P> for Offers<'_> {
         files: &F,
         out: &mut W,
     ) -> Result<Status, Fault> {
-        let mut reader = FileKind::Offers.open(files, self.file)?;
-        offer_file::<P, R, _, W>(rt, alloc, &mut reader, out)
+        offer_file::<P, R, F, W>(rt, alloc, self.file, files, out)
     }
 }
 
 // Makes the offers of the file, and writes the words that are left.
-fn offer_file<const P: u32, R: Threads + Wait + Sync, D: Read, W: Write>(
+fn offer_file<const P: u32, R: Threads + Wait + Sync, F: Inputs, W: Write>(
     rt: &R,
     alloc: Global,
-    reader: &mut D,
+    path: &str,
+    files: &F,
     out: &mut W,
 ) -> Result<Status, Fault>
     requires layout { is_layout P ≡ true }
     ensures done { IfOk result (λ status. status ≡ Done) }
     ensures unwritten { IfErr result (λ fault. fault ≢ Fault.WriteFailed → out.new ≡ out.old) }
 {
-    let programme = match read_offers::<P, D>(alloc, reader) {
+    let mut reader = FileKind::Offers.open(files, path)?;
+    let programme = match read_offers::<P, _>(alloc, &mut reader) {
         Ok(programme) => programme,
         Err(error) => return Err(FileKind::Offers.fault(error)),
     };

@@ -9,7 +9,7 @@ use crate::help::after_help;
 use crate::inputs::Inputs;
 use crate::layout::Run;
 use clap::ArgMatches;
-use sp_device::{Read, Write};
+use sp_device::Write;
 use sp_replay::{read_replay, write_report};
 use std::alloc::Global;
 use std::sync::Wait;
@@ -80,10 +80,10 @@ A fault is told with its line, as in `spt: replay: line 2: 5 OutOfRange V`:
 ",
         faults: "  6 TooMany        a call or a step is one too many\n",
         statuses:
-        0 "done"
-        1 "the command line is wrong"
-        2 "the file is refused";
-        "the file" "the report"
+            0 "done"
+            1 "the command line is wrong"
+            2 "the file is refused";
+            "the file" "the report"
     );
 
     fn words(alloc: Global) -> Words<'a> {
@@ -105,22 +105,23 @@ impl<const P: u32> Run<P> for Replay<'_> {
         files: &F,
         out: &mut W,
     ) -> Result<Status, Fault> {
-        let mut reader = FileKind::Replay.open(files, self.file)?;
-        replay_file::<P, _, W>(alloc, &mut reader, out)
+        replay_file::<P, F, W>(alloc, self.file, files, out)
     }
 }
 
 // Runs the steps of the file, and writes the report.
-fn replay_file<const P: u32, D: Read, W: Write>(
+fn replay_file<const P: u32, F: Inputs, W: Write>(
     alloc: Global,
-    reader: &mut D,
+    path: &str,
+    files: &F,
     out: &mut W,
 ) -> Result<Status, Fault>
     requires layout { is_layout P ≡ true }
     ensures done { IfOk result (λ status. status ≡ Done) }
     ensures unwritten { IfErr result (λ fault. fault ≢ Fault.WriteFailed → out.new ≡ out.old) }
 {
-    let file = match read_replay::<P, D>(alloc, reader) {
+    let mut reader = FileKind::Replay.open(files, path)?;
+    let file = match read_replay::<P, _>(alloc, &mut reader) {
         Ok(file) => file,
         Err(error) => return Err(FileKind::Replay.fault(error)),
     };

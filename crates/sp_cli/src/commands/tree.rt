@@ -107,11 +107,11 @@ Others are
   spt: write failed                  a beginning of the output may stand (exit status 6)
 ",
         statuses:
-        0 "done"
-        1 "the command line is wrong, or delta is out of range"
-        2 "a file is refused, or a source is no vertex"
-        4 "for some source a vertex is too far; all answers are written";
-        "a file" "the output"
+            0 "done"
+            1 "the command line is wrong, or delta is out of range"
+            2 "a file is refused, or a source is no vertex"
+            4 "for some source a vertex is too far; all answers are written";
+            "a file" "the output"
     );
 
     fn words(alloc: Global) -> Words<'a> {
