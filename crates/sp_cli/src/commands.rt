@@ -10,18 +10,17 @@ mod tree;
 use crate::faults::{Fault, Status};
 use crate::inputs::Inputs;
 use crate::layout::{PredBits, Run};
-use check::Check;
 use clap::{Arg, ArgMatches};
-use offers::Offers;
-use replay::Replay;
 use sp_device::Write;
 use std::alloc::{AllocError, Global};
 use std::sync::Wait;
 use std::thread::Threads;
-use tree::Tree;
 
 /// A command, with what it was given. They stand in the order of the help.
-pub type AnyCommand<'a> = OneOf<Tree<'a>, OneOf<Check<'a>, OneOf<Replay<'a>, Offers<'a>>>>;
+pub type AnyCommand<'a> = OneOf<
+    tree::Tree<'a>,
+    OneOf<check::Check<'a>, OneOf<replay::Replay<'a>, offers::Offers<'a>>>,
+>;
 
 /// The words of a command, or of the program.
 pub type Words<'a> = Result<clap::Command<'a>, AllocError>;
