@@ -8,8 +8,8 @@ use Rattle.sp_batch.specs.declared.answers.BatchError.{BatchError}
 use Rattle.sp_batch.specs.declared.answers.BatchError.TheVariants as batch
 use Rattle.sp_cert.specs.Certificate.{IsCertified}
 use Rattle.sp_cert.specs.Rules.{number_of, IsFirstFault}
-use Rattle.sp_cli.specs.declared.check.Verdict.{Verdict}
-use Rattle.sp_cli.specs.declared.check.Verdict.TheVariants.{Yes, No}
+use Rattle.sp_cli.specs.declared.commands.check.Verdict.{Verdict}
+use Rattle.sp_cli.specs.declared.commands.check.Verdict.TheVariants.{Yes, No}
 use Rattle.sp_cli.specs.declared.faults.Fault.{Fault}
 use Rattle.sp_cli.specs.declared.faults.Fault.TheVariants as fault
 use Rattle.sp_cli.specs.declared.faults.FileKind.TheVariants as file

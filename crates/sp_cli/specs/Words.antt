@@ -2,9 +2,9 @@
 use Rattle.std.specs.Prelude.{◌≡◌, ℕ, List, Bool, true, false, Result, Ok, IfOk, codes}
 use Rattle.clap.specs.declared.error.kind.ErrorKind.{ErrorKind}
 use Rattle.clap.specs.declared.error.kind.ErrorKind.TheVariants as kind
-use Rattle.sp_cli.specs.declared.words.PredBits.{PredBits}
-use Rattle.sp_cli.specs.declared.words.PredBits.TheVariants.{Bits20, Bits24, Bits28, Bits32}
-use Rattle.sp_cli.specs.declared.words.NoPredBits.{NoPredBits}
+use Rattle.sp_cli.specs.declared.layout.PredBits.{PredBits}
+use Rattle.sp_cli.specs.declared.layout.PredBits.TheVariants.{Bits20, Bits24, Bits28, Bits32}
+use Rattle.sp_cli.specs.declared.layout.NoPredBits.{NoPredBits}
 
 -- help or the version was asked for, and is no fault
 abbrev pub is_text : ErrorKind → Bool

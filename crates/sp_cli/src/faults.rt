@@ -1,8 +1,9 @@
 //! What keeps a command from being done: its line on standard error, and its exit status.
-ghost use Rattle.std.specs.Prelude.{◌≡◌, ◌≤◌, false};
+ghost use Rattle.std.specs.Prelude.{◌≡◌, ◌≤◌, false, IfErr};
 ghost use Rattle.sp_cli.specs.Faults.{code_of, is_done, status_of};
-ghost use Rattle.sp_cli.specs.declared.faults.Fault.TheVariants.{Memory, WriteFailed};
+ghost use Rattle.sp_cli.specs.declared.faults.Fault.TheVariants.{CannotOpen, Input, Memory, WriteFailed};
 
+use crate::inputs::Inputs;
 use sp_device::WriteFault;
 use sp_text::{DimacsError, Kind};
 use std::alloc::AllocError;
@@ -46,6 +47,25 @@ pub enum FileKind {
     Tree,
     Replay,
     Offers,
+}
+
+impl FileKind {
+    /// Opens the file at its beginning.
+    pub fn open<F: Inputs>(self, files: &F, path: &str) -> Result<F::File, Fault>
+        ensures { IfErr result (λ fault. fault ≡ CannotOpen self) }
+    {
+        match files.open_input(path) {
+            Some(file) => Ok(file),
+            None => Err(Fault::CannotOpen(self)),
+        }
+    }
+
+    /// The fault of a command whose file has this one.
+    pub fn fault(self, error: DimacsError) -> Fault
+        ensures { result ≡ Input self error }
+    {
+        Fault::Input { file: self, error }
+    }
 }
 
 impl fmt::Display for FileKind {

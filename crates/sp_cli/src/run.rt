@@ -2,15 +2,11 @@
 ghost use Rattle.std.specs.Prelude.{◌≡◌, ◌≤◌, true, IfOk, IfErr};
 ghost use Rattle.sp_cli.specs.Faults.{code_of, is_done, status_of};
 
-use crate::check::check;
 use crate::faults::{Fault, Status};
 use crate::inputs::Inputs;
-use crate::offers::offers;
-use crate::orders::Order;
-use crate::replay::replay;
+use crate::layout::run_in;
 use crate::text::print;
-use crate::tree::tree;
-use crate::words::read_order;
+use crate::words::{Order, read_order};
 use sp_device::Write;
 use std::alloc::Global;
 use std::sync::Wait;
@@ -58,13 +54,6 @@ fn obey<R: Threads + Wait + Sync, F: Inputs, W: Write>(
             print(out, &text)?;
             Ok(Status::Done)
         }
-        Order::Tree(order) => tree(rt, alloc, &order, files, out),
-        Order::Check {
-            graph,
-            tree,
-            pred_bits,
-        } => check(rt, alloc, graph, tree, pred_bits, files, out),
-        Order::Replay { file, pred_bits } => replay(alloc, file, pred_bits, files, out),
-        Order::Offers { file, pred_bits } => offers(rt, alloc, file, pred_bits, files, out),
+        Order::Run { command, pred_bits } => run_in(&command, pred_bits, rt, alloc, files, out),
     }
 }

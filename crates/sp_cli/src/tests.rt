@@ -20,6 +20,17 @@ use std::thread::Threads;
 // More bytes than any text here has.
 const AMPLE: usize = 1 << 24;
 
+// A graph of one vertex.
+const ALONE: &str = "p sp 1 0\n";
+
+// A graph with a tie, and its tree from vertex 1.
+const DIAMOND: &str = "p sp 4 5\na 1 2 3\na 1 3 3\na 2 4 2\na 3 4 2\na 1 4 6\n";
+
+const DIAMOND_TREE: &str = "p spt 4 1\nv 1 0 0\nv 2 3 1\nv 3 3 1\nv 4 5 2\ne 4\n";
+
+// Vertex 1 as the only source.
+const FROM_1: &str = "p aux sp ss 1\ns 1\n";
+
 // A file over memory.
 #[derive(Clone, Copy)]
 enum Stored<'a> {

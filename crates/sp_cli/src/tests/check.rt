@@ -1,16 +1,10 @@
 //! `spt check` over memory.
-use super::{AMPLE, Stored, expect, run, run_into};
+use super::{ALONE, AMPLE, DIAMOND, DIAMOND_TREE, Stored, expect, run, run_into};
 use std::alloc::Global;
 use std::process::Abort;
 use std::sync::Wait;
 use std::test::Fail;
 use std::thread::Threads;
-
-const ALONE: &str = "p sp 1 0\n";
-
-const DIAMOND: &str = "p sp 4 5\na 1 2 3\na 1 3 3\na 2 4 2\na 3 4 2\na 1 4 6\n";
-
-const DIAMOND_TREE: &str = "p spt 4 1\nv 1 0 0\nv 2 3 1\nv 3 3 1\nv 4 5 2\ne 4\n";
 
 // Asserts what the check of a tree gives, for words with so many bits of predecessor.
 fn gives<R: Abort + Threads + Wait + Sync>(

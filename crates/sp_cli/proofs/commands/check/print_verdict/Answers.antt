@@ -1,6 +1,6 @@
 use Rattle.std.proofs.Common.{[]}
 use Rattle.sp_device.proofs.TextSteps.{unsent}
-use Rattle.sp_cli.proofs.check.print_verdict.Goals as goal
+use Rattle.sp_cli.proofs.commands.check.print_verdict.Goals as goal
 
 pub returns-in-Yes : goal.returns-in-Yes
 returns-in-Yes g c =

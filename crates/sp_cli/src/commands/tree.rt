@@ -1,0 +1,202 @@
+//! `spt tree`: for each source of a list its shortest-path tree.
+ghost use Rattle.std.specs.Prelude.{◌≡◌, ◌≤◌};
+ghost use Rattle.sp_cli.specs.Ends.{end_of, fault_of};
+
+use super::{Command, Words, file};
+use crate::faults::{Fault, FileKind, Status};
+use crate::help::{GRAPH_FILE, after_help};
+use crate::inputs::Inputs;
+use crate::layout::Run;
+use clap::{Arg, ArgMatches, value_parser};
+use sp_batch::{BatchError, Summary, run_batch};
+use sp_device::Write;
+use sp_word::Word;
+use std::alloc::Global;
+use std::sync::Wait;
+use std::thread::Threads;
+
+// The greatest distance of any word.
+const MAX_DELTA: i64 = 17_592_186_044_414;
+
+const DELTA_LONG: &str = "\
+The width of a bucket of tentative distances, from 1 to the greatest distance of a word. The mean
+length of an arc is a good choice, and so are a third of it and thirty times as much. Any delta gives
+the same bytes";
+
+const WORKERS_LONG: &str = "\
+Threads that may work at once, from 1 to 64, the main thread counted. As many as there are processors
+is a good choice, where they are free: all work on one tree, or each on a tree of its own where there
+are several sources. No more threads are started than there are processors, nor any for a small graph.
+Any number gives the same bytes";
+
+/// What `tree` is given, with the names of its files.
+#[derive(Drop)]
+pub struct Tree<'a> {
+    graph: &'a str,
+    sources: &'a str,
+    // The width of a bucket.
+    delta: u64,
+    // How many threads may work, the main thread counted.
+    workers: u32,
+    ghost crew: { (1 ≤ workers) × (workers ≤ 64) },
+}
+
+impl<'a> Command<'a> for Tree<'a> {
+    const NAME: &'static str = "tree";
+
+    const ABOUT: &'static str = "Write the shortest-path tree of each source";
+
+    const LONG_ABOUT: &'static str = "\
+Write the shortest-path tree of each source
+
+A distance is the least length of a walk from the source. The predecessor of a vertex is the vertex
+before it on a shortest walk, the one with the smallest number where there are several. So a source
+has one tree, and the same bytes are written for each delta and each number of workers.";
+
+    const AFTER_HELP: &'static str = after_help!(
+        "\
+The graph is a .gr file of the Ninth DIMACS Implementation Challenge, its fields parted by blanks:
+  p sp N M      there are N vertices, numbered from 1, and M arcs, M at most 1073741824; it stands
+                first, and once. N is at most the greatest predecessor of a word
+  a U V W       an arc from U to V of length W, 1 to 4294967295; there are M of these lines
+  c ...         a comment; so is a line without a field
+The sources are a .ss file:
+  p aux sp ss K there are K sources, at most 1048576; it stands first, and once
+  s V           a source; there are K of these lines
+  c ...         a comment; so is a line without a field
+Both are read, the graph first, and all sources are tested, before anything is written.
+
+For each source, in the order of its file, a block is written:
+  p spt N S     the tree of source S, of N vertices
+  v V D P       vertex V has distance D and predecessor P, the source 0 and 0; by rising V. A vertex
+                that no walk leads to has no line
+  e R           there were R lines of this kind
+or, where a vertex with an arc from one within the greatest distance of a word lies beyond it, one
+line that names the smallest such V (exit status 4 at the end):
+  x S V
+
+Example: where diamond.gr and diamond.ss have the lines
+  p sp 4 5
+  a 1 2 3
+  a 1 3 3
+  a 2 4 2
+  a 3 4 2
+  a 1 4 6
+and
+  p aux sp ss 1
+  s 1
+the output of `spt tree diamond.gr diamond.ss --delta 3` is
+  p spt 4 1
+  v 1 0 0
+  v 2 3 1
+  v 3 3 1
+  v 4 5 2
+  e 4
+
+A fault of a file is told with its line, as in `spt: gr: line 2: 5 OutOfRange V`; FILE is gr or ss:
+",
+        faults: "  6 TooMany        more than M arcs or K sources
+  7 TooFew         fewer than M arcs or K sources
+",
+        others: "\
+Others are
+  spt: FILE: cannot open             (exit status 6)
+  spt: delta out of range            a word of this layout has no such distance (exit status 1)
+  spt: source V: no such vertex      the first source above N; nothing is written (exit status 2)
+  spt: memory                        a beginning of the output may stand (exit status 5)
+  spt: write failed                  a beginning of the output may stand (exit status 6)
+",
+        statuses:
+            0 "done"
+            1 "the command line is wrong, or delta is out of range"
+            2 "a file is refused, or a source is no vertex"
+            4 "for some source a vertex is too far; all answers are written";
+            "a file" "the output"
+    );
+
+    fn words(alloc: Global) -> Words<'a> {
+        clap::Command::new(alloc, Self::NAME)
+            .arg(file(alloc, "GR", GRAPH_FILE))?
+            .arg(file(alloc, "SS", "The sources, a .ss file"))?
+            .arg(delta(alloc))?
+            .arg(workers(alloc))
+    }
+
+    fn read(given: &ArgMatches<'a>) -> Option<Self> {
+        let workers: u32 = given.get_one("workers")?;
+        if !(1..=64).contains(&workers) {
+            return None;
+        }
+        Some(Tree {
+            graph: given.get_str("GR")?,
+            sources: given.get_str("SS")?,
+            delta: given.get_one("delta")?,
+            workers,
+        })
+    }
+}
+
+fn delta<'a>(alloc: Global) -> Arg<'a> {
+    Arg::new(alloc, "delta")
+        .long("delta")
+        .value_name("D")
+        .value_parser(value_parser!(u64).range(1..=MAX_DELTA))
+        .required(true)
+        .help("The width of a bucket of tentative distances")
+        .long_help(DELTA_LONG)
+}
+
+fn workers<'a>(alloc: Global) -> Arg<'a> {
+    Arg::new(alloc, "workers")
+        .long("workers")
+        .value_name("W")
+        .value_parser(value_parser!(u32).range(1..=64))
+        .default_value("1")
+        .help("Threads that may work at once")
+        .long_help(WORKERS_LONG)
+}
+
+// Writes the tree of each source of the list, or the line of the vertex that is too far.
+impl<const P: u32> Run<P> for Tree<'_> {
+    fn run<R: Threads + Wait + Sync, F: Inputs, W: Write>(
+        &self,
+        rt: &R,
+        alloc: Global,
+        files: &F,
+        out: &mut W,
+    ) -> Result<Status, Fault> {
+        let (delta, workers) = (self.delta, self.workers);
+        if !(1..=Word::<P>::max_dist()).contains(&delta) {
+            return Err(Fault::DeltaOutOfRange);
+        }
+        let mut gr = FileKind::Graph.open(files, self.graph)?;
+        let mut ss = FileKind::Sources.open(files, self.sources)?;
+        match run_batch::<P, R, _, _, W>(rt, alloc, &mut gr, &mut ss, out, delta, workers) {
+            Ok(summary) => Ok(status_after(summary)),
+            Err(error) => Err(fault_of(error)),
+        }
+    }
+}
+
+// How a run ends that has written all answers.
+fn status_after(summary: Summary) -> Status
+    ensures { result ≡ end_of summary }
+{
+    if summary.too_far == 0 {
+        Status::Done
+    } else {
+        Status::TooFar
+    }
+}
+
+fn fault_of(error: BatchError) -> Fault
+    ensures { result ≡ fault_of error }
+{
+    match error {
+        BatchError::Gr(error) => FileKind::Graph.fault(error),
+        BatchError::Ss(error) => FileKind::Sources.fault(error),
+        BatchError::NoSuchVertex(source) => Fault::NoSuchVertex(source),
+        BatchError::Memory => Fault::Memory,
+        BatchError::Write => Fault::WriteFailed,
+    }
+}
