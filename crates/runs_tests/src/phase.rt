@@ -9,7 +9,7 @@ use sp_phase::{RunError, Store, run_source, run_source_with};
 use sp_task::OpenGate;
 use sp_team::Team;
 use sp_tree::Tree;
-use sp_word::Word;
+use sp_word::{Delta, Word, Workers};
 use std::process::Abort;
 use std::sync::Wait;
 use std::test::Fail;
@@ -17,6 +17,7 @@ use std::thread::Threads;
 
 mod compare;
 mod fire;
+mod lending;
 mod meeting;
 mod random;
 mod refused;
@@ -34,6 +35,18 @@ fn graph_of(rt: &(impl Abort + AllocGlobal), n: u32, arcs: &[Triple]) -> Result<
     Ok(samples::graph_of(rt.alloc(), n, arcs)?)
 }
 
+// So many workers.
+pub(crate) fn crew(rt: &impl Abort, number: u32) -> Workers {
+    Workers::new(number).expect(rt, "a number of workers in range")
+}
+
+// Buckets so wide.
+fn width<const P: u32>(rt: &impl Abort, width: u64) -> Delta<P>
+    requires { is_layout P ≡ true }
+{
+    Delta::new(width).expect(rt, "a width in range")
+}
+
 // What a run tells, every round of which is shared among the workers.
 fn run<const P: u32>(
     rt: &(impl Abort + AllocGlobal + Threads + Wait + Sync),
@@ -45,8 +58,7 @@ fn run<const P: u32>(
     requires { is_layout P ≡ true }
 {
     assert!(rt; graph.n() <= Word::<P>::max_pred());
-    assert!(rt; 1 <= delta && delta <= Word::<P>::max_dist());
-    assert!(rt; 1 <= workers && workers <= 64);
+    let (delta, workers) = (width(rt, delta), crew(rt, workers));
     run_source_with(rt, rt.alloc(), graph, delta, workers, source, &OpenGate)
 }
 
@@ -61,8 +73,7 @@ fn run_by_team<const P: u32>(
     requires { is_layout P ≡ true }
 {
     assert!(rt; graph.n() <= Word::<P>::max_pred());
-    assert!(rt; 1 <= delta && delta <= Word::<P>::max_dist());
-    assert!(rt; 1 <= workers && workers <= 64);
+    let (delta, workers) = (width(rt, delta), crew(rt, workers));
     sp_phase::run_by_team(rt, rt.alloc(), graph, Team { delta, workers }, source)
 }
 
@@ -119,7 +130,8 @@ fn by_a_team(rt: HostRuntime) -> Result<(), Fail> {
         let tree = run_by_team(&rt, &graph, 2, workers, 1)?;
         assert!(rt; has_rows(&tree, &DIAMOND_ROWS));
     }
-    let tree: Tree<28> = run_source(&rt, rt.alloc(), &graph, 2, 64, 1)?;
+    let (delta, workers) = (width::<28>(&rt, 2), crew(&rt, 64));
+    let tree = run_source(&rt, rt.alloc(), &graph, delta, workers, 1)?;
     assert!(rt; has_rows(&tree, &DIAMOND_ROWS));
     Ok(())
 }

@@ -13,7 +13,7 @@ use sp_graph::{Graph, Rows};
 use sp_offer::{AnyWord, Caller, Loop, Lowering, OfferTable, OneMin};
 use sp_paths::Arc;
 use sp_task::{Gate, TaskKind, OpenGate, Round, RoundOut, RoundRefused, Task, run_round, run_round_by};
-use sp_word::Word;
+use sp_word::{Word, Workers};
 use std::alloc::{AllocError, Global};
 use std::sync::Wait;
 use std::sync::atomic::{AtomicBool, AtomicU64, Ordering};
@@ -22,6 +22,7 @@ use std::thread::Threads;
 
 mod gates;
 
+use crate::phase::crew;
 use gates::{Count, Meeting, Thief};
 
 const MOST_VERTICES: u32 = 1_000_000;
@@ -111,11 +112,9 @@ fn play<M: Lowering + Send + Sync, R: Threads + Wait + Sync, G: Gate + Sync>(
     bench: Bench,
     tasks: &[Task],
     number: u64,
-    workers: u32,
+    workers: Workers,
     gate: &G,
-) -> Played
-    requires { (1 ≤ workers) × (workers ≤ 64) }
-{
+) -> Played {
     let Bench {
         rows,
         table,
@@ -248,7 +247,15 @@ fn two_workers_meet(rt: HostRuntime) -> Result<(), Fail> {
     offer(&mut bench, 3, 1, 1);
     let gate = Meeting::new();
     let tasks = [light(2, 1), light(3, 1)];
-    let played = play::<Loop, HostRuntime, Meeting>(&rt, alloc, bench, &tasks, 1, 2, &gate);
+    let played = play::<Loop, HostRuntime, Meeting>(
+        &rt,
+        alloc,
+        bench,
+        &tasks,
+        1,
+        crew(&rt, 2),
+        &gate,
+    );
     assert!(rt; !played.refused, "no memory");
     assert!(rt; gate.met(), "the workers did not meet");
     assert_eq!(rt; played.started, 2);
@@ -274,7 +281,15 @@ fn thief_takes(rt: HostRuntime) -> Result<(), Fail> {
     offer(&mut bench, 4, 1, 1);
     let gate = Thief::new();
     let tasks = [light(2, 1), light(3, 1), light(4, 1)];
-    let played = play::<Loop, HostRuntime, Thief>(&rt, alloc, bench, &tasks, 1, 2, &gate);
+    let played = play::<Loop, HostRuntime, Thief>(
+        &rt,
+        alloc,
+        bench,
+        &tasks,
+        1,
+        crew(&rt, 2),
+        &gate,
+    );
     assert!(rt; !played.refused, "no memory");
     assert!(rt; gate.came() >= 2, "no task was taken from the leader");
     let wanted = [entry(5, 2), entry(6, 2), entry(7, 2)];
@@ -288,10 +303,8 @@ fn diamond<M: Lowering + Send + Sync, R: Threads + Wait + Sync>(
     rt: &R,
     alloc: Global,
     first: &[Task],
-    workers: u32,
-) -> Result<bool, AllocError>
-    requires { (1 ≤ workers) × (workers ≤ 64) }
-{
+    workers: Workers,
+) -> Result<bool, AllocError> {
     let arcs = [
         arc(1, 2, 3),
         arc(1, 3, 3),
@@ -303,17 +316,18 @@ fn diamond<M: Lowering + Send + Sync, R: Threads + Wait + Sync>(
     offer(&mut bench, 1, 0, 0);
     let one = play::<M, R, OpenGate>(rt, alloc, bench, first, 1, workers, &OpenGate);
     let wanted = [entry(2, 3), entry(3, 3), entry(4, 6)];
-    let first_found = are_entries(one.found.as_slice(), &wanted) && one.started == workers;
+    let first_found = are_entries(one.found.as_slice(), &wanted) && one.started == workers.get();
     // every claim of round 1 would be refused now, so the leader makes all three offers
     let again_by = Count::new();
     let again = play::<M, R, Count>(rt, alloc, one.bench, first, 1, workers, &again_by);
     let none_found = again.found.is_empty() && !again.refused && again_by.is_leader_alone(3);
     // both offers of 5 to 4 are made, and the first alone is shorter
     let second = [light(2, 3), light(3, 3), light(4, 6)];
-    let two = play::<M, R, OpenGate>(rt, alloc, again.bench, &second, 2, 2, &OpenGate);
+    let both = Workers::new(2).unwrap();
+    let two = play::<M, R, OpenGate>(rt, alloc, again.bench, &second, 2, both, &OpenGate);
     let last_found = are_entries(two.found.as_slice(), &[entry(4, 5)]);
     let more_by = Count::new();
-    let more = play::<M, R, Count>(rt, alloc, two.bench, &second, 2, 2, &more_by);
+    let more = play::<M, R, Count>(rt, alloc, two.bench, &second, 2, both, &more_by);
     let no_more = more.found.is_empty() && !more.refused && more_by.is_leader_alone(2);
     Ok(first_found && none_found && last_found && no_more)
 }
@@ -321,8 +335,8 @@ fn diamond<M: Lowering + Send + Sync, R: Threads + Wait + Sync>(
 #[test]
 fn rounds(rt: HostRuntime) -> Result<(), Fail> {
     let first = [light(1, 0)];
-    assert!(rt; diamond::<Loop, HostRuntime>(&rt, rt.alloc(), &first, 1)?);
-    assert!(rt; diamond::<OneMin, HostRuntime>(&rt, rt.alloc(), &first, 1)?);
+    assert!(rt; diamond::<Loop, HostRuntime>(&rt, rt.alloc(), &first, crew(&rt, 1))?);
+    assert!(rt; diamond::<OneMin, HostRuntime>(&rt, rt.alloc(), &first, crew(&rt, 1))?);
     Ok(())
 }
 
@@ -330,8 +344,8 @@ fn rounds(rt: HostRuntime) -> Result<(), Fail> {
 #[test]
 fn rounds_of_two_workers(rt: HostRuntime) -> Result<(), Fail> {
     let first = [light(1, 0), light(4, 6)];
-    assert!(rt; diamond::<Loop, HostRuntime>(&rt, rt.alloc(), &first, 2)?);
-    assert!(rt; diamond::<OneMin, HostRuntime>(&rt, rt.alloc(), &first, 2)?);
+    assert!(rt; diamond::<Loop, HostRuntime>(&rt, rt.alloc(), &first, crew(&rt, 2))?);
+    assert!(rt; diamond::<OneMin, HostRuntime>(&rt, rt.alloc(), &first, crew(&rt, 2))?);
     Ok(())
 }
 
@@ -383,7 +397,7 @@ fn many_workers_leave_the_words_of_one_caller(rt: HostRuntime) -> Result<(), Fai
             bench,
             tasks.as_slice(),
             1,
-            workers,
+            crew(&rt, workers),
             &OpenGate,
         );
         assert!(rt; !played.refused, "no memory");
@@ -410,7 +424,15 @@ fn refused_rounds_are_made_up_for(rt: HostRuntime) -> Result<(), Fail> {
     offer(&mut bench, 3, 1, 1);
     let tasks = [light(2, 1), light(3, 1)];
     let wanted = [entry(4, 2), entry(5, 2)];
-    let first = play::<Loop, HostRuntime, OpenGate>(&rt, alloc, bench, &tasks, 1, 2, &OpenGate);
+    let first = play::<Loop, HostRuntime, OpenGate>(
+        &rt,
+        alloc,
+        bench,
+        &tasks,
+        1,
+        crew(&rt, 2),
+        &OpenGate,
+    );
     assert!(rt; first.refused || are_entries(first.found.as_slice(), &wanted));
     let second = play::<Loop, HostRuntime, OpenGate>(
         &rt,
@@ -418,7 +440,7 @@ fn refused_rounds_are_made_up_for(rt: HostRuntime) -> Result<(), Fail> {
         first.bench,
         &tasks,
         2,
-        2,
+        crew(&rt, 2),
         &OpenGate,
     );
     let mut bench = second.bench;

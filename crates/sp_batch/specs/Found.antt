@@ -1,20 +1,15 @@
 -- What was found for sources, before it is written.
 use Rattle.std.specs.Prelude.{◌≡◌, ◌≤◌, ℕ, true, List, map}
-use Rattle.sp_word.specs.Word.{is_layout, max_dist, max_pred}
+use Rattle.sp_word.specs.Word.{is_layout, max_pred}
 use Rattle.sp_paths.specs.Paths.{Graph}
-use Rattle.sp_batch.specs.declared.finding.Plan.{Plan}
 use Rattle.sp_batch.specs.declared.finding.Found.{Found}
 use Rattle.sp_batch.specs.declared.finding.Found.TheVariants.{Tree, Far}
 use Rattle.sp_batch.specs.Batch.{Answer, TreeOf, FarFrom, IsAnswerTo, AreAnswers}
 
--- The layout, the graph and the plan are within the limits of a run.
-pub record IsReady {P : ℕ} (g : Graph) (plan : Plan P) : Type 0 where
+-- The layout and the graph are within the limits of a run.
+pub record IsReady (P : ℕ) (g : Graph) : Type 0 where
   pub layout : is_layout P ≡ true
   pub n : g.n ≤ max_pred P
-  pub delta_least : 1 ≤ plan.delta
-  pub delta_most : plan.delta ≤ max_dist P
-  pub workers_least : 1 ≤ plan.workers
-  pub workers_most : plan.workers ≤ 64
 
 -- the answer that it is
 abbrev pub answer_of : {P : ℕ} → Found P → Answer

@@ -1,6 +1,7 @@
 //! Sources answered: found and written, one after the other or side by side.
 ghost use Rattle.std.specs.Prelude.{◌≡◌, ◌<◌, ◌≤◌, [], ◌∷◌, length, All, IfOk};
 ghost use denote.Param.Send.{IsSync};
+ghost use Rattle.sp_word.specs.declared.workers.TheConstants.{MOST_WORKERS};
 ghost use Rattle.sp_paths.specs.Paths.{IsVertex};
 ghost use Rattle.sp_batch.specs.Found.{IsReady, AreFound};
 ghost use Rattle.sp_batch.specs.Steps.{IsGroupWritten, AreAllAnswered, MovesOn};
@@ -11,6 +12,7 @@ use crate::watch::Watch;
 use crate::writing::{nothing, sum, write_group, write_one};
 use sp_dimacs::Write;
 use sp_graph::Graph;
+use sp_word::Workers;
 use std::alloc::{AllocError, Global};
 use std::sync::Wait;
 use std::thread;
@@ -23,20 +25,16 @@ fn count_at_once<R: Threads>(
     graph: &Graph,
     least: usize,
     sources: usize,
-    workers: u32,
-) -> u32
-    requires { 1 ≤ workers }
-    ensures least { 1 ≤ result }
-    ensures most { result ≤ workers }
+    workers: Workers,
+) -> Workers
+    ensures { result ≤ workers }
 {
     let items = graph.m().saturating_add(graph.n() as usize);
-    if workers == 1 || sources < 2 || items < least {
-        return 1;
+    if workers.get() == 1 || sources < 2 || items < least {
+        return Workers::one();
     }
     match thread::available_parallelism(rt) {
-        Ok(count) => workers
-            .min(u32::try_from(count.get()).unwrap_or(workers))
-            .max(1),
+        Ok(count) => workers.at_most(count.get()),
         Err(_) => workers,
     }
 }
@@ -47,11 +45,11 @@ fn answer_source<const P: u32, R: Threads + Wait + Sync + Watch, W: Write>(
     rt: &R,
     alloc: Global,
     graph: &Graph,
-    plan: Plan<P>,
+    plan: &Plan<P>,
     source: u32,
     out: &mut W,
 ) -> Result<Summary, BatchError>
-    requires ready { IsReady graph.now plan }
+    requires ready { IsReady P graph.now }
     requires vertex { IsVertex graph.now.n source }
     ensures { AreAllAnswered P graph.now (source ∷ []) W.Write out.old result out.new }
 {
@@ -66,11 +64,11 @@ fn answer_in_turn<const P: u32, R: Threads + Wait + Sync + Watch, W: Write>(
     rt: &R,
     alloc: Global,
     graph: &Graph,
-    plan: Plan<P>,
+    plan: &Plan<P>,
     sources: &[u32],
     out: &mut W,
 ) -> Result<Summary, BatchError>
-    requires ready { IsReady graph.now plan }
+    requires ready { IsReady P graph.now }
     requires short { length sources.now ≤ 1048576 }
     requires vertices { All (IsVertex graph.now.n) sources.now }
     ensures { AreAllAnswered P graph.now sources.now W.Write out.old result out.new }
@@ -84,15 +82,15 @@ fn answer_in_turn<const P: u32, R: Threads + Wait + Sync + Watch, W: Write>(
 }
 
 // The same plan, its workers shared among so many sources.
-fn shared<const P: u32>(plan: Plan<P>, sources: u32) -> Plan<P>
-    requires { (1 ≤ sources) × (sources ≤ plan.workers) }
-    ensures delta { result.delta ≡ plan.entry.delta }
-    ensures least { 1 ≤ result.workers }
-    ensures most { result.workers ≤ plan.entry.workers }
+fn shared<const P: u32>(plan: &Plan<P>, sources: usize) -> Plan<P>
+    requires { 1 ≤ sources }
+    ensures delta { result.delta ≡ plan.now.delta }
+    ensures most { result.workers ≤ plan.now.workers }
 {
+    let each = plan.workers.get() as usize / sources;
     Plan {
         delta: plan.delta,
-        workers: plan.workers / sources,
+        workers: plan.workers.at_most(each),
     }
 }
 
@@ -101,7 +99,7 @@ fn find_and_write<const P: u32, R: Threads + Wait + Sync + Watch, W: Write>(
     rt: &R,
     alloc: Global,
     graph: &Graph,
-    plan: Plan<P>,
+    plan: &Plan<P>,
     sources: &[u32],
     before: &[Found<P>],
     out: &mut W,
@@ -109,7 +107,7 @@ fn find_and_write<const P: u32, R: Threads + Wait + Sync + Watch, W: Write>(
     Result<Vec<Found<P>>, AllocError>,
     Result<Summary, BatchError>,
 )
-    requires ready { IsReady graph.now plan }
+    requires ready { IsReady P graph.now }
     requires vertices { All (IsVertex graph.now.n) sources.now }
     ensures found { IfOk result.0 (λ group. AreFound graph.now sources.now group.items) }
     ensures written { IsGroupWritten W.Write before.now out.old result.1 out.new }
@@ -119,7 +117,7 @@ fn find_and_write<const P: u32, R: Threads + Wait + Sync + Watch, W: Write>(
         return (found, Ok(nothing()));
     }
     let mut find = || -> Result<Vec<Found<P>>, AllocError>
-        requires { IsSync R.row × IsReady graph.now plan × All (IsVertex graph.now.n) sources.now }
+        requires { IsSync R.row × IsReady P graph.now × All (IsVertex graph.now.n) sources.now }
         ensures { IfOk result (λ group. AreFound graph.entry.now sources.entry.now group.items) }
     { find_group::<P, R>(rt, alloc, graph, plan, sources) };
     let mut write = || -> Result<Summary, BatchError>
@@ -141,20 +139,20 @@ fn answer_group<const P: u32, R: Threads + Wait + Sync + Watch, W: Write>(
     rt: &R,
     alloc: Global,
     graph: &Graph,
-    plan: Plan<P>,
+    plan: &Plan<P>,
     sources: &[u32],
     waiting: Vec<Found<P>>,
     out: &mut W,
 ) -> Result<Step<P>, BatchError>
-    requires ready { IsReady graph.now plan }
+    requires ready { IsReady P graph.now }
     requires some { 0 < length sources.now }
-    requires few { length sources.now ≤ plan.workers }
+    requires few { length sources.now ≤ MOST_WORKERS }
     requires vertices { All (IsVertex graph.now.n) sources.now }
     ensures { MovesOn graph.now waiting.entry.items sources.now W.Write out.old result out.new }
 {
-    let each = shared(plan, sources.len() as u32);
+    let each = shared(plan, sources.len());
     let (found, written) = find_and_write::<P, R, W>(
-        rt, alloc, graph, each, sources, &waiting, out,
+        rt, alloc, graph, &each, sources, &waiting, out,
     );
     let summary = written?;
     match found {
@@ -178,11 +176,11 @@ pub(crate) fn answer_side_by_side<const P: u32, R: Threads + Wait + Sync + Watch
     rt: &R,
     alloc: Global,
     graph: &Graph,
-    plan: Plan<P>,
+    plan: &Plan<P>,
     sources: &[u32],
     out: &mut W,
 ) -> Result<Summary, BatchError>
-    requires ready { IsReady graph.now plan }
+    requires ready { IsReady P graph.now }
     requires short { length sources.now ≤ 1048576 }
     requires vertices { All (IsVertex graph.now.n) sources.now }
     ensures { AreAllAnswered P graph.now sources.now W.Write out.old result out.new }
@@ -191,7 +189,7 @@ pub(crate) fn answer_side_by_side<const P: u32, R: Threads + Wait + Sync + Watch
     let mut waiting = Vec::new(alloc);
     let mut rest = sources;
     while !rest.is_empty() {
-        let size = rest.len().min(plan.workers as usize);
+        let size = rest.len().min(plan.workers.get() as usize);
         let (group, later) = rest.split_at(size);
         let Step {
             summary: more,
@@ -211,22 +209,22 @@ pub(crate) fn answer_sources<const P: u32, R: Threads + Wait + Sync + Watch, W: 
     alloc: Global,
     graph: &Graph,
     least: usize,
-    plan: Plan<P>,
+    plan: &Plan<P>,
     sources: &[u32],
     out: &mut W,
 ) -> Result<Summary, BatchError>
-    requires ready { IsReady graph.now plan }
+    requires ready { IsReady P graph.now }
     requires short { length sources.now ≤ 1048576 }
     requires vertices { All (IsVertex graph.now.n) sources.now }
     ensures { AreAllAnswered P graph.now sources.now W.Write out.old result out.new }
 {
     let workers = count_at_once(rt, graph, least, sources.len(), plan.workers);
-    if workers == 1 {
+    if workers.get() == 1 {
         return answer_in_turn::<P, R, W>(rt, alloc, graph, plan, sources, out);
     }
     let groups = Plan {
         delta: plan.delta,
         workers,
     };
-    answer_side_by_side::<P, R, W>(rt, alloc, graph, groups, sources, out)
+    answer_side_by_side::<P, R, W>(rt, alloc, graph, &groups, sources, out)
 }

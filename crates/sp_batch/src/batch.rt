@@ -1,6 +1,6 @@
 //! A batch of sources.
 ghost use Rattle.std.specs.Prelude.{◌≡◌, ◌≤◌, ℕ, true, List, length, All, Some, IfSome, IfNone, IfErr};
-ghost use Rattle.sp_word.specs.Word.{is_layout, max_dist, max_pred};
+ghost use Rattle.sp_word.specs.Word.{is_layout};
 ghost use Rattle.sp_paths.specs.Paths.{IsVertex, IsGraph};
 ghost use Rattle.sp_dimacs.specs.Graph.{IsNetwork};
 ghost use Rattle.sp_dimacs.specs.Sources.{AreSourcesWithin};
@@ -13,6 +13,7 @@ use crate::finding::Plan;
 use crate::watch::{Unwatched, Watch};
 use sp_dimacs::{GrFile, Read, SsFile, Write, read_gr, read_ss};
 use sp_graph::Graph;
+use sp_word::{Delta, Workers};
 use std::alloc::Global;
 use std::sync::Wait;
 use std::thread::Threads;
@@ -42,14 +43,12 @@ pub(crate) fn answer_files<const P: u32, R: Threads + Wait + Sync + Watch, W: Wr
     file: GrFile,
     list: &SsFile,
     least: usize,
-    plan: Plan<P>,
+    plan: &Plan<P>,
     out: &mut W,
 ) -> Result<Summary, BatchError>
     requires layout { is_layout P ≡ true }
     requires network { IsNetwork P file }
     requires sources { AreSourcesWithin P list.now }
-    requires delta { (1 ≤ plan.delta) × (plan.delta ≤ max_dist P) }
-    requires workers { (1 ≤ plan.workers) × (plan.workers ≤ 64) }
     ensures batch { IsBatch P file list.now W.Write out.old out.new result }
     ensures untouched { IfErr result (λ e. is_early e ≡ true → out.new ≡ out.old) }
 {
@@ -75,12 +74,10 @@ pub fn run_batch<const P: u32, R: Threads + Wait + Sync, G: Read, S: Read, W: Wr
     gr: &mut G,
     ss: &mut S,
     out: &mut W,
-    delta: u64,
-    workers: u32,
+    delta: Delta<P>,
+    workers: Workers,
 ) -> Result<Summary, BatchError>
     requires layout { is_layout P ≡ true }
-    requires delta { (1 ≤ delta) × (delta ≤ max_dist P) }
-    requires workers { (1 ≤ workers) × (workers ≤ 64) }
     ensures exact { (gr_text ss_text : List ℕ)
         → G.left gr.old ≡ Some gr_text → S.left ss.old ≡ Some ss_text
         → BatchAnswered P gr_text ss_text G.Read gr.new S.Read ss.new
@@ -103,7 +100,7 @@ pub fn run_batch<const P: u32, R: Threads + Wait + Sync, G: Read, S: Read, W: Wr
         file,
         &list,
         LEAST_ITEMS,
-        plan,
+        &plan,
         out,
     )
 }

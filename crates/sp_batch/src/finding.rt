@@ -8,6 +8,7 @@ use crate::watch::Watch;
 use sp_graph::Graph;
 use sp_phase::{RunError, run_source};
 use sp_tree::Tree;
+use sp_word::{Delta, Workers};
 use std::alloc::{AllocError, Global};
 use std::sync::Wait;
 use std::thread::{Threads, join};
@@ -15,8 +16,8 @@ use std::thread::{Threads, join};
 /// How runs are made: the width of a bucket, and the number of workers.
 #[derive(Clone, Copy)]
 pub(crate) struct Plan<const P: u32> {
-    pub(crate) delta: u64,
-    pub(crate) workers: u32,
+    pub(crate) delta: Delta<P>,
+    pub(crate) workers: Workers,
 }
 
 /// What is to be told of a source.
@@ -33,10 +34,10 @@ pub(crate) fn find_source<const P: u32, R: Threads + Wait + Sync + Watch>(
     rt: &R,
     alloc: Global,
     graph: &Graph,
-    plan: Plan<P>,
+    plan: &Plan<P>,
     source: u32,
 ) -> Result<Found<P>, AllocError>
-    requires ready { IsReady graph.now plan }
+    requires ready { IsReady P graph.now }
     requires vertex { IsVertex graph.now.n source }
     ensures { IfOk result (IsFound graph.now source) }
 {
@@ -54,10 +55,10 @@ fn find_in_turn<const P: u32, R: Threads + Wait + Sync + Watch>(
     rt: &R,
     alloc: Global,
     graph: &Graph,
-    plan: Plan<P>,
+    plan: &Plan<P>,
     sources: &[u32],
 ) -> Result<Vec<Found<P>>, AllocError>
-    requires ready { IsReady graph.now plan }
+    requires ready { IsReady P graph.now }
     requires vertices { All (IsVertex graph.now.n) sources.now }
     ensures { IfOk result (λ group. AreFound graph.now sources.now group.items) }
 {
@@ -87,10 +88,10 @@ pub(crate) fn find_group<const P: u32, R: Threads + Wait + Sync + Watch>(
     rt: &R,
     alloc: Global,
     graph: &Graph,
-    plan: Plan<P>,
+    plan: &Plan<P>,
     sources: &[u32],
 ) -> Result<Vec<Found<P>>, AllocError>
-    requires ready { IsReady graph.now plan }
+    requires ready { IsReady P graph.now }
     requires vertices { All (IsVertex graph.now.n) sources.now }
     ensures { IfOk result (λ group. AreFound graph.now sources.now group.items) }
 {
@@ -100,11 +101,11 @@ pub(crate) fn find_group<const P: u32, R: Threads + Wait + Sync + Watch>(
     let half = sources.len() / 2;
     let (left, right) = sources.split_at(half);
     let back = move || -> Result<Vec<Found<P>>, AllocError>
-        requires { IsSync R.row × IsReady graph.now plan × All (IsVertex graph.now.n) right.now }
+        requires { IsSync R.row × IsReady P graph.now × All (IsVertex graph.now.n) right.now }
         ensures { IfOk result (λ group. AreFound graph.entry.now right.entry.now group.items) }
     { find_group(rt, alloc, graph, plan, right) };
     let front = move || -> Result<Vec<Found<P>>, AllocError>
-        requires { IsSync R.row × IsReady graph.now plan × All (IsVertex graph.now.n) left.now }
+        requires { IsSync R.row × IsReady P graph.now × All (IsVertex graph.now.n) left.now }
         ensures { IfOk result (λ group. AreFound graph.entry.now left.entry.now group.items) }
     { find_group(rt, alloc, graph, plan, left) };
     let (second, first) = join(rt, back, front);

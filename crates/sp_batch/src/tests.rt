@@ -1,6 +1,6 @@
 //! Batches over memory.
 ghost use Rattle.std.specs.Prelude.{◌≡◌, ◌≤◌, ◌^◌, true, length};
-ghost use Rattle.sp_word.specs.Word.{is_layout, max_dist};
+ghost use Rattle.sp_word.specs.Word.{is_layout};
 
 mod devices;
 mod graphs;
@@ -14,6 +14,7 @@ use crate::finding::Plan;
 use crate::watch::{Unwatched, Watch};
 use crate::{BatchError, Summary, run_batch};
 use sp_dimacs::{DimacsError, Kind, UpTo, UpToWriter, read_gr, read_ss};
+use sp_word::{Delta, Workers};
 use std::alloc::Global;
 use std::process::Abort;
 use std::str::from_utf8;
@@ -30,8 +31,13 @@ pub struct Ran {
     pub out: UpToWriter,
 }
 
+/// So many workers.
+pub fn crew(rt: &impl Abort, number: u32) -> Workers {
+    Workers::new(number).expect(rt, "a number of workers in range")
+}
+
 /// Runs a batch into a writer that takes so many bytes in all.
-pub fn run_into<const P: u32, R: Threads + Wait + Sync>(
+pub fn run_into<const P: u32, R: Threads + Wait + Sync + Abort>(
     rt: &R,
     alloc: Global,
     gr: &[u8],
@@ -44,8 +50,6 @@ pub fn run_into<const P: u32, R: Threads + Wait + Sync>(
     requires gr { length gr.now ≤ 2 ^ 62 }
     requires ss { length ss.now ≤ 2 ^ 62 }
     requires room { room ≤ 2 ^ 62 }
-    requires delta { (1 ≤ delta) × (delta ≤ max_dist P) }
-    requires workers { (1 ≤ workers) × (workers ≤ 64) }
 {
     let mut out = UpToWriter::new(alloc, room, AMPLE);
     let answer = run_batch::<P, R, _, _, _>(
@@ -54,8 +58,8 @@ pub fn run_into<const P: u32, R: Threads + Wait + Sync>(
         &mut UpTo::whole(gr),
         &mut UpTo::whole(ss),
         &mut out,
-        delta,
-        workers,
+        Delta::new(delta).expect(rt, "a width in range"),
+        crew(rt, workers),
     );
     Ran { answer, out }
 }
@@ -68,12 +72,11 @@ pub fn run_watched<R: Threads + Wait + Sync + Watch>(
     ss: &[u8],
     room: usize,
     least: usize,
-    workers: u32,
+    workers: Workers,
 ) -> Ran
     requires gr { length gr.now ≤ 2 ^ 62 }
     requires ss { length ss.now ≤ 2 ^ 62 }
     requires room { room ≤ 2 ^ 62 }
-    requires workers { (1 ≤ workers) × (workers ≤ 64) }
 {
     let mut out = UpToWriter::new(alloc, room, AMPLE);
     let file = match read_gr::<28, _>(alloc, &mut UpTo::whole(gr)) {
@@ -90,13 +93,16 @@ pub fn run_watched<R: Threads + Wait + Sync + Watch>(
             return Ran { answer, out };
         }
     };
-    let plan = Plan { delta: 2, workers };
-    let answer = answer_files::<28, R, _>(rt, alloc, file, &list, least, plan, &mut out);
+    let plan = Plan {
+        delta: Delta::new(2).unwrap(),
+        workers,
+    };
+    let answer = answer_files::<28, R, _>(rt, alloc, file, &list, least, &plan, &mut out);
     Ran { answer, out }
 }
 
 /// Runs a batch by groups of sources, however small the graph is.
-pub fn run_groups<R: Threads + Wait + Sync>(
+pub fn run_groups<R: Threads + Wait + Sync + Abort>(
     rt: &R,
     alloc: Global,
     gr: &[u8],
@@ -107,9 +113,9 @@ pub fn run_groups<R: Threads + Wait + Sync>(
     requires gr { length gr.now ≤ 2 ^ 62 }
     requires ss { length ss.now ≤ 2 ^ 62 }
     requires room { room ≤ 2 ^ 62 }
-    requires workers { (1 ≤ workers) × (workers ≤ 64) }
 {
-    run_watched(&(rt, Unwatched), alloc, gr, ss, room, 0, workers)
+    let watched = (rt, Unwatched);
+    run_watched(&watched, alloc, gr, ss, room, 0, crew(rt, workers))
 }
 
 /// Asserts what a batch answers and writes, for some deltas and numbers of workers, and by groups.

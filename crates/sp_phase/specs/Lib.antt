@@ -1,5 +1,6 @@
 pub mod Answer
 pub mod Stage
+pub mod Held
 pub mod Marks
 pub mod Lead
 pub mod Running

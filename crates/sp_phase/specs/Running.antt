@@ -1,7 +1,6 @@
 -- What holds of a run between its rounds.
 use Rattle.std.specs.Prelude.{◌≡◌, ℕ, ◌≤◌, List, ◌++◌, length, All}
 use Rattle.std.specs.List.Sorted.{IsPermutation}
-use Rattle.sp_claim.specs.Seated.{TableId}
 use Rattle.sp_word.specs.Word.{Pair, max_dist}
 use Rattle.sp_word.specs.History.{Table}
 use Rattle.sp_paths.specs.Paths.{IsGraph, IsVertex, HasWalk}
@@ -59,10 +58,6 @@ pub record Leads (P : ℕ) (st : Stage) (l : Lead) : Type 0 where
   pub width : l.buckets.delta ≡ st.delta
   pub entries : All (IsQueued P st 0) l.buckets.entries
   pub size : length l.words ≡ st.graph.n
-
--- so many workers, and a claimer of the stage's claims
-abbrev pub HasCrew : (workers : ℕ) → (claimer : TableId) → Stage → Type 0
-HasCrew workers claimer st = (1 ≤ workers) × (workers ≤ 64) × (claimer ≡ st.claims)
 
 -- distances from low on
 abbrev pub TasksFrom : (low : ℕ) → List Task → Type 0

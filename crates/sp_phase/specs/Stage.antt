@@ -39,6 +39,10 @@ pub record IsStage (P : ℕ) (st : Stage) : Type 0 where
 abbrev pub IsOf : Graph → (delta source : ℕ) → Stage → Type 0
 IsOf g delta s st = (st.graph ≡ g) × (st.source ≡ s) × (st.delta ≡ delta)
 
+-- the rows of a graph, parted at a width
+abbrev pub AreRowsOf : Graph → (delta : ℕ) → Split → Type 0
+AreRowsOf g delta rows = (rows.graph ≡ g) × (rows.delta ≡ delta)
+
 -- rows and tables are those of the stage
 pub record AreOfStage (st : Stage) (split : Split) (walks : WalksFrom) (words claims : ℕ) : Type 0 where
   pub rows : split ≡ rows_of st

@@ -74,7 +74,7 @@ impl<'a, 'g, const P: u32> Leader<'a, 'g, P> {
         ensures comes { IfOk result (ComesOn P (Some bucket) self.entry) }
     {
         tested_copy();
-        let bounds = bounds_of(bucket, self.store.delta());
+        let bounds = bounds_of(bucket, self.store.delta().get());
         let mut leader = self.empty_bucket(rt, gate, bucket)?;
         let passed = leader.queue_open(bounds)?;
         Ok((leader, passed))
@@ -96,7 +96,7 @@ impl<'a, 'g, const P: u32> Leader<'a, 'g, P> {
         ensures found { IfOk result (λ done. IsTrue done.1 → KnowsTarget P target done.0) }
     {
         tested_copy();
-        let bounds = bounds_of(bucket, self.store.delta());
+        let bounds = bounds_of(bucket, self.store.delta().get());
         let mut leader = self.empty_bucket(rt, gate, bucket)?;
         if !is_within(leader.read(target), bounds.light) {
             return Ok((leader, false));

@@ -12,7 +12,7 @@ use crate::store::Store;
 use sp_bucket::{Buckets, Entry};
 use sp_claim::Claimer;
 use sp_offer::Caller;
-use sp_word::Word;
+use sp_word::{Word, Workers};
 use std::alloc::{AllocError, Global};
 use std::marker::Model;
 
@@ -25,7 +25,7 @@ pub(crate) struct Leader<'a, 'g, const P: u32> {
     pub(crate) alloc: Global,
     pub(crate) store: &'a Store<'g, P>,
     /// The most workers of a round.
-    pub(crate) workers: u32,
+    pub(crate) workers: Workers,
     pub(crate) caller: Caller,
     pub(crate) claimer: Claimer,
     pub(crate) marks: Marks,
@@ -39,11 +39,12 @@ impl<'a, 'g, const P: u32> Model for Leader<'a, 'g, P> {
 
     ghost Value = { Lead };
 
-    ghost use Rattle.sp_phase.specs.Running.{Leads, HasCrew};
+    ghost use Rattle.std.specs.Prelude.{◌≡◌};
+    ghost use Rattle.sp_phase.specs.Running.{Leads};
 
     ghost view = { λ l. lead_of l.store.now l.caller l.marks l.buckets l.words.items };
 
-    ghost invariant = { λ l. HasCrew l.workers l.claimer.table l.store.now
+    ghost invariant = { λ l. (l.claimer.table ≡ l.store.now.claims)
         × Leads P l.store.now (lead_of l.store.now l.caller l.marks l.buckets l.words.items) };
 }
 
@@ -62,7 +63,11 @@ impl<'a, 'g, const P: u32> Leader<'a, 'g, P> {
         ensures come { IfOk result (λ leader. HasCome P leader.stage None None leader) }
     {
         let n = store.n();
-        let mut buckets = Buckets::with_longest(alloc, store.delta(), u64::from(store.longest()))?;
+        let mut buckets = Buckets::with_longest(
+            alloc,
+            store.delta().get(),
+            u64::from(store.longest()),
+        )?;
         buckets.put(Entry {
             vertex: store.source(),
             dist: 0,
@@ -73,7 +78,7 @@ impl<'a, 'g, const P: u32> Leader<'a, 'g, P> {
         Ok(Leader {
             alloc,
             store,
-            workers: 1,
+            workers: Workers::one(),
             caller,
             claimer,
             marks,
@@ -83,8 +88,7 @@ impl<'a, 'g, const P: u32> Leader<'a, 'g, P> {
     }
 
     /// The same leader of so many workers.
-    pub(crate) fn with_workers(self, workers: u32) -> Leader<'a, 'g, P>
-        requires { (1 ≤ workers) × (workers ≤ 64) }
+    pub(crate) fn with_workers(self, workers: Workers) -> Leader<'a, 'g, P>
         ensures { result ≡ self.entry }
     {
         Leader { workers, ..self }

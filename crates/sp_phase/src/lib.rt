@@ -4,6 +4,7 @@
 mod advancing;
 mod answers;
 mod finish;
+mod held;
 mod leader;
 mod marks;
 mod relaxing;

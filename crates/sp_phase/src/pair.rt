@@ -1,6 +1,6 @@
 //! Runs for one target.
 ghost use Rattle.std.specs.Prelude.{◌≡◌, ◌≤◌, true, IfOk, IfErr};
-ghost use Rattle.sp_word.specs.Word.{is_layout, max_dist, max_pred};
+ghost use Rattle.sp_word.specs.Word.{is_layout, max_pred};
 ghost use Rattle.sp_paths.specs.Paths.{IsVertex};
 ghost use Rattle.sp_phase.specs.Stage.{IsStage};
 ghost use Rattle.sp_phase.specs.Pairs.{IsPairAnswer, IsPairRefusal, KnowsTarget};
@@ -14,7 +14,7 @@ use sp_graph::{Graph, left_out, look_up};
 use sp_offer::Caller;
 use sp_paths::swept_copy;
 use sp_task::{Gate, OpenGate};
-use sp_word::Word;
+use sp_word::{Delta, Word, Workers};
 use std::alloc::Global;
 use std::sync::Wait;
 use std::thread::Threads;
@@ -48,15 +48,13 @@ pub fn run_pair<const P: u32, R: Threads + Wait + Sync>(
     rt: &R,
     alloc: Global,
     graph: &Graph,
-    delta: u64,
-    workers: u32,
+    delta: Delta<P>,
+    workers: Workers,
     source: u32,
     target: u32,
 ) -> Result<Option<Word<P>>, RunError>
     requires layout { is_layout P ≡ true }
     requires n { graph.now.n ≤ max_pred P }
-    requires delta { (1 ≤ delta) × (delta ≤ max_dist P) }
-    requires workers { (1 ≤ workers) × (workers ≤ 64) }
     ensures pair { IfOk result (IsPairAnswer P graph.now source target) }
     ensures refused { IfErr result (IsPairRefusal P graph.now source target) }
 {
@@ -68,16 +66,14 @@ pub fn run_pair_with<const P: u32, R: Threads + Wait + Sync, G: Gate + Sync>(
     rt: &R,
     alloc: Global,
     graph: &Graph,
-    delta: u64,
-    workers: u32,
+    delta: Delta<P>,
+    workers: Workers,
     source: u32,
     target: u32,
     gate: &G,
 ) -> Result<Option<Word<P>>, RunError>
     requires layout { is_layout P ≡ true }
     requires n { graph.now.n ≤ max_pred P }
-    requires delta { (1 ≤ delta) × (delta ≤ max_dist P) }
-    requires workers { (1 ≤ workers) × (workers ≤ 64) }
     ensures pair { IfOk result (IsPairAnswer P graph.now source target) }
     ensures refused { IfErr result (IsPairRefusal P graph.now source target) }
 {
@@ -95,11 +91,10 @@ fn run_stored_pair<const P: u32, R: Threads + Wait + Sync, G: Gate + Sync>(
     store: &Store<P>,
     caller: Caller,
     claimer: Claimer,
-    workers: u32,
+    workers: Workers,
     target: u32,
     gate: &G,
 ) -> Result<Option<Word<P>>, RunError>
-    requires workers { (1 ≤ workers) × (workers ≤ 64) }
     requires caller { caller.table ≡ store.now.table }
     requires claimer { claimer.table ≡ store.now.claims }
     requires stage { IsStage P store.now }

@@ -60,7 +60,7 @@ impl<'g, const P: u32> WholeRun<'g, P> {
             rt, self.alloc, self.graph, table, self.team, queue, caller,
         );
         table.copy_words(&mut caller, words);
-        let told = scan_arcs(rt, words, self.graph.arcs(), self.team.workers);
+        let told = scan_arcs(rt, words, self.graph.arcs(), self.team.workers.get());
         Turn { caller, told, lost }
     }
 

@@ -16,7 +16,7 @@ use sp_claim::Claimer;
 use sp_offer::Caller;
 use sp_task::Gate;
 use sp_tree::Tree;
-use sp_word::Word;
+use sp_word::{Word, Workers};
 use std::alloc::Global;
 use std::marker::Model;
 use std::sync::Wait;
@@ -67,9 +67,8 @@ impl<'a, 'g, const P: u32> Run<'a, 'g, P> {
         store: &'a Store<'g, P>,
         caller: Caller,
         claimer: Claimer,
-        workers: u32,
+        workers: Workers,
     ) -> Result<Run<'a, 'g, P>, RunError>
-        requires workers { (1 ≤ workers) × (workers ≤ 64) }
         requires caller { caller.table ≡ store.now.table }
         requires claimer { claimer.table ≡ store.now.claims }
         ensures stage { IfOk result (λ run. run.stage ≡ store.entry.now) }

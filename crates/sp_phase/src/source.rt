@@ -1,6 +1,6 @@
 //! A run from one source.
 ghost use Rattle.std.specs.Prelude.{◌≡◌, ◌≤◌, true, IfOk, IfErr};
-ghost use Rattle.sp_word.specs.Word.{is_layout, max_dist, max_pred};
+ghost use Rattle.sp_word.specs.Word.{is_layout, max_pred};
 ghost use Rattle.sp_phase.specs.Answer.{IsAnswer, IsRefusal};
 
 use crate::answers::RunError;
@@ -13,6 +13,7 @@ use sp_offer::Caller;
 use sp_task::Gate;
 use sp_team::Team;
 use sp_tree::Tree;
+use sp_word::{Delta, Workers};
 use std::alloc::Global;
 use std::sync::Wait;
 use std::thread;
@@ -22,13 +23,13 @@ use std::thread::Threads;
 const LEAST_VERTICES: u32 = 5000;
 
 // How many of the workers there is work for: no more than processors, and one for so many vertices.
-fn useful_workers<R: Threads>(rt: &R, n: u32, workers: u32) -> u32 {
-    let few = workers.min(n / LEAST_VERTICES).max(1);
-    if few == 1 {
-        return 1;
+fn useful_workers<R: Threads>(rt: &R, n: u32, workers: Workers) -> Workers {
+    let few = workers.at_most((n / LEAST_VERTICES) as usize);
+    if few.get() == 1 {
+        return few;
     }
     match thread::available_parallelism(rt) {
-        Ok(count) => few.min(u32::try_from(count.get()).unwrap_or(few)),
+        Ok(count) => few.at_most(count.get()),
         Err(_) => few,
     }
 }
@@ -41,14 +42,12 @@ pub fn run_source<const P: u32, R: Threads + Wait + Sync>(
     rt: &R,
     alloc: Global,
     graph: &Graph,
-    delta: u64,
-    workers: u32,
+    delta: Delta<P>,
+    workers: Workers,
     source: u32,
 ) -> Result<Tree<P>, RunError>
     requires layout { is_layout P ≡ true }
     requires n { graph.now.n ≤ max_pred P }
-    requires delta { (1 ≤ delta) × (delta ≤ max_dist P) }
-    requires workers { (1 ≤ workers) × (workers ≤ 64) }
     ensures tree { IfOk result (IsAnswer P graph.now source) }
     ensures refused { IfErr result (IsRefusal P graph.now source) }
 {
@@ -61,7 +60,7 @@ pub fn run_by_team<const P: u32, R: Threads + Wait + Sync>(
     rt: &R,
     alloc: Global,
     graph: &Graph,
-    team: Team,
+    team: Team<P>,
     source: u32,
 ) -> Result<Tree<P>, RunError>
     requires layout { is_layout P ≡ true }
@@ -81,15 +80,13 @@ pub fn run_source_with<const P: u32, R: Threads + Wait + Sync, G: Gate + Sync>(
     rt: &R,
     alloc: Global,
     graph: &Graph,
-    delta: u64,
-    workers: u32,
+    delta: Delta<P>,
+    workers: Workers,
     source: u32,
     gate: &G,
 ) -> Result<Tree<P>, RunError>
     requires layout { is_layout P ≡ true }
     requires n { graph.now.n ≤ max_pred P }
-    requires delta { (1 ≤ delta) × (delta ≤ max_dist P) }
-    requires workers { (1 ≤ workers) × (workers ≤ 64) }
     ensures tree { IfOk result (IsAnswer P graph.now source) }
     ensures refused { IfErr result (IsRefusal P graph.now source) }
 {
@@ -104,10 +101,9 @@ fn run_stored<const P: u32, R: Threads + Wait + Sync, G: Gate + Sync>(
     store: &Store<P>,
     caller: Caller,
     claimer: Claimer,
-    workers: u32,
+    workers: Workers,
     gate: &G,
 ) -> Result<Tree<P>, RunError>
-    requires workers { (1 ≤ workers) × (workers ≤ 64) }
     requires caller { caller.table ≡ store.now.table }
     requires claimer { claimer.table ≡ store.now.claims }
     ensures tree { IfOk result (IsAnswer P store.now.graph store.now.source) }

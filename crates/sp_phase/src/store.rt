@@ -1,19 +1,21 @@
 //! What a run works on: rows, the table of words, the table of claims.
-ghost use Rattle.std.specs.Prelude.{◌≡◌, ◌<◌, ◌≤◌, [], true, length, vec_len, All, IfOk, IfErr};
-ghost use Rattle.sp_word.specs.Word.{Pair, is_layout, max_dist, max_pred};
+ghost use Rattle.std.specs.Prelude.{◌≡◌, ◌<◌, ◌≤◌, ◌↔◌, [], true, IsTrue, length, vec_len, All, IfOk, IfErr};
+ghost use Rattle.sp_word.specs.Word.{Pair, is_layout, max_pred};
 ghost use Rattle.sp_paths.specs.Paths.{IsVertex, IsArc};
 ghost use Rattle.sp_offer.specs.Story.{fresh, known, IsCopy};
 ghost use Rattle.sp_phase.specs.Answer.{IsUnstored};
-ghost use Rattle.sp_phase.specs.Stage.{IsStage, IsOf, Learns, law_of};
-ghost use Rattle.sp_phase.specs.Running.{HasCrew, IsDue, IsRoundOf};
+ghost use Rattle.sp_phase.specs.Stage.{IsStage, IsOf, AreRowsOf, Learns, law_of};
+ghost use Rattle.sp_phase.specs.Held.{split_of};
+ghost use Rattle.sp_phase.specs.Running.{IsDue, IsRoundOf};
 
 use crate::answers::RunError;
+use crate::held::Held;
 use sp_claim::{ClaimTable, Claimer};
 use sp_graph::{Graph, Rows};
 use sp_offer::{Caller, OfferTable};
 use sp_paths::Arc;
 use sp_task::{Gate, Round, RoundOut, Task, Walks, run_round, walks_allow_arcs};
-use sp_word::Word;
+use sp_word::{Delta, Word, Workers};
 use std::alloc::{AllocError, Global};
 use std::marker::Model;
 use std::sync::Wait;
@@ -24,21 +26,21 @@ use std::thread::Threads;
 pub(crate) struct Crew {
     pub alloc: Global,
     pub number: u64,
-    pub workers: u32,
+    pub workers: Workers,
     pub caller: Caller,
     pub claimer: Claimer,
 }
 
-/// The tables of a run from one source of a graph: its rows, parted at `delta`, a word and a claim for each vertex.
-/// Callers of its table may read and offer while a run goes on.
+/// The tables of a run from one source of a graph: its rows, parted at `delta`, a word and a claim for each vertex. The rows
+/// are its own, or lent by who runs from several sources. Callers of its table may read and offer while a run goes on.
 ///
 /// Contracts see the graph, the source, `delta`, which tables these are, and from how many tasks on a round is shared.
 #[derive(Drop)]
 pub struct Store<'g, const P: u32> {
     graph: &'g Graph,
-    delta: u64,
+    delta: Delta<P>,
     source: u32,
-    rows: Rows,
+    rows: Held<'g>,
     table: OfferTable<Walks<'g>, P>,
     claims: ClaimTable,
     shared_from: usize,
@@ -46,6 +48,7 @@ pub struct Store<'g, const P: u32> {
 
 impl<'g, const P: u32> Model for Store<'g, P> {
     ghost use Rattle.sp_phase.specs.Stage.{Stage, IsStage, AreOfStage};
+    ghost use Rattle.sp_phase.specs.Held.{split_of};
 
     ghost Value = { Stage };
 
@@ -66,7 +69,14 @@ impl<'g, const P: u32> Model for Store<'g, P> {
       claims = s.claims;
       shared_from = s.shared_from;
     }
-        in IsStage P st × AreOfStage st s.rows s.table.law s.table.vertices s.claims.words };
+        in IsStage P st
+        × AreOfStage st (split_of s.rows) s.table.law s.table.vertices s.claims.words };
+}
+
+fn is_vertex(graph: &Graph, vertex: u32) -> bool
+    ensures { IsTrue result ↔ IsVertex graph.now.n vertex }
+{
+    1 <= vertex && vertex <= graph.n()
 }
 
 impl<'g, const P: u32> Store<'g, P> {
@@ -74,13 +84,12 @@ impl<'g, const P: u32> Store<'g, P> {
     pub fn new(
         alloc: Global,
         graph: &'g Graph,
-        delta: u64,
+        delta: Delta<P>,
         source: u32,
     ) -> Result<(Store<'g, P>, Caller, Claimer), RunError>
         requires layout { is_layout P ≡ true }
         requires n { graph.now.n ≤ max_pred P }
-        requires delta { (1 ≤ delta) × (delta ≤ max_dist P) }
-        ensures store { IfOk result (λ made. IsOf graph.entry.now delta source made.0) }
+        ensures store { IfOk result (λ made. IsOf graph.entry.now delta.entry source made.0) }
         ensures range { IfOk result (λ made. IsStage P made.0) }
         ensures shared_from { IfOk result (λ made. made.0.shared_from ≡ 0) }
         ensures caller { IfOk result
@@ -89,26 +98,54 @@ impl<'g, const P: u32> Store<'g, P> {
             (λ made. (made.2.table ≡ made.0.claims) × (made.2.grants ≡ [])) }
         ensures refused { IfErr result (IsUnstored graph.entry.now source) }
     {
-        let n = graph.n();
-        if source < 1 || source > n {
+        if !is_vertex(graph, source) {
             return Err(RunError::NoSuchVertex);
         }
-        Store::make(alloc, graph, n, delta, source).map_err(|_| RunError::Memory)
+        let Ok(rows) = Rows::split(alloc, graph, delta.get()) else {
+            return Err(RunError::Memory);
+        };
+        Store::make(alloc, graph, Held::Own(rows), delta, source).map_err(|_| RunError::Memory)
+    }
+
+    /// The same over rows that are lent, so that runs from several sources part the rows of the graph once.
+    pub fn over(
+        alloc: Global,
+        graph: &'g Graph,
+        rows: &'g Rows,
+        delta: Delta<P>,
+        source: u32,
+    ) -> Result<(Store<'g, P>, Caller, Claimer), RunError>
+        requires layout { is_layout P ≡ true }
+        requires n { graph.now.n ≤ max_pred P }
+        requires rows { AreRowsOf graph.now delta rows.now }
+        ensures store { IfOk result (λ made. IsOf graph.entry.now delta.entry source made.0) }
+        ensures range { IfOk result (λ made. IsStage P made.0) }
+        ensures shared_from { IfOk result (λ made. made.0.shared_from ≡ 0) }
+        ensures caller { IfOk result
+            (λ made. (made.1.table ≡ made.0.table) × (made.1.story ≡ fresh)) }
+        ensures claimer { IfOk result
+            (λ made. (made.2.table ≡ made.0.claims) × (made.2.grants ≡ [])) }
+        ensures refused { IfErr result (IsUnstored graph.entry.now source) }
+    {
+        if !is_vertex(graph, source) {
+            return Err(RunError::NoSuchVertex);
+        }
+        Store::make(alloc, graph, Held::Lent(rows), delta, source).map_err(|_| RunError::Memory)
     }
 
     // The same for a source that is a vertex.
     fn make(
         alloc: Global,
         graph: &'g Graph,
-        n: u32,
-        delta: u64,
+        rows: Held<'g>,
+        delta: Delta<P>,
         source: u32,
     ) -> Result<(Store<'g, P>, Caller, Claimer), AllocError>
         requires layout { is_layout P ≡ true }
-        requires n { (n ≡ graph.now.n) × (n ≤ max_pred P) }
-        requires delta { (1 ≤ delta) × (delta ≤ max_dist P) }
-        requires source { (1 ≤ source) × (source ≤ n) }
-        ensures store { IfOk result (λ made. IsOf graph.entry.now delta source made.0) }
+        requires n { graph.now.n ≤ max_pred P }
+        requires rows { AreRowsOf graph.now delta (split_of rows) }
+        requires source { IsVertex graph.now.n source }
+        ensures store { IfOk result (λ made. IsOf graph.entry.now delta.entry source made.0) }
         ensures range { IfOk result (λ made. IsStage P made.0) }
         ensures shared_from { IfOk result (λ made. made.0.shared_from ≡ 0) }
         ensures caller { IfOk result
@@ -116,8 +153,8 @@ impl<'g, const P: u32> Store<'g, P> {
         ensures claimer { IfOk result
             (λ made. (made.2.table ≡ made.0.claims) × (made.2.grants ≡ [])) }
     {
-        let _ = graph.n();
-        let rows = Rows::split(alloc, graph, delta)?;
+        let n = graph.n();
+        let _ = delta.get();
         let (table, caller) = OfferTable::new(alloc, n, Walks::new(graph, source))?;
         let (claims, claimer) = ClaimTable::new(alloc, n)?;
         let store = Store {
@@ -159,7 +196,7 @@ impl<'g, const P: u32> Store<'g, P> {
     }
 
     /// The width of a bucket.
-    pub(crate) fn delta(&self) -> u64
+    pub(crate) fn delta(&self) -> Delta<P>
         ensures { result ≡ self.now.delta }
     {
         self.delta
@@ -220,12 +257,14 @@ impl<'g, const P: u32> Store<'g, P> {
     }
 
     // How many of the workers share a round of so many tasks.
-    fn workers_for(&self, tasks: usize, workers: u32) -> u32
-        requires { (1 ≤ workers) × (workers ≤ 64) }
-        ensures range { (1 ≤ result) × (result ≤ 64) }
-        ensures few { tasks < self.now.shared_from → result ≡ 1 }
+    fn workers_for(&self, tasks: usize, workers: Workers) -> Workers
+        ensures { tasks < self.now.shared_from → result ≡ 1 }
     {
-        if tasks < self.shared_from { 1 } else { workers }
+        if tasks < self.shared_from {
+            Workers::one()
+        } else {
+            workers
+        }
     }
 
     /// Runs a round of tasks. The leader is alone in a short one. A refusal spends the crew.
@@ -236,8 +275,8 @@ impl<'g, const P: u32> Store<'g, P> {
         tasks: &[Task],
         crew: Crew,
     ) -> Result<RoundOut, AllocError>
-        requires crew { HasCrew crew.workers crew.claimer.table self.now }
         requires caller { crew.caller.table ≡ self.now.table }
+        requires claimer { crew.claimer.table ≡ self.now.claims }
         requires tasks { All (IsDue P self.now) tasks.now }
         ensures done { IfOk result (λ out.
             IsRoundOf P self.now tasks.now crew.caller out.caller out.found.items) }
@@ -248,7 +287,7 @@ impl<'g, const P: u32> Store<'g, P> {
         let round = Round {
             table: &self.table,
             claims: &self.claims,
-            rows: &self.rows,
+            rows: self.rows.rows(),
             tasks,
             number: crew.number,
             workers: self.workers_for(tasks.len(), crew.workers),

@@ -26,7 +26,7 @@ pub(crate) struct WholeRun<'g, const P: u32> {
     pub(crate) alloc: Global,
     pub(crate) graph: &'g Graph,
     pub(crate) source: u32,
-    pub(crate) team: Team,
+    pub(crate) team: Team<P>,
 }
 
 impl<'g, const P: u32> Model for WholeRun<'g, P> {
@@ -42,7 +42,12 @@ impl<'g, const P: u32> Model for WholeRun<'g, P> {
 
 impl<'g, const P: u32> WholeRun<'g, P> {
     /// A run from a vertex of the graph.
-    pub(crate) fn new(alloc: Global, graph: &'g Graph, source: u32, team: Team) -> WholeRun<'g, P>
+    pub(crate) fn new(
+        alloc: Global,
+        graph: &'g Graph,
+        source: u32,
+        team: Team<P>,
+    ) -> WholeRun<'g, P>
         requires layout { is_layout P ≡ true }
         requires most { graph.now.n ≤ max_pred P }
         requires source { IsVertex graph.now.n source }

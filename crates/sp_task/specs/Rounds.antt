@@ -17,7 +17,6 @@ use Rattle.sp_task.specs.declared.round.Prepared.{Prepared}
 use Rattle.sp_task.specs.declared.workers.Done.{Done}
 use Rattle.sp_task.specs.declared.workers.RoundOut.{RoundOut}
 use Rattle.sp_task.specs.declared.workers.RoundRefused.{RoundRefused}
-use Rattle.sp_task.specs.declared.workers.stealing.Roster.{Roster}
 use Rattle.sp_task.specs.declared.workers.stealing.Seat.{Seat}
 use Rattle.sp_task.specs.Offers.{IsTask, arcs_of, offer_along, offers_along}
 use Rattle.sp_task.specs.Later.{IsLater, HasLegalHistory}
@@ -112,13 +111,13 @@ module _ {L : Type 0} (P : ℕ) (allows : L → ℕ → Word → Type 0) (board 
   CanWork claims rows tasks seat = IsReadyFor claims rows tasks × AreOf board.id claims seat.caller seat.claimer
 
   -- what one worker gives back, and what it and those of the other deques do
-  abbrev pub OneGives : List Job → Roster → Seat → Result Done RoundRefused → Type 0
-  OneGives jobs roster seat result =
-      Answers (lawful P (allows board.law)) jobs roster.number seat.caller seat.claimer 1 result
+  abbrev pub OneGives : List Job → (number : ℕ) → Seat → Result Done RoundRefused → Type 0
+  OneGives jobs number seat result =
+      Answers (lawful P (allows board.law)) jobs number seat.caller seat.claimer 1 result
 
-  abbrev pub AllGive : {A : Type 0} → List Job → Roster → Vec A Global → Seat → Result Done RoundRefused → Type 0
-  AllGive jobs roster others seat result =
-      Answers (lawful P (allows board.law)) jobs roster.number seat.caller seat.claimer (vec_len others + 1) result
+  abbrev pub AllGive : {A : Type 0} → List Job → (number : ℕ) → Vec A Global → Seat → Result Done RoundRefused → Type 0
+  AllGive jobs number others seat result =
+      Answers (lawful P (allows board.law)) jobs number seat.caller seat.claimer (vec_len others + 1) result
 
   -- two callers and two claimers became one of each
   abbrev pub JoinsTokens : (first second both : RoundRefused) → Type 0

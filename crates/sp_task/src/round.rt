@@ -10,7 +10,7 @@ ghost use Rattle.sp_task.specs.Rounds.{TakesTasks, IsReadyRound, IsRoundDone, Is
 use crate::gate::Gate;
 use crate::task::Round;
 use crate::workers::unfinished::{mark, run_left};
-use crate::workers::stealing::{Deques, Roster, Seat, deal, run_workers};
+use crate::workers::stealing::{Deques, Seat, deal, run_workers};
 use crate::workers::{Done, RoundOut, RoundRefused};
 use sp_claim::Claimer;
 use sp_offer::{Caller, Lawful, Loop, Lowering, OfferTable};
@@ -31,7 +31,6 @@ pub fn run_round<R: Threads + Wait + Sync, L: Lawful + Send + Sync, G: Gate + Sy
     gate: &G,
 ) -> Result<RoundOut, RoundRefused>
     requires layout { is_layout P ≡ true }
-    requires workers { (1 ≤ round.now.workers) × (round.now.workers ≤ 64) }
     requires table { round.now.table.now.vertices ≡ round.now.rows.now.graph.n }
     requires slots { round.now.rows.now.graph.n ≤ round.now.claims.now.words }
     requires caller { caller.table ≡ round.now.table.now.id }
@@ -64,7 +63,6 @@ pub fn run_round_by<
     gate: &G,
 ) -> Result<RoundOut, RoundRefused>
     requires layout { is_layout P ≡ true }
-    requires workers { (1 ≤ round.now.workers) × (round.now.workers ≤ 64) }
     requires table { round.now.table.now.vertices ≡ round.now.rows.now.graph.n }
     requires slots { round.now.rows.now.graph.n ≤ round.now.claims.now.words }
     requires caller { caller.table ≡ round.now.table.now.id }
@@ -80,7 +78,7 @@ pub fn run_round_by<
 {
     // there is a vertex, and so a slot to claim
     let _ = round.rows.n();
-    let workers = round.tasks.len().min(round.workers as usize);
+    let workers = round.tasks.len().min(round.workers.get() as usize);
     if workers > 1 {
         if let Ok(prepared) = prepare(alloc, round.tasks.len(), workers) {
             return run_shared::<M, R, L, G, P>(rt, alloc, round, prepared, caller, claimer, gate);
@@ -189,10 +187,6 @@ fn run_shared<
     let Some(own) = owners.pop() else {
         return run_by_leader::<M, L, G, P>(alloc, round, caller, claimer, gate);
     };
-    let roster = Roster {
-        number: round.number,
-        workers: round.workers,
-    };
     let seat = Seat {
         worker: 0,
         own,
@@ -206,7 +200,7 @@ fn run_shared<
         round.claims,
         round.rows,
         round.tasks,
-        roster,
+        round.number,
         gate,
         stealers.as_slice(),
         owners,

@@ -3,6 +3,7 @@
 use sp_claim::ClaimTable;
 use sp_graph::Rows;
 use sp_offer::{Lawful, OfferTable};
+use sp_word::Workers;
 
 /// Which arcs of a vertex a task relaxes.
 #[derive(Clone, Copy, Debug, PartialEq, Eq)]
@@ -30,5 +31,5 @@ pub struct Round<'a, L: Lawful, const P: u32> {
     pub rows: &'a Rows,
     pub tasks: &'a [Task],
     pub number: u64,
-    pub workers: u32,
+    pub workers: Workers,
 }

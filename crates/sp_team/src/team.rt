@@ -13,6 +13,7 @@ use crate::relax::{read_dist, relax, warm};
 use crossbeam_deque::{Stealer, Worker};
 use sp_graph::Graph;
 use sp_offer::{Caller, Lawful, OfferTable};
+use sp_word::{Delta, Workers};
 use std::alloc::{AllocError, Global};
 use std::sync::Wait;
 use std::thread::{Threads, join};
@@ -26,9 +27,9 @@ const FINER: u32 = 3;
 
 /// How a team works: the width of a bucket, and the number of workers.
 #[derive(Clone, Copy, Debug)]
-pub struct Team {
-    pub delta: u64,
-    pub workers: u32,
+pub struct Team<const P: u32> {
+    pub delta: Delta<P>,
+    pub workers: Workers,
 }
 
 /// What a team leaves when it ends.
@@ -162,7 +163,7 @@ fn run_worker<R: Wait, L: Lawful, const P: u32>(
     board: &Board,
     stealers: &[Stealer<Block>],
     queue: &[u32],
-    delta: u64,
+    delta: Delta<P>,
     seat: Seat,
 ) -> Relaxed
     requires ready { IsReady P (lawful P (L.allows table.now.law)) table.now.vertices graph.now }
@@ -174,7 +175,7 @@ fn run_worker<R: Wait, L: Lawful, const P: u32>(
         own,
         mut caller,
     } = seat;
-    let shift = delta.max(1).ilog2().saturating_sub(FINER);
+    let shift = delta.get().ilog2().saturating_sub(FINER);
     let Ok(mut hands) = Hands::new(alloc, worker, own, shift, 1 << FINER) else {
         // the first worker would have had the queue
         let lost = worker == 0;
@@ -258,7 +259,7 @@ fn run_first<R: Wait, L: Lawful, const P: u32>(
     board: &Board,
     stealers: &[Stealer<Block>],
     queue: &[u32],
-    delta: u64,
+    delta: Delta<P>,
     crew: Crew,
 ) -> Relaxed
     requires ready { IsReady P (lawful P (L.allows table.now.law)) table.now.vertices graph.now }
@@ -292,7 +293,7 @@ fn run_workers<R: Threads + Wait + Sync, L: Lawful + Send + Sync, const P: u32>(
     board: &Board,
     stealers: &[Stealer<Block>],
     queue: &[u32],
-    delta: u64,
+    delta: Delta<P>,
     mut crew: Crew,
 ) -> Relaxed
     requires ready { IsReady P (lawful P (L.allows table.now.law)) table.now.vertices graph.now }
@@ -358,7 +359,7 @@ pub fn relax_all<R: Threads + Wait + Sync, L: Lawful + Send + Sync, const P: u32
     alloc: Global,
     graph: &Graph,
     table: &OfferTable<L, P>,
-    team: Team,
+    team: Team<P>,
     queue: &[u32],
     caller: Caller,
 ) -> Relaxed
@@ -366,7 +367,7 @@ pub fn relax_all<R: Threads + Wait + Sync, L: Lawful + Send + Sync, const P: u32
     requires caller { caller.table ≡ table.now.id }
     ensures { IsLater (lawful P (L.allows table.now.law)) caller result.caller }
 {
-    let workers = team.workers.max(1) as usize;
+    let workers = team.workers.get() as usize;
     let (board, deques) = match (Board::new(alloc, workers), make_deques(alloc, workers)) {
         (Ok(board), Ok(deques)) => (board, deques),
         _ => return Relaxed { caller, lost: true },

@@ -1,3 +1,4 @@
 pub mod Word
+pub mod Ranges
 pub mod Reply
 pub mod History

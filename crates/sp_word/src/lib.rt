@@ -1,14 +1,19 @@
-//! The packed word of a vertex, and what a table of least offers replies to an offer.
+//! The packed word of a vertex, and what a table of least offers replies to an offer; the width of a bucket and the number
+//! of workers, in their ranges.
 //!
 //! A word is unreached, or a pair of a distance and a predecessor. Contracts see it so; the code keeps
 //! 64 bits, with the distance above `P` bits of predecessor, so that the order of words is the order of numbers.
 #![tactic(auto)]
 
+mod delta;
 mod reply;
 mod word;
+mod workers;
 
+pub use delta::Delta;
 pub use reply::{Reply, decide};
 pub use word::{Word, bits_are_exact, bits_are_ordered};
+pub use workers::{MOST_WORKERS, Workers};
 
 #[cfg(test)]
 mod tests;

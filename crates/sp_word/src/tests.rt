@@ -1,4 +1,4 @@
-use crate::{Reply, Word, decide};
+use crate::{Delta, Reply, Word, Workers, decide};
 
 #[test]
 fn vectors_of_28_bits(rt: HostRuntime) {
@@ -111,4 +111,42 @@ fn replies(rt: HostRuntime) {
     assert_eq!(rt; decide(held, Word::pack(5, 3)), Reply::Kept);
     assert_eq!(rt; decide(held, Word::pack(6, 1)), Reply::Kept);
     assert_eq!(rt; decide(held, Word::pack(4, 9)), Reply::Shorter);
+}
+
+#[test]
+fn widths_of_a_bucket(rt: HostRuntime) {
+    for width in [1, 2, 68_719_476_734] {
+        assert_eq!(rt;
+            Delta::<28>::new(width).map(|delta| delta.get()),
+            Some(width)
+        );
+    }
+    for width in [0, 68_719_476_735, u64::MAX] {
+        assert_eq!(rt; Delta::<28>::new(width), None);
+    }
+    assert!(rt; Delta::<20>::new(17_592_186_044_414).is_some());
+    assert!(rt; Delta::<24>::new(1_099_511_627_775).is_none());
+    assert!(rt; Delta::<32>::new(4_294_967_295).is_none());
+}
+
+#[test]
+fn numbers_of_workers(rt: HostRuntime) {
+    for number in [1, 2, 64] {
+        assert_eq!(rt;
+            Workers::new(number).map(|workers| workers.get()),
+            Some(number)
+        );
+    }
+    for number in [0, 65, u32::MAX] {
+        assert_eq!(rt; Workers::new(number), None);
+    }
+    assert_eq!(rt; Workers::new(1), Some(Workers::one()));
+}
+
+#[test]
+fn workers_for_less_work(rt: HostRuntime) {
+    let eight = Workers::new(8);
+    for (most, few) in [(0, 1), (1, 1), (7, 7), (8, 8), (usize::MAX, 8)] {
+        assert_eq!(rt; eight.map(|workers| workers.at_most(most).get()), Some(few));
+    }
 }

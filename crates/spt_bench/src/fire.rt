@@ -8,6 +8,7 @@ use sp_phase::{RunError, run_by_team};
 use sp_plain::{Answer, GraphKind, Random, plain_tree, random_graph};
 use sp_team::Team;
 use sp_tree::Tree;
+use sp_word::{Delta, Word, Workers};
 use std::io;
 use std::sync::Wait;
 use std::thread::Threads;
@@ -50,16 +51,23 @@ fn is_same<const P: u32>(told: &Result<Tree<P>, RunError>, plain: &Answer<P>) ->
     }
 }
 
-// The width of a bucket: 1, about an arc, some arcs, or all in one.
-fn width_of(graph: &Graph, number: u32) -> u64 {
+// A team of so many workers. Its buckets are 1 wide, about as wide as an arc, as some arcs, or as wide as can be.
+fn team_of<const P: u32>(graph: &Graph, number: u32, workers: u32) -> Option<Team<P>>
+    requires { is_layout P ≡ true }
+{
     let longest = u64::from(graph.longest());
-    match number % 5 {
+    let most = Word::<P>::max_dist();
+    let width = match number % 5 {
         0 => 1,
         1 => longest / 20 + 1,
         2 => longest / 2 + 1,
         3 => longest * 4 + 1,
-        _ => u64::MAX,
-    }
+        _ => most,
+    };
+    Some(Team {
+        delta: Delta::new(width.min(most))?,
+        workers: Workers::new(workers)?,
+    })
 }
 
 // Lets each team answer for a source of a graph.
@@ -75,9 +83,11 @@ fn shoot<const P: u32, R: AllocGlobal + Print + Threads + Wait + Sync>(
     requires source { IsVertex graph.now.n source }
 {
     let want = plain_tree::<P>(rt.alloc(), graph, source)?;
-    let delta = width_of(graph, number);
     for workers in TEAMS {
-        let told = run_by_team(rt, rt.alloc(), graph, Team { delta, workers }, source);
+        let Some(team) = team_of(graph, number, workers) else {
+            return Err(io::Error::other("there is no such team"));
+        };
+        let told = run_by_team(rt, rt.alloc(), graph, team, source);
         if is_same(&told, &want) {
             score.passed = score.passed.saturating_add(1);
         } else {

@@ -14,13 +14,12 @@ use sp_graph::{Graph, Rows};
 use sp_offer::{AnyWord, Caller, OfferTable};
 use sp_paths::Arc;
 use sp_task::{TaskKind, OpenGate, Round, Task, run_round};
+use sp_word::Workers;
 use std::alloc::{AllocError, Global};
 use std::io;
 use std::sync::Wait;
 use std::thread::Threads;
 use std::time::{Clock, Duration, Instant};
-
-const MOST_WORKERS: u32 = 64;
 
 const MOST_TASKS: u32 = 1_000_000;
 
@@ -34,10 +33,9 @@ const LONGEST: u64 = 50;
 /// How many workers run how many rounds of how many tasks.
 #[derive(Clone, Copy)]
 pub struct Drill {
-    workers: u32,
+    workers: Workers,
     tasks: u32,
     rounds: u32,
-    ghost some_workers: { (1 ≤ workers) × (workers ≤ 64) },
     ghost some_tasks: { (1 ≤ tasks) × (tasks ≤ 1000000) },
     ghost few_rounds: { rounds ≤ 1000000 },
 }
@@ -45,13 +43,11 @@ pub struct Drill {
 impl Drill {
     /// A drill, if these numbers are in range.
     pub fn new(workers: u32, tasks: u32, rounds: u32) -> Option<Drill> {
-        let some = 1 <= workers && 1 <= tasks;
-        let few = workers <= MOST_WORKERS && tasks <= MOST_TASKS && rounds <= MOST_ROUNDS;
-        if !some || !few {
+        if tasks < 1 || tasks > MOST_TASKS || rounds > MOST_ROUNDS {
             return None;
         }
         Some(Drill {
-            workers,
+            workers: Workers::new(workers)?,
             tasks,
             rounds,
         })
@@ -166,10 +162,8 @@ fn play<R: Clock + Threads + Wait + Sync>(
     bench: Bench,
     tasks: &[Task],
     number: u64,
-    workers: u32,
-) -> io::Result<(Bench, Duration)>
-    requires { (1 ≤ workers) × (workers ≤ 64) }
-{
+    workers: Workers,
+) -> io::Result<(Bench, Duration)> {
     let Bench {
         rows,
         table,

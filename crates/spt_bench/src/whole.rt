@@ -8,32 +8,27 @@ use sp_dimacs::{GrFile, OfRead, OfWrite, SsFile, Write, read_gr, read_ss};
 use sp_graph::Graph;
 use sp_phase::run_source;
 use sp_tree::{Tree, write_tree};
+use sp_word::{Delta, Workers};
 use std::rt::Files;
 use std::sync::Wait;
 use std::thread::Threads;
 use std::time::{Clock, Duration, Instant};
 use std::{fs, io};
 
-const MOST_DELTA: u64 = 68_719_476_734;
-
-const MOST_WORKERS: u32 = 64;
-
 /// The width of a bucket, and the number of workers.
 #[derive(Clone, Copy)]
 pub struct Plan {
-    delta: u64,
-    workers: u32,
-    ghost wide: { (1 ≤ delta) × (delta ≤ 68719476734) },
-    ghost some_workers: { (1 ≤ workers) × (workers ≤ 64) },
+    delta: Delta<28>,
+    workers: Workers,
 }
 
 impl Plan {
     /// A plan, if these numbers are in range.
     pub fn new(delta: u64, workers: u32) -> Option<Plan> {
-        if delta < 1 || delta > MOST_DELTA || workers < 1 || workers > MOST_WORKERS {
-            return None;
-        }
-        Some(Plan { delta, workers })
+        Some(Plan {
+            delta: Delta::new(delta)?,
+            workers: Workers::new(workers)?,
+        })
     }
 }
 

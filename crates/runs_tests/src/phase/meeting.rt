@@ -1,8 +1,7 @@
 //! Two workers of a run meet, at a gate that holds the first for a bounded number of loads.
-use super::graph_of;
+use super::{crew, graph_of, width};
 use sp_phase::run_source_with;
 use sp_task::Gate;
-use sp_tree::Tree;
 use std::sync::atomic::{AtomicBool, AtomicU64, Ordering};
 use std::test::Fail;
 
@@ -65,7 +64,8 @@ impl Gate for Meeting {
 fn run_meets(rt: HostRuntime) -> Result<(), Fail> {
     let graph = graph_of(&rt, 5, &[(1, 2, 1), (1, 3, 1), (2, 4, 1), (3, 5, 1)])?;
     let gate = Meeting::new();
-    let tree: Tree<28> = run_source_with(&rt, rt.alloc(), &graph, 1, 2, 1, &gate)?;
+    let (delta, workers) = (width::<28>(&rt, 1), crew(&rt, 2));
+    let tree = run_source_with(&rt, rt.alloc(), &graph, delta, workers, 1, &gate)?;
     assert_eq!(rt; tree.rows().len(), 5);
     assert!(rt; gate.met.load(Ordering::SeqCst));
     assert_eq!(rt; gate.offers.load(Ordering::SeqCst), 4);

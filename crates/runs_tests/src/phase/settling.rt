@@ -2,7 +2,7 @@
 ghost use Rattle.std.specs.Prelude.{◌≡◌, ◌≤◌, OnOk};
 ghost use Rattle.sp_phase.specs.Progress.{IsUnspent};
 
-use super::{WORKERS, graph_of, split};
+use super::{WORKERS, crew, graph_of, split, width};
 use samples::DIAMOND;
 use sp_claim::Claimer;
 use sp_graph::Graph;
@@ -53,10 +53,8 @@ fn answers(
 ) -> Result<Vec<Option<u64>>, Fail>
     requires n { graph.now.n ≤ 10000 }
 {
-    assert!(rt; 1 <= delta && delta <= 1000);
-    assert!(rt; 1 <= workers && workers <= 64);
-    let (store, caller, claimer) = Store::<28>::new(rt.alloc(), graph, delta, 1)?;
-    let run = Run::begin(rt.alloc(), &store, caller, claimer, workers)?;
+    let (store, caller, claimer) = Store::<28>::new(rt.alloc(), graph, width(rt, delta), 1)?;
+    let run = Run::begin(rt.alloc(), &store, caller, claimer, crew(rt, workers))?;
     answers_of(rt, run)
 }
 
@@ -78,9 +76,9 @@ fn settle_answers(rt: HostRuntime) -> Result<(), Fail> {
 #[test]
 fn short_rounds_alone(rt: HostRuntime) -> Result<(), Fail> {
     let graph = graph_of(&rt, 4, &DIAMOND)?;
-    let (store, caller, claimer) = Store::<28>::new(rt.alloc(), &graph, 2, 1)?;
+    let (store, caller, claimer) = Store::<28>::new(rt.alloc(), &graph, width(&rt, 2), 1)?;
     let store = store.sharing_from(1000);
-    let run = Run::begin(rt.alloc(), &store, caller, claimer, 64)?;
+    let run = Run::begin(rt.alloc(), &store, caller, claimer, crew(&rt, 64))?;
     let told = answers_of(&rt, run)?;
     assert!(rt; told.as_slice() == [Some(0u64), Some(1), Some(2), Some(3), None].as_slice());
     Ok(())
@@ -133,9 +131,8 @@ fn settled_words(
     requires n { 4 ≤ store.now.graph.n }
     requires caller { caller.table ≡ store.now.table }
     requires claimer { claimer.table ≡ store.now.claims }
-    requires workers { (1 ≤ workers) × (workers ≤ 64) }
 {
-    let mut run = Run::begin(rt.alloc(), store, caller, claimer, workers)?;
+    let mut run = Run::begin(rt.alloc(), store, caller, claimer, crew(rt, workers))?;
     let first = words_after(rt, &mut run, 0)?;
     run.heavy(rt, &OpenGate)?;
     let second = words_after(rt, &mut run, 1)?;
@@ -147,7 +144,7 @@ fn reads_after_settled_buckets(rt: HostRuntime) -> Result<(), Fail> {
     let graph = graph_of(&rt, 4, &DIAMOND)?;
     for workers in WORKERS {
         assert!(rt; graph.n() == 4);
-        let (store, caller, claimer) = Store::<28>::new(rt.alloc(), &graph, 2, 1)?;
+        let (store, caller, claimer) = Store::<28>::new(rt.alloc(), &graph, width(&rt, 2), 1)?;
         let [first, second] = settled_words(&rt, &store, caller, claimer, workers)?;
         assert!(rt; first.0.is_unreached());
         assert!(rt; second.0 == Word::pack(3, 1) && second.1 == Word::pack(3, 1));
@@ -179,7 +176,7 @@ fn reads_beside_another_caller(rt: HostRuntime) -> Result<(), Fail> {
     let graph = graph_of(&rt, 4, &DIAMOND)?;
     for workers in WORKERS {
         assert!(rt; graph.n() == 4);
-        let (store, caller, claimer) = Store::<28>::new(rt.alloc(), &graph, 2, 1)?;
+        let (store, caller, claimer) = Store::<28>::new(rt.alloc(), &graph, width(&rt, 2), 1)?;
         let (caller, mut other) = split(&store, caller);
         offer_first(&graph, 1, &store, &mut other, 2);
         let [first, second] = settled_words(&rt, &store, caller, claimer, workers)?;

@@ -1,7 +1,7 @@
 //! A caller that watches a run.
 ghost use Rattle.std.specs.Prelude.{◌≡◌, ◌≤◌, IfOk};
 
-use super::{graph_of, has_rows, split};
+use super::{crew, graph_of, has_rows, split, width};
 use samples::{DIAMOND, DIAMOND_ROWS};
 use sp_claim::Claimer;
 use sp_offer::{Caller, Lawful, OfferTable};
@@ -101,7 +101,7 @@ fn watched(
     ensures { IfOk result (λ watcher. watcher.table ≡ store.now.table) }
 {
     let (caller, watcher) = split(store, caller);
-    let run = Run::begin(rt.alloc(), store, caller, claimer, 2)?;
+    let run = Run::begin(rt.alloc(), store, caller, claimer, crew(rt, 2))?;
     let (done, (watcher, falls)) = finish_watched(rt, run, store.table(), watcher);
     let (tree, _) = done?;
     assert!(rt; has_rows(&tree, &DIAMOND_ROWS));
@@ -113,7 +113,7 @@ fn watched(
 fn watcher_sees_falling_words(rt: HostRuntime) -> Result<(), Fail> {
     let graph = graph_of(&rt, 4, &DIAMOND)?;
     assert!(rt; graph.n() == 4);
-    let (store, caller, claimer) = Store::<28>::new(rt.alloc(), &graph, 2, 1)?;
+    let (store, caller, claimer) = Store::<28>::new(rt.alloc(), &graph, width(&rt, 2), 1)?;
     let mut watcher = watched(&rt, &store, caller, claimer)?;
     assert!(rt; reads_the_tree(&store, &mut watcher));
     Ok(())

@@ -2,9 +2,10 @@
 ghost use Rattle.std.specs.Prelude.{◌≤◌, length};
 
 use super::graphs::{ALONE, DIAMOND, ONE, TWO, TWO_TEXT};
-use super::{gr, run_into, summary};
+use super::{crew, gr, run_into, summary};
 use crate::{BatchError, Summary, run_batch};
 use sp_dimacs::{Kind, UpTo, UpToWriter};
+use sp_word::{Delta, Workers};
 use std::alloc::Global;
 use std::process::Abort;
 use std::str::from_utf8;
@@ -42,8 +43,8 @@ fn writer_of_a_byte_a_call(rt: HostRuntime) -> Result<(), Fail> {
         &mut UpTo::whole(DIAMOND),
         &mut UpTo::whole(TWO),
         &mut out,
-        1,
-        64,
+        Delta::new(1).unwrap(),
+        crew(&rt, 64),
     );
     assert_eq!(rt; answer, summary(2, 0, 68));
     assert_eq!(rt; out.taken(), TWO_TEXT);
@@ -65,8 +66,8 @@ fn failing<R: Threads + Wait + Sync + Abort>(
         &mut UpTo::failing(text),
         &mut UpTo::whole(ONE),
         &mut out,
-        1,
-        1,
+        Delta::new(1).unwrap(),
+        Workers::one(),
     );
     assert_eq!(rt; out.taken().len(), 0);
     answer

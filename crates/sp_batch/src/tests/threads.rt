@@ -6,6 +6,7 @@ use super::graphs::ONE;
 use super::{AMPLE, Ran, count_processors, run_into};
 use std::alloc::Global;
 use std::fs;
+use std::process::Abort;
 use std::rt::Files;
 use std::sync::Wait;
 use std::sync::atomic::{AtomicBool, Ordering};
@@ -60,20 +61,19 @@ fn look<R: Files + AllocGlobal>(rt: &R, usual: u64, done: &AtomicBool) -> bool {
 }
 
 // A batch of one source, made on a thread of its own, and whether there were more threads meanwhile.
-fn run_looked_at<R: Files + AllocGlobal + Threads + Wait + Sync>(
+fn run_looked_at<R: Files + AllocGlobal + Threads + Wait + Sync + Abort>(
     rt: &R,
     gr: &[u8],
     workers: u32,
 ) -> (Ran, bool)
     requires gr { length gr.now ≤ 2 ^ 62 }
-    requires workers { (1 ≤ workers) × (workers ≤ 64) }
 {
     let usual = count_threads(rt).saturating_add(1);
     let alloc = rt.alloc();
     let done = AtomicBool::new(false);
     let done = &done;
     let run = move || -> Ran
-        requires { IsSync R.row × (length gr.now ≤ 2 ^ 62) × (1 ≤ workers) × (workers ≤ 64) }
+        requires { IsSync R.row × (length gr.now ≤ 2 ^ 62) }
     {
         let ran = run_into::<28, R>(rt, alloc, gr, ONE, AMPLE, 500, workers);
         done.store(true, Ordering::SeqCst);
@@ -83,14 +83,13 @@ fn run_looked_at<R: Files + AllocGlobal + Threads + Wait + Sync>(
 }
 
 // Runs until more threads were seen.
-fn is_shared<R: Files + AllocGlobal + Threads + Wait + Sync>(
+fn is_shared<R: Files + AllocGlobal + Threads + Wait + Sync + Abort>(
     rt: &R,
     gr: &[u8],
     workers: u32,
     want: &Ran,
 ) -> bool
     requires gr { length gr.now ≤ 2 ^ 62 }
-    requires workers { (1 ≤ workers) × (workers ≤ 64) }
 {
     for _ in 0..MOST_RUNS {
         let (ran, seen) = run_looked_at(rt, gr, workers);

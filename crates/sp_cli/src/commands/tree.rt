@@ -1,5 +1,5 @@
 //! `spt tree`: for each source of a list its shortest-path tree.
-ghost use Rattle.std.specs.Prelude.{◌≡◌, ◌≤◌};
+ghost use Rattle.std.specs.Prelude.{◌≡◌};
 ghost use Rattle.sp_cli.specs.Ends.{end_of, fault_of};
 
 use super::{Command, Words, file};
@@ -10,7 +10,7 @@ use crate::layout::Run;
 use clap::{Arg, ArgMatches, value_parser};
 use sp_batch::{BatchError, Summary, run_batch};
 use sp_device::Write;
-use sp_word::Word;
+use sp_word::{Delta, Workers};
 use std::alloc::Global;
 use std::sync::Wait;
 use std::thread::Threads;
@@ -37,8 +37,7 @@ pub struct Tree<'a> {
     // The width of a bucket.
     delta: u64,
     // How many threads may work, the main thread counted.
-    workers: u32,
-    ghost crew: { (1 ≤ workers) × (workers ≤ 64) },
+    workers: Workers,
 }
 
 impl<'a> Command<'a> for Tree<'a> {
@@ -123,15 +122,11 @@ Others are
     }
 
     fn read(given: &ArgMatches<'a>) -> Option<Self> {
-        let workers: u32 = given.get_one("workers")?;
-        if !(1..=64).contains(&workers) {
-            return None;
-        }
         Some(Tree {
             graph: given.get_str("GR")?,
             sources: given.get_str("SS")?,
             delta: given.get_one("delta")?,
-            workers,
+            workers: Workers::new(given.get_one("workers")?)?,
         })
     }
 }
@@ -165,13 +160,12 @@ impl<const P: u32> Run<P> for Tree<'_> {
         files: &F,
         out: &mut W,
     ) -> Result<Status, Fault> {
-        let (delta, workers) = (self.delta, self.workers);
-        if !(1..=Word::<P>::max_dist()).contains(&delta) {
+        let Some(delta) = Delta::<P>::new(self.delta) else {
             return Err(Fault::DeltaOutOfRange);
-        }
+        };
         let mut gr = FileKind::Graph.open(files, self.graph)?;
         let mut ss = FileKind::Sources.open(files, self.sources)?;
-        match run_batch::<P, R, _, _, W>(rt, alloc, &mut gr, &mut ss, out, delta, workers) {
+        match run_batch::<P, R, _, _, W>(rt, alloc, &mut gr, &mut ss, out, delta, self.workers) {
             Ok(summary) => Ok(status_after(summary)),
             Err(error) => Err(fault_of(error)),
         }

@@ -15,6 +15,7 @@ use crossbeam_deque::{Steal, Stealer, Worker};
 use sp_claim::{ClaimTable, Claimer};
 use sp_graph::Rows;
 use sp_offer::{Caller, Lawful, Lowering, OfferTable};
+use sp_word::Workers;
 use std::alloc::{AllocError, Global};
 use std::thread::{Threads, join};
 
@@ -26,14 +27,6 @@ const MOST_RETRIES: usize = 1000;
 pub(crate) struct Deques {
     pub owners: Vec<Worker<usize>>,
     pub stealers: Vec<Stealer<usize>>,
-}
-
-/// The number of a round and of its workers. A closure that borrows a whole `Round` gets no contract, so the parts of
-/// a round go to its threads one by one.
-#[derive(Clone, Copy)]
-pub(crate) struct Roster {
-    pub number: u64,
-    pub workers: u32,
 }
 
 /// What a worker begins with: its number, its own deque, its caller and its claimer.
@@ -155,22 +148,23 @@ fn run_alone<M: Lowering, L: Lawful, G: Gate, const P: u32>(
     claims: &ClaimTable,
     rows: &Rows,
     tasks: &[Task],
-    roster: Roster,
+    number: u64,
     gate: &G,
     stealers: &[Stealer<usize>],
     seat: Seat,
 ) -> Worked
     requires ready { IsReadyFor P L.allows table.now claims.now rows.now tasks.now }
     requires tokens { AreOf table.now.id claims.now seat.caller seat.claimer }
-    ensures { OneGives P L.allows table.now (jobs_at P rows.now tasks.now) roster seat result }
+    ensures { OneGives P L.allows table.now (jobs_at P rows.now tasks.now) number seat result }
 {
     let round = Round {
         table,
         claims,
         rows,
         tasks,
-        number: roster.number,
-        workers: roster.workers,
+        number,
+        // this one
+        workers: Workers::one(),
     };
     Ok(run_worker::<M, L, G, P>(alloc, &round, gate, stealers, seat))
 }
@@ -209,7 +203,8 @@ fn split_seat<L: Lawful, const P: u32>(
     (first, second)
 }
 
-/// A worker on this thread, and those of the other deques on threads that it starts.
+/// A worker on this thread, and those of the other deques on threads that it starts. A closure that borrows a whole `Round`
+/// gets no contract, so the parts of a round go to its threads one by one.
 #[cycle(workers)]
 pub(crate) fn run_workers<
     R: Threads + Sync,
@@ -224,7 +219,7 @@ pub(crate) fn run_workers<
     claims: &ClaimTable,
     rows: &Rows,
     tasks: &[Task],
-    roster: Roster,
+    number: u64,
     gate: &G,
     stealers: &[Stealer<usize>],
     mut others: Vec<Worker<usize>>,
@@ -233,12 +228,12 @@ pub(crate) fn run_workers<
     requires ready { IsReadyFor P L.allows table.now claims.now rows.now tasks.now }
     requires slots { 0 < claims.now.words }
     requires tokens { AreOf table.now.id claims.now seat.caller seat.claimer }
-    ensures { AllGive P L.allows table.now (jobs_at P rows.now tasks.now)
-        roster others seat result }
+    ensures { let jobs = jobs_at P rows.now tasks.now in
+        AllGive P L.allows table.now jobs number others seat result }
 {
     let Some(own) = others.pop() else {
         return run_alone::<M, L, G, P>(
-            alloc, table, claims, rows, tasks, roster, gate, stealers, seat,
+            alloc, table, claims, rows, tasks, number, gate, stealers, seat,
         );
     };
     let (first, second) = split_seat(table, claims, seat, own);
@@ -246,19 +241,19 @@ pub(crate) fn run_workers<
         requires { AreShared R.row G.row M.row L.row × (0 < claims.now.words)
             × CanWork P L.allows table.now claims.now rows.now tasks.now second }
         ensures { let jobs = jobs_at P rows.entry.now tasks.entry.now in
-            AllGive P L.allows table.entry.now jobs roster others second result }
+            AllGive P L.allows table.entry.now jobs number others second result }
     {
         run_workers::<R, M, L, G, P>(
-            rt, alloc, table, claims, rows, tasks, roster, gate, stealers, others, second,
+            rt, alloc, table, claims, rows, tasks, number, gate, stealers, others, second,
         )
     };
     let mine = move || -> Worked
         requires { CanWork P L.allows table.now claims.now rows.now tasks.now first }
         ensures { let jobs = jobs_at P rows.entry.now tasks.entry.now in
-            OneGives P L.allows table.entry.now jobs roster first result }
+            OneGives P L.allows table.entry.now jobs number first result }
     {
         run_alone::<M, L, G, P>(
-            alloc, table, claims, rows, tasks, roster, gate, stealers, first,
+            alloc, table, claims, rows, tasks, number, gate, stealers, first,
         )
     };
     let (later, sooner) = join(rt, theirs, mine);

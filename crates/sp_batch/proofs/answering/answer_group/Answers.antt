@@ -23,7 +23,7 @@ sum-requires g c =
     let h = rw (c.in_ok-summary.was, c.deref.ensures.value) at c.find_and_write-found.ensures.written in
     let k = c.in_ok-more-in-Err.ensures in
     counts_fit g.W.Write answers k.answers c.args.out.now mid c.answer_in_turn.new.out c.in_ok-summary.summary c.in_ok-more-in-Err.more h k.text
-    (omega (arith, length-map waiting.items (answer_of {P = g.row.P}), waiting.ok, waiting.small, same_length g.row.P c.args.graph.now c.args.sources.now k.answers k.are, c.requires.few, c.requires.ready.workers_most))
+    (omega (arith, length-map waiting.items (answer_of {P = g.row.P}), waiting.ok, waiting.small, same_length g.row.P c.args.graph.now c.args.sources.now k.answers k.are, c.requires.few))
 
 pub returns-in_ok-more-in-Err : goal.returns-in_ok-more-in-Err
 returns-in_ok-more-in-Err g c = λ (front : List ℕ) are.

@@ -2,6 +2,7 @@ use Rattle.std.proofs.Common.{◌≡◌, ℕ, List, [], ◌++◌, ◌<◌, ◌�
 use Rattle.std.proofs.lemmas.Bool.Decides.{nat_tests}
 use Rattle.std.proofs.lemmas.List.Elements.{All-same, All-take}
 use Rattle.std.proofs.lemmas.Result.{err_from_is_err_and}
+use Rattle.sp_word.specs.declared.workers.TheConstants.{MOST_WORKERS}
 use Rattle.sp_paths.specs.Paths.{IsVertex}
 use Rattle.sp_batch.specs.declared.finding.Found.{Found}
 use Rattle.sp_batch.specs.Found.{answer_of}
@@ -18,8 +19,8 @@ answer_group-requires-after_bounds g c κs lives =
     let rest = c.loop-rest.rest.now in
     let some : 0 < length rest = grind (arith, nat_tests, c.loop-rest-test.true, c.is_empty.ensures) in
     let vertices = all_behind (IsVertex c.args.graph.now.n) c.args.sources.now (b.front ++ b.back) rest b.parts c.requires.vertices in
-    let few : length c.split_at.result.0.now ≤ c.args.plan.workers = omega (arith, c.split_at.ensures.front_len, c.min-size.ensures) in
-    let group : 0 < length c.split_at.result.0.now = omega (arith, some, c.split_at.ensures.front_len, c.min-size.ensures, c.requires.ready.workers_least) in
+    let few : length c.split_at.result.0.now ≤ MOST_WORKERS = omega (arith, c.split_at.ensures.front_len, c.min-size.ensures, c.get.ensures.range) in
+    let group : 0 < length c.split_at.result.0.now = omega (arith, some, c.split_at.ensures.front_len, c.min-size.ensures, c.get.ensures.range) in
     let within = All-same (IsVertex c.args.graph.now.n) c.split_at.result.0.now (take c.min-size.result rest) c.split_at.ensures.front (All-take (IsVertex c.args.graph.now.n) c.min-size.result rest vertices) in
     (omega arith, (omega arith, (omega arith, (c.requires.ready, (group, (few, within))))))
 

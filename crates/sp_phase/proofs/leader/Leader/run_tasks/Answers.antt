@@ -14,17 +14,16 @@ pub relax_tasks-requires-after_bounds : goal.relax_tasks-requires-after_bounds
 relax_tasks-requires-after_bounds g c κs within =
     let st = c.self.inside.store.now in
     let due = subst (λ (l : Lead). All (IsDue g.row.P l.stage) c.args.tasks.items) (sym c.self.view_is) c.requires in
-    (omega arith, (c.self.invariant.0, (c.self.invariant.1.holds.table, subst (λ ts. All (IsDue g.row.P st) ts) (sym c.as_slice-list.ensures.value) due)))
+    (omega arith, (c.self.invariant.1.holds.table, (c.self.invariant.0, subst (λ ts. All (IsDue g.row.P st) ts) (sym c.as_slice-list.ensures.value) due)))
 
 pub invariant_of-result : goal.invariant_of-result
 invariant_of-result g c =
     let r = c.self.inside in
-    let crew = c.self.invariant.0 in
     let out = c.in_ok-out.out in
     let q = c.put_all.new.buckets in
     let M : List Entry → Type 0 = λ es. IsPermutation (r.buckets.entries ++ es) q.entries in
     let moved = subst M c.as_slice.ensures.value c.in_ok-put_all.ensures.all in (
-      (crew.0, crew.1, c.in_ok-out.ensures.claimer ∙ crew.2),
+      c.in_ok-out.ensures.claimer ∙ c.self.invariant.0,
       round_leads g.row.P r.store.now c.as_slice-list.result.now _ out.caller (noted c.write.new.self) q out.found.items c.self.invariant.1 c.in_ok-out.ensures.done c.write.ensures.running (ap (λ v. v.items) c.write.ensures.remembered) c.put_all.ensures.width moved,
     )
 

@@ -13,7 +13,7 @@ bounds_of-bounds-requires g c =
     let i = c.args.bucket in
     let F : ℕ → Type 0 = λ d. i * d + d < 18446744073709551616 in
     let lowest = subst (λ (l : Lead). IsLowest l.buckets i) (sym c.self.view_is) c.requires in
-    subst F (sym c.delta.ensures) (bucket_fits g.row.P r.store.now led.holds.stage r.buckets i led.width led.entries lowest)
+    subst F (sym (c.get.ensures.width ∙ c.delta.ensures)) (bucket_fits g.row.P r.store.now led.holds.stage r.buckets i led.width led.entries lowest)
 
 pub returns-clause-stage : goal.returns-clause-stage
 returns-clause-stage g c = c.queue_open.ensures.stage ∙ c.in_ok-leader.ensures.stage
@@ -24,7 +24,7 @@ returns-clause-told g c is =
     let i = c.args.bucket in
     let b = c.bounds_of-bounds.ensures in
     let same = c.queue_open.ensures.stage ∙ c.in_ok-leader.ensures.stage in
-    let d : c.delta.result ≡ l.stage.delta = c.delta.ensures ∙ (ap (λ (x : Lead). x.stage.delta) c.self.view_is ∙ ap (λ (s : Stage). s.delta) (sym same)) in
+    let d : c.get.result ≡ l.stage.delta = c.get.ensures.width ∙ (c.delta.ensures ∙ (ap (λ (x : Lead). x.stage.delta) c.self.view_is ∙ ap (λ (s : Stage). s.delta) (sym same))) in
     test_told g.row.P l.stage l.caller l.marks.each l.words c.in_ok-passed.ensures.copied c.tested_copy.ensures.settled i c.bounds_of-bounds.result (b.light ∙ ap (λ n. (i + 1) * n) d) (b.heavy ∙ ap (λ n. i * n) d) (c.in_ok-passed.ensures.none is)
 
 pub returns-clause-comes : goal.returns-clause-comes
@@ -34,7 +34,7 @@ returns-clause-comes g c =
     let i = c.args.bucket in
     let b = c.bounds_of-bounds.ensures in
     let same = c.queue_open.ensures.stage ∙ c.in_ok-leader.ensures.stage in
-    let d : c.delta.result ≡ l.stage.delta = c.delta.ensures ∙ (ap (λ (x : Lead). x.stage.delta) c.self.view_is ∙ ap (λ (s : Stage). s.delta) (sym same)) in
+    let d : c.get.result ≡ l.stage.delta = c.get.ensures.width ∙ (c.delta.ensures ∙ (ap (λ (x : Lead). x.stage.delta) c.self.view_is ∙ ap (λ (s : Stage). s.delta) (sym same))) in
     let W : Lead → Type 0 = λ x. x.buckets.delta ≡ x.stage.delta in
     let copied = c.in_ok-passed.ensures.copied in (
       level_reaches g.row.P a l same (λ low past. c.in_ok-passed.ensures.past low (c.in_ok-leader.ensures.past low low past)),

@@ -15,7 +15,7 @@ bounds_of-bounds-requires g c =
     let i = c.args.bucket in
     let F : ℕ → Type 0 = λ d. i * d + d < 18446744073709551616 in
     let lowest = subst (λ (l : Lead). IsLowest l.buckets i) (sym c.self.view_is) c.requires.lowest in
-    subst F (sym c.delta.ensures) (bucket_fits g.row.P r.store.now led.holds.stage r.buckets i led.width led.entries lowest)
+    subst F (sym (c.get.ensures.width ∙ c.delta.ensures)) (bucket_fits g.row.P r.store.now led.holds.stage r.buckets i led.width led.entries lowest)
 
 pub returns-clause-told : goal.returns-clause-told
 returns-clause-told g c is =
@@ -23,7 +23,7 @@ returns-clause-told g c is =
     let i = c.args.bucket in
     let b = c.bounds_of-bounds.ensures in
     let same = c.queue_open.ensures.stage ∙ (ap (λ (x : Lead). x.stage) c.read.ensures.reads.rest ∙ c.in_ok-leader.ensures.stage) in
-    let d : c.delta.result ≡ l.stage.delta = c.delta.ensures ∙ (ap (λ (x : Lead). x.stage.delta) c.self.view_is ∙ ap (λ (s : Stage). s.delta) (sym same)) in
+    let d : c.get.result ≡ l.stage.delta = c.get.ensures.width ∙ (c.delta.ensures ∙ (ap (λ (x : Lead). x.stage.delta) c.self.view_is ∙ ap (λ (s : Stage). s.delta) (sym same))) in
     test_told g.row.P l.stage l.caller l.marks.each l.words c.in_ok-passed.ensures.copied c.tested_copy.ensures.settled i c.bounds_of-bounds.result (b.light ∙ ap (λ n. (i + 1) * n) d) (b.heavy ∙ ap (λ n. i * n) d) (c.in_ok-passed.ensures.none c.if-not-passed.false)
 
 pub returns-clause-found : goal.returns-clause-found
@@ -34,7 +34,7 @@ returns-clause-found g c is =
     let b = c.bounds_of-bounds.ensures in
     let end = c.bounds_of-bounds.result.light in
     let same = c.queue_open.ensures.stage ∙ (ap (λ (x : Lead). x.stage) c.read.ensures.reads.rest ∙ c.in_ok-leader.ensures.stage) in
-    let d : c.delta.result ≡ l.stage.delta = c.delta.ensures ∙ (ap (λ (x : Lead). x.stage.delta) c.self.view_is ∙ ap (λ (s : Stage). s.delta) (sym same)) in
+    let d : c.get.result ≡ l.stage.delta = c.get.ensures.width ∙ (c.delta.ensures ∙ (ap (λ (x : Lead). x.stage.delta) c.self.view_is ∙ ap (λ (s : Stage). s.delta) (sym same))) in
     let slice : c.as_slice.result.now ≡ l.words = c.as_slice.ensures.value ∙ ap (λ (x : Lead). x.words) c.leader.view_is in
     let W : Stage → Type 0 = λ s. IsVertex s.graph.n t in
     let vertex : IsVertex l.stage.graph.n t = subst W (sym same) c.requires.target in

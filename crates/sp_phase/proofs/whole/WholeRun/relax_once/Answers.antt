@@ -13,7 +13,7 @@ relax_all-caller-requires-after_bounds g c κs within =
     let run : WalksFrom = record { graph = c.self.inside.graph.now; source = c.self.inside.source } in
     let table = c.args.table.now in
     let takes : TakesWalks run table.law table.vertices = subst (λ r. TakesWalks r table.law table.vertices) (sym c.self.view_is) c.requires.table in
-    (omega arith, (table_ready g.row.P run c.self.invariant table.law table.vertices takes, c.requires.caller))
+    (omega arith, (omega arith, (table_ready g.row.P run c.self.invariant table.law table.vertices takes, c.requires.caller)))
 
 pub returns-clause-shows : goal.returns-clause-shows
 returns-clause-shows g c =

@@ -1,0 +1,12 @@
+-- What a run may be asked for.
+use Rattle.std.specs.Prelude.{ℕ, ◌≤◌}
+use Rattle.sp_word.specs.declared.workers.TheConstants.{MOST_WORKERS}
+use Rattle.sp_word.specs.Word.{max_dist}
+
+-- a bucket is from 1 to the greatest distance wide
+abbrev pub IsWidth : (P : ℕ) → (width : ℕ) → Type 0
+IsWidth P width = (1 ≤ width) × (width ≤ max_dist P)
+
+-- there are from 1 to 64 workers
+abbrev pub IsCrew : (workers : ℕ) → Type 0
+IsCrew workers = (1 ≤ workers) × (workers ≤ MOST_WORKERS)
