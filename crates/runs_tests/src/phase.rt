@@ -19,6 +19,7 @@ mod compare;
 mod fire;
 mod lending;
 mod meeting;
+mod pairs;
 mod random;
 mod refused;
 mod roads;

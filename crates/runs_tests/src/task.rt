@@ -12,7 +12,9 @@ use sp_claim::{ClaimTable, Claimer};
 use sp_graph::{Graph, Rows};
 use sp_offer::{AnyWord, Caller, Loop, Lowering, OfferTable, OneMin};
 use sp_paths::Arc;
-use sp_task::{Gate, TaskKind, OpenGate, Round, RoundOut, RoundRefused, Task, run_round, run_round_by};
+use sp_task::{
+    Gate, OpenGate, Round, RoundOut, RoundRefused, Task, TaskKind, run_round, run_round_by,
+};
 use sp_word::{Word, Workers};
 use std::alloc::{AllocError, Global};
 use std::sync::Wait;

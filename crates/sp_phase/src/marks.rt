@@ -5,7 +5,7 @@ ghost use Rattle.sp_phase.specs.Marks.{no_mark, noted, marked, SameDistances, Re
 ghost use Rattle.sp_phase.specs.Running.{KeepsRunning};
 ghost use Rattle.sp_phase.specs.Behind.{AreMarked, Enters, Forgets};
 
-use sp_task::{TaskKind, Task};
+use sp_task::{Task, TaskKind};
 use std::alloc::{AllocError, Global};
 use std::mem;
 

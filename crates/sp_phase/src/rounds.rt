@@ -12,7 +12,7 @@ ghost use Rattle.sp_phase.specs.Behind.{HasRun, PreparesLight, GivesHeavy, Keeps
 use crate::leader::Leader;
 use crate::store::Crew;
 use sp_bucket::{Buckets, Entry};
-use sp_task::{Gate, TaskKind, Task};
+use sp_task::{Gate, Task, TaskKind};
 use std::alloc::AllocError;
 use std::sync::Wait;
 use std::thread::Threads;

@@ -12,6 +12,6 @@ mod workers;
 
 pub use gate::{Gate, OpenGate};
 pub use round::{run_round, run_round_by};
-pub use task::{TaskKind, Round, Task};
+pub use task::{Round, Task, TaskKind};
 pub use walks::{Walks, walks_allow_arcs};
 pub use workers::{Receipt, RoundOut, RoundRefused};

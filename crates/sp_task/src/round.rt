@@ -9,8 +9,8 @@ ghost use Rattle.sp_task.specs.Rounds.{TakesTasks, IsReadyRound, IsRoundDone, Is
 
 use crate::gate::Gate;
 use crate::task::Round;
-use crate::workers::unfinished::{mark, run_left};
 use crate::workers::stealing::{Deques, Seat, deal, run_workers};
+use crate::workers::unfinished::{mark, run_left};
 use crate::workers::{Done, RoundOut, RoundRefused};
 use sp_claim::Claimer;
 use sp_offer::{Caller, Lawful, Loop, Lowering, OfferTable};

@@ -4,10 +4,10 @@ use sp_bucket::Entry;
 use sp_claim::Claimer;
 use sp_offer::Caller;
 
-pub(crate) mod unfinished;
 pub(crate) mod merge;
 pub(crate) mod stealing;
 pub(crate) mod steps;
+pub(crate) mod unfinished;
 
 /// Stands for a task of a round whose offers its holder's caller made.
 #[derive(Clone, Copy, Debug, PartialEq, Eq)]

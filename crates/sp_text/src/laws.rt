@@ -11,8 +11,8 @@ ghost use Rattle.sp_text.specs.Meaning.{IsFirstFault, IsCut};
 
 /// A fault that a text shows before its end is the first fault of each text that begins so.
 pub fn early_fault_is_first()
-    ensures { (rules : Judge) (text more : List ℕ) (e : DimacsError) → fault_so_far rules text ≡ Some e
-        → fault_at_end rules (text ++ more) ≡ Some e }
+    ensures { (rules : Judge) (text more : List ℕ) (e : DimacsError)
+        → fault_so_far rules text ≡ Some e → fault_at_end rules (text ++ more) ≡ Some e }
 {}
 
 /// The first fault of a text's lines is that of the first line that has one.

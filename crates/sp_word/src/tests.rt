@@ -145,8 +145,8 @@ fn numbers_of_workers(rt: HostRuntime) {
 
 #[test]
 fn workers_for_less_work(rt: HostRuntime) {
-    let eight = Workers::new(8);
     for (most, few) in [(0, 1), (1, 1), (7, 7), (8, 8), (usize::MAX, 8)] {
-        assert_eq!(rt; eight.map(|workers| workers.at_most(most).get()), Some(few));
+        let fewer = Workers::new(8).map(|eight| eight.at_most(most));
+        assert_eq!(rt; fewer.map(|fewer| fewer.get()), Some(few));
     }
 }

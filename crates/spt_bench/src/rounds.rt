@@ -13,7 +13,7 @@ use sp_claim::{ClaimTable, Claimer};
 use sp_graph::{Graph, Rows};
 use sp_offer::{AnyWord, Caller, OfferTable};
 use sp_paths::Arc;
-use sp_task::{TaskKind, OpenGate, Round, Task, run_round};
+use sp_task::{OpenGate, Round, Task, TaskKind, run_round};
 use sp_word::Workers;
 use std::alloc::{AllocError, Global};
 use std::io;

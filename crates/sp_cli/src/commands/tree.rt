@@ -1,5 +1,6 @@
 //! `spt tree`: for each source of a list its shortest-path tree.
 ghost use Rattle.std.specs.Prelude.{◌≡◌};
+ghost use Rattle.sp_word.specs.Ranges.{IsCrew};
 ghost use Rattle.sp_cli.specs.Ends.{end_of, fault_of};
 
 use super::{Command, Words, file};
@@ -37,7 +38,8 @@ pub struct Tree<'a> {
     // The width of a bucket.
     delta: u64,
     // How many threads may work, the main thread counted.
-    workers: Workers,
+    workers: u32,
+    ghost crew: { IsCrew workers },
 }
 
 impl<'a> Command<'a> for Tree<'a> {
@@ -122,11 +124,13 @@ Others are
     }
 
     fn read(given: &ArgMatches<'a>) -> Option<Self> {
+        let workers: u32 = given.get_one("workers")?;
+        let _ = Workers::new(workers)?;
         Some(Tree {
             graph: given.get_str("GR")?,
             sources: given.get_str("SS")?,
             delta: given.get_one("delta")?,
-            workers: Workers::new(given.get_one("workers")?)?,
+            workers,
         })
     }
 }
@@ -163,9 +167,12 @@ impl<const P: u32> Run<P> for Tree<'_> {
         let Some(delta) = Delta::<P>::new(self.delta) else {
             return Err(Fault::DeltaOutOfRange);
         };
+        let Some(workers) = Workers::new(self.workers) else {
+            unreachable!()
+        };
         let mut gr = FileKind::Graph.open(files, self.graph)?;
         let mut ss = FileKind::Sources.open(files, self.sources)?;
-        match run_batch::<P, R, _, _, W>(rt, alloc, &mut gr, &mut ss, out, delta, self.workers) {
+        match run_batch::<P, R, _, _, W>(rt, alloc, &mut gr, &mut ss, out, delta, workers) {
             Ok(summary) => Ok(status_after(summary)),
             Err(error) => Err(fault_of(error)),
         }

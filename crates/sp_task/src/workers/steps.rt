@@ -8,7 +8,7 @@ ghost use Rattle.sp_task.specs.Work.{did};
 ghost use Rattle.sp_task.specs.Rounds.{IsReadyRound, HasRoom, AreArcsOfTask, IsOffer, Relaxes, RunsTask, GoesOn};
 
 use crate::gate::Gate;
-use crate::task::{TaskKind, Round, Task};
+use crate::task::{Round, Task, TaskKind};
 use crate::workers::{Done, Receipt};
 use sp_bucket::Entry;
 use sp_graph::Rows;
