@@ -19,7 +19,6 @@ import sys
 import tempfile
 
 HOME = os.path.dirname(os.path.dirname(os.path.abspath(__file__)))
-CRATE = os.path.join(HOME, "crates", "spt_bench")
 MADE = os.path.join(HOME, ".spt")
 SEED = 1
 
@@ -48,21 +47,23 @@ def sources():
     return known.hexdigest()
 
 
-def build_ours():
-    """The program, proved and built first where it isn't yet from these sources. It is kept as `spt` keeps its own."""
-    program, stamp = os.path.join(MADE, "spt_bench"), os.path.join(MADE, "spt_bench.sources")
+def build_ours(name="spt_bench", *words):
+    """The program of a crate, proved, built and run with these words first where it isn't yet from these sources. It is kept as
+    `spt` keeps its own."""
+    crate = os.path.join(HOME, "crates", name)
+    program, stamp = os.path.join(MADE, name), os.path.join(MADE, name + ".sources")
     wanted = sources()
     if os.path.exists(program) and os.path.exists(stamp):
         with open(stamp) as file:
             if file.read() == wanted:
                 return program
     if shutil.which("rt") is None:
-        sys.exit("parts: the Rattle kit's command rt isn't on the path (README.md)")
-    print("parts: building crates/spt_bench: it and what it uses is proved, which takes some minutes", file=sys.stderr)
-    done = subprocess.run(["rt", "run"], cwd=CRATE, capture_output=True, text=True)
-    built = os.path.join(CRATE, "out", "spt_bench")
+        sys.exit(f"{name}: the Rattle kit's command rt isn't on the path (README.md)")
+    print(f"{name}: building crates/{name}: it and what it uses is proved, which takes some minutes", file=sys.stderr)
+    done = subprocess.run(["rt", "run", "--", *words], cwd=crate, capture_output=True, text=True)
+    built = os.path.join(crate, "out", name)
     if done.returncode != 0 or not os.path.exists(built):
-        sys.exit(f"{done.stdout}{done.stderr}parts: the build failed")
+        sys.exit(f"{done.stdout}{done.stderr}{name}: the build failed")
     os.makedirs(MADE, exist_ok=True)
     shutil.copy(built, program)
     with open(stamp, "w") as file:

@@ -1,6 +1,8 @@
-//! Tests of rounds, of what arcs show, and of whole runs, by their public calls.
+//! Tests of claim marks, of rounds, of what arcs show, and of whole runs, by their public calls.
 #![tactic(auto)]
 
+#[cfg(test)]
+mod claim;
 #[cfg(test)]
 mod phase;
 #[cfg(test)]

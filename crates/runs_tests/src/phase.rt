@@ -24,6 +24,7 @@ mod random;
 mod refused;
 mod roads;
 mod settling;
+mod targets;
 mod watching;
 
 const WORKERS: [u32; 3] = [1, 2, 64];

@@ -1,8 +1,7 @@
 -- Some sources answered, and then those behind them.
-use Rattle.std.proofs.Common.{◌≡◌, ℕ, ◌+◌, ◌<◌, ◌≤◌, ◌^◌, Bool, List, [], ◌∷◌, ◌++◌, length, map, get_or, take, drop, take-append-drop, Option, Result, Ok, Err, refl, sym, ap, ◌∙◌, cond, zero, suc, arith, length-append, append_assoc}
+use Rattle.std.proofs.Common.{◌≡◌, ℕ, ◌+◌, ◌<◌, ◌≤◌, ◌^◌, List, [], ◌∷◌, ◌++◌, length, map, get_or, take, drop, take-append-drop, Option, Result, Ok, Err, refl, sym, ap, ◌∙◌, cond, zero, suc, arith, length-append, append_assoc}
 use Rattle.std.specs.Prelude.{All}
 use Rattle.std.specs.List.{count_by}
-use Rattle.std.specs.Io.KnownBytes.{Appends}
 use Rattle.std.proofs.KnownBytes.{Appends-nil, Appends-trans}
 use Rattle.std.proofs.lemmas.List.{append-nil, map-append, take_more, drop_at}
 use Rattle.std.proofs.lemmas.List.Elements.{All-same, All-drop}
@@ -14,7 +13,7 @@ use Rattle.sp_device.proofs.TextSteps.{begun_behind, begun_more}
 use Rattle.sp_paths.specs.Paths.{Graph}
 use Rattle.sp_batch.specs.declared.answers.Summary.{Summary}
 use Rattle.sp_batch.specs.declared.answers.BatchError.{BatchError}
-use Rattle.sp_batch.specs.declared.answers.BatchError.TheVariants.{Gr, Ss, NoSuchVertex, Memory, Write}
+use Rattle.sp_batch.specs.declared.answers.BatchError.TheVariants.{Gr, Ss, Pairs, NoSuchVertex, Memory, Write}
 use Rattle.sp_batch.specs.Batch.{Answer, AreAnswers, answer_text, batch_text, is_far, IsSummary}
 use Rattle.sp_batch.specs.declared.finding.Found.{Found}
 use Rattle.sp_batch.specs.declared.answering.Step.{Step}
@@ -120,6 +119,7 @@ written_refused device all first second later old mid new one Write parts h begu
 written_refused device all first second later old mid new one Memory parts h begun = absurd begun
 written_refused device all first second later old mid new one (Gr e) parts h begun = absurd begun
 written_refused device all first second later old mid new one (Ss e) parts h begun = absurd begun
+written_refused device all first second later old mid new one (Pairs e) parts h begun = absurd begun
 written_refused device all first second later old mid new one (NoSuchVertex v) parts h begun = absurd begun
 
 pub counts_fit : {W : Type 0} (device : Writer W) (first second : List Answer) (old mid new : W) (one two : Summary) → IsWritten device first old one mid → IsWritten device second mid two new
@@ -162,6 +162,7 @@ all_written P g sources answers device old new (Err Write) are h = (
 all_written P g sources answers device old new (Err Memory) are h = absurd h
 all_written P g sources answers device old new (Err (Gr e)) are h = absurd h
 all_written P g sources answers device old new (Err (Ss e)) are h = absurd h
+all_written P g sources answers device old new (Err (Pairs e)) are h = absurd h
 all_written P g sources answers device old new (Err (NoSuchVertex v)) are h = absurd h
 
 -- Memory was refused before anything was written.
@@ -193,6 +194,7 @@ refused_later P g sources front back later device old mid new one Memory parts h
 refused_later P g sources front back later device old mid new one Write parts h begun = (begun_later P g sources front back later device old mid (device.written new) one parts h begun.0, begun.1)
 refused_later P g sources front back later device old mid new one (Gr e) parts h begun = absurd begun
 refused_later P g sources front back later device old mid new one (Ss e) parts h begun = absurd begun
+refused_later P g sources front back later device old mid new one (Pairs e) parts h begun = absurd begun
 refused_later P g sources front back later device old mid new one (NoSuchVertex v) parts h begun = absurd begun
 
 -- The first sources were answered, the answers to those behind them were found and wait, and the rest is to come.

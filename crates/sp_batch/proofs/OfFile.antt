@@ -1,7 +1,7 @@
 -- The answers for a graph whose arcs were put in another order.
-use Rattle.std.proofs.Common.{◌≡◌, ℕ, ◌<◌, ◌≤◌, Bool, true, false, List, [], ◌∷◌, Option, Some, None, Result, Ok, Err, refl, sym, ap, ◌∙◌}
+use Rattle.std.proofs.Common.{◌≡◌, ℕ, ◌≤◌, true, List, [], ◌∷◌, Option, Some, None, Result, Ok, Err, ◌∙◌}
 use Rattle.std.proofs.lemmas.Bool.{false≢true}
-use Rattle.std.specs.Prelude.{IfErr, All, Contains, IsPermutation}
+use Rattle.std.specs.Prelude.{IfErr, All, IsPermutation}
 use Rattle.sp_word.specs.Word.{max_dist, is_layout}
 use Rattle.std.proofs.lemmas.List.Sorted.{Contains-permutation, IsPermutation-sym}
 use Rattle.sp_paths.specs.declared.arc.Arc.{Arc}
@@ -13,10 +13,9 @@ use Rattle.sp_dimacs.specs.declared.sources.SsFile.{SsFile}
 use Rattle.sp_dimacs.specs.Graph.{graph_of, IsNetwork}
 use Rattle.sp_dimacs.specs.Sources.{AreSourcesWithin}
 use Rattle.sp_device.specs.declared.devices.Write.{Ghosts as Writer}
-use Rattle.sp_phase.specs.Answer.{IsAnswer}
 use Rattle.sp_batch.specs.declared.answers.Summary.{Summary}
 use Rattle.sp_batch.specs.declared.answers.BatchError.{BatchError}
-use Rattle.sp_batch.specs.declared.answers.BatchError.TheVariants.{Gr, Ss, NoSuchVertex, Memory, Write}
+use Rattle.sp_batch.specs.declared.answers.BatchError.TheVariants.{Gr, Ss, Pairs, NoSuchVertex, Memory, Write}
 use Rattle.sp_batch.specs.Batch.{Answer, TreeOf, FarFrom, IsAnswerTo, AreAnswers, HasBegun}
 use Rattle.sp_batch.specs.Steps.{HasBegunFirst, AreAllAnswered}
 use Rattle.sp_batch.specs.Answered.{IsBatch, is_early}
@@ -81,6 +80,7 @@ of_file P file list graph device old new (Err Memory) same ok begun = (ok.within
 of_file P file list graph device old new (Err Write) same ok (begun, failed) = (ok.within, file_begun P file list (device.written old) (device.written new) ok (same_begun P graph (graph_of file) list.sources.items (device.written old) (device.written new) same begun), failed)
 of_file P file list graph device old new (Err (Gr e)) same ok is = absurd is
 of_file P file list graph device old new (Err (Ss e)) same ok is = absurd is
+of_file P file list graph device old new (Err (Pairs e)) same ok is = absurd is
 of_file P file list graph device old new (Err (NoSuchVertex v)) same ok is = absurd is
 
 -- Memory was refused before anything was written.
@@ -94,4 +94,5 @@ not_early P g sources device old new (Err Memory) same is = λ early. absurd (fa
 not_early P g sources device old new (Err Write) same is = λ early. absurd (false≢true early)
 not_early P g sources device old new (Err (Gr e)) same is = absurd is
 not_early P g sources device old new (Err (Ss e)) same is = absurd is
+not_early P g sources device old new (Err (Pairs e)) same is = absurd is
 not_early P g sources device old new (Err (NoSuchVertex v)) same is = absurd is

@@ -1,5 +1,5 @@
 -- From the two texts to the answers.
-use Rattle.std.proofs.Common.{◌≡◌, ℕ, Bool, List, Option, Some, None, Result, Ok, Err, refl}
+use Rattle.std.proofs.Common.{ℕ, Bool, List, Option, Result, Ok, Err, refl}
 use Rattle.sp_text.specs.Text.{items_of}
 use Rattle.sp_text.specs.Lines.{lines}
 use Rattle.sp_device.specs.declared.devices.Read.{Ghosts as Reader}
@@ -11,7 +11,7 @@ use Rattle.sp_dimacs.specs.Graph.{SpellsGraph, GraphRead}
 use Rattle.sp_dimacs.specs.Sources.{SpellsSources, SourcesRead}
 use Rattle.sp_batch.specs.declared.answers.Summary.{Summary}
 use Rattle.sp_batch.specs.declared.answers.BatchError.{BatchError}
-use Rattle.sp_batch.specs.declared.answers.BatchError.TheVariants.{Gr, Ss, NoSuchVertex, Memory, Write}
+use Rattle.sp_batch.specs.declared.answers.BatchError.TheVariants.{Gr, Ss, Pairs, NoSuchVertex, Memory, Write}
 use Rattle.sp_batch.specs.Answered.{IsBatch, BatchAnswered, BatchOfSome}
 
 -- What was read to its end is spelled.
@@ -30,6 +30,7 @@ answered P gr_text ss_text g gr s ss w old new file list (Err Memory) graph sour
 answered P gr_text ss_text g gr s ss w old new file list (Err Write) graph sources is = (file, list, graph, sources, is)
 answered P gr_text ss_text g gr s ss w old new file list (Err (Gr e)) graph sources is = absurd is
 answered P gr_text ss_text g gr s ss w old new file list (Err (Ss e)) graph sources is = absurd is
+answered P gr_text ss_text g gr s ss w old new file list (Err (Pairs e)) graph sources is = absurd is
 
 pub of_some : {W : Type 0} (P : ℕ) (gr_text ss_text : List ℕ) (w : Writer W) (old new : W) (file : GrFile) (list : SsFile) (result : Result Summary BatchError)
     → SpellsGraph P gr_text file → SpellsSources P ss_text list → IsBatch P file list w old new result → BatchOfSome P w old new result
@@ -39,3 +40,4 @@ of_some P gr_text ss_text w old new file list (Err Memory) graph sources is = (g
 of_some P gr_text ss_text w old new file list (Err Write) graph sources is = (gr_text, ss_text, file, list, graph, sources, is)
 of_some P gr_text ss_text w old new file list (Err (Gr e)) graph sources is = absurd is
 of_some P gr_text ss_text w old new file list (Err (Ss e)) graph sources is = absurd is
+of_some P gr_text ss_text w old new file list (Err (Pairs e)) graph sources is = absurd is

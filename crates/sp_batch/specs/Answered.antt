@@ -9,7 +9,7 @@ use Rattle.sp_dimacs.specs.Graph.{graph_of, SpellsGraph, GraphRead}
 use Rattle.sp_dimacs.specs.Sources.{SpellsSources, SourcesRead}
 use Rattle.sp_batch.specs.declared.answers.Summary.{Summary}
 use Rattle.sp_batch.specs.declared.answers.BatchError.{BatchError}
-use Rattle.sp_batch.specs.declared.answers.BatchError.TheVariants.{Gr, Ss, NoSuchVertex, Memory, Write}
+use Rattle.sp_batch.specs.declared.answers.BatchError.TheVariants.{Gr, Ss, Pairs, NoSuchVertex, Memory, Write}
 use Rattle.sp_batch.specs.Batch.{Answer, AreAnswers, batch_text, IsSummary, HasBegun, IsFirstAbove}
 
 -- For the sources of a graph exactly the text of their answers was written; or a source is no vertex, and nothing was
@@ -21,6 +21,7 @@ IsBatch P file list w old new (Err Memory) = All (λ s. s ≤ file.n) list.sourc
 IsBatch P file list w old new (Err Write) = All (λ s. s ≤ file.n) list.sources.items × HasBegun P (graph_of file) list.sources.items (w.written old) (w.written new) × (w.has_failed new ≡ true)
 IsBatch P file list w old new (Err (Gr e)) = ⊥
 IsBatch P file list w old new (Err (Ss e)) = ⊥
+IsBatch P file list w old new (Err (Pairs e)) = ⊥
 
 -- The answer to two texts: a fault of the first, with nothing written; a fault of the second, where the first spells a
 -- graph, with nothing written; or what the graph and the sources give that the two texts spell.
@@ -39,6 +40,7 @@ BatchOfSome P w old new result = (gr_text ss_text : List ℕ) × (file : GrFile)
 abbrev pub is_early : BatchError → Bool
 is_early (Gr e) = true
 is_early (Ss e) = true
+is_early (Pairs e) = true
 is_early (NoSuchVertex s) = true
 is_early Memory = false
 is_early Write = false

@@ -1,5 +1,5 @@
 -- What is written for a list of sources.
-use Rattle.std.specs.Prelude.{◌≡◌, ◌<◌, ◌≤◌, ℕ, Bool, true, false, List, [], ◌∷◌, ◌++◌, length, slice_get, Option, Some, None}
+use Rattle.std.specs.Prelude.{◌≡◌, ◌<◌, ◌≤◌, ℕ, Bool, true, false, List, [], ◌∷◌, length, slice_get, Option, Some}
 use Rattle.std.specs.List.{flat_map, count_by}
 use Rattle.sp_word.specs.Word.{max_dist}
 use Rattle.sp_device.specs.Devices.{IsBegun}
@@ -38,11 +38,14 @@ abbrev pub is_far : Answer → Bool
 is_far (TreeOf t) = false
 is_far (FarFrom source vertex) = true
 
--- how many sources there were, how many of them with a vertex that is too far, and how many bytes were written
-pub record IsSummary (answers : List Answer) (summary : Summary) : Type 0 where
-  pub sources : summary.sources ≡ length answers
-  pub too_far : summary.too_far ≡ count_by is_far answers
-  pub bytes : summary.bytes ≡ length (batch_text answers)
+-- how many there were, how many of them with a vertex that is too far, and how many bytes were written
+pub record IsCount (count far : ℕ) (text : List ℕ) (summary : Summary) : Type 0 where
+  pub sources : summary.sources ≡ count
+  pub too_far : summary.too_far ≡ far
+  pub bytes : summary.bytes ≡ length text
+
+abbrev pub IsSummary : List Answer → Summary → Type 0
+IsSummary answers summary = IsCount (length answers) (count_by is_far answers) (batch_text answers) summary
 
 -- Each source has an answer, and of the text of all the answers a beginning stands.
 pub record HasBegun (P : ℕ) (g : Graph) (sources : List ℕ) (old new : Option (List ℕ)) : Type 0 where

@@ -2,3 +2,5 @@ pub mod Batch
 pub mod Found
 pub mod Steps
 pub mod Answered
+pub mod Pairs
+pub mod Slots

@@ -1,4 +1,4 @@
-//! What a batch answers.
+//! What a batch answers, of sources or of pairs.
 ghost use Rattle.std.specs.Prelude.{◌≡◌};
 ghost use Rattle.sp_batch.specs.declared.answers.BatchError.TheVariants.{Memory, Write};
 
@@ -9,9 +9,9 @@ use thiserror::Error;
 /// What was written.
 #[derive(Clone, Copy, Debug, PartialEq, Eq)]
 pub struct Summary {
-    /// How many sources there were.
+    /// How many sources, or pairs, there were.
     pub sources: u64,
-    /// For how many of them a vertex is too far.
+    /// How many of them are answered by a vertex that is too far.
     pub too_far: u64,
     /// How many bytes were written.
     pub bytes: u64,
@@ -26,7 +26,10 @@ pub enum BatchError {
     /// The first fault of the sources' text.
     #[error("ss: {0}")]
     Ss(DimacsError),
-    /// The first source that isn't a vertex of the graph.
+    /// The first fault of the pairs' text.
+    #[error("pairs: {0}")]
+    Pairs(DimacsError),
+    /// The first number of a source or a target that isn't a vertex of the graph.
     #[error("source {0}: no such vertex")]
     NoSuchVertex(u32),
     /// A growth was refused.

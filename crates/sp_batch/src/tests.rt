@@ -7,6 +7,7 @@ mod graphs;
 mod groups;
 mod meeting;
 mod refusals;
+mod slots;
 mod threads;
 
 use crate::batch::answer_files;

@@ -6,6 +6,3 @@ mod table;
 
 pub use grants::Grant;
 pub use table::{ClaimTable, Claimer, SplitRefused};
-
-#[cfg(test)]
-mod tests;

@@ -4,7 +4,9 @@
 //! these modules, and its name in `AnyCommand`.
 mod check;
 mod offers;
+mod pairs;
 mod replay;
+mod running;
 mod tree;
 
 use crate::faults::{Fault, Status};
@@ -19,7 +21,7 @@ use std::thread::Threads;
 /// A command, with what it was given. They stand in the order of the help.
 pub type AnyCommand<'a> = OneOf<
     tree::Tree<'a>,
-    OneOf<check::Check<'a>, OneOf<replay::Replay<'a>, offers::Offers<'a>>>,
+    OneOf<pairs::Pairs<'a>, OneOf<check::Check<'a>, OneOf<replay::Replay<'a>, offers::Offers<'a>>>>,
 >;
 
 /// The words of a command, or of the program.

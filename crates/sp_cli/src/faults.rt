@@ -21,7 +21,7 @@ pub enum Status {
     Refused = 2,
     /// The tree is not the shortest-path tree of its source.
     CheckedNo = 3,
-    /// For some source a vertex is too far.
+    /// For some source, or some pair, a vertex is too far.
     TooFar = 4,
     /// Memory was refused.
     Memory = 5,
@@ -44,6 +44,7 @@ impl Status {
 pub enum FileKind {
     Graph,
     Sources,
+    Pairs,
     Tree,
     Replay,
     Offers,
@@ -73,6 +74,7 @@ impl fmt::Display for FileKind {
         f.write_str(match self {
             FileKind::Graph => "gr",
             FileKind::Sources => "ss",
+            FileKind::Pairs => "pairs",
             FileKind::Tree => "tree",
             FileKind::Replay => "replay",
             FileKind::Offers => "offers",
@@ -95,7 +97,7 @@ pub enum Fault {
     /// A file's text has a fault, its device failed, or its values found no memory.
     #[error("spt: {file}: {error}\n")]
     Input { file: FileKind, error: DimacsError },
-    /// A source is no vertex of the graph.
+    /// A source, or a target, is no vertex of the graph.
     #[error("spt: source {0}: no such vertex\n")]
     NoSuchVertex(u32),
     /// Memory was refused.

@@ -46,7 +46,7 @@ is told on standard error. `spt COMMAND --help` tells all of a command.
         1 "the command line is wrong"
         2 "a file is refused"
         3 "check: the tree is not the one of its source"
-        4 "tree: for some source a vertex is too far; all answers are written";
+        4 "tree, pairs: for some source a vertex is too far; all answers are written";
         "a file" "the output",
     example: "
 
@@ -55,5 +55,5 @@ Example:
   spt check diamond.gr diamond.tree"
 );
 
-/// The graph that `tree` and `check` read.
+/// The graph that `tree`, `pairs` and `check` read.
 pub const GRAPH_FILE: &str = "The graph, a .gr file";

@@ -5,6 +5,7 @@ mod check;
 mod faults;
 mod help;
 mod offers;
+mod pairs;
 mod replay;
 mod tree;
 mod usage;

@@ -117,15 +117,3 @@ flushed written passed front bytes start out new printer block count h waits wro
   counted = omega (arith, h.counted, sum_small (length bytes) (length h.done) (passed start) (passed out) (passed new) limit went h.went h.small, length-append h.done bytes);
   small = rw (length-append h.done bytes) (still_small (length bytes) (length h.done) (passed out) (passed new) limit went h.small);
 }
-
--- Where nothing waits, all was written.
-pub all_written : {W : Type 0} (written : W → Option (List ℕ)) (passed : W → ℕ) (front : List ℕ) (start out : W) (printer : Printer) → IsSent written passed front start out printer → printer.block ≡ []
-    → Appends (written start) (written out) front × (printer.count ≡ length front)
-all_written written passed front start out printer h empty =
-    let whole : front ≡ h.done = h.parts ∙ rw empty (append-nil h.done) in
-    (rw whole h.wrote, h.counted ∙ ap length (sym whole))
-
--- Where nothing waits, the device has passed on as many bytes as were sent.
-pub all_passed : {W : Type 0} (written : W → Option (List ℕ)) (passed : W → ℕ) (front : List ℕ) (start out : W) (printer : Printer) → IsSent written passed front start out printer
-    → (passed out ≡ passed start + printer.count) × (0 < printer.count → passed out ≤ 2 ^ 62)
-all_passed written passed front start out printer h = (rw h.counted h.went, λ (some : 0 < printer.count). h.small (rw (← h.counted) some))

@@ -14,6 +14,3 @@ pub use faults::WriteFault;
 pub use memory::{UpTo, UpToWriter};
 pub use printing::{Printer, finish, make_room, print_number, print_text};
 pub use streams::{OfRead, OfWrite};
-
-#[cfg(test)]
-mod tests;

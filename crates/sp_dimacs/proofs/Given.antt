@@ -10,6 +10,7 @@ use Rattle.sp_text.specs.declared.faults.DimacsError.{DimacsError}
 use Rattle.sp_text.specs.Lines.{cut, ended, rest, lines, last_line}
 use Rattle.sp_text.specs.Meaning.{HasNoLf}
 use Rattle.sp_text.proofs.LineCuts.{cut-append, front_byte, ended_at_run, rest_at_run, ended_at_lf, rest_at_lf}
+use Rattle.sp_text.proofs.Behind.{last_open}
 use Rattle.sp_dimacs.specs.declared.lines.Lines.{Lines}
 use Rattle.sp_dimacs.specs.declared.lines.State.{State}
 use Rattle.sp_dimacs.specs.declared.lines.State.TheVariants.{Going, Over, Refused}
@@ -38,10 +39,6 @@ ended_line behind line given is none free = ended_at_lf (behind ++ line) ∙ rw 
 
 line_after : (behind line after : List ℕ) → (behind ++ line) ++ 10 ∷ after ≡ ((behind ++ line) ++ 10 ∷ []) ++ after
 line_after behind line after = sym (append_assoc (behind ++ line) (10 ∷ []) after)
-
-last_open : (r : List ℕ) → 0 < length r → last_line r ≡ r ∷ []
-last_open [] some = absurd (omega arith)
-last_open (b ∷ r) some = refl
 
 lines_last : (text line : List ℕ) (given : List (List ℕ)) → ended text ≡ given → rest text ≡ line → 0 < length line → lines text ≡ given ++ line ∷ []
 unfolding lines

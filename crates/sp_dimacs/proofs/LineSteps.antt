@@ -1,11 +1,6 @@
 -- The next line, piece by piece.
-use Rattle.std.proofs.Common.{◌≡◌, ℕ, ◌+◌, List, [], ◌∷◌, ◌++◌, length, drop, sym, ap, ◌∙◌, append_assoc}
+use Rattle.std.proofs.Common.{◌≡◌, ℕ, ◌+◌, List, ◌∷◌, ◌++◌, length, drop, sym, ap, ◌∙◌, append_assoc}
 use Rattle.std.proofs.Math.Seq.{drop-append-add}
-use Rattle.sp_text.specs.Meaning.{HasNoLf}
-
-pub no_lf_both : (a b : List ℕ) → HasNoLf a → HasNoLf b → HasNoLf (a ++ b)
-no_lf_both [] b first second = second
-no_lf_both (x ∷ a) b first second = (first.0, no_lf_both a b first.1 second)
 
 -- What came is what came of the line, and what waits.
 pub came_on : (all room waits line next : List ℕ) → all ≡ room ++ waits → line ≡ room ++ waits → all ++ next ≡ line ++ next

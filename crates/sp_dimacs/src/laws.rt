@@ -13,6 +13,7 @@ ghost use Rattle.sp_dimacs.specs.declared.sources.SsFile.{SsFile};
 ghost use Rattle.sp_dimacs.specs.declared.pairs.PairsFile.{PairsFile};
 
 /// A graph that some text spells is within the limits of the layout.
+#[tactic(auto, using(crate::proofs::Limits::graph_within))]
 pub fn spelled_graph_is_within()
     ensures { (P : ℕ) (file : GrFile)
         → IsSpelled (judge gr (ranges_of P)) (SpelledBy gr IsGraph) file → IsNetwork P file }

@@ -22,6 +22,3 @@ pub use sp_device::{
 };
 pub use sp_paths::Arc;
 pub use sp_text::{DimacsError, Kind, Numeral, number};
-
-#[cfg(test)]
-mod tests;

@@ -1,6 +1,6 @@
 -- How far a run has come: through copies, tests and reads.
-use Rattle.std.proofs.Common.{◌≡◌, ◌≢◌, ℕ, ◌+◌, ◌-◌, ◌*◌, ◌/◌, ◌<◌, ◌≤◌, List, [], ◌++◌, length, get_or, take, replicate, Bool, true, false, Option, Some, None, sym, ap, ◌∙◌, subst, arith, ⊎_elim}
-use Rattle.std.specs.Prelude.{All, IfSome, IsTrue}
+use Rattle.std.proofs.Common.{◌≡◌, ◌≢◌, ℕ, ◌+◌, ◌-◌, ◌*◌, ◌/◌, ◌<◌, ◌≤◌, List, [], ◌++◌, length, get_or, take, replicate, true, false, Option, Some, None, sym, ap, ◌∙◌, subst, arith, ⊎_elim}
+use Rattle.std.specs.Prelude.{All, IfSome}
 use Rattle.std.specs.Option.{option_or}
 use Rattle.std.specs.List.Sorted.{IsPermutation}
 use Rattle.std.proofs.lemmas.Bool.{cases_lt}
@@ -13,21 +13,21 @@ use Rattle.sp_word.specs.History.{Table}
 use Rattle.sp_paths.specs.Paths.{IsVertex, IsSettled, IsLawful, word_at}
 use Rattle.sp_paths.specs.Phase.{TestedIsSettled}
 use Rattle.sp_paths.proofs.Least.{least_exists}
-use Rattle.sp_offer.specs.Order.{IsKnownWord, IsNoMore}
+use Rattle.sp_offer.specs.Order.{IsNoMore}
 use Rattle.sp_offer.specs.Story.{Knowledge, known}
 use Rattle.sp_offer.proofs.Orders.{at_most-both}
 use Rattle.sp_bucket.specs.declared.entry.Entry.{Entry}
 use Rattle.sp_bucket.specs.Content.{Content, IsLowest, Takes, bucket_of}
-use Rattle.sp_phase.specs.declared.marks.Mark.{Mark}
+use Rattle.sp_store.specs.declared.marks.Mark.{Mark}
+use Rattle.sp_store.specs.Stage.{Stage, IsStage, Learns}
+use Rattle.sp_store.specs.Marks.{no_mark, light_at, is_remembered}
 use Rattle.sp_phase.specs.Lead.{Lead}
 use Rattle.sp_phase.specs.declared.sweeping.Bounds.{Bounds}
-use Rattle.sp_phase.specs.Stage.{Stage, IsStage, Learns, law_of}
-use Rattle.sp_phase.specs.Marks.{no_mark, light_at}
 use Rattle.sp_phase.specs.Running.{IsQueued, EntriesFrom, Leads}
 use Rattle.sp_phase.specs.Sweep.{AreRelaxed, IsOpen, IsCopied, HasCopied, TakesCopy}
 use Rattle.sp_phase.specs.Settling.{IsLaterBucket}
 use Rattle.sp_phase.specs.Progress.{MayLead}
-use Rattle.sp_phase.specs.Behind.{is_remembered, IsFinal, IsPast, HasCome, end_of, KeepsPast, KeepsLevel, CatchesUp, StaysFrom, Empties, Reaches}
+use Rattle.sp_phase.specs.Behind.{IsFinal, IsPast, HasCome, end_of, KeepsPast, KeepsLevel, CatchesUp, StaysFrom, Empties, Reaches}
 use Rattle.sp_phase.proofs.KnownWords.{known_pair, known_lawful, lawful_walk, tree_lowest}
 use Rattle.sp_phase.proofs.LeaderHolds.{replicate_at, takes_from, takes_past, bucket_next, leads_queued, put_queued}
 use Rattle.sp_phase.proofs.CopiedWords.{open_queued}

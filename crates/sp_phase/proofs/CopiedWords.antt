@@ -3,12 +3,10 @@ use Rattle.std.proofs.Common.{◌≡◌, ℕ, ◌+◌, ◌-◌, ◌<◌, ◌≤�
 use Rattle.std.specs.Prelude.{All, IfSome, IfNone, option_to_list, slice_get}
 use Rattle.std.proofs.lemmas.Bool.{cases_lt}
 use Rattle.std.proofs.lemmas.List.{get_or_default, append-nil}
-use Rattle.std.proofs.lemmas.List.Elements.{All-push, All-append}
-use Rattle.std.specs.List.Sorted.{IsPermutation}
-use Rattle.std.proofs.lemmas.List.Sorted.{All-permutation}
+use Rattle.std.proofs.lemmas.List.Elements.{All-push}
 use Rattle.std.proofs.lemmas.Option.{unwrap_or-slice_get}
 use Rattle.std.specs.Option.{unwrap_or}
-use Rattle.sp_word.specs.Word.{Word, Unreached, Pair, dist_of, max_dist, max_pred, is_layout}
+use Rattle.sp_word.specs.Word.{Word, Unreached, Pair, dist_of, max_dist, is_layout}
 use Rattle.sp_word.specs.History.{Table}
 use Rattle.sp_word.proofs.Layouts.{by_layout}
 use Rattle.sp_paths.specs.Paths.{Graph, IsGraph, IsVertex, IsLawful, IsAtMost, IsTree, IsTreeWord, IsFar, word_at}
@@ -20,16 +18,16 @@ use Rattle.sp_offer.specs.Order.{IsKnownWord, IsNoMore}
 use Rattle.sp_offer.specs.Story.{Knowledge, known, IsCopy}
 use Rattle.sp_bucket.specs.declared.entry.Entry.{Entry}
 use Rattle.sp_tree.specs.Table.{TreeTable, HasPredWithin, table_of, tree_of}
-use Rattle.sp_phase.specs.declared.marks.Mark.{Mark}
+use Rattle.sp_store.specs.declared.marks.Mark.{Mark}
+use Rattle.sp_store.specs.declared.answers.RunError.TheVariants.{TooFar}
+use Rattle.sp_store.specs.Stage.{Stage, IsStage, law_of}
+use Rattle.sp_store.specs.Marks.{Noted, mark_of, light_at, heavy_at}
+use Rattle.sp_store.proofs.TaskMarks.{some_same}
 use Rattle.sp_phase.specs.declared.sweeping.Bounds.{Bounds}
-use Rattle.sp_phase.specs.Stage.{Stage, IsStage, law_of}
-use Rattle.sp_phase.specs.Marks.{Noted, mark_of, light_at, heavy_at}
 use Rattle.sp_phase.specs.Running.{IsQueued, Holds}
 use Rattle.sp_phase.specs.Sweep.{IsMarkedAt, IsRelaxedAtDist, IsRelaxedHere, AreRelaxed, IsOpen, IsCopied, IsSwept, HasWords}
 use Rattle.sp_phase.specs.Answer.{IsAnswer, IsRefusal}
-use Rattle.sp_phase.specs.declared.answers.RunError.TheVariants.{TooFar}
 use Rattle.sp_phase.proofs.KnownWords.{at_most_pair, zero_stays, known_pair, known_lawful, lawful_walk, walk_vertex, tree_known}
-use Rattle.sp_phase.proofs.TaskMarks.{some_same}
 use Rattle.sp_phase.proofs.LeaderHolds.{dist_pair}
 
 -- nothing is known of what is no vertex
@@ -198,10 +196,6 @@ open_queued P st c marks words b open' copy all k d lt =
     let low = h.0.1 in
     let at : IsVertex st.graph.n e.vertex = (h.0.0, omega arith) in
     (at, omega arith, copy.of.within e.vertex e.dist h.1.0 at h.1.1)
-
--- vertices are numbered by 32 bits
-pub few_vertices : (P n : ℕ) → is_layout P ≡ true → n ≤ max_pred P → n < 4294967296
-few_vertices P n layout low = by_layout (λ Q. n ≤ max_pred Q → n < 4294967296) P layout (λ h. omega arith) (λ h. omega arith) (λ h. omega arith) (λ h. omega arith) low
 
 -- ## Vertices that are left out
 

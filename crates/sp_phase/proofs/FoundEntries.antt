@@ -18,7 +18,7 @@ use Rattle.sp_task.specs.declared.task.TaskKind.TheVariants.{Light, Heavy}
 use Rattle.sp_task.specs.declared.task.Task.{Task}
 use Rattle.sp_task.specs.Offers.{Asked, arcs_of, arcs_of_kind, offer_along, offers_along, offers_of, AreSameOffers}
 use Rattle.sp_task.specs.Calls.{asked, entries, entry_of_reply, entry_of_call, word_offered}
-use Rattle.sp_phase.specs.Stage.{Stage, rows_of}
+use Rattle.sp_store.specs.Stage.{Stage, rows_of}
 use Rattle.sp_phase.specs.Running.{IsQueued}
 
 -- a test of offers, by the vertex and the distance

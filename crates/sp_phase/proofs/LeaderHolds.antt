@@ -17,14 +17,15 @@ use Rattle.sp_bucket.proofs.EntryPlaces.{All-before, All-behind}
 use Rattle.sp_task.specs.declared.task.TaskKind.{TaskKind}
 use Rattle.sp_task.specs.declared.task.Task.{Task}
 use Rattle.sp_task.specs.Left.{RoundDone}
-use Rattle.sp_phase.specs.declared.marks.Mark.{Mark}
+use Rattle.sp_store.specs.declared.marks.Mark.{Mark}
+use Rattle.sp_store.specs.Stage.{Stage, IsStage, Learns, law_of, rows_of}
+use Rattle.sp_store.specs.Marks.{Noted, no_mark, mark_of, light_at, heavy_at, SameDistances, Remembers}
+use Rattle.sp_store.specs.Rounds.{IsRunning, IsDue, KeepsRunning}
+use Rattle.sp_store.proofs.TaskMarks.{running_same}
 use Rattle.sp_phase.specs.Lead.{Lead}
-use Rattle.sp_phase.specs.Stage.{Stage, IsStage, Learns, law_of, rows_of}
-use Rattle.sp_phase.specs.Marks.{Noted, no_mark, mark_of, light_at, heavy_at, SameDistances, Remembers}
-use Rattle.sp_phase.specs.Running.{IsRunning, IsDue, IsQueued, KeepsRunning, Holds, Leads, TasksFrom, EntriesFrom}
+use Rattle.sp_phase.specs.Running.{IsQueued, Holds, Leads, TasksFrom, EntriesFrom}
 use Rattle.sp_phase.specs.Behind.{IsPast}
 use Rattle.sp_phase.proofs.KnownWords.{running_falls, lawful_walk, known_pair}
-use Rattle.sp_phase.proofs.TaskMarks.{running_same}
 use Rattle.sp_phase.proofs.FoundEntries.{found_queued}
 
 -- a caller that learns more holds what it held

@@ -1,13 +1,11 @@
 pub mod KnownWords
-pub mod TaskMarks
 pub mod FoundEntries
-pub mod StageTasks
 pub mod LeaderHolds
 pub mod CopiedWords
 pub mod SettledBuckets
 pub mod FallingWords
-pub mod RoundMarks
 pub mod PastRounds
 pub mod MadeTasks
 pub mod BucketsBehind
 pub mod WholeRun
+pub mod TargetAnswers

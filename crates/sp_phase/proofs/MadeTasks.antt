@@ -1,5 +1,5 @@
 -- Tasks that are made of vertices.
-use Rattle.std.proofs.Common.{◌≡◌, ℕ, ◌+◌, ◌-◌, ◌<◌, ◌≤◌, ◌⊎◌, inl, inr, List, [], ◌∷◌, ◌++◌, length, set, slice_index, true, false, Option, Some, None, refl, sym, ap, ◌∙◌, subst, arith, ⊎_elim}
+use Rattle.std.proofs.Common.{◌≡◌, ℕ, ◌+◌, ◌<◌, ◌≤◌, ◌⊎◌, inl, inr, List, [], ◌∷◌, ◌++◌, length, slice_index, true, Option, Some, None, refl, sym, ap, ◌∙◌, subst, arith, ⊎_elim}
 use Rattle.std.specs.Prelude.{All, Contains, IfSome, IfNone, option_to_list}
 use Rattle.std.proofs.lemmas.Bool.{cases_lt}
 use Rattle.std.proofs.lemmas.List.{get_or_default}
@@ -11,13 +11,14 @@ use Rattle.sp_offer.specs.Story.{Knowledge, known}
 use Rattle.sp_task.specs.declared.task.TaskKind.{TaskKind}
 use Rattle.sp_task.specs.declared.task.TaskKind.TheVariants.{Light, Heavy}
 use Rattle.sp_task.specs.declared.task.Task.{Task}
-use Rattle.sp_phase.specs.declared.marks.Mark.{Mark}
+use Rattle.sp_store.specs.declared.marks.Mark.{Mark}
+use Rattle.sp_store.specs.Stage.{Stage, Learns, law_of}
+use Rattle.sp_store.specs.Marks.{Noted, SameDistances, is_remembered, Enters, Forgets}
+use Rattle.sp_store.specs.Rounds.{HasTask, IsDue}
+use Rattle.sp_store.proofs.TaskMarks.{task_of}
 use Rattle.sp_phase.specs.Lead.{Lead, recalled}
-use Rattle.sp_phase.specs.Stage.{Stage, Learns, law_of}
-use Rattle.sp_phase.specs.Marks.{Noted, SameDistances}
-use Rattle.sp_phase.specs.Behind.{is_remembered, AreCarried, OwesHeavy, HasTask, WasKnown, MakesTasks, MakesLight, MakesHeavy, Enters, Forgets, HandsOver, IsFrom, HandsSome, Reads, MakesDue, PreparesLight, GivesHeavy, GivesSome}
-use Rattle.sp_phase.specs.Running.{IsDue, Holds, Leads}
-use Rattle.sp_phase.proofs.TaskMarks.{task_of}
+use Rattle.sp_phase.specs.Behind.{AreCarried, OwesHeavy, WasKnown, MakesTasks, MakesLight, MakesHeavy, HandsOver, IsFrom, HandsSome, Reads, MakesDue, PreparesLight, GivesHeavy, GivesSome}
+use Rattle.sp_phase.specs.Running.{Holds, Leads}
 use Rattle.sp_phase.proofs.LeaderHolds.{dist_pair, read_due, holds_learns}
 use Rattle.sp_phase.proofs.FallingWords.{falls_refl, learns_none, same_refl, carried_falls, carried_as}
 use Rattle.sp_phase.proofs.PastRounds.{owes_falls, makes_more, light_more}

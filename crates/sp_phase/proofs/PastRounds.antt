@@ -14,14 +14,15 @@ use Rattle.sp_task.specs.declared.task.TaskKind.{TaskKind}
 use Rattle.sp_task.specs.declared.task.TaskKind.TheVariants.{Light, Heavy}
 use Rattle.sp_task.specs.declared.task.Task.{Task}
 use Rattle.sp_task.specs.Left.{RoundDone}
-use Rattle.sp_phase.specs.declared.marks.Mark.{Mark}
+use Rattle.sp_store.specs.declared.marks.Mark.{Mark}
+use Rattle.sp_store.specs.Stage.{Stage, IsStage, Falls, Learns, law_of, rows_of}
+use Rattle.sp_store.specs.Marks.{Noted, light_at, heavy_at, SameDistances, is_remembered}
+use Rattle.sp_store.specs.Rounds.{HasTask, IsMarkedBy, AreMarked}
+use Rattle.sp_store.proofs.TaskMarks.{some_same, task_of}
+use Rattle.sp_store.proofs.RoundMarks.{light_heavy, heavy_light}
 use Rattle.sp_phase.specs.Lead.{Lead}
-use Rattle.sp_phase.specs.Stage.{Stage, IsStage, Falls, Learns, law_of, rows_of}
-use Rattle.sp_phase.specs.Marks.{Noted, light_at, heavy_at, SameDistances}
 use Rattle.sp_phase.specs.Running.{TasksFrom, EntriesFrom, Holds, Leads}
-use Rattle.sp_phase.specs.Behind.{is_remembered, IsCarried, AreCarried, OwesHeavy, IsFinal, IsPast, HasTask, IsMarkedBy, AreMarked, WasKnown, MakesTasks, MakesLight, MakesHeavy, HasRun, MakesDue, PreparesLight, KeepsPast, CatchesUp}
-use Rattle.sp_phase.proofs.TaskMarks.{some_same, task_of}
-use Rattle.sp_phase.proofs.RoundMarks.{light_heavy, heavy_light}
+use Rattle.sp_phase.specs.Behind.{IsCarried, AreCarried, OwesHeavy, IsFinal, IsPast, WasKnown, MakesTasks, MakesLight, MakesHeavy, HasRun, MakesDue, PreparesLight, KeepsPast, CatchesUp}
 use Rattle.sp_phase.proofs.FallingWords.{pair_same, pair_below, falls_refl, falls_trans, learns_trans, learns_round, same_trans, carried_falls, carried_as, known_before, final_falls, final_same}
 use Rattle.sp_phase.proofs.SettledBuckets.{settled_stays}
 use Rattle.sp_phase.proofs.FoundEntries.{found_known}
@@ -207,9 +208,6 @@ module _ (P : ℕ) (st : Stage) (stage : IsStage P st) where
       (λ (above : light ≤ e.dist). above) (cases_lt e.dist light)
 
   module _ (c : Knowledge) (m : Noted) (l l' : Lead) (tasks : List Task) (h : Holds P st c m) (ran : HasRun P st tasks l l') (light heavy : ℕ) (entries : EntriesFrom light l.buckets.entries) (final : IsFinal P st light heavy (known c.story) m.each) where
-    lawful_then : (kind : TaskKind) → MakesTasks P st kind c l.caller m l.marks tasks → (v : ℕ) → IsKnownWord (law_of P st) v (known l.caller.story v)
-    lawful_then kind makes = makes.learns.lawful
-
     -- the round keeps what is final
     round_final : (kind : TaskKind) → MakesTasks P st kind c l.caller m l.marks tasks → IsFinal P st light heavy (known l'.caller.story) l'.marks.each
     round_final kind makes =

@@ -13,10 +13,10 @@ use Rattle.sp_offer.specs.Order.{IsKnownWord}
 use Rattle.sp_offer.specs.Story.{Knowledge, known}
 use Rattle.sp_bucket.specs.declared.entry.Entry.{Entry}
 use Rattle.sp_bucket.specs.Content.{Content, IsLowest}
-use Rattle.sp_phase.specs.declared.marks.Mark.{Mark}
+use Rattle.sp_store.specs.declared.marks.Mark.{Mark}
+use Rattle.sp_store.specs.Stage.{Stage, IsStage, Falls, law_of}
+use Rattle.sp_store.specs.Marks.{light_at, heavy_at}
 use Rattle.sp_phase.specs.declared.sweeping.Bounds.{Bounds}
-use Rattle.sp_phase.specs.Stage.{Stage, IsStage, Falls, law_of}
-use Rattle.sp_phase.specs.Marks.{light_at, heavy_at}
 use Rattle.sp_phase.specs.Running.{IsQueued}
 use Rattle.sp_phase.specs.Sweep.{AreRelaxed, IsCopied, IsSwept}
 use Rattle.sp_phase.specs.Settling.{IsTold}

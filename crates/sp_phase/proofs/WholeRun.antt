@@ -1,42 +1,24 @@
 -- A whole run by a team.
-use Rattle.std.proofs.Common.{◌≡◌, ℕ, ◌+◌, ◌-◌, ◌<◌, ◌≤◌, ◌⊎◌, inl, inr, List, length, get_or, Some, None, true, refl, sym, ap, ◌∙◌, subst, arith}
-use Rattle.std.specs.Prelude.{All, Any, Contains, slice_get}
+use Rattle.std.proofs.Common.{◌≡◌, ℕ, ◌+◌, ◌-◌, ◌≤◌, inl, inr, List, length, get_or, Some, None, sym, ap, ◌∙◌, subst, arith}
+use Rattle.std.specs.Prelude.{All, slice_get}
 use Rattle.std.specs.Option.{unwrap_or}
 use Rattle.std.proofs.lemmas.List.{get_or_default}
 use Rattle.std.proofs.lemmas.List.Elements.{All-contains}
 use Rattle.std.proofs.lemmas.Option.{unwrap_or-slice_get}
-use Rattle.sp_word.specs.Word.{Word, Unreached, Pair, Fits, max_dist, max_pred}
-use Rattle.sp_word.specs.History.{Table}
-use Rattle.sp_paths.specs.declared.arc.Arc.{Arc}
-use Rattle.sp_paths.specs.Paths.{Graph, IsGraph, IsVertex, HasArc, HasWalk, IsLawful, IsTableFrom, IsWithin, IsClosed, IsLeftOut, IsTree, IsTreeWord, IsFar, word_at}
-use Rattle.sp_paths.specs.Theorems.{IsFinished, FinishedIsTree, FinishedIsFar}
+use Rattle.sp_word.specs.Word.{Word, Unreached, Pair, max_dist}
+use Rattle.sp_paths.specs.Paths.{IsVertex, IsLawful, IsTreeWord, word_at}
+use Rattle.sp_paths.specs.Theorems.{FinishedIsTree}
 use Rattle.sp_paths.proofs.Walks.{arc_in, walk_by, walk_by_parts}
 use Rattle.sp_graph.specs.LeftOut.{IsLeastLeftOut}
-use Rattle.sp_offer.specs.Order.{IsKnownWord, lawful, IsNoMore}
-use Rattle.sp_offer.specs.Story.{Story, Knowledge, known, IsCopy}
+use Rattle.sp_offer.specs.Order.{lawful}
 use Rattle.sp_tree.specs.Table.{TreeTable, HasPredWithin, table_of, tree_of}
 use Rattle.sp_task.specs.Walking.{WalksFrom}
 use Rattle.sp_team.specs.Law.{AllowsArcs, IsReady}
-use Rattle.sp_team.specs.Shown.{Shows, IsArcRelaxed, LeadsOut}
-use Rattle.sp_team.specs.declared.scan.Scan.TheVariants.{Whole, LeavesOut, Open}
+use Rattle.sp_team.specs.Shown.{Shows, LeadsOut}
+use Rattle.sp_team.specs.declared.scan.Scan.TheVariants.{Whole}
 use Rattle.sp_phase.specs.Answer.{IsAnswer}
-use Rattle.sp_phase.specs.WholeRun.{IsPlace, TakesWalks, HasOpened, IsOfWalks, IsRelaxedCopy}
-use Rattle.sp_phase.proofs.KnownWords.{zero_stays, lawful_walk}
-
--- a caller that goes on still knows the source's pair
-pub still_opened : (s : ℕ) (before after : Story) → known before s ≡ Pair 0 0 → IsNoMore (known after s) (known before s) → known after s ≡ Pair 0 0
-still_opened s before after is low = zero_stays (known after s) (known before s) is low
-
--- ## What callers know
-
-known_law : (P : ℕ) (g : Graph) (s v : ℕ) (w : Word) → IsKnownWord (lawful P (IsLawful g s)) v w → IsLawful g s v w
-known_law P g s v Unreached known = tt
-known_law P g s v (Pair d p) (inl none) = absurd (cc)
-known_law P g s v (Pair d p) (inr law) = law.2
-
-known_fits : (P : ℕ) (g : Graph) (s v : ℕ) (w : Word) (d p : ℕ) → IsKnownWord (lawful P (IsLawful g s)) v w → w ≡ Pair d p → d ≤ max_dist P
-known_fits P g s v w d p (inl none) is = absurd (let e : Unreached ≡ Pair d p = sym none ∙ is in cc)
-known_fits P g s v w d p (inr law) is = let F : Word → Type 0 = λ x. Fits P x in let fits : Fits P (Pair d p) = subst F is law.1 in fits.0
+use Rattle.sp_phase.specs.WholeRun.{IsPlace, TakesWalks, IsRelaxedCopy}
+use Rattle.sp_phase.proofs.KnownWords.{lawful_walk}
 
 -- ## What arcs leave out of a copy
 
@@ -44,13 +26,6 @@ module _ (P : ℕ) (run : WalksFrom) (words : List Word) where
   pub whole_left : Shows (max_dist P) (word_at words) run.graph.arcs Whole → IsLeastLeftOut run.graph (word_at words) None
   whole_left shows v (u, l, d, p, arc, from, to) =
       All-contains (λ a. LeadsOut (word_at words) a → ⊥) run.graph.arcs (record { tail = u; head = v; len = l }) shows.1 arc (d, p, from, to)
-
-  pub left_left : (v : ℕ) → Shows (max_dist P) (word_at words) run.graph.arcs (LeavesOut v) → IsLeastLeftOut run.graph (word_at words) (Some v)
-  left_left v (all, (k, a, low, is, (head, (d, p, from, to))), least) = (
-    subst (λ x. IsLeftOut run.graph (word_at words) x) head (a.tail, a.len, d, p, (k, low, is), from, to),
-    λ w (u, l, d', p', arc, from', to').
-        All-contains (λ (x : Arc). LeadsOut (word_at words) x → v ≤ x.head) run.graph.arcs (record { tail = u; head = w; len = l }) least arc (d', p', from', to'),
-  )
 
 module _ (P : ℕ) (run : WalksFrom) (place : IsPlace P run) where
   -- ## The law of walks
@@ -66,41 +41,6 @@ module _ (P : ℕ) (run : WalksFrom) (place : IsPlace P run) where
   table_ready law vertices takes =
       let R : WalksFrom → Type 0 = λ w. IsReady P (lawful P (IsLawful w.graph w.source)) vertices run.graph in
       subst R (sym takes.0) (record { layout = place.layout; words = takes.1; arcs = walks_allow })
-
-  -- ## Copies
-
-  pub copy_of_walks : (law : WalksFrom) (vertices : ℕ) (words : List Word) (before after : Story) → TakesWalks run law vertices → length words ≡ run.graph.n → known before run.source ≡ Pair 0 0
-      → IsCopy (lawful P (IsLawful law.graph law.source)) words before after → IsOfWalks P run words
-  copy_of_walks law vertices words before after takes size opened copy' =
-      let C : WalksFrom → Type 0 = λ w. IsCopy (lawful P (IsLawful w.graph w.source)) words before after in
-      let copy : IsCopy (lawful P (IsLawful run.graph run.source)) words before after = subst C takes.0 copy' in
-      let low : (v : ℕ) → IsVertex run.graph.n v → v ≤ length words = λ v at. (let k = at.1 in omega arith) in (
-        size,
-        record {
-          lawful = λ v at. known_law P run.graph run.source v (word_at words v) (copy.lawful v at.0 (low v at));
-          source = zero_stays (word_at words run.source) (known before run.source) opened (copy.below run.source place.source.0 (low run.source place.source));
-        },
-        λ v d p at is. known_fits P run.graph run.source v (word_at words v) d p (copy.lawful v at.0 (low v at)) is,
-      )
-
-  module _ (words : List Word) (copy : IsOfWalks P run words) where
-    relaxed : All (IsArcRelaxed (max_dist P) (word_at words)) run.graph.arcs → IsRelaxedCopy P run words
-    relaxed all = (
-      copy.0,
-      record {
-        graph = place.graph;
-        source = place.source;
-        table = copy.1;
-        within = copy.2;
-        closed = λ u v l arc. All-contains (IsArcRelaxed (max_dist P) (word_at words)) run.graph.arcs (record { tail = u; head = v; len = l }) all arc;
-      },
-    )
-
-    pub whole_relaxed : Shows (max_dist P) (word_at words) run.graph.arcs Whole → IsRelaxedCopy P run words
-    whole_relaxed shows = relaxed shows.0
-
-    pub left_relaxed : (v : ℕ) → Shows (max_dist P) (word_at words) run.graph.arcs (LeavesOut v) → IsRelaxedCopy P run words
-    left_relaxed v shows = relaxed shows.0
 
   -- ## The tree
 

@@ -3,8 +3,8 @@ use Rattle.std.specs.Prelude.{◌≡◌, ℕ, Some, None}
 use Rattle.sp_word.specs.Word.{max_dist}
 use Rattle.sp_paths.specs.Paths.{Graph, IsVertex, IsTree, IsFar}
 use Rattle.sp_tree.specs.Table.{TreeTable, table_of}
-use Rattle.sp_phase.specs.declared.answers.RunError.{RunError}
-use Rattle.sp_phase.specs.declared.answers.RunError.TheVariants.{Memory, TooFar, NoSuchVertex}
+use Rattle.sp_store.specs.declared.answers.RunError.{RunError}
+use Rattle.sp_store.specs.declared.answers.RunError.TheVariants.{Memory, TooFar, NoSuchVertex}
 
 -- The tree of the graph from the source, where no vertex is too far for a word with P bits of predecessor.
 pub record IsAnswer (P : ℕ) (g : Graph) (s : ℕ) (t : TreeTable) : Type 0 where
@@ -19,9 +19,3 @@ abbrev pub IsRefusal : (P : ℕ) → Graph → (s : ℕ) → RunError → Type 0
 IsRefusal P g s Memory = IsVertex g.n s
 IsRefusal P g s (TooFar v) = IsVertex g.n s × IsFar g s (max_dist P) (Some v)
 IsRefusal P g s NoSuchVertex = IsVertex g.n s → ⊥
-
--- why nothing was stored: the source is no vertex exactly where that is told
-abbrev pub IsUnstored : Graph → (s : ℕ) → RunError → Type 0
-IsUnstored g s Memory = IsVertex g.n s
-IsUnstored g s (TooFar v) = ⊥
-IsUnstored g s NoSuchVertex = IsVertex g.n s → ⊥

@@ -1,5 +1,5 @@
 -- What a run has left behind: distances below which all is final, and no entry is queued.
-use Rattle.std.specs.Prelude.{◌≡◌, ℕ, ◌+◌, ◌*◌, ◌<◌, ◌≤◌, ◌⊎◌, List, [], ◌∷◌, ◌++◌, length, Bool, true, All, Contains, Option, Some, None, IsTrue, IfSome, IfNone, option_to_list, slice_index}
+use Rattle.std.specs.Prelude.{◌≡◌, ℕ, ◌+◌, ◌*◌, ◌<◌, ◌≤◌, ◌⊎◌, List, [], length, Bool, true, All, Contains, Option, Some, None, IsTrue, IfSome, IfNone, option_to_list, slice_index}
 use Rattle.sp_word.specs.Word.{Pair, Unreached, max_dist}
 use Rattle.sp_word.specs.History.{Table}
 use Rattle.sp_paths.specs.Paths.{IsVertex, IsSettled}
@@ -9,16 +9,14 @@ use Rattle.sp_bucket.specs.declared.entry.Entry.{Entry}
 use Rattle.sp_task.specs.declared.task.TaskKind.{TaskKind}
 use Rattle.sp_task.specs.declared.task.TaskKind.TheVariants.{Light, Heavy}
 use Rattle.sp_task.specs.declared.task.Task.{Task}
-use Rattle.sp_phase.specs.declared.marks.Mark.{Mark}
+use Rattle.sp_store.specs.declared.marks.Mark.{Mark}
+use Rattle.sp_store.specs.Stage.{Stage, Falls, Learns, law_of}
+use Rattle.sp_store.specs.Marks.{Noted, light_at, heavy_at, SameDistances, is_remembered, Forgets}
+use Rattle.sp_store.specs.Rounds.{IsDue, IsRoundOf, HasTask, AreMarked}
 use Rattle.sp_phase.specs.Lead.{Lead}
-use Rattle.sp_phase.specs.Stage.{Stage, Falls, Learns, law_of}
-use Rattle.sp_phase.specs.Marks.{Noted, mark_of, light_at, heavy_at, SameDistances}
-use Rattle.sp_phase.specs.Running.{IsDue, IsRoundOf, HasPut, EntriesFrom}
+use Rattle.sp_phase.specs.Running.{HasPut, EntriesFrom}
 
 -- ## Between rounds
-
-abbrev pub is_remembered : List Mark → (v : ℕ) → Bool
-is_remembered marks v = (mark_of marks v).remembered
 
 -- The light arcs of the vertex were relaxed at d, so no more than d is known of it. Where that is d itself, its heavy
 -- arcs were relaxed there too, or are owed.
@@ -62,19 +60,6 @@ HasCome P st (Some i) closed l = IfSome closed (λ j. j < i) × IsPast P st ((i 
 
 -- ## In a round
 
-abbrev pub HasTask : List Task → TaskKind → (v d : ℕ) → Type 0
-HasTask tasks kind v d = Contains tasks (record { vertex = v; dist = d; kind = kind })
-
--- a task of the kind at the vertex gave its distance; where there is none, what was written down stays
-abbrev pub IsMarkedBy : List Task → TaskKind → (v : ℕ) → (before after : Option ℕ) → Type 0
-IsMarkedBy tasks kind v before after = ((d : ℕ) × HasTask tasks kind v d × (after ≡ Some d)) ⊎ ((after ≡ before) × ((d : ℕ) → HasTask tasks kind v d → ⊥))
-
-pub record AreMarked (tasks : List Task) (before after : List Mark) : Type 0 where
-  pub size : length after ≡ length before
-  pub light : (v : ℕ) → IsVertex (length before) v → IsMarkedBy tasks Light v (light_at before v) (light_at after v)
-  pub heavy : (v : ℕ) → IsVertex (length before) v → IsMarkedBy tasks Heavy v (heavy_at before v) (heavy_at after v)
-  pub remembered : (v : ℕ) → IsVertex (length before) v → is_remembered after v ≡ is_remembered before v
-
 -- at some moment from the first table to the last the task's distance was known of its vertex
 pub record WasKnown (P : ℕ) (st : Stage) (first last : Table) (t : Task) : Type 0 where
   pub words : Table
@@ -112,15 +97,6 @@ pub record HasRun (P : ℕ) (st : Stage) (tasks : List Task) (l l' : Lead) : Typ
   pub entries : HasPut found l.buckets l'.buckets
 
 -- ## Steps
-
--- a vertex enters a round, and is remembered
-pub record Enters (before after : Noted) (v : ℕ) : Type 0 where
-  pub flags : (u : ℕ) → IsVertex (length before.each) u → is_remembered after.each u ≡ true → (u ≡ v) ⊎ (is_remembered before.each u ≡ true)
-  pub list : ((is_remembered before.each v ≡ true) × (after.remembered ≡ before.remembered)) ⊎ (after.remembered ≡ before.remembered ++ v ∷ [])
-
--- a vertex is remembered no more
-abbrev pub Forgets : (before after : List Mark) → (v : ℕ) → Type 0
-Forgets before after v = (u : ℕ) → IsVertex (length before) u → is_remembered after u ≡ true → (u ≡ v → ⊥) × (is_remembered before u ≡ true)
 
 -- a vertex gave its heavy task, or nothing is known of it
 pub record HandsOver (P : ℕ) (st : Stage) (c c' : Knowledge) (m m' : Noted) (v : ℕ) (task : Option Task) : Type 0 where

@@ -3,9 +3,9 @@ use Rattle.std.specs.Prelude.{List, []}
 use Rattle.sp_word.specs.Word.{Word}
 use Rattle.sp_offer.specs.Story.{Knowledge}
 use Rattle.sp_bucket.specs.Content.{Content}
-use Rattle.sp_phase.specs.Stage.{Stage}
-use Rattle.sp_phase.specs.declared.marks.Marks.{Marks}
-use Rattle.sp_phase.specs.Marks.{Noted, noted}
+use Rattle.sp_store.specs.declared.marks.Marks.{Marks}
+use Rattle.sp_store.specs.Stage.{Stage}
+use Rattle.sp_store.specs.Marks.{Noted, noted}
 
 -- the store's stage, the caller, what is written down of the vertices, what is queued, and a copy of all words
 pub record Lead : Type 0 where

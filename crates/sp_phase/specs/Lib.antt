@@ -1,7 +1,4 @@
 pub mod Answer
-pub mod Stage
-pub mod Held
-pub mod Marks
 pub mod Lead
 pub mod Running
 pub mod Sweep
@@ -10,3 +7,4 @@ pub mod Progress
 pub mod Settling
 pub mod WholeRun
 pub mod Pairs
+pub mod Reach

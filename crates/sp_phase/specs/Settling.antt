@@ -3,7 +3,7 @@ use Rattle.std.specs.Prelude.{ℕ, ◌+◌, ◌*◌, ◌<◌, Option, Some, None
 use Rattle.sp_word.specs.Word.{max_dist}
 use Rattle.sp_paths.specs.Paths.{EndsInTree, IsSettled}
 use Rattle.sp_offer.specs.Story.{Knowledge, known}
-use Rattle.sp_phase.specs.Stage.{Stage}
+use Rattle.sp_store.specs.Stage.{Stage}
 use Rattle.sp_phase.specs.Lead.{Lead}
 use Rattle.sp_phase.specs.Progress.{Progress}
 

@@ -8,10 +8,10 @@ use Rattle.sp_offer.specs.Order.{IsKnownWord, IsNoMore}
 use Rattle.sp_offer.specs.Story.{Knowledge, known}
 use Rattle.sp_tree.specs.Table.{TreeTable, table_of}
 use Rattle.sp_bucket.specs.declared.entry.Entry.{Entry}
-use Rattle.sp_phase.specs.declared.marks.Mark.{Mark}
+use Rattle.sp_store.specs.declared.marks.Mark.{Mark}
+use Rattle.sp_store.specs.Stage.{Stage, IsStage, Learns, law_of}
+use Rattle.sp_store.specs.Marks.{mark_of, light_at, heavy_at}
 use Rattle.sp_phase.specs.declared.sweeping.Bounds.{Bounds}
-use Rattle.sp_phase.specs.Stage.{Stage, IsStage, Learns, law_of}
-use Rattle.sp_phase.specs.Marks.{mark_of, light_at, heavy_at}
 use Rattle.sp_phase.specs.Lead.{Lead}
 
 -- relaxed at the distance d, where that is below the bounds

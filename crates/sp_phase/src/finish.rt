@@ -6,11 +6,11 @@ ghost use Rattle.sp_paths.specs.Paths.{word_at};
 ghost use Rattle.sp_phase.specs.Answer.{IsAnswer, IsRefusal};
 ghost use Rattle.sp_phase.specs.Sweep.{HasSwept, HasWords};
 
-use crate::answers::RunError;
 use crate::leader::Leader;
 use sp_graph::left_out;
 use sp_offer::Caller;
 use sp_paths::swept_copy;
+use sp_store::RunError;
 use sp_tree::Tree;
 use std::alloc::AllocError;
 

@@ -3,15 +3,14 @@ ghost use Rattle.std.specs.Prelude.{◌≡◌, ◌≤◌, None, IfOk, IfSome};
 ghost use Rattle.sp_paths.specs.Paths.{IsVertex};
 ghost use Rattle.sp_offer.specs.Story.{known};
 ghost use Rattle.sp_bucket.specs.Content.{IsLowest};
-ghost use Rattle.sp_phase.specs.Stage.{IsStage};
+ghost use Rattle.sp_store.specs.Stage.{IsStage};
 ghost use Rattle.sp_phase.specs.Lead.{recalled};
 ghost use Rattle.sp_phase.specs.Behind.{HasCome, Reads};
 
-use crate::marks::Marks;
-use crate::store::Store;
 use sp_bucket::{Buckets, Entry};
 use sp_claim::Claimer;
 use sp_offer::Caller;
+use sp_store::{Marks, Store};
 use sp_word::{Word, Workers};
 use std::alloc::{AllocError, Global};
 use std::marker::Model;
@@ -66,7 +65,7 @@ impl<'a, 'g, const P: u32> Leader<'a, 'g, P> {
         let mut buckets = Buckets::with_longest(
             alloc,
             store.delta().get(),
-            u64::from(store.longest()),
+            u64::from(store.graph().longest()),
         )?;
         buckets.put(Entry {
             vertex: store.source(),

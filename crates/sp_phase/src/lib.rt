@@ -2,22 +2,19 @@
 #![tactic(auto)]
 
 mod advancing;
-mod answers;
 mod finish;
-mod held;
 mod leader;
-mod marks;
 mod pair;
+mod reach;
 mod relaxing;
 mod rounds;
 mod run;
 mod source;
-mod store;
 mod sweeping;
 mod whole;
 
-pub use answers::RunError;
 pub use pair::{run_pair, run_pair_with};
+pub use reach::{PairAnswer, Reach, run_targets};
 pub use run::Run;
-pub use source::{run_by_team, run_source, run_source_with};
-pub use store::Store;
+pub use source::{run_by_team, run_source, run_source_with, useful_workers};
+pub use sp_store::{RunError, Store};

@@ -9,7 +9,7 @@ ghost use Rattle.sp_phase.specs.WholeRun.{TakesWalks, HasOpened, IsOfWalks, IsRe
 use crate::whole::WholeRun;
 use sp_offer::{Caller, OfferTable};
 use sp_task::Walks;
-use sp_team::{Relaxed, Scan, open_tails, relax_all, scan_arcs};
+use sp_team::{Relaxed, Scan, Search, open_tails, relax_all, scan_arcs};
 use sp_word::Word;
 use std::alloc::AllocError;
 use std::sync::Wait;
@@ -26,8 +26,8 @@ struct Turn {
 }
 
 impl<'g, const P: u32> WholeRun<'g, P> {
-    // The table of the run, in which the source has its pair.
-    fn open(&self) -> Result<(OfferTable<Walks<'g>, P>, Caller), AllocError>
+    /// The table of the run, in which the source has its pair.
+    pub(crate) fn open(&self) -> Result<(OfferTable<Walks<'g>, P>, Caller), AllocError>
         ensures table { IfOk result (λ made. TakesWalks self.now made.0.law made.0.vertices) }
         ensures caller { IfOk result (λ made. made.1.table ≡ made.0.id) }
         ensures opened { IfOk result (λ made. HasOpened self.now made.1) }
@@ -38,7 +38,31 @@ impl<'g, const P: u32> WholeRun<'g, P> {
         Ok((table, caller))
     }
 
-    // The team relaxes what the queue asks for; then all words are copied, and each arc is looked at in the copy.
+    /// The team relaxes what the queue asks for, as far as the targets lie; then all words are copied.
+    pub(crate) fn lower<R: Threads + Wait + Sync>(
+        &self,
+        rt: &R,
+        table: &OfferTable<Walks<'g>, P>,
+        search: Search,
+        caller: Caller,
+        words: &mut [Word<P>],
+    ) -> Relaxed
+        requires table { TakesWalks self.now table.now.law table.now.vertices }
+        requires caller { caller.table ≡ table.now.id }
+        requires opened { HasOpened self.now caller }
+        requires room { length words.old ≡ self.now.graph.n }
+        ensures caller { result.caller.table ≡ table.entry.now.id }
+        ensures opened { HasOpened self.now result.caller }
+        ensures copy { IsOfWalks P self.now words.new }
+    {
+        let Relaxed { mut caller, lost } = relax_all(
+            rt, self.alloc, self.graph, table, self.team, search, caller,
+        );
+        table.copy_words(&mut caller, words);
+        Relaxed { caller, lost }
+    }
+
+    // All words are lowered and copied, and each arc is looked at in the copy.
     fn relax_once<R: Threads + Wait + Sync>(
         &self,
         rt: &R,
@@ -56,10 +80,11 @@ impl<'g, const P: u32> WholeRun<'g, P> {
         ensures copy { IsOfWalks P self.now words.new }
         ensures shows { Shows (max_dist P) (word_at words.new) self.now.graph.arcs result.told }
     {
-        let Relaxed { mut caller, lost } = relax_all(
-            rt, self.alloc, self.graph, table, self.team, queue, caller,
-        );
-        table.copy_words(&mut caller, words);
+        let search = Search {
+            queue,
+            targets: &[],
+        };
+        let Relaxed { caller, lost } = self.lower(rt, table, search, caller, words);
         let told = scan_arcs(rt, words, self.graph.arcs(), self.team.workers.get());
         Turn { caller, told, lost }
     }

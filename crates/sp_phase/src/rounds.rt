@@ -5,13 +5,14 @@
 ghost use Rattle.std.specs.Prelude.{◌≡◌, ℕ, ◌++◌, All, IfOk, IfSome, OnOk, option_to_list, take};
 ghost use Rattle.sp_paths.specs.Paths.{IsVertex};
 ghost use Rattle.sp_bucket.specs.Content.{Takes};
-ghost use Rattle.sp_phase.specs.Stage.{Learns};
-ghost use Rattle.sp_phase.specs.Running.{IsDue, IsQueued, HasPut};
+ghost use Rattle.sp_store.specs.Stage.{Learns};
+ghost use Rattle.sp_store.specs.Rounds.{IsDue};
+ghost use Rattle.sp_phase.specs.Running.{IsQueued, HasPut};
 ghost use Rattle.sp_phase.specs.Behind.{HasRun, PreparesLight, GivesHeavy, KeepsPast, KeepsFrom, CatchesUp, Empties};
 
 use crate::leader::Leader;
-use crate::store::Crew;
 use sp_bucket::{Buckets, Entry};
+use sp_store::Crew;
 use sp_task::{Gate, Task, TaskKind};
 use std::alloc::AllocError;
 use std::sync::Wait;

@@ -9,11 +9,10 @@ ghost use Rattle.sp_phase.specs.Progress.{IsMemory, IsUnspent, IsSpent, IsAsFar,
 ghost use Rattle.sp_phase.specs.Settling.{IsToldBy, IsLaterBucket};
 
 use crate::advancing::{Settled, Until};
-use crate::answers::RunError;
 use crate::leader::Leader;
-use crate::store::Store;
 use sp_claim::Claimer;
 use sp_offer::Caller;
+use sp_store::{RunError, Store};
 use sp_task::Gate;
 use sp_tree::Tree;
 use sp_word::{Word, Workers};
@@ -36,7 +35,7 @@ pub struct Run<'a, 'g, const P: u32> {
 }
 
 impl<'a, 'g, const P: u32> Model for Run<'a, 'g, P> {
-    ghost use Rattle.sp_phase.specs.Stage.{IsStage};
+    ghost use Rattle.sp_store.specs.Stage.{IsStage};
     ghost use Rattle.sp_phase.specs.Progress.{Progress, caller_of, MayLead};
 
     ghost Value = { Progress };

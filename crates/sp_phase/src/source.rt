@@ -3,13 +3,12 @@ ghost use Rattle.std.specs.Prelude.{◌≡◌, ◌≤◌, true, IfOk, IfErr};
 ghost use Rattle.sp_word.specs.Word.{is_layout, max_pred};
 ghost use Rattle.sp_phase.specs.Answer.{IsAnswer, IsRefusal};
 
-use crate::answers::RunError;
 use crate::run::Run;
-use crate::store::Store;
 use crate::whole::WholeRun;
 use sp_claim::Claimer;
 use sp_graph::Graph;
 use sp_offer::Caller;
+use sp_store::{RunError, Store};
 use sp_task::Gate;
 use sp_team::Team;
 use sp_tree::Tree;
@@ -22,8 +21,8 @@ use std::thread::Threads;
 // A worker for fewer vertices takes longer to start than it saves.
 const LEAST_VERTICES: u32 = 5000;
 
-// How many of the workers there is work for: no more than processors, and one for so many vertices.
-fn useful_workers<R: Threads>(rt: &R, n: u32, workers: Workers) -> Workers {
+/// How many of the workers there is work for: no more than processors, and one for some thousand vertices.
+pub fn useful_workers<R: Threads>(rt: &R, n: u32, workers: Workers) -> Workers {
     let few = workers.at_most((n / LEAST_VERTICES) as usize);
     if few.get() == 1 {
         return few;

@@ -9,9 +9,9 @@ ghost use Rattle.sp_graph.specs.LeftOut.{IsLeastLeftOut};
 ghost use Rattle.sp_phase.specs.Answer.{IsAnswer, IsRefusal};
 ghost use Rattle.sp_phase.specs.WholeRun.{IsRelaxedCopy};
 
-use crate::answers::RunError;
 use sp_graph::Graph;
 use sp_paths::finished_table;
+use sp_store::RunError;
 use sp_team::Team;
 use sp_tree::Tree;
 use sp_word::Word;

@@ -10,7 +10,6 @@ use Rattle.sp_machine.specs.declared.item.Item.{Item}
 use Rattle.sp_machine.specs.Programme.{row_of}
 use Rattle.sp_text.specs.Text.{Item as Line, is_named}
 use Rattle.sp_replay.specs.Replay.{named_by, asked, item_for, step_by, IsReplay, AreKept}
-use Rattle.sp_replay.specs.Offers.{HasOffers, IsOffers}
 
 flat_push : {A B : Type 0} (f : A → List B) (xs : List A) (x : A) → flat_map f (xs ++ x ∷ []) ≡ flat_map f xs ++ f x
 flat_push f xs x = flat_map-append f xs (x ∷ []) ∙ ap (λ (t : List _). flat_map f xs ++ t) (append-nil (f x))
@@ -85,21 +84,4 @@ given problem lines has named rows kept steps words actors most all schedule h w
       rows = λ actor within. rw kept_is (row_kept rows most actor within.0 (omega (arith, within.1, same)) ∙ h.rows actor within.0);
       no_more = rw (kept_is, ← same) (rows_short rows most);
       schedule = schedule_is ∙ h.schedule;
-    }
-
-pub none_kept : {P : ℕ} (has : ℕ → Bool) (named : List (ℕ × Word)) (rows : List (List (Item P))) (steps : List ℕ) → ((vertex : ℕ) → has vertex ≡ false) → named ≡ [] → rows ≡ [] → steps ≡ [] → AreKept [] has named rows steps
-none_kept has named rows steps unknown no_words no_rows no_steps = record { known = unknown; named = no_words; rows = λ actor some. rw no_rows refl; schedule = no_steps }
-
--- What all offers say.
-pub offers_given : {P : ℕ} (problem : List ℕ) (lines : List Line) (rows kept : List (List (Item P))) (words actors most : ℕ)
-    → ((actor : ℕ) → 1 ≤ actor → HasOffers rows actor lines) → words ≡ slice_index problem 0 → actors ≡ slice_index problem 1 → most ≡ slice_index problem 1 → kept ≡ take most rows
-    → IsOffers problem lines (record { words = words; actors = actors; named = []; rows = kept })
-offers_given problem lines rows kept words actors most h words_are actors_are most_is kept_is =
-    let same : most ≡ actors = most_is ∙ sym actors_are in
-    record {
-      words = words_are;
-      actors = actors_are;
-      unnamed = refl;
-      rows = λ actor within. rw kept_is (row_kept rows most actor within.0 (omega (arith, within.1, same)) ∙ h actor within.0);
-      no_more = rw (kept_is, ← same) (rows_short rows most);
     }

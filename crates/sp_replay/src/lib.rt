@@ -16,6 +16,3 @@ pub use replays::{ReplayFile, read_replay};
 pub use reports::write_report;
 pub use sp_machine::{Call, Ended, Finished, Item, Machine, Programme, Report, replay};
 pub use words::write_words;
-
-#[cfg(test)]
-mod tests;

@@ -3,7 +3,8 @@ use Rattle.std.specs.Prelude.{◌≡◌, ℕ, ◌≤◌, min, List, [], ◌∷�
 use Rattle.sp_word.specs.Word.{Pair, Unreached}
 use Rattle.sp_word.specs.History.{Table}
 use Rattle.sp_paths.specs.declared.arc.Arc.{Arc}
-use Rattle.sp_paths.specs.Paths.{IsRelaxed}
+use Rattle.sp_paths.specs.Paths.{Graph, IsVertex, IsRelaxed}
+use Rattle.sp_paths.specs.Rows.{row_of, IsArcRelaxed as IsRelaxedAtDist}
 use Rattle.sp_team.specs.declared.scan.Scan.{Scan}
 use Rattle.sp_team.specs.declared.scan.Scan.TheVariants.{Whole, LeavesOut, Open}
 
@@ -29,6 +30,14 @@ pub record AreOpenTails (max : ℕ) (words : Table) (arcs : List Arc) (tails : L
 -- one more arc was taken into such a list
 abbrev pub TakesArc : (max : ℕ) → Table → Arc → (before after : List ℕ) → Type 0
 TakesArc max words a before after = (arcs : List Arc) → AreOpenTails max words arcs before → AreOpenTails max words (arcs ++ a ∷ []) after
+
+-- where the vertex has a distance up to this one, its arcs were relaxed at it
+abbrev pub IsRowClosedUpTo : Graph → (max far : ℕ) → Table → (u : ℕ) → Type 0
+IsRowClosedUpTo g max far words u = (d p : ℕ) → words u ≡ Pair d p → d ≤ far → All (IsRelaxedAtDist max words d) (row_of g.arcs u)
+
+-- so were those of each vertex
+abbrev pub IsClosedUpTo : Graph → (max far : ℕ) → Table → Type 0
+IsClosedUpTo g max far words = (u : ℕ) → IsVertex g.n u → IsRowClosedUpTo g max far words u
 
 -- what two parts of the arcs show together
 abbrev pub both_of : Scan → Scan → Scan

@@ -55,11 +55,13 @@ pub(crate) struct Board {
     bell: Line,
     // The lowest bucket of each worker.
     levels: Vec<Line>,
+    // Whose words are looked for; all words, where no vertex is named.
+    targets: Vec<u32>,
 }
 
 impl Board {
-    /// For so many workers, of whom the first has the first entries.
-    pub(crate) fn new(alloc: Global, workers: usize) -> Result<Board, AllocError> {
+    /// For so many workers, of whom the first has the first entries, and the targets of all.
+    pub(crate) fn new(alloc: Global, workers: usize, targets: &[u32]) -> Result<Board, AllocError> {
         let mut levels = Vec::with_capacity(alloc, workers)?;
         for worker in 0..workers {
             levels.push(Line::new(if worker == 0 { 0 } else { NONE }))?;
@@ -71,7 +73,13 @@ impl Board {
             asleep: Line::new(0),
             bell: Line::new(0),
             levels,
+            targets: Vec::from_slice(alloc, targets)?,
         })
+    }
+
+    /// Whose words are looked for; all words, where no vertex is named.
+    pub(crate) fn targets(&self) -> &[u32] {
+        self.targets.as_slice()
     }
 
     pub(crate) fn is_alone(&self) -> bool {

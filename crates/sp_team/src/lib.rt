@@ -10,9 +10,11 @@ mod entries;
 mod hands;
 mod relax;
 mod scan;
+mod search;
 mod team;
 
-pub use scan::{Scan, open_tails, scan_arcs};
+pub use scan::{Scan, is_relaxed_up_to, open_tails, scan_arcs};
+pub use search::Search;
 pub use team::{Relaxed, Team, relax_all};
 
 #[cfg(test)]

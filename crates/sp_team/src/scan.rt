@@ -1,11 +1,12 @@
 //! Whether all arcs are relaxed in a list of words, and which vertex they leave out.
-ghost use Rattle.std.specs.Prelude.{◌≡◌, ◌≤◌, true, [], ◌∷◌, length, All, IfOk, OnOk};
+ghost use Rattle.std.specs.Prelude.{◌≡◌, ◌≤◌, true, [], ◌∷◌, length, All, IsTrue, IfOk, OnOk};
 ghost use denote.Param.Send.{IsSync};
 ghost use Rattle.sp_word.specs.Word.{is_layout, max_dist, max_pred};
-ghost use Rattle.sp_paths.specs.Paths.{IsArc, word_at};
-ghost use Rattle.sp_team.specs.Shown.{Shows, AreOpenTails, TakesArc, both_of};
+ghost use Rattle.sp_paths.specs.Paths.{IsArc, IsVertex, word_at};
+ghost use Rattle.sp_paths.specs.Rows.{IsArcRelaxed as IsRelaxedAtDist};
+ghost use Rattle.sp_team.specs.Shown.{Shows, IsRowClosedUpTo, IsClosedUpTo, AreOpenTails, TakesArc, both_of};
 
-use sp_graph::look_up;
+use sp_graph::{Graph, look_up};
 use sp_paths::Arc;
 use sp_word::Word;
 use std::alloc::{AllocError, Global};
@@ -74,6 +75,66 @@ fn scan_part<const P: u32>(words: &[Word<P>], arcs: &[Arc]) -> Scan
         told = both(told, scan_arc(words, *arc));
     }
     told
+}
+
+// Whether an arc is relaxed at this distance of its tail.
+fn is_arc_relaxed<const P: u32>(words: &[Word<P>], arc: Arc, dist: u64) -> bool
+    requires layout { is_layout P ≡ true }
+    requires most { length words.now ≤ max_pred P }
+    requires dist { dist ≤ max_dist P }
+    requires arc { IsArc (length words.now) arc }
+    ensures { IsTrue result → IsRelaxedAtDist (max_dist P) (word_at words.now) dist arc }
+{
+    let sum = dist + u64::from(arc.len);
+    sum > Word::<P>::max_dist()
+        || !Word::<P>::pack(sum, arc.tail).is_below(look_up(words, arc.head))
+}
+
+// Whether the arcs of a row are relaxed at the distance of their tail.
+fn is_row_relaxed<const P: u32>(words: &[Word<P>], row: &[Arc], dist: u64) -> bool
+    requires layout { is_layout P ≡ true }
+    requires most { length words.now ≤ max_pred P }
+    requires dist { dist ≤ max_dist P }
+    requires arcs { All (IsArc (length words.now)) row.now }
+    ensures { IsTrue result
+        → All (IsRelaxedAtDist (max_dist P) (word_at words.now) dist) row.now }
+{
+    for arc in row {
+        if !is_arc_relaxed(words, *arc, dist) {
+            return false;
+        }
+    }
+    true
+}
+
+// Whether the arcs of a vertex are relaxed, if its distance is no greater than this one.
+fn is_vertex_relaxed<const P: u32>(words: &[Word<P>], graph: &Graph, far: u64, vertex: u32) -> bool
+    requires layout { is_layout P ≡ true }
+    requires most { graph.now.n ≤ max_pred P }
+    requires size { length words.now ≡ graph.now.n }
+    requires vertex { IsVertex graph.now.n vertex }
+    ensures { IsTrue result
+        → IsRowClosedUpTo graph.now (max_dist P) far (word_at words.now) vertex }
+{
+    match look_up(words, vertex).dist() {
+        Some(dist) if dist <= far => is_row_relaxed(words, graph.row(vertex), dist),
+        _ => true,
+    }
+}
+
+/// Whether each arc is relaxed whose tail has no greater distance than this one. It looks at no other arcs.
+pub fn is_relaxed_up_to<const P: u32>(words: &[Word<P>], graph: &Graph, far: u64) -> bool
+    requires layout { is_layout P ≡ true }
+    requires most { graph.now.n ≤ max_pred P }
+    requires size { length words.now ≡ graph.now.n }
+    ensures { IsTrue result → IsClosedUpTo graph.now (max_dist P) far (word_at words.now) }
+{
+    for place in 0..words.len() {
+        if !is_vertex_relaxed(words, graph, far, place as u32 + 1) {
+            return false;
+        }
+    }
+    true
 }
 
 // Puts the tail of an arc that isn't relaxed behind others.

@@ -10,6 +10,7 @@ use crate::board::Board;
 use crate::entries::{Block, Entry};
 use crate::hands::Hands;
 use crate::relax::{read_dist, relax, warm};
+use crate::search::{Horizon, Search};
 use crossbeam_deque::{Stealer, Worker};
 use sp_graph::Graph;
 use sp_offer::{Caller, Lawful, OfferTable};
@@ -59,11 +60,12 @@ struct Crew {
     caller: Caller,
 }
 
-// Works off some entries.
+// Works off some entries, but for those beyond the horizon.
 fn run_some<L: Lawful, const P: u32>(
     graph: &Graph,
     table: &OfferTable<L, P>,
     hands: &mut Hands,
+    horizon: Horizon,
     caller: &mut Caller,
 ) -> Result<(), AllocError>
     requires ready { IsReady P (lawful P (L.allows table.now.law)) table.now.vertices graph.now }
@@ -75,6 +77,9 @@ fn run_some<L: Lawful, const P: u32>(
         let Some(entry) = hands.take() else {
             return Ok(());
         };
+        if !horizon.reaches(entry.dist) {
+            continue;
+        }
         relax(graph, table, entry, caller, hands.bins())?;
     }
     Ok(())
@@ -145,11 +150,13 @@ fn work<R: Wait, L: Lawful, const P: u32>(
     if !begin(rt, graph, table, board, stealers, queue, hands, caller)? {
         return Ok(());
     }
+    let mut horizon = Horizon::new();
     for _ in rt.forever() {
         if !hands.find(rt, board, stealers)? {
             return Ok(());
         }
-        run_some(graph, table, hands, caller)?;
+        horizon.look(graph, table, board.targets(), caller);
+        run_some(graph, table, hands, horizon, caller)?;
     }
     unreachable!()
 }
@@ -351,7 +358,7 @@ fn make_deques(alloc: Global, workers: usize) -> Result<Deques, AllocError> {
 }
 
 /// Relaxes the arcs of the vertices in the queue, and of all whose distance becomes smaller thereby, as long as there is
-/// memory for the entries.
+/// memory for the entries; where targets are named, of those no farther than the farthest target.
 ///
 /// Its workers are this thread and threads that it starts and joins. Each has a caller of its own.
 pub fn relax_all<R: Threads + Wait + Sync, L: Lawful + Send + Sync, const P: u32>(
@@ -360,7 +367,7 @@ pub fn relax_all<R: Threads + Wait + Sync, L: Lawful + Send + Sync, const P: u32
     graph: &Graph,
     table: &OfferTable<L, P>,
     team: Team<P>,
-    queue: &[u32],
+    search: Search,
     caller: Caller,
 ) -> Relaxed
     requires ready { IsReady P (lawful P (L.allows table.now.law)) table.now.vertices graph.now }
@@ -368,7 +375,10 @@ pub fn relax_all<R: Threads + Wait + Sync, L: Lawful + Send + Sync, const P: u32
     ensures { IsLater (lawful P (L.allows table.now.law)) caller result.caller }
 {
     let workers = team.workers.get() as usize;
-    let (board, deques) = match (Board::new(alloc, workers), make_deques(alloc, workers)) {
+    let (board, deques) = match (
+        Board::new(alloc, workers, search.targets),
+        make_deques(alloc, workers),
+    ) {
         (Ok(board), Ok(deques)) => (board, deques),
         _ => return Relaxed { caller, lost: true },
     };
@@ -385,7 +395,7 @@ pub fn relax_all<R: Threads + Wait + Sync, L: Lawful + Send + Sync, const P: u32
         table,
         &board,
         stealers.as_slice(),
-        queue,
+        search.queue,
         team.delta,
         crew,
     )

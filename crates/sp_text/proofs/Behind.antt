@@ -1,8 +1,8 @@
 -- A reader that is fed, one byte on.
-use Rattle.std.proofs.Common.{⊎_elim, ◌≡◌, ◌≢◌, ℕ, zero, suc, ◌+◌, ◌-◌, ◌%◌, ◌^◌, ◌<◌, ◌≤◌, Bool, true, false, eqb, List, [], ◌∷◌, ◌++◌, length, take, drop, get_or, min, Option, Some, None, Result, Ok, Err, refl, sym, ap, subst, ◌∙◌, inl, inr, ◌⊎◌, append_assoc, arith, length-append}
+use Rattle.std.proofs.Common.{⊎_elim, ◌≡◌, ◌≢◌, ℕ, suc, ◌+◌, ◌-◌, ◌%◌, ◌^◌, ◌<◌, ◌≤◌, Bool, true, false, eqb, List, [], ◌∷◌, ◌++◌, length, min, Option, Some, None, Result, Ok, Err, refl, sym, ap, subst, ◌∙◌, inl, inr, ◌⊎◌, append_assoc, arith, length-append}
 use Rattle.std.proofs.Math.Nat.{mod-eq_of_lt}
-use Rattle.std.proofs.lemmas.List.{append-nil, take_all, length_push, drop_more, take-append-drop}
-use Rattle.std.proofs.lemmas.Bool.{lt-ltb, le-ltb, cases_eq, eq-eqb, eqb-true, false≢true}
+use Rattle.std.proofs.lemmas.List.{append-nil, length_push}
+use Rattle.std.proofs.lemmas.Bool.{lt-ltb, le-ltb, cases_eq, false≢true}
 use Rattle.sp_text.specs.declared.faults.Kind.{Kind}
 use Rattle.sp_text.specs.declared.faults.Kind.TheVariants.{LongLine, TooMany, TooFew, Memory, Read}
 use Rattle.sp_text.specs.declared.faults.DimacsError.{DimacsError}
@@ -174,29 +174,10 @@ closed_run judge After text [] old small some closed h = absurd (omega arith)
 closed_run judge After text (b ∷ run) old small some closed h =
     rw (← append_assoc text (b ∷ []) run) (refusal_lasts judge (ended text) (text ++ b ∷ []) run (at_line old.ends TooMany) (closed_err judge After text b old small closed h))
 
--- The place of an LF.
-pub no_lf_before : (bytes : List ℕ) (n : ℕ) → ((k : ℕ) → 0 ≤ k → k < n → eqb (get_or bytes k 0) 10 ≡ true → ⊥) → HasNoLf (take n bytes)
-no_lf_before [] zero none = tt
-no_lf_before [] (suc n) none = tt
-no_lf_before (b ∷ bytes) zero none = tt
-no_lf_before (b ∷ bytes) (suc n) none = ((λ is. none 0 (omega arith) (omega arith) (eq-eqb b 10 is)), no_lf_before bytes n (λ k low high. none (suc k) (omega arith) (omega arith)))
-
-pub no_lf : (bytes : List ℕ) → ((k : ℕ) → 0 ≤ k → k < length bytes → eqb (get_or bytes k 0) 10 ≡ true → ⊥) → HasNoLf bytes
-no_lf bytes none = subst HasNoLf (take_all (length bytes) bytes (omega arith)) (no_lf_before bytes (length bytes) none)
-
-pub lf_parts : (bytes : List ℕ) (n : ℕ) → n < length bytes → eqb (get_or bytes n 0) 10 ≡ true → bytes ≡ take n bytes ++ 10 ∷ drop 1 (drop n bytes)
-lf_parts bytes n within is =
-    let lf : get_or bytes n 0 ≡ 10 = eqb-true (get_or bytes n 0) 10 is in
-    sym (take-append-drop n bytes) ∙ ap (λ (t : List ℕ). take n bytes ++ t) (drop_more bytes n 0 within ∙ rw (lf, drop_more bytes n 0 within) refl)
-
 pub lf_whole : (text bytes line more : List ℕ) → bytes ≡ line ++ 10 ∷ more → (text ++ line ++ 10 ∷ []) ++ more ≡ text ++ bytes
 lf_whole text bytes line more is =
     ap (λ (t : List ℕ). t ++ more) (append_assoc text line (10 ∷ []))
     ∙ (append_assoc text (line ++ 10 ∷ []) more ∙ ap (λ (t : List ℕ). text ++ t) (append_assoc line (10 ∷ []) more ∙ sym is))
-
-pub same_room : {T : Type 0} (judge : Judge) (After : T → List (List ℕ) → Type 0) (text : List ℕ) (old : Feeder T) (room : List ℕ) → IsBehind judge After text old → room ≡ old.room
-    → IsBehind judge After text (record { taker = old.taker; room = room; ends = old.ends; spent = old.spent })
-same_room judge After text old room h is = record { going = h.going; clean = h.clean; room = is ∙ h.room; ends = h.ends; taken = h.taken }
 
 -- The end of a text.
 
@@ -204,7 +185,7 @@ pub lines_whole : (text : List ℕ) → rest text ≡ [] → lines text ≡ ende
 unfolding lines
 lines_whole text none = rw none (append-nil (ended text))
 
-last_open : (r : List ℕ) → 0 < length r → last_line r ≡ r ∷ []
+pub last_open : (r : List ℕ) → 0 < length r → last_line r ≡ r ∷ []
 last_open [] some = absurd (omega arith)
 last_open (b ∷ r) some = refl
 

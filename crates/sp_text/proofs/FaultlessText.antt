@@ -185,15 +185,17 @@ step format ranges (Some ps) items (IsProblem ns) h formed none = cc
 step format ranges None items (IsItem item) h formed none = cc
 step format ranges (Some ps) items (IsItem item) h formed none = good_push format ranges ps items item h formed none
 
-at_none : (n : ℕ) (kind : Option Kind) (later : Option DimacsError) → or_at n kind later ≡ None → (kind ≡ None) × (later ≡ None)
+-- Where of several faults none stands, there is none.
+
+pub at_none : (n : ℕ) (kind : Option Kind) (later : Option DimacsError) → or_at n kind later ≡ None → (kind ≡ None) × (later ≡ None)
 at_none n None later h = (refl, h)
 at_none n (Some kind) later h = cc
 
-kind_none : (first later : Option Kind) → or_kind first later ≡ None → later ≡ None
-kind_none None later h = h
+pub kind_none : (first later : Option Kind) → or_kind first later ≡ None → (first ≡ None) × (later ≡ None)
+kind_none None later h = (refl, h)
 kind_none (Some kind) later h = cc
 
-else_none : (first later : Option DimacsError) → or_else first later ≡ None → (first ≡ None) × (later ≡ None)
+pub else_none : (first later : Option DimacsError) → or_else first later ≡ None → (first ≡ None) × (later ≡ None)
 else_none None later h = (refl, h)
 else_none (Some e) later h = cc
 
@@ -209,7 +211,7 @@ unfolding first_after
 walk format ranges before [] h none = rw append-nil h
 walk format ranges before (line ∷ more) h none =
     let parts = at_none (length before + 1) (line_fault (judge format ranges) before line) (first_after (judge format ranges) (before ++ line ∷ []) more) none in
-    let clean = kind_none (size_fault (judge format ranges) before line) (fault format ranges before line) parts.0 in
+    let clean = (kind_none (size_fault (judge format ranges) before line) (fault format ranges before line) parts.0).1 in
     subst (λ (all : List (List ℕ)). Stands format ranges (problem_of format all) (items_of format all)) (append_assoc before (line ∷ []) more)
     (walk format ranges (before ++ line ∷ []) more (step_line format ranges before line h clean) parts.1)
 

@@ -5,9 +5,9 @@ use Rattle.std.proofs.lemmas.List.{append-nil, get_or-set_same, get_or-set_other
 use Rattle.std.proofs.Common.{add-zero, zero-add, ◌&&◌, ◌≢◌, ◌≡◌, ℕ, zero, suc, ◌+◌, ◌<◌, ◌⊎◌, Bool, true, false, cond, eqb, leb, ltb, List, [], ◌∷◌, ◌++◌, length, set, Option, Some, None, Result, Ok, Err, refl, sym, ap, subst, ◌∙◌, ⊎_elim, inl, inr, arith}
 use denote.Bor.{Bor}
 use Rattle.std.specs.Option.{option_copied, unwrap_or}
-use Rattle.std.specs.Prelude.{slice_index, slice_get, is_err, IfSome, OnOk, MatchResult}
+use Rattle.std.specs.Prelude.{slice_index, slice_get, is_err, OnOk, MatchResult}
 use Rattle.sp_text.specs.declared.faults.Kind.{Kind}
-use Rattle.sp_text.specs.declared.faults.Kind.TheVariants.{Memory, BadLine, NoProblem, OutOfRange, TooMany, TooFew}
+use Rattle.sp_text.specs.declared.faults.Kind.TheVariants.{Memory, BadLine, NoProblem, TooMany, TooFew}
 use Rattle.sp_text.specs.declared.formats.Ranges.{Ranges}
 use Rattle.sp_text.specs.Formats.{LineForm, Format, form_of, IsFreshPlace, fresh_after, IsOneOf}
 use Rattle.sp_text.specs.Text.{Item, Reading, Comment, Bad, IsProblem, IsItem, problem_first, items_first, problem_of, items_of, reading, top, first_letter, is_named, named_at, letter_or, item_out, count, problem_fault, placed_fault, fault, missing, is_item_line, judge}
@@ -16,8 +16,7 @@ use Rattle.sp_text.specs.declared.formats.Form.{Form}
 use Rattle.sp_text.specs.declared.matching.Numbers.{Numbers}
 use Rattle.sp_text.specs.declared.matching.Numbers.TheVariants as lists
 use Rattle.sp_text.specs.declared.reading.Found.{Found}
-use Rattle.sp_text.specs.declared.reading.Found.TheVariants as founds
-use Rattle.sp_text.specs.Matching.{Are, IsFound, IsUsualItem, front_of, letter_of}
+use Rattle.sp_text.specs.Matching.{Are, IsFound, front_of, letter_of}
 use Rattle.sp_text.specs.First.{Judge}
 use Rattle.sp_text.specs.Feeding.{Takes}
 
@@ -62,19 +61,6 @@ item_out_is : (ranges : Ranges) (problem : Option (List ℕ)) (ps : List ℕ) (i
 item_out_is ranges problem ps items item form place numbers first named some is kind are first_is named_is =
     let named_here : named ≡ named_at item.form item.kind (slice_index (front_of numbers) 0) items = named_is ∙ same_named item.form (form_of form) item.kind place (slice_index (front_of numbers) 0) first items is kind first_is in
     out_is ranges ps items item numbers (rw some at are) ∙ ap (λ (n : Option ℕ). letter_or n (letter_of numbers)) (sym named_here)
-
-placed_out : (ranges : Ranges) (problem : Option (List ℕ)) (ps : List ℕ) (items : List Item) (item : Item) (letter : ℕ) → problem ≡ Some ps → item_out ranges ps items item ≡ Some letter → placed_fault ranges problem items item ≡ Some (OutOfRange letter)
-placed_out ranges problem ps items item letter some out = rw (some, out) refl
-
-pub named_fault : (ranges : Ranges) (problem : Option (List ℕ)) (ps : List ℕ) (items : List Item) (item : Item) (form : Form) (place : ℕ) (numbers : Numbers) (first : ℕ) (named : Option ℕ) (letter : ℕ) → problem ≡ Some ps → item.form ≡ form_of form → item.kind ≡ place
-    → ItemIs ranges problem item numbers → first ≡ slice_index (front_of numbers) 0 → named ≡ named_at (form_of form) place first items → named ≡ Some letter → placed_fault ranges problem items item ≡ Some (OutOfRange letter)
-named_fault ranges problem ps items item form place numbers first named letter some is kind are first_is named_is out =
-    placed_out ranges problem ps items item letter some (item_out_is ranges problem ps items item form place numbers first named some is kind are first_is named_is ∙ rw out refl)
-
-pub out_fault : (ranges : Ranges) (problem : Option (List ℕ)) (ps : List ℕ) (items : List Item) (item : Item) (form : Form) (place : ℕ) (numbers : Numbers) (first : ℕ) (named : Option ℕ) (letter : ℕ) (values : List ℕ) → problem ≡ Some ps → item.form ≡ form_of form → item.kind ≡ place
-    → ItemIs ranges problem item numbers → first ≡ slice_index (front_of numbers) 0 → named ≡ named_at (form_of form) place first items → named ≡ None → numbers ≡ lists.Out letter values → placed_fault ranges problem items item ≡ Some (OutOfRange letter)
-out_fault ranges problem ps items item form place numbers first named letter values some is kind are first_is named_is none out =
-    placed_out ranges problem ps items item letter some (item_out_is ranges problem ps items item form place numbers first named some is kind are first_is named_is ∙ rw (none, out) refl)
 
 counted_fault : (ranges : Ranges) (problem : Option (List ℕ)) (ps : List ℕ) (items : List Item) (item : Item) (form : Form) (full : Bool) → problem ≡ Some ps → item.form ≡ form_of form → item_out ranges ps items item ≡ None
     → leb (top ranges ps form.limit) (count form.group items) ≡ full → placed_fault ranges problem items item ≡ cond full (Some TooMany) None
@@ -234,11 +220,6 @@ item_taken format ranges Kept before line item (Err kind) keep ps counts is (inr
 
 pub found_at : (format other : Format) (ranges more : Ranges) (ps line : List ℕ) (found : Found) → other ≡ format → more ≡ ranges → IsFound other more ps (reading other line) found → IsFound format ranges ps (reading format line) found
 found_at format other ranges more ps line found e f is = subst (λ (r : Ranges). IsFound format r ps (reading format line) found) f (subst (λ (x : Format). IsFound x more ps (reading x line) found) e is)
-
-pub usual_at : (format other : Format) (ranges more : Ranges) (problem : Option (List ℕ)) (ps line : List ℕ) (found : Option (ℕ × Bor Form × List ℕ)) → other ≡ format → more ≡ ranges → problem ≡ Some ps → IfSome found (IsUsualItem other more ps (reading other line))
-    → IfSome found (λ x. (ps : List ℕ) × (problem ≡ Some ps) × IsUsualItem format ranges ps (reading format line) x)
-usual_at format other ranges more problem ps line None e f seen is = tt
-usual_at format other ranges more problem ps line (Some x) e f seen is = (ps, seen, found_at format other ranges more ps line (founds.Item x.0 x.1 (lists.Within x.2)) e f is)
 
 -- The numbers of the problem line, where it has come.
 pub are_seen : (ranges : Ranges) (problem : Option (List ℕ)) (ref : Option (Bor (List ℕ))) (d seen : Bor (List ℕ)) (item : Item) (numbers : Numbers) → option_copied ref ≡ problem → seen ≡ unwrap_or ref d

@@ -13,4 +13,3 @@ pub mod EarlyFaults
 pub mod FaultlessText
 pub mod Silent
 pub mod DeviceBytes
-mod Examples

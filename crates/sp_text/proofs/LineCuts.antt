@@ -51,6 +51,10 @@ rest_at_other text b other =
 
 -- A run of bytes without an LF.
 
+pub no_lf_both : (a b : List ℕ) → HasNoLf a → HasNoLf b → HasNoLf (a ++ b)
+no_lf_both [] b first second = second
+no_lf_both (x ∷ a) b first second = (first.0, no_lf_both a b first.1 second)
+
 cut_run : (line run : List ℕ) → HasNoLf run → cut line run ≡ ([], line ++ run)
 cut_run line [] none = ap (λ (r : List ℕ). ([], r)) (sym (append-nil line))
 cut_run line (b ∷ run) none = rw (ne_eqb b 10 none.0) (cut_run (line ++ b ∷ []) run none.1 ∙ ap (λ (r : List ℕ). ([], r)) (append_assoc line (b ∷ []) run))

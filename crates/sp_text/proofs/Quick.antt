@@ -1,13 +1,13 @@
 -- A field that a quick number is.
-use Rattle.std.proofs.Common.{◌≡◌, ℕ, zero, suc, ◌-◌, ◌^◌, ◌<◌, ◌≤◌, not, true, false, List, [], ◌∷◌, length, take, drop, get_or, eqb, refl, sym, ◌∙◌, subst, arith}
+use Rattle.std.proofs.Common.{◌≡◌, ℕ, zero, suc, ◌-◌, ◌^◌, ◌<◌, ◌≤◌, true, false, List, [], ◌∷◌, length, take, drop, get_or, refl, sym, ◌∙◌, subst, arith}
 use Rattle.std.proofs.lemmas.Bool.{false≢true}
 use Rattle.std.proofs.lemmas.List.{take_all, get_or-take, length-take-le}
 use Rattle.std.proofs.lemmas.List.Sums.{take_while-cons}
 use Rattle.std.specs.List.{list_all}
 use Rattle.std.specs.Char.{is_ascii_digit}
 use Rattle.sp_text.specs.Lines.{is_blank, is_number, parted, value}
-use Rattle.sp_text.specs.Numeral.{ranged, numeral, starts_number, begins_number, capped, leading_digits, Leads, AreDigits, IsFront, IsQuick}
-use Rattle.sp_text.proofs.Digits.{and_parts, no_blank, is_number_parts, digits_no_blanks}
+use Rattle.sp_text.specs.Numeral.{ranged, numeral, starts_number, capped, leading_digits, Leads, IsQuick}
+use Rattle.sp_text.proofs.Digits.{and_parts, is_number_parts, digits_no_blanks}
 use Rattle.sp_text.proofs.FieldRuns.{later_field}
 
 numeral_is : (field : List ℕ) (n least most : ℕ) → starts_number field ≡ true → list_all is_ascii_digit field ≡ true → n ≡ value field → ranged n least most ≡ numeral field least most
@@ -30,24 +30,6 @@ some_end start (suc end) some = omega arith
 pub quick_field : (start : List ℕ) (n end : ℕ) (field rest : List ℕ) → IsQuick start n end → field ≡ take end start → rest ≡ drop end start → starts_number field ≡ true → parted [] start ≡ field ∷ parted [] rest
 quick_field start n end field rest quick field_is rest_is some =
     rw (field_is, rest_is) (later_field start end quick.within (taken_others start end quick.within quick.digits) quick.behind (some_end start end (rw field_is at some)))
-
--- A number that begins with a digit other than zero has one, and no zero leads.
-pub begun : (start : List ℕ) (n end : ℕ) → IsQuick start n end → begins_number start ≡ true → starts_number (take end start) ≡ true
-begun [] n end quick begins = absurd (false≢true begins)
-begun (d ∷ more) n zero quick begins = absurd (false≢true (sym (no_blank d (and_parts (not (eqb d 48)) (is_ascii_digit d) begins).1) ∙ quick.behind (omega arith)))
-begun (d ∷ more) n (suc zero) quick begins = refl
-begun (d ∷ []) n (suc (suc end)) quick begins = refl
-begun (d ∷ e ∷ more) n (suc (suc end)) quick begins = (and_parts (not (eqb d 48)) (is_ascii_digit d) begins).0
-
-begun_some : (start : List ℕ) (end : ℕ) → 0 < end → begins_number start ≡ true → starts_number (take end start) ≡ true
-begun_some [] end some begins = absurd (false≢true begins)
-begun_some (d ∷ more) zero some begins = absurd (omega arith)
-begun_some (d ∷ more) (suc zero) some begins = refl
-begun_some (d ∷ []) (suc (suc end)) some begins = refl
-begun_some (d ∷ e ∷ more) (suc (suc end)) some begins = (and_parts (not (eqb d 48)) (is_ascii_digit d) begins).0
-
-pub begun_digits : (start : List ℕ) (n end : ℕ) → AreDigits start n end → begins_number start ≡ true → IsFront start n end
-begun_digits start n end is begins = record { small = is.small; within = is.within; digits = is.digits; number = is.number; behind = is.behind; starts = begun_some start end is.some begins }
 
 -- The digits at the front.
 

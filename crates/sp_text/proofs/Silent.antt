@@ -2,7 +2,7 @@
 use Rattle.std.proofs.Common.{◌≡◌, ◌≢◌, ℕ, ◌+◌, Bool, true, false, cond, List, [], ◌∷◌, ◌++◌, length, Option, Some, None, refl}
 use Rattle.std.specs.Prelude.{nat_lt}
 use Rattle.sp_text.specs.declared.faults.Kind.{Kind}
-use Rattle.sp_text.specs.declared.faults.Kind.TheVariants.{LongLine, TooMany, TooFew, Read}
+use Rattle.sp_text.specs.declared.faults.Kind.TheVariants.{LongLine, TooMany, Read}
 use Rattle.sp_text.specs.declared.faults.DimacsError.{DimacsError}
 use Rattle.sp_text.specs.Lines.{ended, rest, lines}
 use Rattle.sp_text.specs.First.{Judge, IsSilent, or_at, or_else, or_kind, size_fault, line_fault, first_after, first_fault, rest_fault, fault_so_far, cut_short, unfinished, fault_at_end}

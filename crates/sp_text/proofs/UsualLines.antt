@@ -1,14 +1,12 @@
 -- Lines in the usual spelling: a letter, and numbers behind a space each.
-use Rattle.std.proofs.Common.{◌≡◌, ℕ, ◌+◌, ◌<◌, ◌≤◌, Bool, true, false, cond, leb, ◌&&◌, List, [], ◌∷◌, length, take, drop, get_or, eqb, refl, add-zero, arith}
-use Rattle.std.proofs.lemmas.Bool.Decides.{nat_tests}
+use Rattle.std.proofs.Common.{◌≡◌, ℕ, ◌+◌, ◌<◌, ◌≤◌, Bool, true, false, cond, leb, ◌&&◌, List, [], ◌∷◌, length, take, drop, get_or, refl, add-zero, arith}
 use Rattle.std.proofs.lemmas.List.{get_or-drop, length-drop, drop_more}
 use Rattle.sp_text.specs.declared.formats.Ranges.{Ranges}
 use Rattle.sp_text.specs.declared.formats.Field.{Field}
 use Rattle.sp_text.specs.declared.numbers.Numeral.TheVariants as numerals
-use Rattle.sp_text.specs.Lines.{is_blank, parted}
 use Rattle.sp_text.specs.Numeral.{IsFront, IsQuick, ranged}
-use Rattle.sp_text.specs.Text.{top, numbers, behind_words}
-use Rattle.sp_text.specs.Matching.{StandsApart, IsLetter, AreSpaced}
+use Rattle.sp_text.specs.Text.{top}
+use Rattle.sp_text.specs.Matching.{StandsApart, AreSpaced}
 use Rattle.sp_text.proofs.Digits.{is_number_parts}
 use Rattle.sp_text.proofs.Quick.{quick_field}
 use Rattle.sp_text.proofs.Forms.{is_within}
@@ -50,18 +48,3 @@ spaced_more ranges ps fields i d text ns n m end most below some space front mos
 
 pub spaced_none : (ranges : Ranges) (ps : List ℕ) → AreSpaced ranges ps [] [] []
 spaced_none ranges ps = record { apart = λ some. absurd (omega arith); spelled = refl; within = refl }
-
-same : (n : ℕ) → eqb n n ≡ true
-same n = grind (arith, nat_tests)
-
--- Behind a letter that stands apart from the rest, the numbers come.
-behind_letter : (letter : ℕ) (rest : List ℕ) (ds : List Field) → is_blank letter ≡ false → StandsApart rest → behind_words (parted [] (letter ∷ [])) ds (parted [] (letter ∷ rest)) ≡ numbers ds (parted [] rest)
-behind_letter letter [] ds other apart = rw (other, same letter) refl
-behind_letter letter (b ∷ rest) ds other apart = let blank : is_blank b ≡ true = apart (omega arith) in rw (other, blank, same letter) refl
-
--- The letter is all of the words, and the line begins with it.
-pub letter_begins : (words text : List ℕ) → 1 ≤ length words → length words < 2 → 1 ≤ length text → get_or text 0 0 ≡ get_or words 0 0 → is_blank (get_or text 0 0) ≡ false → IsLetter words text (drop 1 text)
-letter_begins [] text some few more same_byte other = absurd (omega arith)
-letter_begins (w ∷ v ∷ words) text some few more same_byte other = absurd (omega arith)
-letter_begins (w ∷ []) [] some few more same_byte other = absurd (omega arith)
-letter_begins (w ∷ []) (b ∷ text) some few more same_byte other = λ apart ds. rw (← same_byte) (behind_letter b text ds other apart)

@@ -11,4 +11,3 @@ pub mod Whole
 pub mod Meaning
 pub mod Accepted
 pub mod Silence
-pub mod Samples

@@ -10,12 +10,14 @@ ghost use Rattle.sp_text.specs.Lines.{ended, rest};
 ghost use Rattle.sp_text.specs.Meaning.{IsFirstFault, IsCut};
 
 /// A fault that a text shows before its end is the first fault of each text that begins so.
+#[tactic(auto, using(crate::proofs::EarlyFaults::early_lasts))]
 pub fn early_fault_is_first()
     ensures { (rules : Judge) (text more : List ℕ) (e : DimacsError)
         → fault_so_far rules text ≡ Some e → fault_at_end rules (text ++ more) ≡ Some e }
 {}
 
 /// The first fault of a text's lines is that of the first line that has one.
+#[tactic(auto, using(crate::proofs::Meant::is_first))]
 pub fn first_fault_is_least()
     ensures { (rules : Judge) (all : List (List ℕ)) (e : DimacsError)
         → first_fault rules all ≡ Some e → IsFirstFault rules all e }

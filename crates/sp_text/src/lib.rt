@@ -28,6 +28,3 @@ pub use numbers::{Numeral, leading_number, number};
 pub use rooms::{LONGEST_LINE, Room, Values};
 pub use whole::{PIECE, read_text};
 pub use writing::push_number;
-
-#[cfg(test)]
-mod tests;

@@ -7,6 +7,7 @@ use Rattle.sp_text.specs.Lines.{is_number, value}
 use Rattle.sp_text.specs.Text.{is_word}
 use Rattle.sp_text.specs.Meaning.{HasNoLf}
 use Rattle.sp_text.proofs.Digits.{and_parts}
+use Rattle.sp_text.proofs.LineCuts.{no_lf_both}
 use Rattle.sp_tree.specs.declared.lines.Line.{Line}
 use Rattle.sp_tree.specs.declared.lines.Line.TheVariants.{Problem, Row, End}
 use Rattle.sp_tree.specs.TreeText.{problem_text, reached_text, end_text}
@@ -137,15 +138,11 @@ bytes_are bytes line h small = sym (join_with_byte-slice_split 32 bytes) ∙ joi
 
 -- Such bytes are few, and none is an LF.
 
-open_lf : (xs ys : List ℕ) → HasNoLf xs → HasNoLf ys → HasNoLf (xs ++ ys)
-open_lf [] ys first second = second
-open_lf (x ∷ xs) ys first second = (first.0, open_lf xs ys first.1 second)
-
 pub bytes_no_lf : (line : Line) → IsSmall line → HasNoLf (line_bytes line)
 bytes_no_lf (Problem n source) (n_small, source_small) =
-    (λ e. omega (arith, e), (λ e. omega (arith, e), (λ e. omega (arith, e), (λ e. omega (arith, e), (λ e. omega (arith, e), (λ e. omega (arith, e), open_lf (decimal n) (32 ∷ decimal source) (decimal_no_lf n n_small) (λ e. omega (arith, e), decimal_no_lf source source_small)))))))
+    (λ e. omega (arith, e), (λ e. omega (arith, e), (λ e. omega (arith, e), (λ e. omega (arith, e), (λ e. omega (arith, e), (λ e. omega (arith, e), no_lf_both (decimal n) (32 ∷ decimal source) (decimal_no_lf n n_small) (λ e. omega (arith, e), decimal_no_lf source source_small)))))))
 bytes_no_lf (Row v d p) (v_small, d_small, p_small) =
-    (λ e. omega (arith, e), (λ e. omega (arith, e), open_lf (decimal v) (32 ∷ (decimal d ++ 32 ∷ decimal p)) (decimal_no_lf v v_small) (λ e. omega (arith, e), open_lf (decimal d) (32 ∷ decimal p) (decimal_no_lf d d_small) (λ e. omega (arith, e), decimal_no_lf p p_small))))
+    (λ e. omega (arith, e), (λ e. omega (arith, e), no_lf_both (decimal v) (32 ∷ (decimal d ++ 32 ∷ decimal p)) (decimal_no_lf v v_small) (λ e. omega (arith, e), no_lf_both (decimal d) (32 ∷ decimal p) (decimal_no_lf d d_small) (λ e. omega (arith, e), decimal_no_lf p p_small))))
 bytes_no_lf (End count) small = (λ e. omega (arith, e), (λ e. omega (arith, e), decimal_no_lf count small))
 
 pub bytes_short : (line : Line) → IsSmall line → length (line_bytes line) ≤ 1024

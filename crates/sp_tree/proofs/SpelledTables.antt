@@ -1,5 +1,5 @@
 -- The text of a table is without a fault, and spells it.
-use Rattle.std.proofs.Common.{◌≡◌, ℕ, ◌+◌, ◌^◌, ◌<◌, ◌≤◌, true, false, List, [], ◌∷◌, ◌++◌, length, map, Some, None, refl, sym, ap, ◌∙◌, append_assoc, length-append, arith}
+use Rattle.std.proofs.Common.{◌≡◌, ℕ, ◌+◌, ◌^◌, ◌<◌, ◌≤◌, false, List, [], ◌∷◌, ◌++◌, length, map, Some, None, refl, sym, ap, ◌∙◌, append_assoc, length-append, arith}
 use Rattle.std.proofs.lemmas.List.{append-nil}
 use Rattle.std.proofs.lemmas.Bool.{le-ltb}
 use Rattle.std.specs.List.{flat_map, AllByRecursion}
@@ -16,7 +16,7 @@ use Rattle.sp_tree.specs.TreeText.{problem_text, reached_text, row_text, end_tex
 use Rattle.sp_tree.specs.Spelling.{Spelled, Nothing, Open, Whole, next, spelled, fault, line_in, is_whole, tree_judge}
 use Rattle.sp_tree.proofs.CappedNumbers.{range_ok, open_small, spelled_push}
 use Rattle.sp_tree.proofs.Canonical.{line_bytes, IsSmall, read_back, bytes_no_lf, bytes_short, problem_is, reached_is, end_is}
-use Rattle.sp_tree.proofs.TreeTexts.{with_lf}
+use Rattle.sp_tree.proofs.TreeTexts.{with_lf, whole_same}
 
 -- 1. The lines of a text of lines.
 
@@ -198,9 +198,6 @@ accepts P t h =
     let ended_is : ended (tree_text t) ≡ all = ap ended same ∙ back.0 in
     let rest_is : rest (tree_text t) ≡ [] = ap rest same ∙ back.1 in
     record { none = told_none P (tree_text t) all t ended_is rest_is none rows.spells; spells = ap spelled ended_is ∙ rows.spells }
-
-whole_same : (t u : TreeTable) → ◌≡◌ {A = Spelled} (Whole t) (Whole u) → t ≡ u
-whole_same t u h = cc
 
 -- Two tables have two texts.
 pub one_table : (P : ℕ) (t u : TreeTable) → IsTable P t → IsTable P u → tree_text t ≡ tree_text u → t ≡ u

@@ -4,13 +4,12 @@ use Rattle.std.proofs.lemmas.List.{append-nil, flat_map_more}
 use Rattle.std.proofs.lemmas.List.Concat.{flat_map-append}
 use Rattle.std.specs.List.{flat_map}
 use Rattle.sp_word.specs.Word.{Pair, is_layout, max_dist, max_pred}
-use Rattle.sp_text.specs.declared.faults.Kind.{Kind}
-use Rattle.sp_text.specs.declared.faults.DimacsError.{DimacsError}
 use Rattle.sp_text.specs.Lines.{ended, rest, lines}
-use Rattle.sp_text.specs.First.{or_at, or_else, or_kind, size_fault, line_fault, first_after, first_fault, fault_so_far, cut_short, unfinished, fault_at_end}
+use Rattle.sp_text.specs.First.{or_at, or_else, size_fault, line_fault, first_after, first_fault, fault_so_far, cut_short, unfinished, fault_at_end}
 use Rattle.sp_text.proofs.LineCuts.{clean_parts}
 use Rattle.sp_text.proofs.Meant.{text_is}
 use Rattle.sp_text.proofs.Behind.{lines_whole}
+use Rattle.sp_text.proofs.FaultlessText.{at_none, kind_none, else_none}
 use Rattle.sp_tree.specs.declared.lines.Line.{Line}
 use Rattle.sp_tree.specs.declared.lines.Line.TheVariants.{Problem, Row, End}
 use Rattle.sp_tree.specs.Table.{TreeTable, IsTable, last_vertex}
@@ -80,18 +79,6 @@ told_line P before line layout h none =
       table = rw (spelled_push before line) more.1;
     }
 
-at_none : (n : ℕ) (kind : Option Kind) (later : Option DimacsError) → or_at n kind later ≡ None → (kind ≡ None) × (later ≡ None)
-at_none n None later h = (refl, h)
-at_none n (Some kind) later h = cc
-
-kind_none : (first later : Option Kind) → or_kind first later ≡ None → (first ≡ None) × (later ≡ None)
-kind_none None later h = (refl, h)
-kind_none (Some kind) later h = cc
-
-else_none : (first later : Option DimacsError) → or_else first later ≡ None → (first ≡ None) × (later ≡ None)
-else_none None later h = (refl, h)
-else_none (Some e) later h = cc
-
 told_lines : (P : ℕ) (before more : List (List ℕ)) → is_layout P ≡ true → IsTold P before → first_after (tree_judge P) before more ≡ None → IsTold P (before ++ more)
 unfolding first_after
 told_lines P before [] layout h none = rw (append-nil before) h
@@ -133,7 +120,7 @@ accepted P text layout none =
     let clean = clean_parts (tree_judge P) text whole.0 in
     whole_tree P text (spelled (ended text)) same refl (rw same at missing.0) ((text_is text).whole ∙ (ap (λ (t : List ℕ). with_lf (ended text) ++ t) nothing ∙ append-nil (with_lf (ended text)))) (told_lines P [] (ended text) layout (starts_told P) clean.0)
 
-whole_same : (t u : TreeTable) → ◌≡◌ {A = Spelled} (Whole t) (Whole u) → t ≡ u
+pub whole_same : (t u : TreeTable) → ◌≡◌ {A = Spelled} (Whole t) (Whole u) → t ≡ u
 whole_same t u h = cc
 
 -- The tree that such a text spells is a table, and the text is its text.

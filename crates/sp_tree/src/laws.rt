@@ -14,6 +14,7 @@ pub fn tree_texts_are_accepted()
 {}
 
 /// A text is that of one table.
+#[tactic(auto, using(crate::proofs::SpelledTables::one_table))]
 pub fn tree_text_is_exact()
     ensures { (P : ℕ) (t u : TreeTable) → IsTable P t → IsTable P u → tree_text t ≡ tree_text u
         → t ≡ u }

@@ -13,6 +13,3 @@ pub use laws::{tree_text_is_exact, tree_texts_are_accepted};
 pub use reading::{TreeReader, read_tree};
 pub use tree::Tree;
 pub use writing::{write_far, write_tree};
-
-#[cfg(test)]
-mod tests;

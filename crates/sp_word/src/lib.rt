@@ -14,6 +14,3 @@ pub use delta::Delta;
 pub use reply::{Reply, decide};
 pub use word::{Word, bits_are_exact, bits_are_ordered};
 pub use workers::{MOST_WORKERS, Workers};
-
-#[cfg(test)]
-mod tests;

@@ -5,6 +5,7 @@
 mod files;
 mod fire;
 mod offers;
+mod pairs;
 mod report;
 mod rounds;
 mod starts;
@@ -21,7 +22,7 @@ use std::{env, io};
 use whole::{Paths, Plan};
 
 const USAGE: &str =
-    "usage: spt_bench read GR | tree FILE | offers THREADS WORDS COUNT | rounds WORKERS TASKS ROUNDS | threads THREADS COUNT | whole GR SS DELTA WORKERS TREES | fire GRAPHS SEED";
+    "usage: spt_bench read GR | tree FILE | offers THREADS WORDS COUNT | rounds WORKERS TASKS ROUNDS | threads THREADS COUNT | whole GR SS DELTA WORKERS TREES | pairs GR PAIRS DELTA WORKERS | fire GRAPHS SEED";
 
 // The crowd that three words of the command line order.
 fn crowd_of(threads: &str, words: &str, count: &str) -> Option<Crowd> {
@@ -77,6 +78,11 @@ fn run<R: AllocGlobal + Clock + Eprint + Files + Print + Threads + Wait + Sync>(
                     trees,
                 };
                 return whole::time_whole(rt, &paths, plan);
+            }
+        }
+        ["pairs", graph, pairs, delta, workers] => {
+            if let Some(plan) = plan_of(delta, workers) {
+                return pairs::time_pairs(rt, graph, pairs, plan);
             }
         }
         ["fire", graphs, seed] => {

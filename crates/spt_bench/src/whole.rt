@@ -18,8 +18,8 @@ use std::{fs, io};
 /// The width of a bucket, and the number of workers.
 #[derive(Clone, Copy)]
 pub struct Plan {
-    delta: Delta<28>,
-    workers: Workers,
+    pub delta: Delta<28>,
+    pub workers: Workers,
 }
 
 impl Plan {

@@ -1,4 +1,4 @@
-//! Tests of graphs, buckets, the offer table, the plain program and the checker, by their public calls.
+//! Tests of words, graphs, buckets, the offer table, the plain program and the checker, by their public calls.
 #![tactic(auto)]
 
 #[cfg(test)]
@@ -11,3 +11,5 @@ mod graph;
 mod offer;
 #[cfg(test)]
 mod plain;
+#[cfg(test)]
+mod word;

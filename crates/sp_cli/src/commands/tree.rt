@@ -1,28 +1,16 @@
 //! `spt tree`: for each source of a list its shortest-path tree.
-ghost use Rattle.std.specs.Prelude.{◌≡◌};
-ghost use Rattle.sp_word.specs.Ranges.{IsCrew};
-ghost use Rattle.sp_cli.specs.Ends.{end_of, fault_of};
-
+use super::running::{Running, end_of};
 use super::{Command, Words, file};
 use crate::faults::{Fault, FileKind, Status};
 use crate::help::{GRAPH_FILE, after_help};
 use crate::inputs::Inputs;
 use crate::layout::Run;
-use clap::{Arg, ArgMatches, value_parser};
-use sp_batch::{BatchError, Summary, run_batch};
+use clap::ArgMatches;
+use sp_batch::run_batch;
 use sp_device::Write;
-use sp_word::{Delta, Workers};
 use std::alloc::Global;
 use std::sync::Wait;
 use std::thread::Threads;
-
-// The greatest distance of any word.
-const MAX_DELTA: i64 = 17_592_186_044_414;
-
-const DELTA_LONG: &str = "\
-The width of a bucket of tentative distances, from 1 to the greatest distance of a word. The mean
-length of an arc is a good choice, and so are a third of it and thirty times as much. Any delta gives
-the same bytes";
 
 const WORKERS_LONG: &str = "\
 Threads that may work at once, from 1 to 64, the main thread counted. As many as there are processors
@@ -35,11 +23,7 @@ Any number gives the same bytes";
 pub struct Tree<'a> {
     graph: &'a str,
     sources: &'a str,
-    // The width of a bucket.
-    delta: u64,
-    // How many threads may work, the main thread counted.
-    workers: u32,
-    ghost crew: { IsCrew workers },
+    running: Running,
 }
 
 impl<'a> Command<'a> for Tree<'a> {
@@ -119,40 +103,17 @@ Others are
         clap::Command::new(alloc, Self::NAME)
             .arg(file(alloc, "GR", GRAPH_FILE))?
             .arg(file(alloc, "SS", "The sources, a .ss file"))?
-            .arg(delta(alloc))?
-            .arg(workers(alloc))
+            .arg(Running::delta(alloc))?
+            .arg(Running::workers(alloc, WORKERS_LONG))
     }
 
     fn read(given: &ArgMatches<'a>) -> Option<Self> {
-        let workers: u32 = given.get_one("workers")?;
-        let _ = Workers::new(workers)?;
         Some(Tree {
             graph: given.get_str("GR")?,
             sources: given.get_str("SS")?,
-            delta: given.get_one("delta")?,
-            workers,
+            running: Running::read(given)?,
         })
     }
-}
-
-fn delta<'a>(alloc: Global) -> Arg<'a> {
-    Arg::new(alloc, "delta")
-        .long("delta")
-        .value_name("D")
-        .value_parser(value_parser!(u64).range(1..=MAX_DELTA))
-        .required(true)
-        .help("The width of a bucket of tentative distances")
-        .long_help(DELTA_LONG)
-}
-
-fn workers<'a>(alloc: Global) -> Arg<'a> {
-    Arg::new(alloc, "workers")
-        .long("workers")
-        .value_name("W")
-        .value_parser(value_parser!(u32).range(1..=64))
-        .default_value("1")
-        .help("Threads that may work at once")
-        .long_help(WORKERS_LONG)
 }
 
 // Writes the tree of each source of the list, or the line of the vertex that is too far.
@@ -164,40 +125,9 @@ impl<const P: u32> Run<P> for Tree<'_> {
         files: &F,
         out: &mut W,
     ) -> Result<Status, Fault> {
-        let Some(delta) = Delta::<P>::new(self.delta) else {
-            return Err(Fault::DeltaOutOfRange);
-        };
-        let Some(workers) = Workers::new(self.workers) else {
-            unreachable!()
-        };
+        let (delta, workers) = self.running.team::<P>()?;
         let mut gr = FileKind::Graph.open(files, self.graph)?;
         let mut ss = FileKind::Sources.open(files, self.sources)?;
-        match run_batch::<P, R, _, _, W>(rt, alloc, &mut gr, &mut ss, out, delta, workers) {
-            Ok(summary) => Ok(status_after(summary)),
-            Err(error) => Err(fault_of(error)),
-        }
-    }
-}
-
-// How a run ends that has written all answers.
-fn status_after(summary: Summary) -> Status
-    ensures { result ≡ end_of summary }
-{
-    if summary.too_far == 0 {
-        Status::Done
-    } else {
-        Status::TooFar
-    }
-}
-
-fn fault_of(error: BatchError) -> Fault
-    ensures { result ≡ fault_of error }
-{
-    match error {
-        BatchError::Gr(error) => FileKind::Graph.fault(error),
-        BatchError::Ss(error) => FileKind::Sources.fault(error),
-        BatchError::NoSuchVertex(source) => Fault::NoSuchVertex(source),
-        BatchError::Memory => Fault::Memory,
-        BatchError::Write => Fault::WriteFailed,
+        end_of(run_batch::<P, R, _, _, W>(rt, alloc, &mut gr, &mut ss, out, delta, workers))
     }
 }

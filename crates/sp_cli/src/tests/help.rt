@@ -27,6 +27,7 @@ Usage: spt <COMMAND>
 
 Commands:
   tree    Write the shortest-path tree of each source
+  pairs   Write the distance of each pair of a source and a target
   check   Check a tree against its graph
   replay  Run the steps of several actors on one table in a given order, and report each call
   offers  Make the offers of several actors at once, and write the words that are left
@@ -44,7 +45,7 @@ Exit status:
   1  the command line is wrong
   2  a file is refused
   3  check: the tree is not the one of its source
-  4  tree: for some source a vertex is too far; all answers are written
+  4  tree, pairs: for some source a vertex is too far; all answers are written
   5  there is not enough memory
   6  a file could not be opened or read, or the output could not be written
 
@@ -311,6 +312,105 @@ Exit status:
   6  a file could not be opened or read, or the output could not be written
 ";
     tells(&rt, rt.alloc(), "tree", text);
+}
+
+#[test]
+fn help_of_pairs(rt: HostRuntime) {
+    let text = "\
+Write the distance of each pair of a source and a target
+
+A distance is the least length of a walk from the source to the target. The predecessor is the vertex
+before the target on a shortest walk, the one with the smallest number where there are several. Each
+source is run from once, wherever its pairs stand, and no further than its targets ask for. The same
+bytes are written for each delta and each number of workers.
+
+Usage: spt pairs [OPTIONS] --delta <D> <GR> <PAIRS>
+
+Arguments:
+  <GR>
+          The graph, a .gr file
+
+  <PAIRS>
+          The pairs, a file of lines q S T
+
+Options:
+      --delta <D>
+          The width of a bucket of tentative distances, from 1 to the greatest distance of a word. The mean
+          length of an arc is a good choice, and so are a third of it and thirty times as much. Any delta gives
+          the same bytes
+
+      --workers <W>
+          Threads that may work at once, from 1 to 64, the main thread counted. As many as there are processors
+          is a good choice, where they are free. No more threads are started than there are processors, nor any
+          for a small graph. Any number gives the same bytes
+          
+          [default: 1]
+
+      --pred-bits <P>
+          Bits of a word that hold the predecessor; the others of its 64 hold the distance. So distances D
+          and predecessors P range
+            with 20 from 0 to 17592186044414 and from 0 to 1048574
+            with 24 from 0 to 1099511627774 and from 0 to 16777214
+            with 28 from 0 to 68719476734 and from 0 to 268435454
+            with 32 from 0 to 4294967294 and from 0 to 4294967294
+          
+          [default: 28]
+          [possible values: 20, 24, 28, 32]
+
+  -h, --help
+          Print help (see a summary with '-h')
+
+The graph is a .gr file, as `spt tree --help` tells. The pairs are a file of their own, its fields
+parted by blanks:
+  p pairs K     there are K pairs, at most 1048576; it stands first, and once
+  q S T         a pair of source S and target T; there are K of these lines
+  c ...         a comment; so is a line without a field
+Both are read, the graph first, all numbers are tested, and all answers are found, before anything is
+written.
+
+For each pair, in the order of its file, one line is written:
+  d S T D P     target T has distance D and predecessor P from source S; S itself has 0 and 0
+  x S V         T has no distance within the greatest of a word, and V is the smallest vertex beyond
+                that with an arc from one within it (exit status 4 at the end)
+  n S T         T has no distance, and there is no such V: no walk leads from S to T
+
+Example: where diamond.gr is the graph of the example there, and diamond.pairs has the lines
+  p pairs 3
+  q 1 4
+  q 1 1
+  q 4 1
+the output of `spt pairs diamond.gr diamond.pairs --delta 3` is
+  d 1 4 5 2
+  d 1 1 0 0
+  n 4 1
+
+A fault of a file is told with its line, as in `spt: pairs: line 2: 7 TooFew`; FILE is gr or pairs:
+  1 LongLine       a line has more than 1024 bytes
+  2 BadLine        a line is none of those above
+  3 NoProblem      a line stands before the p line, or there is no p line
+  4 SecondProblem  a second p line
+  5 OutOfRange V   a field is out of its range; the letter is that of the field
+  6 TooMany        more than M arcs or K pairs
+  7 TooFew         fewer than M arcs or K pairs
+  8 Memory         there is not enough memory for a line (exit status 5)
+  9 Read           reading failed (exit status 6)
+Others are
+  spt: FILE: cannot open             (exit status 6)
+  spt: delta out of range            a word of this layout has no such distance (exit status 1)
+  spt: source V: no such vertex      the first number of a pair above N, S before T; nothing is
+                                     written (exit status 2)
+  spt: memory                        nothing is written (exit status 5)
+  spt: write failed                  a beginning of the output may stand (exit status 6)
+
+Exit status:
+  0  done
+  1  the command line is wrong, or delta is out of range
+  2  a file is refused, or a source or a target is no vertex
+  4  for some pair a vertex is too far; all answers are written
+  5  there is not enough memory
+  6  a file could not be opened or read, or the output could not be written
+";
+    tells(&rt, rt.alloc(), "pairs", text);
 }
 
 #[test]

@@ -111,7 +111,7 @@ fn source_lists(rt: HostRuntime) {
 }
 
 // A path of 18 vertices whose last arc has this length: 16 arcs of 4294967295 and that one.
-fn path(alloc: Global, arcs: u32, last: u64) -> Result<String, Fail> {
+pub fn path(alloc: Global, arcs: u32, last: u64) -> Result<String, Fail> {
     let mut text = format!(in alloc; "p sp 18 {arcs}\n")?;
     for v in 1..17u32 {
         let next = v + 1;

@@ -24,6 +24,7 @@ Usage: spt <COMMAND>
 
 Commands:
   tree    Write the shortest-path tree of each source
+  pairs   Write the distance of each pair of a source and a target
   check   Check a tree against its graph
   replay  Run the steps of several actors on one table in a given order, and report each call
   offers  Make the offers of several actors at once, and write the words that are left
@@ -41,7 +42,7 @@ Exit status:
   1  the command line is wrong
   2  a file is refused
   3  check: the tree is not the one of its source
-  4  tree: for some source a vertex is too far; all answers are written
+  4  tree, pairs: for some source a vertex is too far; all answers are written
   5  there is not enough memory
   6  a file could not be opened or read, or the output could not be written
 
@@ -56,13 +57,13 @@ Example:
 #[test]
 fn unknown_command(rt: HostRuntime) {
     let text = "\
-error: unrecognized subcommand 'pairs'
+error: unrecognized subcommand 'solve'
 
 Usage: spt <COMMAND>
 
 For more information, try '--help'.
 ";
-    let ended = run(&rt, rt.alloc(), &["spt", "pairs", "f.rep"], &FILES);
+    let ended = run(&rt, rt.alloc(), &["spt", "solve", "f.rep"], &FILES);
     expect(&rt, ended, 1, "", text);
 }
 

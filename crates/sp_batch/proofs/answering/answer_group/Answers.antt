@@ -1,8 +1,7 @@
-use Rattle.std.proofs.Common.{◌≡◌, ℕ, List, [], ◌++◌, map, length, sym, arith}
+use Rattle.std.proofs.Common.{ℕ, List, [], ◌++◌, map, sym, arith}
 use Rattle.std.proofs.lemmas.List.{append-nil, length-map}
 use Rattle.std.proofs.lemmas.Result.{err_from_is_err_and}
-use Rattle.sp_batch.specs.Found.{answer_of, AreFound}
-use Rattle.sp_batch.specs.Steps.{IsWritten}
+use Rattle.sp_batch.specs.Found.{answer_of}
 use Rattle.sp_batch.proofs.AnswersInOrder.{same_length, counts_fit, done_both, refused_later}
 use Rattle.sp_batch.proofs.answering.answer_group.Goals as goal
 

@@ -1,4 +1,4 @@
-use Rattle.std.proofs.Common.{◌≡◌, ◌∷◌, ◌++◌, ◌+◌, ◌<◌, ◌^◌, [], sym, length, take, drop, get_or, take-append-drop, arith}
+use Rattle.std.proofs.Common.{◌∷◌, ◌+◌, [], sym, take, drop, get_or, take-append-drop, arith}
 use Rattle.std.proofs.lemmas.List.{take_more, length-take}
 use Rattle.std.proofs.lemmas.Result.{err_from_is_err_and}
 use Rattle.sp_batch.proofs.AnswersInOrder.{done_both, done_fit, refused_later}

@@ -1,4 +1,4 @@
-use Rattle.std.proofs.Common.{◌≡◌, ℕ, List, [], ◌++◌, ◌<◌, ◌≤◌, Err, length, map, take, subst, sym, arith}
+use Rattle.std.proofs.Common.{◌≡◌, List, ◌++◌, ◌<◌, ◌≤◌, Err, length, map, take, subst, sym, arith}
 use Rattle.std.proofs.lemmas.Bool.Decides.{nat_tests}
 use Rattle.std.proofs.lemmas.List.Elements.{All-same, All-take}
 use Rattle.std.proofs.lemmas.Result.{err_from_is_err_and}

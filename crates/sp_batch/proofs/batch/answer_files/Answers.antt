@@ -1,4 +1,3 @@
-use Rattle.std.proofs.Common.{◌≡◌}
 use Rattle.std.proofs.lemmas.Result.{err_from_is_err_and}
 use Rattle.sp_batch.proofs.OfFile.{AreSources, same_graph, of_file, refused_early}
 use Rattle.sp_batch.proofs.batch.answer_files.Goals as goal

@@ -1,4 +1,4 @@
-use Rattle.std.proofs.Common.{◌≡◌, refl}
+use Rattle.std.proofs.Common.{refl}
 use Rattle.sp_batch.proofs.TextsToAnswers.{graph_spelled, sources_spelled, answered, of_some}
 use Rattle.sp_batch.proofs.batch.run_batch.Goals as goal
 

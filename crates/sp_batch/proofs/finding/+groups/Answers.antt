@@ -1,4 +1,4 @@
-use Rattle.std.proofs.Common.{◌≡◌, ℕ, List, ◌++◌, Vec, subst}
+use Rattle.std.proofs.Common.{◌≡◌, ℕ, List, ◌++◌, subst}
 use Rattle.std.proofs.lemmas.Result.{IfOk-weaker}
 use Rattle.sp_batch.specs.Found.{AreFound}
 use Rattle.sp_batch.proofs.AnswersInOrder.{found_both, two_parts}

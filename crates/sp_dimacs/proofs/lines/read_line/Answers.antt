@@ -1,7 +1,8 @@
 use Rattle.std.proofs.Common.{◌++◌, Ok, inl, ◌∙◌, sym, refl, subst, append_assoc}
 use Rattle.std.proofs.KnownBytes.{Consumes-trans}
 use Rattle.sp_dimacs.specs.LineReading.{RunTaken}
-use Rattle.sp_dimacs.proofs.LineSteps.{no_lf_both, came_on, came_behind}
+use Rattle.sp_text.proofs.LineCuts.{no_lf_both}
+use Rattle.sp_dimacs.proofs.LineSteps.{came_on, came_behind}
 use Rattle.sp_dimacs.proofs.lines.read_line.Goals as goal
 
 pub returns-in-Err-clause-read : goal.returns-in-Err-clause-read

@@ -12,14 +12,3 @@ new-requires-in-Ok-2 g c =
     let found = c.in-Ok.ensures.found in
     let spells : Spells offers (ranges_of g.row.P) found.0 found.2.0 (items_of offers (lines found.0)) = record { faultless = found.1; problem_line = found.2.1; item_lines = refl } in
     (lit< tt, (lit< tt, (lit< tt, (c.requires, rw c.new-in-Ok.ensures.items (are_offers g.row.P found.2.0 _ _ (accepted offers (ranges_of g.row.P) _ _ _ spells) found.2.2)))))
-
-pub returns-in-Ok-clause-found : goal.returns-in-Ok-clause-found
-returns-in-Ok-clause-found g c =
-    let found = c.in-Ok.ensures.found in
-    record {
-      text = found.0;
-      problem = found.2.0;
-      lines = items_of offers (lines found.0);
-      spelled = record { faultless = found.1; problem_line = found.2.1; item_lines = refl };
-      says = rw (c.new-in-Ok-2.ensures, c.new-in-Ok.ensures.items) found.2.2;
-    }

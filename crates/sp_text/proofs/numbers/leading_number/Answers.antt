@@ -1,6 +1,4 @@
-use Rattle.std.proofs.Common.{◌≡◌, ◌∙◌, false, true, ap, sym, arith}
-use Rattle.sp_text.specs.Lines.{value}
-use Rattle.sp_text.specs.Numeral.{capped, starts_number}
+use Rattle.std.proofs.Common.{sym, arith}
 use Rattle.sp_text.proofs.Quick.{leads, leads_none, small_is, large_is}
 use Rattle.sp_text.proofs.numbers.leading_number.Goals as goal
 

@@ -1,4 +1,4 @@
-use Rattle.std.proofs.Common.{◌≡◌, ℕ, List, length, Option, Some, None, ap, ◌∙◌, subst, arith}
+use Rattle.std.proofs.Common.{◌≡◌, List, length, Some, None, ap, ◌∙◌, subst, arith}
 use Rattle.sp_word.specs.Word.{Word}
 use Rattle.sp_paths.specs.Paths.{word_at}
 use Rattle.sp_graph.specs.LeftOut.{network, IsLeastLeftOut}

@@ -2,10 +2,10 @@ use Rattle.std.proofs.Common.{ℕ, List, [], get_or, refl, ap, sym, subst, ◌�
 use Rattle.std.specs.Prelude.{All}
 use Rattle.std.proofs.lemmas.Result.{IfOk-weaker}
 use Rattle.sp_paths.specs.Paths.{IsVertex}
-use Rattle.sp_task.specs.declared.task.Task.{Task}
+use Rattle.sp_store.specs.Stage.{Stage}
+use Rattle.sp_store.specs.Rounds.{IsDue}
 use Rattle.sp_phase.specs.Lead.{Lead, recalled}
-use Rattle.sp_phase.specs.Stage.{Stage}
-use Rattle.sp_phase.specs.Running.{Leads, IsDue}
+use Rattle.sp_phase.specs.Running.{Leads}
 use Rattle.sp_phase.specs.Behind.{GivesSome, HasRun}
 use Rattle.sp_phase.proofs.MadeTasks.{heavy_begins, heavy_goes_on, heavy_ends}
 use Rattle.sp_phase.proofs.PastRounds.{heavy_keeps, heavy_learns}

@@ -1,10 +1,10 @@
 use Rattle.std.proofs.Common.{Some, None, ap, sym, subst}
 use Rattle.sp_paths.specs.Paths.{IsVertex}
 use Rattle.sp_task.specs.declared.task.TaskKind.TheVariants.{Heavy}
+use Rattle.sp_store.specs.Marks.{noted}
+use Rattle.sp_store.proofs.TaskMarks.{task_of}
 use Rattle.sp_phase.specs.Lead.{Lead, lead_of}
-use Rattle.sp_phase.specs.Marks.{noted}
 use Rattle.sp_phase.specs.Behind.{GivesHeavy}
-use Rattle.sp_phase.proofs.TaskMarks.{task_of}
 use Rattle.sp_phase.proofs.LeaderHolds.{holds_forgets, leads_holds}
 use Rattle.sp_phase.proofs.MadeTasks.{heavy_one, heavy_none}
 use Rattle.sp_phase.proofs.leader.Leader.heavy_task.Goals as goal

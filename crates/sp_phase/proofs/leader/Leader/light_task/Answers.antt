@@ -1,11 +1,11 @@
-use Rattle.std.proofs.Common.{◌≡◌, [], ◌∷◌, false, true, Some, ◌∙◌, ap, sym, subst, rules}
+use Rattle.std.proofs.Common.{◌≡◌, [], false, true, Some, ◌∙◌, ap, sym, subst, rules}
 use Rattle.sp_word.specs.Word.{dist_of}
 use Rattle.sp_paths.specs.Paths.{IsVertex}
 use Rattle.sp_offer.specs.Story.{known}
-use Rattle.sp_phase.specs.declared.marks.Marks.{Marks}
+use Rattle.sp_store.specs.declared.marks.Marks.{Marks}
+use Rattle.sp_store.specs.Stage.{Stage}
+use Rattle.sp_store.specs.Marks.{noted}
 use Rattle.sp_phase.specs.Lead.{Lead, lead_of}
-use Rattle.sp_phase.specs.Marks.{noted}
-use Rattle.sp_phase.specs.Stage.{Stage}
 use Rattle.sp_phase.specs.Behind.{Reads, PreparesLight}
 use Rattle.sp_phase.proofs.LeaderHolds.{holds_enters, leads_holds}
 use Rattle.sp_phase.proofs.MadeTasks.{light_idle, light_given}

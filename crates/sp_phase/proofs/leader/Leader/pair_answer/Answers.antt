@@ -1,4 +1,4 @@
-use Rattle.std.proofs.Common.{◌≡◌, refl, List, length, Option, Some, None, sym, subst, ap, ◌∙◌}
+use Rattle.std.proofs.Common.{◌≡◌, refl, List, length, Some, None, sym, subst, ap, ◌∙◌}
 use Rattle.sp_word.specs.Word.{Word, Unreached}
 use Rattle.sp_paths.specs.Paths.{word_at}
 use Rattle.sp_graph.specs.LeftOut.{network, IsLeastLeftOut}

@@ -6,9 +6,8 @@ use Rattle.sp_word.specs.Word.{Word}
 use Rattle.sp_bucket.specs.declared.entry.Entry.{Entry}
 use Rattle.sp_bucket.specs.Content.{Content}
 use Rattle.sp_bucket.proofs.EntryPlaces.{empty_is}
-use Rattle.sp_phase.specs.declared.marks.Mark.{Mark}
+use Rattle.sp_store.specs.declared.marks.Mark.{Mark}
 use Rattle.sp_phase.specs.Lead.{Lead, lead_of}
-use Rattle.sp_phase.specs.Marks.{noted}
 use Rattle.sp_phase.specs.Running.{EntriesFrom}
 use Rattle.sp_phase.specs.Sweep.{IsOpen, AreRelaxed, HasCopied, TakesCopy}
 use Rattle.sp_phase.proofs.BucketsBehind.{leads_opened, opens_past, kept_none}

@@ -1,6 +1,6 @@
 use Rattle.std.proofs.Common.{◌≡◌, [], ◌∙◌, ap, sym, subst}
+use Rattle.sp_store.specs.Marks.{Noted, noted}
 use Rattle.sp_phase.specs.Lead.{Lead, recalled}
-use Rattle.sp_phase.specs.Marks.{Noted, noted}
 use Rattle.sp_phase.specs.Running.{Leads}
 use Rattle.sp_phase.proofs.LeaderHolds.{holds_recalls, leads_holds}
 use Rattle.sp_phase.proofs.leader.Leader.recall.Goals as goal

@@ -3,9 +3,9 @@ use Rattle.std.specs.Prelude.{All}
 use Rattle.std.specs.List.Sorted.{IsPermutation}
 use Rattle.sp_bucket.specs.declared.entry.Entry.{Entry}
 use Rattle.sp_task.specs.declared.task.Task.{Task}
+use Rattle.sp_store.specs.Marks.{noted}
+use Rattle.sp_store.specs.Rounds.{IsDue}
 use Rattle.sp_phase.specs.Lead.{Lead, lead_of}
-use Rattle.sp_phase.specs.Marks.{noted}
-use Rattle.sp_phase.specs.Running.{IsDue}
 use Rattle.sp_phase.specs.Behind.{HasRun}
 use Rattle.sp_phase.proofs.LeaderHolds.{round_leads}
 use Rattle.sp_phase.proofs.leader.Leader.run_tasks.Goals as goal

@@ -1,7 +1,6 @@
 use Rattle.std.proofs.Common.{ℕ, Option, None, ◌∙◌, subst, sym}
-use Rattle.sp_offer.specs.Story.{Knowledge}
+use Rattle.sp_store.specs.Stage.{Learns}
 use Rattle.sp_phase.specs.Lead.{Lead}
-use Rattle.sp_phase.specs.Stage.{Stage, Learns}
 use Rattle.sp_phase.specs.Progress.{Progress, caller_of}
 use Rattle.sp_phase.specs.Settling.{IsToldBy}
 use Rattle.sp_phase.specs.Behind.{HasCome}

@@ -1,6 +1,6 @@
 use Rattle.std.proofs.Common.{◌≡◌, Option, sym, subst}
+use Rattle.sp_store.specs.Stage.{Learns}
 use Rattle.sp_phase.specs.Lead.{Lead}
-use Rattle.sp_phase.specs.Stage.{Stage, Learns}
 use Rattle.sp_phase.specs.Progress.{Progress, caller_of, MayLead}
 use Rattle.sp_phase.specs.Settling.{IsToldBy}
 use Rattle.sp_phase.specs.Behind.{HasCome}

@@ -1,5 +1,4 @@
 use Rattle.std.proofs.Common.{ℕ, Option, refl, ap, ◌∙◌, subst}
-use Rattle.sp_phase.specs.Stage.{Stage}
 use Rattle.sp_phase.specs.Settling.{IsTold, IsLaterBucket}
 use Rattle.sp_phase.proofs.BucketsBehind.{led, come_back, come_to, come_later}
 use Rattle.sp_phase.proofs.run.Run.settle.Goals as goal

@@ -1,12 +1,6 @@
-use Rattle.std.proofs.Common.{refl, lit<, lit≤}
-use Rattle.sp_replay.proofs.Bounds.{start_fits}
+use Rattle.std.proofs.Common.{refl}
 use Rattle.sp_replay.proofs.KeepSteps.{start_kept, item_kept, on_ok}
 use Rattle.sp_replay.proofs.keeper.KeeperKeep.keep.Goals as goal
-
-pub word_at-requires : goal.word_at-requires
-word_at-requires g c =
-    let fits = start_fits g.row.P c.args.values.now (rw c.in-0.is at c.requires) in
-    (lit< tt, (c.args.self.now.layout, (fits.1, (fits.2, lit≤ tt))))
 
 pub returns-in-0 : goal.returns-in-0
 returns-in-0 g c = λ before line h kind numbers. on_ok c.name.result c.name.ensures.named (λ named.

@@ -1,4 +1,4 @@
-use Rattle.std.proofs.Common.{◌≤◌, ◌^◌, ◌++◌, length, length-append, ap, arith}
+use Rattle.std.proofs.Common.{◌≤◌, ◌^◌, length, length-append, ap, arith}
 use Rattle.sp_text.proofs.Behind.{run_ok, run_err}
 use Rattle.sp_text.proofs.feeding.Feeder.take_open.Goals as goal
 

@@ -1,5 +1,4 @@
 use Rattle.std.proofs.Common.{◌≡◌, ◌≤◌, ◌^◌, ℕ, List, [], ◌∷◌, ◌++◌, length, length-append, append_assoc, arith, sym, ap, ◌∙◌}
-use Rattle.std.proofs.lemmas.List.{append-nil}
 use Rattle.std.proofs.lemmas.Result.{err_from_is_err_and}
 use Rattle.sp_text.specs.Lines.{ended}
 use Rattle.sp_text.proofs.Behind.{closed_run, lf_whole, refusal_lasts}
@@ -12,15 +11,6 @@ pub returns-then-is_closed-clause-refused : goal.returns-then-is_closed-clause-r
 returns-then-is_closed-clause-refused g c = λ text small h.
     let shorter : length text ≤ 2 ^ 62 = omega (arith, length-append text c.args.bytes.now) in
     (c.refuse.ensures.spent, rw c.refuse.ensures.line (closed_run g.T.LineTaker.rules g.T.LineTaker.After text c.args.bytes.now c.args.self.now shorter c.requires (sym (c.if-is_closed.ensures (ended text) h.taken)) h))
-
-pub returns-in_err-take_open-clause-refused : goal.returns-in_err-take_open-clause-refused
-returns-in_err-take_open-clause-refused g c =
-    let p = err_from_is_err_and c.from_residual.result c.from_residual.ensures.1 in
-    rw (p.1, p.2) (λ text small h. c.in_err-take_open.ensures text small (sym (c.if-is_closed.ensures (ended text) h.taken)) c.in_default.ensures h)
-
-pub returns-in_default-clause-taken : goal.returns-in_default-clause-taken
-returns-in_default-clause-taken g c =
-    (c.args.bytes.now, sym (append-nil c.args.bytes.now), c.requires, λ text small h. c.in_ok-take_open.ensures text small (sym (c.if-is_closed.ensures (ended text) h.taken)) c.in_default.ensures h)
 
 pub returns-in_err-take_rest-clause-refused : goal.returns-in_err-take_rest-clause-refused
 returns-in_err-take_rest-clause-refused g c =

@@ -1,6 +1,0 @@
-mod offers;
-mod read;
-mod refused;
-mod runs;
-mod samples;
-mod written;

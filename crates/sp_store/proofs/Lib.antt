@@ -1,0 +1,3 @@
+pub mod TaskMarks
+pub mod StageTasks
+pub mod RoundMarks

@@ -1,0 +1,4 @@
+pub mod Stage
+pub mod Held
+pub mod Marks
+pub mod Rounds

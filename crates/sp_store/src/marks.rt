@@ -1,0 +1,145 @@
+//! What the leader writes down of each vertex.
+ghost use Rattle.std.specs.Prelude.{◌≡◌, [], false, vec_len, replicate, All, IsTrue, IfOk};
+ghost use Rattle.sp_paths.specs.Paths.{IsVertex};
+ghost use Rattle.sp_store.specs.Marks.{no_mark, noted, marked, SameDistances, Remembers, Enters, Forgets};
+ghost use Rattle.sp_store.specs.Rounds.{KeepsRunning, AreMarked};
+
+use sp_task::{Task, TaskKind};
+use std::alloc::{AllocError, Global};
+use std::mem;
+
+/// What the leader writes down of a vertex.
+#[derive(Clone, Copy, Debug)]
+pub struct Mark {
+    /// The distance at which its light arcs were last relaxed.
+    pub light: Option<u64>,
+    /// The distance at which its heavy arcs were last relaxed.
+    pub heavy: Option<u64>,
+    /// The last round in which it was.
+    pub round: u64,
+    /// Whether its heavy arcs are to be relaxed when the bucket is done.
+    pub remembered: bool,
+}
+
+impl Mark {
+    // Of a vertex that was in no round.
+    fn none() -> Mark
+        ensures { result ≡ no_mark }
+    {
+        Mark {
+            light: None,
+            heavy: None,
+            round: 0,
+            remembered: false,
+        }
+    }
+}
+
+/// The marks of all vertices, that of vertex `v` at `v - 1`.
+#[derive(Drop)]
+pub struct Marks {
+    pub each: Vec<Mark>,
+    /// Vertices that were in a light round, and in no heavy one since.
+    pub remembered: Vec<u32>,
+    /// The number of the last round.
+    pub round: u64,
+}
+
+impl Marks {
+    /// Of `n` vertices, before the first round.
+    pub fn new(alloc: Global, n: u32) -> Result<Marks, AllocError>
+        ensures each { IfOk result (λ m. m.each.items ≡ replicate n no_mark) }
+        ensures remembered { IfOk result (λ m. m.remembered.items ≡ []) }
+    {
+        Ok(Marks {
+            each: vec![in alloc; Mark::none(); n as usize]?,
+            remembered: Vec::new(alloc),
+            round: 0,
+        })
+    }
+
+    /// The next round begins. The greatest number stays.
+    pub fn begin_round(&mut self)
+        ensures { noted self.new ≡ noted self.old }
+    {
+        self.round = self.round.saturating_add(1);
+    }
+
+    /// Lets a vertex into the round, and remembers it. It answers whether the vertex wasn't there yet.
+    pub fn enter(&mut self, vertex: u32) -> Result<bool, AllocError>
+        requires { IsVertex (vec_len self.old.each) vertex }
+        ensures distances { SameDistances self.old.each.items self.new.each.items }
+        ensures remembered { Remembers (noted self.old) (noted self.new) vertex }
+        ensures entered { IfOk result (λ entered. IsTrue entered
+            → Enters (noted self.old) (noted self.new) vertex) }
+        ensures stayed { IfOk result (λ entered. entered ≡ false → self.new ≡ self.old) }
+    {
+        let place = (vertex - 1) as usize;
+        let mark = self.each[place];
+        if mark.round == self.round {
+            return Ok(false);
+        }
+        if !mark.remembered {
+            self.remembered.push(vertex)?;
+        }
+        self.each[place] = Mark {
+            round: self.round,
+            remembered: true,
+            ..mark
+        };
+        Ok(true)
+    }
+
+    /// Hands out what is remembered.
+    pub fn recall(&mut self, alloc: Global) -> Vec<u32>
+        ensures result { result.items ≡ self.old.remembered.items }
+        ensures remembered { self.new.remembered.items ≡ [] }
+        ensures each { self.new.each ≡ self.old.each }
+    {
+        mem::replace(&mut self.remembered, Vec::new(alloc))
+    }
+
+    /// A vertex that was handed out is remembered no more.
+    pub fn forget(&mut self, vertex: u32)
+        requires { IsVertex (vec_len self.old.each) vertex }
+        ensures distances { SameDistances self.old.each.items self.new.each.items }
+        ensures remembered { self.new.remembered ≡ self.old.remembered }
+        ensures forgets { Forgets self.old.each.items self.new.each.items vertex }
+    {
+        self.each[(vertex - 1) as usize].remembered = false;
+    }
+
+    /// Writes down that tasks were run.
+    pub fn write(&mut self, tasks: &[Task])
+        requires { All (λ t. IsVertex (vec_len self.old.each) t.vertex) tasks.now }
+        ensures running { KeepsRunning tasks.now self.old.each.items self.new.each.items }
+        ensures marked { AreMarked tasks.now self.old.each.items self.new.each.items }
+        ensures remembered { self.new.remembered ≡ self.old.remembered }
+    {
+        mark_tasks(&mut self.each, tasks);
+    }
+}
+
+// Writes down that a task was run.
+fn mark_task(marks: &mut Vec<Mark>, task: Task)
+    requires { IsVertex (vec_len marks.old) task.vertex }
+    ensures { marks.new.items ≡ marked marks.old.items task }
+{
+    let place = (task.vertex - 1) as usize;
+    match task.kind {
+        TaskKind::Light => marks[place].light = Some(task.dist),
+        TaskKind::Heavy => marks[place].heavy = Some(task.dist),
+    }
+}
+
+// Writes down that tasks were run.
+fn mark_tasks(marks: &mut Vec<Mark>, tasks: &[Task])
+    requires { All (λ t. IsVertex (vec_len marks.old) t.vertex) tasks.now }
+    ensures length { vec_len marks.new ≡ vec_len marks.old }
+    ensures running { KeepsRunning tasks.now marks.old.items marks.new.items }
+    ensures marked { AreMarked tasks.now marks.old.items marks.new.items }
+{
+    for task in tasks {
+        mark_task(marks, *task);
+    }
+}

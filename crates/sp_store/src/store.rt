@@ -1,0 +1,301 @@
+//! What a run works on: rows, the table of words, the table of claims.
+ghost use Rattle.std.specs.Prelude.{◌≡◌, ◌<◌, ◌≤◌, ◌↔◌, [], true, IsTrue, length, vec_len, All, IfOk, IfErr};
+ghost use Rattle.sp_word.specs.Word.{Pair, is_layout, max_pred};
+ghost use Rattle.sp_paths.specs.Paths.{IsVertex, IsArc};
+ghost use Rattle.sp_offer.specs.Story.{fresh, known, IsCopy};
+ghost use Rattle.sp_store.specs.Stage.{IsUnstored, IsStage, IsOf, AreRowsOf, Learns, law_of};
+ghost use Rattle.sp_store.specs.Held.{split_of};
+ghost use Rattle.sp_store.specs.Rounds.{IsDue, IsRoundOf};
+
+use crate::answers::RunError;
+use crate::held::Held;
+use sp_claim::{ClaimTable, Claimer};
+use sp_graph::{Graph, Rows};
+use sp_offer::{Caller, OfferTable};
+use sp_paths::Arc;
+use sp_task::{Gate, Round, RoundOut, Task, Walks, run_round, walks_allow_arcs};
+use sp_word::{Delta, Word, Workers};
+use std::alloc::{AllocError, Global};
+use std::marker::Model;
+use std::sync::Wait;
+use std::thread::Threads;
+
+/// Who runs a round, and the number by which its tasks are claimed.
+#[derive(Drop)]
+pub struct Crew {
+    pub alloc: Global,
+    pub number: u64,
+    pub workers: Workers,
+    pub caller: Caller,
+    pub claimer: Claimer,
+}
+
+/// The tables of a run from one source of a graph: its rows, parted at `delta`, a word and a claim for each vertex. The rows
+/// are its own, or lent by who runs from several sources. Callers of its table may read and offer while a run goes on.
+///
+/// Contracts see the graph, the source, `delta`, which tables these are, and from how many tasks on a round is shared.
+#[derive(Drop)]
+pub struct Store<'g, const P: u32> {
+    graph: &'g Graph,
+    delta: Delta<P>,
+    source: u32,
+    rows: Held<'g>,
+    table: OfferTable<Walks<'g>, P>,
+    claims: ClaimTable,
+    shared_from: usize,
+}
+
+impl<'g, const P: u32> Model for Store<'g, P> {
+    ghost use Rattle.sp_store.specs.Stage.{Stage, IsStage, AreOfStage};
+    ghost use Rattle.sp_store.specs.Held.{split_of};
+
+    ghost Value = { Stage };
+
+    ghost view = { λ s. record {
+      graph = s.graph.now;
+      source = s.source;
+      delta = s.delta;
+      table = s.table.id;
+      claims = s.claims;
+      shared_from = s.shared_from;
+    } };
+
+    ghost invariant = { λ s. let st : Stage = record {
+      graph = s.graph.now;
+      source = s.source;
+      delta = s.delta;
+      table = s.table.id;
+      claims = s.claims;
+      shared_from = s.shared_from;
+    }
+        in IsStage P st
+        × AreOfStage st (split_of s.rows) s.table.law s.table.vertices s.claims.words };
+}
+
+fn is_vertex(graph: &Graph, vertex: u32) -> bool
+    ensures { IsTrue result ↔ IsVertex graph.now.n vertex }
+{
+    1 <= vertex && vertex <= graph.n()
+}
+
+impl<'g, const P: u32> Store<'g, P> {
+    /// The tables for a run from `source`, with their first caller and their first claimer. Every round is shared.
+    pub fn new(
+        alloc: Global,
+        graph: &'g Graph,
+        delta: Delta<P>,
+        source: u32,
+    ) -> Result<(Store<'g, P>, Caller, Claimer), RunError>
+        requires layout { is_layout P ≡ true }
+        requires n { graph.now.n ≤ max_pred P }
+        ensures store { IfOk result (λ made. IsOf graph.entry.now delta.entry source made.0) }
+        ensures range { IfOk result (λ made. IsStage P made.0) }
+        ensures shared_from { IfOk result (λ made. made.0.shared_from ≡ 0) }
+        ensures caller { IfOk result
+            (λ made. (made.1.table ≡ made.0.table) × (made.1.story ≡ fresh)) }
+        ensures claimer { IfOk result
+            (λ made. (made.2.table ≡ made.0.claims) × (made.2.grants ≡ [])) }
+        ensures refused { IfErr result (IsUnstored graph.entry.now source) }
+    {
+        if !is_vertex(graph, source) {
+            return Err(RunError::NoSuchVertex);
+        }
+        let Ok(rows) = Rows::split(alloc, graph, delta.get()) else {
+            return Err(RunError::Memory);
+        };
+        Store::make(alloc, graph, Held::Own(rows), delta, source).map_err(|_| RunError::Memory)
+    }
+
+    /// The same over rows that are lent, so that runs from several sources part the rows of the graph once.
+    pub fn over(
+        alloc: Global,
+        graph: &'g Graph,
+        rows: &'g Rows,
+        delta: Delta<P>,
+        source: u32,
+    ) -> Result<(Store<'g, P>, Caller, Claimer), RunError>
+        requires layout { is_layout P ≡ true }
+        requires n { graph.now.n ≤ max_pred P }
+        requires rows { AreRowsOf graph.now delta rows.now }
+        ensures store { IfOk result (λ made. IsOf graph.entry.now delta.entry source made.0) }
+        ensures range { IfOk result (λ made. IsStage P made.0) }
+        ensures shared_from { IfOk result (λ made. made.0.shared_from ≡ 0) }
+        ensures caller { IfOk result
+            (λ made. (made.1.table ≡ made.0.table) × (made.1.story ≡ fresh)) }
+        ensures claimer { IfOk result
+            (λ made. (made.2.table ≡ made.0.claims) × (made.2.grants ≡ [])) }
+        ensures refused { IfErr result (IsUnstored graph.entry.now source) }
+    {
+        if !is_vertex(graph, source) {
+            return Err(RunError::NoSuchVertex);
+        }
+        Store::make(alloc, graph, Held::Lent(rows), delta, source).map_err(|_| RunError::Memory)
+    }
+
+    // The same for a source that is a vertex.
+    fn make(
+        alloc: Global,
+        graph: &'g Graph,
+        rows: Held<'g>,
+        delta: Delta<P>,
+        source: u32,
+    ) -> Result<(Store<'g, P>, Caller, Claimer), AllocError>
+        requires layout { is_layout P ≡ true }
+        requires n { graph.now.n ≤ max_pred P }
+        requires rows { AreRowsOf graph.now delta (split_of rows) }
+        requires source { IsVertex graph.now.n source }
+        ensures store { IfOk result (λ made. IsOf graph.entry.now delta.entry source made.0) }
+        ensures range { IfOk result (λ made. IsStage P made.0) }
+        ensures shared_from { IfOk result (λ made. made.0.shared_from ≡ 0) }
+        ensures caller { IfOk result
+            (λ made. (made.1.table ≡ made.0.table) × (made.1.story ≡ fresh)) }
+        ensures claimer { IfOk result
+            (λ made. (made.2.table ≡ made.0.claims) × (made.2.grants ≡ [])) }
+    {
+        let n = graph.n();
+        let _ = delta.get();
+        let (table, caller) = OfferTable::new(alloc, n, Walks::new(graph, source))?;
+        let (claims, claimer) = ClaimTable::new(alloc, n)?;
+        let store = Store {
+            graph,
+            delta,
+            source,
+            rows,
+            table,
+            claims,
+            shared_from: 0,
+        };
+        Ok((store, caller, claimer))
+    }
+
+    /// The same tables, with rounds of fewer tasks left to the leader alone: starting threads takes longer than a short
+    /// round.
+    pub fn sharing_from(self, tasks: usize) -> Store<'g, P>
+        ensures { result ≡ record self.entry { shared_from = tasks } }
+    {
+        Store {
+            shared_from: tasks,
+            ..self
+        }
+    }
+
+    /// How many vertices there are.
+    pub fn n(&self) -> u32
+        ensures n { result ≡ self.now.graph.n }
+        ensures stage { IsStage P self.now }
+    {
+        self.graph.n()
+    }
+
+    /// The source.
+    pub fn source(&self) -> u32
+        ensures { result ≡ self.now.source }
+    {
+        self.source
+    }
+
+    /// The width of a bucket.
+    pub fn delta(&self) -> Delta<P>
+        ensures { result ≡ self.now.delta }
+    {
+        self.delta
+    }
+
+    /// The graph.
+    pub fn graph(&self) -> &'g Graph
+        ensures { result.now ≡ self.now.graph }
+    {
+        self.graph
+    }
+
+    /// All arcs.
+    pub fn arcs(&self) -> &[Arc]
+        ensures arcs { result.now ≡ self.now.graph.arcs }
+        ensures fine { All (IsArc self.now.graph.n) result.now }
+    {
+        self.graph.arcs()
+    }
+
+    /// The table. Callers that were split from the first one may read it and offer it lawful pairs.
+    pub fn table(&self) -> &OfferTable<Walks<'g>, P>
+        ensures table { result.now.id ≡ self.now.table }
+        ensures vertices { result.now.vertices ≡ self.now.graph.n }
+        ensures law { result.now.law ≡ record { graph = self.now.graph; source = self.now.source } }
+    {
+        &self.table
+    }
+
+    /// Reads the word of a vertex.
+    pub fn read(&self, caller: &mut Caller, vertex: u32) -> Word<P>
+        requires vertex { IsVertex self.now.graph.n vertex }
+        requires caller { caller.old.table ≡ self.now.table }
+        ensures caller { Learns P self.now caller.old caller.new }
+        ensures word { known caller.new.story vertex ≡ result }
+    {
+        self.table.read(caller, vertex)
+    }
+
+    /// Offers the source its pair.
+    pub fn open(&self, caller: &mut Caller)
+        requires { caller.old.table ≡ self.now.table }
+        ensures caller { Learns P self.now caller.old caller.new }
+        ensures source { known caller.new.story self.now.source ≡ Pair 0 0 }
+    {
+        let source = self.source;
+        self.table.offer(caller, source, Word::pack(0, 0));
+    }
+
+    /// Copies all words.
+    pub fn copy_words(&self, caller: &mut Caller, words: &mut Vec<Word<P>>)
+        requires caller { caller.old.table ≡ self.now.table }
+        requires room { vec_len words.old ≡ self.now.graph.n }
+        ensures caller { Learns P self.now caller.old caller.new }
+        ensures length { vec_len words.new ≡ vec_len words.old }
+        ensures copy { IsCopy
+            (law_of P self.now) words.new.items caller.old.story caller.new.story }
+    {
+        self.table.copy_words(caller, words);
+    }
+
+    // How many of the workers share a round of so many tasks.
+    fn workers_for(&self, tasks: usize, workers: Workers) -> Workers
+        ensures { tasks < self.now.shared_from → result ≡ 1 }
+    {
+        if tasks < self.shared_from {
+            Workers::one()
+        } else {
+            workers
+        }
+    }
+
+    /// Runs a round of tasks. The leader is alone in a short one. A refusal spends the crew.
+    pub fn relax_tasks<R: Threads + Wait + Sync, G: Gate + Sync>(
+        &self,
+        rt: &R,
+        gate: &G,
+        tasks: &[Task],
+        crew: Crew,
+    ) -> Result<RoundOut, AllocError>
+        requires caller { crew.caller.table ≡ self.now.table }
+        requires claimer { crew.claimer.table ≡ self.now.claims }
+        requires tasks { All (IsDue P self.now) tasks.now }
+        ensures done { IfOk result (λ out.
+            IsRoundOf P self.now tasks.now crew.caller out.caller out.found.items) }
+        ensures claimer { IfOk result (λ o. o.claimer.table ≡ crew.claimer.table) }
+        ensures alone { IfOk result (λ o. length tasks.now < self.now.shared_from → o.started ≡ 1) }
+    {
+        walks_allow_arcs();
+        let round = Round {
+            table: &self.table,
+            claims: &self.claims,
+            rows: self.rows.rows(),
+            tasks,
+            number: crew.number,
+            workers: self.workers_for(tasks.len(), crew.workers),
+        };
+        match run_round(rt, crew.alloc, &round, crew.caller, crew.claimer, gate) {
+            Ok(out) => Ok(out),
+            Err(_) => Err(AllocError),
+        }
+    }
+}

@@ -1,6 +1,0 @@
-mod answers;
-mod devices;
-mod memory;
-mod pieces;
-mod quick;
-mod samples;

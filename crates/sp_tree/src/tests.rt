@@ -1,6 +1,0 @@
-mod faults;
-mod layouts;
-mod pieces;
-mod samples;
-mod tables;
-mod written;

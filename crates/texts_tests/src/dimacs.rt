@@ -1,0 +1,7 @@
+mod blanks;
+mod counts;
+mod faults;
+mod layouts;
+mod lines;
+mod lists;
+mod pieces;

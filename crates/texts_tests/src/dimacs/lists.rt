@@ -1,0 +1,93 @@
+use super::counts::{pairs, sources};
+use crate::answers::{fault, out, told};
+use sp_device::UpTo;
+use sp_dimacs::{Kind, PairsReader, SsReader, read_pairs, read_ss};
+use std::test::Fail;
+
+#[test]
+fn sources_of_a_text(rt: HostRuntime) -> Result<(), Fail> {
+    let alloc = rt.alloc();
+    let text = b"c three\np aux sp ss 3\ns 7\n\ns 1\r\ns\t7";
+    let file = read_ss::<28, _>(alloc, &mut UpTo::whole(text))?;
+    assert_eq!(rt; file.sources.as_slice(), [7, 1, 7].as_slice());
+    let mut reader = SsReader::<28>::new(alloc);
+    for k in 0..text.len() {
+        let (front, rest) = text.split_at(k);
+        reader.feed(front)?;
+        reader.feed(rest)?;
+        let again = reader.finish()?;
+        assert_eq!(rt; again.sources.as_slice(), [7, 1, 7].as_slice());
+    }
+    Ok(())
+}
+
+#[test]
+fn faults_of_sources(rt: HostRuntime) -> Result<(), Fail> {
+    let alloc = rt.alloc();
+    for (text, want) in [
+        (b"".as_slice(), told(1, Kind::NoProblem)),
+        (b"s 1\n", told(1, Kind::NoProblem)),
+        (b"p aux sp ss 0\n", Ok(0)),
+        (b"p sp ss 0\n", told(1, Kind::BadLine)),
+        (b"p aux sp ss 1\ns 01\n", told(2, Kind::BadLine)),
+        (
+            b"p aux sp ss 0\np aux sp ss 0\n",
+            told(2, Kind::SecondProblem),
+        ),
+        (b"p aux sp ss 1048577\n", out(1, b'K')),
+        (b"p aux sp ss 1\ns 0\n", out(2, b'V')),
+        (b"p aux sp ss 1048576\n", told(2, Kind::TooFew)),
+        (b"p aux sp ss 1\ns 1\ns 2\n", told(3, Kind::TooMany)),
+    ] {
+        assert_eq!(rt; sources::<28>(alloc, text), want, "in {text:?}");
+    }
+    Ok(())
+}
+
+#[test]
+fn pairs_of_a_text(rt: HostRuntime) -> Result<(), Fail> {
+    let alloc = rt.alloc();
+    let text = b"p pairs 3\nq 1 4\nq 1 1\nq 4 1";
+    let file = read_pairs::<28, _>(alloc, &mut UpTo::whole(text))?;
+    assert_eq!(rt; file.pairs.as_slice(), [(1, 4), (1, 1), (4, 1)].as_slice());
+    let mut reader = PairsReader::<28>::new(alloc);
+    for k in 0..text.len() {
+        let (front, rest) = text.split_at(k);
+        reader.feed(front)?;
+        reader.feed(rest)?;
+        let again = reader.finish()?;
+        assert_eq!(rt; again.pairs.as_slice(), [(1, 4), (1, 1), (4, 1)].as_slice());
+    }
+    Ok(())
+}
+
+#[test]
+fn faults_of_pairs(rt: HostRuntime) -> Result<(), Fail> {
+    let alloc = rt.alloc();
+    for (text, want) in [
+        (b"p pairs 1\n".as_slice(), told(2, Kind::TooFew)),
+        (b"p pairs 0\n", Ok(0)),
+        (b"", told(1, Kind::NoProblem)),
+        (b"q 1 9\n", told(1, Kind::NoProblem)),
+        (b"p pairs 1\nq 1\n", told(2, Kind::BadLine)),
+        (b"p pairs 1\np pairs 1\n", told(2, Kind::SecondProblem)),
+        (b"p pairs 1048577\n", out(1, b'K')),
+        (b"p pairs 1\nq 0 0\n", out(2, b'S')),
+        (b"p pairs 1\nq 1 0\n", out(2, b'T')),
+        (b"p pairs 1\nq 1 2\nq 1 2\n", told(3, Kind::TooMany)),
+    ] {
+        assert_eq!(rt; pairs::<28>(alloc, text), want, "in {text:?}");
+    }
+    Ok(())
+}
+
+#[test]
+fn failing_readers_of_lists(rt: HostRuntime) -> Result<(), Fail> {
+    let alloc = rt.alloc();
+    let second = fault(2, Kind::Read);
+    let list = read_ss::<28, _>(alloc, &mut UpTo::failing(b"p aux sp ss 1\ns 1"));
+    assert_eq!(rt; list.err(), Some(second));
+    let asked = read_pairs::<28, _>(alloc, &mut UpTo::failing(b"p pairs 1\nq 1 2"));
+    assert_eq!(rt; asked.err(), Some(second));
+    Ok(())
+}

@@ -1,0 +1,17 @@
+//! Tests of devices, and of the texts that are read from them and written to them, by their public calls.
+#![tactic(auto)]
+
+#[cfg(test)]
+mod answers;
+#[cfg(test)]
+mod device;
+#[cfg(test)]
+mod dimacs;
+#[cfg(test)]
+mod faulty;
+#[cfg(test)]
+mod replay;
+#[cfg(test)]
+mod text;
+#[cfg(test)]
+mod tree;

@@ -1,0 +1,6 @@
+mod offers;
+mod read;
+mod refused;
+mod reports;
+mod runs;
+mod written;

@@ -1,0 +1,6 @@
+mod answers;
+mod devices;
+mod entries;
+mod memory;
+mod pieces;
+mod quick;

@@ -1,0 +1,220 @@
+//! Lines in the usual spelling and in others, whole and cut at each byte.
+ghost use Rattle.std.specs.Prelude.{◌≤◌, length};
+
+use super::entries::{Entry, new_reader};
+use crate::answers::fault;
+use sp_text::{DimacsError, Kind};
+use std::alloc::Global;
+use std::test::Fail;
+
+// One item may stand, and vertices have up to seven digits.
+const SEVEN: &[u8] = b"p sp 9999999 1\n";
+
+// One item may stand, and vertices have up to eight digits.
+const EIGHT: &[u8] = b"p sp 99999999 1\n";
+
+// No arc has to stand.
+const NONE: &[u8] = b"p sp 2 0\n";
+
+type Answer = Result<Option<Entry>, DimacsError>;
+
+// The item of a line behind a problem line, where the line comes in these two pieces.
+fn cut_at(alloc: Global, problem: &[u8], line: &[u8], end: usize) -> Answer
+    requires { end ≤ length line.now }
+{
+    let (front, back) = line.split_at(end);
+    let mut reader = new_reader(alloc);
+    reader.feed(problem)?;
+    reader.feed(front)?;
+    reader.feed(back)?;
+    let entries = reader.finish()?;
+    Ok(entries.first().copied())
+}
+
+// The same, where each byte comes by itself.
+fn singly(alloc: Global, problem: &[u8], line: &[u8]) -> Answer {
+    let mut reader = new_reader(alloc);
+    for byte in problem.chunks(1) {
+        reader.feed(byte)?;
+    }
+    for byte in line.chunks(1) {
+        reader.feed(byte)?;
+    }
+    let entries = reader.finish()?;
+    Ok(entries.first().copied())
+}
+
+// The item of a line, if it is the same however the line is cut.
+fn item(alloc: Global, problem: &[u8], line: &[u8]) -> Option<Answer> {
+    let whole = cut_at(alloc, problem, line, 0);
+    for end in 1..line.len() {
+        if cut_at(alloc, problem, line, end) != whole {
+            return None;
+        }
+    }
+    if singly(alloc, problem, line) != whole {
+        return None;
+    }
+    Some(whole)
+}
+
+fn arc(tail: u64, head: u64, len: u64) -> Option<Answer> {
+    Some(Ok(Some((0, tail, head, len))))
+}
+
+fn word(vertex: u64, dist: u64, pred: u64) -> Option<Answer> {
+    Some(Ok(Some((1, vertex, dist, pred))))
+}
+
+// The line behind the problem line has this fault.
+fn refused(kind: Kind) -> Option<Answer> {
+    Some(Err(fault(2, kind)))
+}
+
+#[test]
+fn few_and_many_digits(rt: HostRuntime) -> Result<(), Fail> {
+    let a = rt.alloc();
+    for (problem, line, want) in [
+        (SEVEN, b"a 1 2 3\n".as_slice(), arc(1, 2, 3)),
+        (SEVEN, b"a 12 21 45\n", arc(12, 21, 45)),
+        (SEVEN, b"a 123 321 456\n", arc(123, 321, 456)),
+        (SEVEN, b"a 1234 4321 5678\n", arc(1_234, 4_321, 5_678)),
+        (SEVEN, b"a 12345 54321 56789\n", arc(12_345, 54_321, 56_789)),
+        (
+            SEVEN,
+            b"a 123456 654321 567890\n",
+            arc(123_456, 654_321, 567_890),
+        ),
+        (
+            SEVEN,
+            b"a 1234567 7654321 5678901\n",
+            arc(1_234_567, 7_654_321, 5_678_901),
+        ),
+        (
+            EIGHT,
+            b"a 12345678 87654321 56789012\n",
+            arc(12_345_678, 87_654_321, 56_789_012),
+        ),
+        (EIGHT, b"a 7 1 123456789\n", arc(7, 1, 123_456_789)),
+        (EIGHT, b"a 7 1 4294967295\n", arc(7, 1, 4_294_967_295)),
+        (
+            NONE,
+            b"i 1 68719476734 268435454\n",
+            word(1, 68_719_476_734, 268_435_454),
+        ),
+    ] {
+        assert_eq!(rt; item(a, problem, line), want, "in {line:?}");
+    }
+    Ok(())
+}
+
+#[test]
+fn greatest_and_least(rt: HostRuntime) -> Result<(), Fail> {
+    let a = rt.alloc();
+    let out = |letter: u8| refused(Kind::OutOfRange(letter));
+    for (problem, line, want) in [
+        (
+            SEVEN,
+            b"a 9999999 9999999 1\n".as_slice(),
+            arc(9_999_999, 9_999_999, 1),
+        ),
+        (SEVEN, b"a 10000000 1 1\n", out(b'U')),
+        (SEVEN, b"a 1 10000000 1\n", out(b'V')),
+        (
+            EIGHT,
+            b"a 99999999 99999999 1\n",
+            arc(99_999_999, 99_999_999, 1),
+        ),
+        (EIGHT, b"a 100000000 1 1\n", out(b'U')),
+        (EIGHT, b"a 1 100000000 1\n", out(b'V')),
+        (SEVEN, b"a 0 1 1\n", out(b'U')),
+        (SEVEN, b"a 1 0 1\n", out(b'V')),
+        (SEVEN, b"a 1 2 0\n", out(b'W')),
+        (SEVEN, b"a 1 2 4294967296\n", out(b'W')),
+        (SEVEN, b"a 1 2 18446744073709551616\n", out(b'W')),
+        (SEVEN, b"a 1 2 18446744073709551617\n", out(b'W')),
+        (NONE, b"i 0 0 0\n", out(b'V')),
+        (NONE, b"i 3 0 0\n", out(b'V')),
+        (NONE, b"i 1 68719476735 0\n", out(b'D')),
+        (NONE, b"i 1 0 268435455\n", out(b'P')),
+    ] {
+        assert_eq!(rt; item(a, problem, line), want, "in {line:?}");
+    }
+    Ok(())
+}
+
+#[test]
+fn zeros(rt: HostRuntime) -> Result<(), Fail> {
+    let a = rt.alloc();
+    let bad = refused(Kind::BadLine);
+    for (problem, line, want) in [
+        (NONE, b"i 1 0 0\n".as_slice(), word(1, 0, 0)),
+        (NONE, b"i 1 0 00\n", bad),
+        (NONE, b"i 1 00 0\n", bad),
+        (SEVEN, b"a 01 2 3\n", bad),
+        (SEVEN, b"a 1 02 3\n", bad),
+        (SEVEN, b"a 1 2 03\n", bad),
+        (SEVEN, b"a 0000001 2 3\n", bad),
+        (SEVEN, b"a 00000001 2 3\n", bad),
+        (SEVEN, b"a 10 200 3000000\n", arc(10, 200, 3_000_000)),
+    ] {
+        assert_eq!(rt; item(a, problem, line), want, "in {line:?}");
+    }
+    Ok(())
+}
+
+#[test]
+fn blanks_and_ends(rt: HostRuntime) -> Result<(), Fail> {
+    let a = rt.alloc();
+    let bad = refused(Kind::BadLine);
+    let good = arc(12, 345, 6_789);
+    for (problem, line, want) in [
+        (SEVEN, b"a 12 345 6789\n".as_slice(), good),
+        (SEVEN, b"a 12 345 6789", good),
+        (SEVEN, b"a 12 345 6789\r\n", good),
+        (SEVEN, b"a 12 345 6789\r", good),
+        (SEVEN, b"a 12 345 6789 \n", good),
+        (SEVEN, b"a 12 345 6789 \t \r\n", good),
+        (SEVEN, b"a  12  345  6789\n", good),
+        (SEVEN, b"a\t12\t345\t6789\n", good),
+        (SEVEN, b"a 12\t345 \t6789\n", good),
+        (SEVEN, b" a 12 345 6789\n", good),
+        (SEVEN, b"\n\nc x\na 12 345 6789\n\n", good),
+        (SEVEN, b"a 12 345 6789\r\r\n", bad),
+        (SEVEN, b"a 12 345 6789\r \n", bad),
+        (SEVEN, b"a 12\r 345 6789\n", bad),
+        (SEVEN, b"a 12 345 6789\x0b\n", bad),
+    ] {
+        assert_eq!(rt; item(a, problem, line), want, "in {line:?}");
+    }
+    Ok(())
+}
+
+#[test]
+fn other_spellings(rt: HostRuntime) -> Result<(), Fail> {
+    let a = rt.alloc();
+    let bad = refused(Kind::BadLine);
+    for (problem, line, want) in [
+        (SEVEN, b"a 12 345\n".as_slice(), bad),
+        (SEVEN, b"a 12 345 6789 1\n", bad),
+        (SEVEN, b"a 12 3456789\n", bad),
+        (SEVEN, b"a 12,345 6789\n", bad),
+        (SEVEN, b"a12 345 6789\n", bad),
+        (SEVEN, b"aa 12 345 6789\n", bad),
+        (SEVEN, b"b 12 345 6789\n", bad),
+        (SEVEN, b"A 12 345 6789\n", bad),
+        (SEVEN, b"a +12 345 6789\n", bad),
+        (SEVEN, b"a -12 345 6789\n", bad),
+        (SEVEN, b"a 1/ 345 6789\n", bad),
+        (SEVEN, b"a 1: 345 6789\n", bad),
+        (SEVEN, b"a : 345 6789\n", bad),
+        (SEVEN, b"a 12 345 6789x\n", bad),
+        (SEVEN, b"a 12 345 1234567x\n", bad),
+        (SEVEN, b"a 12 345 12345678x\n", bad),
+        (SEVEN, b"a 12 345 \xb1\xb2\n", bad),
+        (SEVEN, b"p sp 2 1\n", refused(Kind::SecondProblem)),
+    ] {
+        assert_eq!(rt; item(a, problem, line), want, "in {line:?}");
+    }
+    Ok(())
+}

@@ -1,0 +1,6 @@
+mod counts;
+mod faults;
+mod layouts;
+mod pieces;
+mod tables;
+mod written;

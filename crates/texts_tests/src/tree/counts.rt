@@ -1,0 +1,49 @@
+//! The tree of a worked example, and how many rows of a text are read.
+ghost use Rattle.std.specs.Prelude.{◌≡◌, ◌≤◌, ◌<◌, ◌^◌, true, length};
+ghost use Rattle.sp_word.specs.Word.{is_layout};
+
+use sp_device::UpTo;
+use sp_text::DimacsError;
+use sp_tree::{Tree, TreeReader, read_tree};
+use sp_word::Word;
+use std::alloc::{AllocError, Global};
+
+/// The tree of four vertices, with a tie at the last.
+pub fn diamond(alloc: Global) -> Result<Tree<28>, AllocError> {
+    let words = [
+        Word::pack(0, 0),
+        Word::pack(3, 1),
+        Word::pack(3, 1),
+        Word::pack(5, 2),
+    ];
+    Tree::of_words(alloc, 1, &words)
+}
+
+/// The number of rows of a text.
+pub fn rows<const P: u32>(alloc: Global, text: &[u8]) -> Result<usize, DimacsError>
+    requires layout { is_layout P ≡ true }
+    requires short { length text.now ≤ 2 ^ 62 }
+{
+    let tree = read_tree::<P, _>(alloc, &mut UpTo::whole(text))?;
+    Ok(tree.rows().len())
+}
+
+/// The number of rows of a text of which a failing device passes this beginning.
+pub fn cut_off(alloc: Global, text: &[u8]) -> Result<usize, DimacsError>
+    requires { length text.now ≤ 2 ^ 62 }
+{
+    let tree = read_tree::<28, _>(alloc, &mut UpTo::failing(text))?;
+    Ok(tree.rows().len())
+}
+
+/// The number of rows of a text that is fed in pieces of this many bytes.
+pub fn fed(alloc: Global, text: &[u8], size: usize) -> Result<usize, DimacsError>
+    requires { 0 < size }
+{
+    let mut reader = TreeReader::<28>::new(alloc);
+    for piece in text.chunks(size) {
+        reader.feed(piece)?;
+    }
+    let tree = reader.finish()?;
+    Ok(tree.rows().len())
+}

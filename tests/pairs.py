@@ -1,0 +1,76 @@
+#!/usr/bin/env python3
+"""Compares `spt pairs` with a plain Dijkstra, on graphs of each kind of bench/graphs.py.
+
+Usage: python3 tests/pairs.py [--vertices N] [--pairs K] [--sources S] [--seed S]
+
+For each kind K pairs of S sources are drawn, in no order. For each width of a bucket and each number of workers the program
+must write the lines that Dijkstra's algorithm gives. The last line is 'N passed, M failed'.
+"""
+
+import argparse
+import random
+import sys
+import tempfile
+
+sys.dont_write_bytecode = True
+import trees  # noqa: E402
+from trees import graphs  # noqa: E402
+
+WORKERS = (1, 4, 64)
+
+
+def line(source, target, words, far):
+    if target in words:
+        distance, tail = words[target]
+        return f"d {source} {target} {distance} {tail}\n"
+    return f"n {source} {target}\n" if far is None else f"x {source} {far}\n"
+
+
+def drawn_pairs(chosen):
+    """Pairs of some sources in no order, some twice, some of a vertex and itself."""
+    draw = random.Random(chosen.seed)
+    sources = [draw.randint(1, chosen.vertices) for _ in range(chosen.sources)]
+    pairs = [(draw.choice(sources), draw.randint(1, chosen.vertices)) for _ in range(chosen.pairs)]
+    pairs[len(pairs) // 3] = (sources[0], sources[0])
+    pairs[len(pairs) // 2] = pairs[0]
+    return pairs
+
+
+def compare(count, kind, chosen, folder):
+    graph, list_of_pairs = f"{folder}/{kind}.gr", f"{folder}/{kind}.pairs"
+    _, mean = graphs.write_graph(graph, kind, chosen.vertices, chosen.seed)
+    pairs = drawn_pairs(chosen)
+    with open(list_of_pairs, "w") as it:
+        it.write(f"p pairs {len(pairs)}\n")
+        it.writelines(f"q {source} {target}\n" for source, target in pairs)
+    rows = {vertex: [] for vertex in range(1, chosen.vertices + 1)}
+    with open(graph) as it:
+        for tail, head, length in (map(int, row.split()[1:]) for row in it if row.startswith("a ")):
+            rows[tail].append((head, length))
+    answers = {source: trees.dijkstra(rows, source) for source in {source for source, _ in pairs}}
+    wanted = "".join(line(source, target, *answers[source]) for source, target in pairs)
+    status = 4 if "x " in wanted else 0
+    mean = min(mean, trees.MAX // 3)
+    for delta in (max(1, mean // 3), mean, 3 * mean, trees.MAX):
+        for workers in WORKERS:
+            told = trees.run("pairs", graph, list_of_pairs, "--delta", str(delta), "--workers", str(workers))
+            count.of(f"pairs of {kind}, delta {delta}, {workers} workers", told == (status, wanted, ""))
+
+
+def main():
+    options = argparse.ArgumentParser(description=__doc__, formatter_class=argparse.RawDescriptionHelpFormatter)
+    options.add_argument("--vertices", type=int, default=10000)
+    options.add_argument("--pairs", type=int, default=200)
+    options.add_argument("--sources", type=int, default=20)
+    options.add_argument("--seed", type=int, default=1)
+    chosen = options.parse_args()
+    count = trees.Count()
+    with tempfile.TemporaryDirectory() as folder:
+        for kind in sorted(graphs.KINDS):
+            compare(count, kind, chosen, folder)
+    print(f"{count.passed} passed, {count.failed} failed")
+    return 1 if count.failed else 0
+
+
+if __name__ == "__main__":
+    sys.exit(main())

@@ -1,0 +1,58 @@
+// Loaded before the C library (LD_PRELOAD), it refuses one request for memory, number REFUSE_AT from 1 on, and leaves the
+// number of requests that were made in the file that REFUSE_TOLD names: 8 bytes in the machine's order.
+#define _GNU_SOURCE
+#include <dlfcn.h>
+#include <errno.h>
+#include <fcntl.h>
+#include <stdatomic.h>
+#include <stddef.h>
+#include <stdlib.h>
+#include <sys/mman.h>
+#include <unistd.h>
+
+// The number of requests. It stands in the file itself, so that it is told however the program ends.
+static _Atomic long unshared;
+static _Atomic long *asked = &unshared;
+static long refused_at = 0;
+static void *(*next_malloc)(size_t);
+static void *(*next_realloc)(void *, size_t);
+
+static void find_next(void) {
+    next_malloc = (void *(*)(size_t))dlsym(RTLD_NEXT, "malloc");
+    next_realloc = (void *(*)(void *, size_t))dlsym(RTLD_NEXT, "realloc");
+}
+
+// Leaves the number in the file from here on.
+static void share(const char *path) {
+    int file = open(path, O_RDWR | O_CREAT, 0600);
+    if (file < 0) return;
+    if (ftruncate(file, sizeof *asked) == 0) {
+        void *shared = mmap(NULL, sizeof *asked, PROT_READ | PROT_WRITE, MAP_SHARED, file, 0);
+        if (shared != MAP_FAILED) asked = shared;
+    }
+    close(file);
+}
+
+__attribute__((constructor)) static void begin(void) {
+    const char *at = getenv("REFUSE_AT"), *told = getenv("REFUSE_TOLD");
+    find_next();
+    if (told) share(told);
+    atomic_store(asked, 0);
+    refused_at = at ? atol(at) : 0;
+}
+
+static int is_refused(void) {
+    if (atomic_fetch_add(asked, 1) + 1 != refused_at) return 0;
+    errno = ENOMEM;
+    return 1;
+}
+
+void *malloc(size_t size) {
+    if (!next_malloc) find_next();
+    return is_refused() ? NULL : next_malloc(size);
+}
+
+void *realloc(void *place, size_t size) {
+    if (!next_realloc) find_next();
+    return is_refused() ? NULL : next_realloc(place, size);
+}

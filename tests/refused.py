@@ -1,0 +1,211 @@
+#!/usr/bin/env python3
+"""Refuses each request for memory in turn, in calls of the library and in the commands of the program.
+
+Usage: python3 tests/refused.py [--program PROGRAM] [--calls PROGRAM]
+
+A call or a command runs again and again, its request number 1, 2, .. for memory refused, until a run makes fewer requests than
+that. Each run must end as with ample memory, or tell that memory is wanting, with the status of that and with a beginning
+of the text. The graphs are the examples' and one of a path beyond the limit; crates/spt_refused makes the calls. For each
+call and command it prints how many refusals were tried; the last line is 'N passed, M failed'. A C compiler is needed: it
+makes the library that refuses (tests/refuse.c).
+"""
+
+import argparse
+import os
+import re
+import shutil
+import subprocess
+import sys
+import tempfile
+
+sys.dont_write_bytecode = True
+from trees import HOME, Count  # noqa: E402
+import parts  # noqa: E402
+
+WORKERS = (1, 2)
+# no command or call here makes so many requests
+MOST_REQUESTS = 100_000
+SECONDS = 60
+
+# the status of crates/spt_refused where memory was refused before or after the call
+OUTSIDE = 9
+
+FAULT = re.compile(r"(line [1-9][0-9]*: 8 Memory\n)?")
+MEMORY = re.compile(r"spt: (memory|(gr|ss|pairs|tree|replay|offers): line [1-9][0-9]*: 8 Memory)\n")
+
+
+class Refuser:
+    """Runs programs, of whose requests for memory one is refused."""
+
+    def __init__(self, folder):
+        compiler = shutil.which("gcc") or shutil.which("cc")
+        if compiler is None:
+            raise FileNotFoundError("no C compiler (gcc or cc), which tests/refuse.c needs")
+        self.library, self.told = f"{folder}/refuse.so", f"{folder}/requests"
+        source = f"{HOME}/tests/refuse.c"
+        subprocess.run([compiler, "-O1", "-shared", "-fPIC", "-o", self.library, source, "-ldl"], check=True)
+
+    def run(self, words, number):
+        """Status, output and errors of a run whose request of this number is refused, none for 0; and its requests."""
+        known = {**os.environ, "LD_PRELOAD": self.library, "REFUSE_AT": str(number), "REFUSE_TOLD": self.told}
+        with open(self.told, "wb") as it:
+            it.write(bytes(8))
+        done = subprocess.run(words, env=known, cwd=HOME, capture_output=True, timeout=SECONDS)
+        with open(self.told, "rb") as it:
+            requests = int.from_bytes(it.read(8), sys.byteorder)
+        return (done.returncode, done.stdout.decode(), done.stderr.decode()), requests
+
+
+def try_each(count, name, refuser, words, wanted, fits):
+    """Compares the run with ample memory, and then each run that a refusal meets, by `fits`."""
+    told, requests = refuser.run(words, 0)
+    count.of(f"{name}, ample memory: {told}", told == wanted and requests > 0)
+    wrong, inside, number = [], 0, 1
+    while number < MOST_REQUESTS:
+        told, requests = refuser.run(words, number)
+        if told != wanted and (requests < number or not fits(wanted, told)):
+            wrong.append((number, told))
+        if requests < number:
+            break
+        inside += told[0] != OUTSIDE
+        number += 1
+    for place, told in wrong[:3]:
+        print(f"request {place} refused: {told}")
+    count.of(name, inside > 0 and not wrong and number < MOST_REQUESTS)
+    print(f"{name}: {inside} refusals", flush=True)
+
+
+def ends_short(wanted, told):
+    """Whether the program told that memory is wanting, behind a beginning of its text."""
+    status, text, errors = told
+    return status == 5 and wanted[1].startswith(text) and MEMORY.fullmatch(errors) is not None
+
+
+def says_nothing_else(wanted, told):
+    """The same of a command that writes its text when all of it is known."""
+    return ends_short(wanted, told) and told[1] == ""
+
+
+def call_ends_short(wanted, told):
+    """Whether a call told that memory is wanting, behind a beginning of its text, or it was wanting outside of the call."""
+    status, text, errors = told
+    short = status == 5 and wanted[1].startswith(text) and FAULT.fullmatch(errors) is not None
+    return short or told == (OUTSIDE, "", "")
+
+
+def call_says_nothing_else(wanted, told):
+    """The same of a call that writes its text when all of it is known."""
+    return call_ends_short(wanted, told) and told[1] == ""
+
+
+def example(name):
+    with open(f"{HOME}/examples/{name}") as it:
+        return it.read()
+
+
+def long_path():
+    """Beyond the limit: a path whose last vertex is too far; its sources, its pairs, and a tree that leaves the last out."""
+    longest = 2**32 - 1
+    arcs = [(tail, longest) for tail in range(1, 17)] + [(17, 15)]
+    rows = "".join(f"v {vertex} {(vertex - 1) * longest} {vertex - 1}\n" for vertex in range(2, 18))
+    return {
+        "long.gr": "p sp 18 17\n" + "".join(f"a {tail} {tail + 1} {length}\n" for tail, length in arcs),
+        "long.ss": "p aux sp ss 1\ns 1\n",
+        "long.pairs": "p pairs 2\nq 1 18\nq 17 17\n",
+        "long.tree": f"p spt 18 1\nv 1 0 0\n{rows}e 17\n",
+    }
+
+
+def write_long_path(folder):
+    for name, text in long_path().items():
+        with open(f"{folder}/{name}", "w") as it:
+            it.write(text)
+
+
+def commands(folder):
+    """Each command: its words, what it writes with ample memory, and what it may end with otherwise."""
+    far, one = "4294967295", "d 17 17 0 0\n"
+    for workers in WORKERS:
+        crew = ["--workers", str(workers)]
+        yield ["tree", "examples/diamond.gr", "examples/diamond.ss", "--delta", "3", *crew], (
+            (0, example("diamond.tree"), ""), ends_short)
+        yield ["tree", f"{folder}/long.gr", f"{folder}/long.ss", "--delta", far, *crew], ((4, "x 1 18\n", ""), ends_short)
+        yield ["pairs", "examples/diamond.gr", "examples/diamond.pairs", "--delta", "3", *crew], (
+            (0, "d 1 4 5 2\nd 1 1 0 0\nn 4 1\n", ""), says_nothing_else)
+        yield ["pairs", f"{folder}/long.gr", f"{folder}/long.pairs", "--delta", far, *crew], (
+            (4, f"x 1 18\n{one}", ""), says_nothing_else)
+    yield ["check", "examples/diamond.gr", "examples/diamond.tree"], ((0, "yes\n", ""), says_nothing_else)
+    yield ["check", f"{folder}/long.gr", f"{folder}/long.tree"], ((3, "no 18 5\n", ""), says_nothing_else)
+    for name in ("diamond", "kept", "lost_exchange", "not_closed"):
+        yield ["replay", f"examples/{name}.rep"], ((0, example(f"{name}.report"), ""), ends_short)
+    yield ["offers", "examples/offers.off"], ((0, example("offers.words"), ""), ends_short)
+
+
+def try_commands(count, refuser, program, folder):
+    for words, (wanted, fits) in commands(folder):
+        name = " ".join(os.path.basename(word) for word in words)
+        try_each(count, name, refuser, [program, *words], wanted, fits)
+
+
+def texts_of_calls():
+    """What each call answers with ample memory, of the diamond and of the path beyond the limit."""
+    path = long_path()
+    tree, far = example("diamond.tree"), "x 1 18\n"
+    arcs = path["long.gr"].split("\n", 1)[1]
+    pairs, far_pairs = "d 1 4 5 2\nn 4 1\n", f"{far}d 17 17 0 0\n"
+    yield "read_gr", (example("diamond.gr").split("\n", 1)[1], path["long.gr"])
+    yield "read_ss", ("s 1\n", "s 1\n")
+    yield "read_pairs", ("q 1 4\nq 4 1\n", "q 1 18\nq 17 17\n")
+    yield "read_tree", (tree, path["long.tree"])
+    yield "build", ("a 1 2 3\na 1 3 3\na 1 4 6\na 2 4 2\na 3 4 2\n", arcs)
+    for name in ("run_source", "run_source_with", "run_by_team"):
+        yield name, (tree, far)
+    yield "run_pair", (f"{(5 << 28) + 2}\n", far)
+    yield "run_batch", (f"{tree}1 0 {len(tree)}\n", f"{far}1 1 {len(far)}\n")
+    yield "run_pairs", (f"{pairs}2 0 {len(pairs)}\n", f"{far_pairs}2 1 {len(far_pairs)}\n")
+    yield "run", (f"b 0\nb 1\nb 2\nb 3\n{tree}", "".join(f"b {bucket}\n" for bucket in range(17)) + far)
+    yield "run_targets", ("5 2\n0 0\n", "x 18\n0 0\n")
+    yield "check", ("yes\n", "no 18 5\n")
+    for name in ("read_replay", "replay"):
+        yield name, (example("diamond.report"), example("lost_exchange.report"))
+    yield "read_offers", ("p off 1 2\n", "p off 1 2\n")
+
+
+def try_calls(count, refuser, program):
+    for name, texts in texts_of_calls():
+        fits = call_says_nothing_else if name == "run_pairs" else call_ends_short
+        for sample, text in zip(("diamond", "long"), texts):
+            for workers in WORKERS if name.startswith("run") else WORKERS[:1]:
+                words = [name, sample, str(workers)]
+                try_each(count, " ".join(words), refuser, [program, *words], (0, text, ""), fits)
+
+
+def program_of(chosen):
+    """The program that `spt` keeps: it builds it first where it isn't from these sources."""
+    if chosen.program is None:
+        subprocess.run([f"{HOME}/spt", "--version"], check=True, stdout=subprocess.DEVNULL)
+    return chosen.program or f"{HOME}/.spt/spt"
+
+
+def main():
+    options = argparse.ArgumentParser(description=__doc__, formatter_class=argparse.RawDescriptionHelpFormatter)
+    options.add_argument("--program", help="this spt, as it is, in place of a build")
+    options.add_argument("--calls", metavar="PROGRAM", help="this spt_refused, as it is, in place of a build")
+    chosen = options.parse_args()
+    count = Count()
+    with tempfile.TemporaryDirectory() as folder:
+        try:
+            refuser = Refuser(folder)
+        except FileNotFoundError as error:
+            print(f"refused: {error}")
+            count.of("refusals", False)
+        else:
+            try_calls(count, refuser, chosen.calls or parts.build_ours("spt_refused", "read_gr", "diamond", "1"))
+            write_long_path(folder)
+            try_commands(count, refuser, program_of(chosen), folder)
+    print(f"{count.passed} passed, {count.failed} failed")
+    return 1 if count.failed else 0
+
+
+if __name__ == "__main__":
+    sys.exit(main())
