@@ -14,7 +14,7 @@ use Rattle.std.proofs.lemmas.List.Elements.{All-nil, All-cons, All-push, All-app
 use Rattle.std.proofs.lemmas.List.Sorted.{IsPermutation-refl}
 use Rattle.sp_bucket.specs.declared.entry.Entry.{Entry}
 use Rattle.sp_bucket.specs.Content.{bucket_of, Content, Puts, Takes, IsLowest}
-use Rattle.sp_bucket.specs.Filed.{gathered, IsBucket, IsFiled}
+use Rattle.sp_bucket.specs.Filed.{all_entries, IsBucket, IsFiled}
 use Rattle.sp_bucket.proofs.Shuffles.{one_more, one_more_behind, to_front}
 use Rattle.sp_bucket.proofs.EntryPlaces.{Any-before, Any-behind, Any-first}
 
@@ -22,7 +22,7 @@ abbrev pub Files : Type 0
 Files = List (ℕ × Vec Entry Global)
 
 abbrev pub filed : Files → List Entry
-filed es = gathered (values_of es)
+filed es = all_entries (values_of es)
 
 module _ (k : ℕ) where
   abbrev pub test : ℕ → Bool

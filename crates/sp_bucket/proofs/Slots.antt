@@ -9,7 +9,7 @@ use Rattle.std.proofs.lemmas.Nat.{div-add-mod'}
 use Rattle.std.proofs.lemmas.List.Elements.{All-nil, All-append, All-weaker}
 use Rattle.sp_bucket.specs.declared.entry.Entry.{Entry}
 use Rattle.sp_bucket.specs.Content.{bucket_of}
-use Rattle.sp_bucket.specs.Filed.{gathered}
+use Rattle.sp_bucket.specs.Filed.{all_entries}
 use Rattle.sp_bucket.specs.Window.{Stand}
 use Rattle.sp_bucket.proofs.Shuffles.{one_more, one_more_behind, to_front}
 use Rattle.std.proofs.lemmas.List.Sorted.{IsPermutation-refl}
@@ -30,19 +30,19 @@ module _ (delta len : ℕ) where
   stands_at j p (s ∷ ss) (suc i) d e stand inside = stands_at (suc j) p ss i d (omega arith) stand.1 (omega arith)
 
   -- the entries of later slots
-  pub later_slots : (j p : ℕ) (ss : Slots) → p < j → Stand delta len j ss → All (StandsElsewhere p) (gathered ss)
+  pub later_slots : (j p : ℕ) (ss : Slots) → p < j → Stand delta len j ss → All (StandsElsewhere p) (all_entries ss)
   later_slots j p [] below stand = All-nil (StandsElsewhere p)
   later_slots j p (s ∷ ss) below stand =
       let apart : (x : Entry) → Stands j x → StandsElsewhere p x = λ x at here. absurd (omega arith) in
-      All-append (StandsElsewhere p) s.items (gathered ss) (All-weaker (Stands j) (StandsElsewhere p) apart s.items stand.0) (later_slots (suc j) p ss (omega arith) stand.1)
+      All-append (StandsElsewhere p) s.items (all_entries ss) (All-weaker (Stands j) (StandsElsewhere p) apart s.items stand.0) (later_slots (suc j) p ss (omega arith) stand.1)
 
   -- no entry stands in an empty slot
-  pub none_in_empty : (j p : ℕ) (ss : Slots) (i : ℕ) (d : Vec Entry Global) → p ≡ j + i → Stand delta len j ss → i < length ss → (slice_index_or ss i d).items ≡ [] → All (StandsElsewhere p) (gathered ss)
+  pub none_in_empty : (j p : ℕ) (ss : Slots) (i : ℕ) (d : Vec Entry Global) → p ≡ j + i → Stand delta len j ss → i < length ss → (slice_index_or ss i d).items ≡ [] → All (StandsElsewhere p) (all_entries ss)
   none_in_empty j p [] i d e stand inside empty = absurd (omega arith)
   none_in_empty j p (s ∷ ss) zero d e stand inside empty = rw empty (later_slots (suc j) p ss (omega arith) stand.1)
   none_in_empty j p (s ∷ ss) (suc i) d e stand inside empty =
       let apart : (x : Entry) → Stands j x → StandsElsewhere p x = λ x at here. absurd (omega arith) in
-      All-append (StandsElsewhere p) s.items (gathered ss) (All-weaker (Stands j) (StandsElsewhere p) apart s.items stand.0)
+      All-append (StandsElsewhere p) s.items (all_entries ss) (All-weaker (Stands j) (StandsElsewhere p) apart s.items stand.0)
       (none_in_empty (suc j) p ss i d (omega arith) stand.1 (omega arith) empty)
 
   pub stand_set : (j p : ℕ) (ss : Slots) (i : ℕ) (w : Vec Entry Global) → p ≡ j + i → Stand delta len j ss → All (Stands p) w.items → Stand delta len j (set ss i w)
@@ -51,7 +51,7 @@ module _ (delta len : ℕ) where
   stand_set j p (s ∷ ss) (suc i) w e stand here = (stand.0, stand_set (suc j) p ss i w (omega arith) stand.1 here)
 
   -- empty slots
-  pub stand_empty : (j : ℕ) (ss : Slots) → All (λ (s : Vec Entry Global). s.items ≡ []) ss → Stand delta len j ss × (gathered ss ≡ [])
+  pub stand_empty : (j : ℕ) (ss : Slots) → All (λ (s : Vec Entry Global). s.items ≡ []) ss → Stand delta len j ss × (all_entries ss ≡ [])
   stand_empty j [] empty = (tt, refl)
   stand_empty j (s ∷ ss) empty =
       let none : s.items ≡ [] = empty 0 s (omega arith) in
@@ -59,19 +59,19 @@ module _ (delta len : ℕ) where
       let more = stand_empty (suc j) ss rest in
       ((rw none (All-nil (Stands j)), more.0), rw none more.1)
 
-pub shuffled_put : (ss : Slots) (i : ℕ) (d w : Vec Entry Global) (x : Entry) → i < length ss → w.items ≡ (slice_index_or ss i d).items ++ x ∷ [] → IsPermutation (x ∷ gathered ss) (gathered (set ss i w))
+pub shuffled_put : (ss : Slots) (i : ℕ) (d w : Vec Entry Global) (x : Entry) → i < length ss → w.items ≡ (slice_index_or ss i d).items ++ x ∷ [] → IsPermutation (x ∷ all_entries ss) (all_entries (set ss i w))
 shuffled_put [] i d w x inside more = absurd (omega arith)
-shuffled_put (s ∷ ss) zero d w x inside more = rw more (one_more x s.items (gathered ss))
-shuffled_put (s ∷ ss) (suc i) d w x inside more = one_more_behind x s.items (gathered ss) (gathered (set ss i w)) (shuffled_put ss i d w x (omega arith) more)
+shuffled_put (s ∷ ss) zero d w x inside more = rw more (one_more x s.items (all_entries ss))
+shuffled_put (s ∷ ss) (suc i) d w x inside more = one_more_behind x s.items (all_entries ss) (all_entries (set ss i w)) (shuffled_put ss i d w x (omega arith) more)
 
-pub shuffled_take : (ss : Slots) (i : ℕ) (d w : Vec Entry Global) → i < length ss → w.items ≡ [] → IsPermutation (gathered ss) ((slice_index_or ss i d).items ++ gathered (set ss i w))
+pub shuffled_take : (ss : Slots) (i : ℕ) (d w : Vec Entry Global) → i < length ss → w.items ≡ [] → IsPermutation (all_entries ss) ((slice_index_or ss i d).items ++ all_entries (set ss i w))
 shuffled_take [] i d w inside empty = absurd (omega arith)
-shuffled_take (s ∷ ss) zero d w inside empty = rw empty (IsPermutation-refl (s.items ++ gathered ss))
-shuffled_take (s ∷ ss) (suc i) d w inside empty = to_front s.items (gathered ss) (slice_index_or ss i d).items (gathered (set ss i w)) (shuffled_take ss i d w (omega arith) empty)
+shuffled_take (s ∷ ss) zero d w inside empty = rw empty (IsPermutation-refl (s.items ++ all_entries ss))
+shuffled_take (s ∷ ss) (suc i) d w inside empty = to_front s.items (all_entries ss) (slice_index_or ss i d).items (all_entries (set ss i w)) (shuffled_take ss i d w (omega arith) empty)
 
-pub same_slots : (ss : Slots) (i : ℕ) (d w : Vec Entry Global) → w.items ≡ (slice_index_or ss i d).items → gathered (set ss i w) ≡ gathered ss
+pub same_slots : (ss : Slots) (i : ℕ) (d w : Vec Entry Global) → w.items ≡ (slice_index_or ss i d).items → all_entries (set ss i w) ≡ all_entries ss
 same_slots [] i d w same = refl
-same_slots (s ∷ ss) zero d w same = ap (λ (xs : List Entry). xs ++ gathered ss) same
+same_slots (s ∷ ss) zero d w same = ap (λ (xs : List Entry). xs ++ all_entries ss) same
 same_slots (s ∷ ss) (suc i) d w same = ap (λ (xs : List Entry). s.items ++ xs) (same_slots ss i d w same)
 
 -- two numbers of one window with the same slot are the same

@@ -5,9 +5,9 @@ use Rattle.sp_bucket.specs.declared.entry.Entry.{Entry}
 use Rattle.sp_bucket.specs.Content.{bucket_of}
 
 -- the entries of all the lists, one list after the other
-abbrev pub gathered : List (Vec Entry Global) → List Entry
-gathered [] = []
-gathered (bucket ∷ buckets) = bucket.items ++ gathered buckets
+abbrev pub all_entries : List (Vec Entry Global) → List Entry
+all_entries [] = []
+all_entries (bucket ∷ buckets) = bucket.items ++ all_entries buckets
 
 -- some entries stand at the key, all of them of the bucket that it names
 pub record IsBucket (delta key : ℕ) (bucket : Vec Entry Global) : Type 0 where

@@ -4,7 +4,7 @@ use Rattle.std.specs.declared.alloc.Global.{Global}
 use Rattle.sp_bucket.specs.declared.entry.Entry.{Entry}
 use Rattle.sp_bucket.specs.declared.ring.TheConstants.{LONGEST_RING}
 use Rattle.sp_bucket.specs.Content.{Content, bucket_of}
-use Rattle.sp_bucket.specs.Filed.{gathered}
+use Rattle.sp_bucket.specs.Filed.{all_entries}
 
 -- the width of a bucket, the first bucket of the window, how many buckets it has, and the entries in some order
 pub record Window : Type 0 where
@@ -26,7 +26,7 @@ Stand delta len j [] = Unit {0}
 Stand delta len j (slot ∷ slots) = All (λ entry. bucket_of delta entry % len ≡ j) slot.items × Stand delta len (suc j) slots
 
 abbrev pub window_of : ℕ → ℕ → List (Vec Entry Global) → Window
-window_of delta first slots = record { delta = delta; first = first; len = length slots; entries = gathered slots }
+window_of delta first slots = record { delta = delta; first = first; len = length slots; entries = all_entries slots }
 
 -- what a ring keeps of its width, its window, the slot of the window's first bucket and the slots
 pub record IsRing (delta first head : ℕ) (slots : List (Vec Entry Global)) : Type 0 where
@@ -35,4 +35,4 @@ pub record IsRing (delta first head : ℕ) (slots : List (Vec Entry Global)) : T
   pub short : length slots ≤ LONGEST_RING
   pub begins : head ≡ first % length slots
   pub stand : Stand delta (length slots) 0 slots
-  pub within : All (λ entry. IsWithin (window_of delta first slots) (bucket_of delta entry)) (gathered slots)
+  pub within : All (λ entry. IsWithin (window_of delta first slots) (bucket_of delta entry)) (all_entries slots)

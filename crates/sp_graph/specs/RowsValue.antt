@@ -15,5 +15,5 @@ light_among delta arcs = filter (λ a. nat_le a.len delta) arcs
 abbrev pub heavy_among : (delta : ℕ) → List Arc → List Arc
 heavy_among delta arcs = filter (λ a. nat_lt delta a.len) arcs
 
-abbrev pub parted : (delta : ℕ) → List Arc → List Arc
-parted delta arcs = light_among delta arcs ++ heavy_among delta arcs
+abbrev pub light_then_heavy : (delta : ℕ) → List Arc → List Arc
+light_then_heavy delta arcs = light_among delta arcs ++ heavy_among delta arcs

@@ -2,7 +2,7 @@
 ghost use Rattle.std.specs.Prelude.{◌≡◌, ◌≤◌, ◌++◌, length, slice_range, All, IfOk, OnOk};
 ghost use Rattle.sp_paths.specs.Paths.{IsVertex, IsArc, IsGraph};
 ghost use Rattle.sp_paths.specs.Rows.{light_of, heavy_of};
-ghost use Rattle.sp_graph.specs.RowsValue.{light_among, heavy_among, parted};
+ghost use Rattle.sp_graph.specs.RowsValue.{light_among, heavy_among, light_then_heavy};
 
 use crate::graph::Graph;
 use sp_paths::Arc;
@@ -131,7 +131,7 @@ fn part(arcs: &[Arc], low: usize, high: usize) -> &[Arc]
 
 // Appends a row, its light arcs before its heavy ones, and tells where the two begin.
 fn push_row(arcs: &mut Vec<Arc>, row: &[Arc], delta: u64) -> Result<Cut, AllocError>
-    ensures row { OnOk result (arcs.new.items ≡ arcs.old.items ++ parted delta row.now) }
+    ensures row { OnOk result (arcs.new.items ≡ arcs.old.items ++ light_then_heavy delta row.now) }
     ensures light { IfOk result (λ cut. cut.light ≡ length arcs.old.items) }
     ensures heavy { IfOk result (λ cut.
         cut.heavy ≡ length (arcs.old.items ++ light_among delta row.now)) }

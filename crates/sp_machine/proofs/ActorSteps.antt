@@ -11,7 +11,7 @@ use Rattle.sp_machine.specs.declared.turn.At.TheVariants.{Idle, Offering, Readin
 use Rattle.sp_machine.specs.declared.turn.Turn.{Turn}
 use Rattle.sp_machine.specs.declared.turn.Turn.TheVariants.{Rests, Keeps, Holds, Wins, LosesAndKeeps, LosesAndHolds, EndsRead, EndsLoad, GoesOn}
 use Rattle.sp_machine.specs.Programme.{Programme, IsNumber, IsItem, item_of}
-use Rattle.sp_machine.specs.Step.{Machine, at, offered, turn, words_after, actor_after, actor_of, fresh_actor}
+use Rattle.sp_machine.specs.Step.{Machine, at, offer_word, turn, words_after, actor_after, actor_of, fresh_actor}
 use Rattle.sp_machine.specs.Cases.{IsReady}
 use Rattle.sp_machine.specs.MachineView.{IsMachine, SumFits}
 use Rattle.sp_machine.proofs.Ready.{ready, wins_pair, keeps_sum}
@@ -40,7 +40,7 @@ pub ready_there : {P : ℕ} (p : Programme P) (m : Machine P) (actor : ℕ) (sta
 ready_there p m actor state item machine is = ready p.words item state.loaded machine.layout machine.few is.within (sum_there p m actor state item machine is)
 
 pub pair_there : {P : ℕ} (p : Programme P) (m : Machine P) (actor : ℕ) (state : Actor P) (item : Option (Item P)) (x : Word) (t : Turn) → IsAt p m actor state item
-    → t ≡ turn (max_dist P) (at item state.loaded) state.held x → t ≡ Wins → IsPair (offered (at item state.loaded))
+    → t ≡ turn (max_dist P) (at item state.loaded) state.held x → t ≡ Wins → IsPair (offer_word (at item state.loaded))
 pair_there p m actor state item x t is turn_is won = wins_pair p.words item state.loaded state.held x is.within (sym turn_is ∙ won)
 
 -- a step changes no number of words

@@ -26,7 +26,7 @@ use Rattle.sp_machine.specs.declared.report.Finished.{Finished}
 use Rattle.sp_machine.specs.Programme.{Programme, IsNumber, opening_words}
 use Rattle.sp_machine.specs.Step.{Machine, at, vertex_at, turn, offer_turn, load_turn, ends_item, beyond, actor_after, call_ended, with_caller, relaxation, fresh_actor, actor_of, item_at, place_of, found_by}
 use Rattle.sp_machine.specs.Run.{Run, first_step, with_call, with_relaxation, opening_run, run_step, run_from, run_of, IsItemClosed}
-use Rattle.sp_machine.specs.Linear.{asked, event_of}
+use Rattle.sp_machine.specs.Linear.{question_of, event_of}
 use Rattle.sp_machine.specs.Relaxing.{graph_of, IsRelaxOrRead}
 use Rattle.sp_machine.specs.Theorems.{ClosedRunEndsInTree}
 use Rattle.sp_machine.proofs.Arcs.{arc_of_rows, arcs_all, item_has, programme_graph}
@@ -51,7 +51,7 @@ record IsByRelaxing {P : ℕ} (g : Graph) (rows : List (List (Item P))) (events 
 -- the events after a step that ends this call, or none
 abbrev events_with : {P : ℕ} → List Event → (actor vertex : ℕ) → Option (Call P) → List Event
 events_with events actor vertex None = events
-events_with events actor vertex (Some call) = events ++ record { by = actor; vertex = vertex; call = asked call } ∷ []
+events_with events actor vertex (Some call) = events ++ record { by = actor; vertex = vertex; call = question_of call } ∷ []
 
 events_after : {P : ℕ} (calls : List (Finished P)) (actor vertex first last : ℕ) (call : Option (Call P)) → map event_of (with_call calls (with_caller actor vertex call) first last) ≡ events_with (map event_of calls) actor vertex call
 events_after calls actor vertex first last None = refl
@@ -60,7 +60,7 @@ events_after calls actor vertex first last (Some call) = map_push event_of calls
 -- what was told stays told
 stays : {P : ℕ} (events : List Event) (actor vertex : ℕ) (call : Option (Call P)) (e : Event) → Contains events e → Contains (events_with events actor vertex call) e
 stays events actor vertex None e has = has
-stays events actor vertex (Some call) e has = Contains-append_left events (record { by = actor; vertex = vertex; call = asked call } ∷ []) e has
+stays events actor vertex (Some call) e has = Contains-append_left events (record { by = actor; vertex = vertex; call = question_of call } ∷ []) e has
 
 -- ## One step
 

@@ -10,7 +10,7 @@ use Rattle.sp_machine.specs.declared.actor.Actor.{Actor}
 use Rattle.sp_machine.specs.declared.turn.Turn.{Turn}
 use Rattle.sp_machine.specs.declared.turn.Turn.TheVariants.{Rests, Keeps, Holds, Wins, LosesAndKeeps, LosesAndHolds, EndsRead, EndsLoad, GoesOn}
 use Rattle.sp_machine.specs.Programme.{IsItem, item_of}
-use Rattle.sp_machine.specs.Step.{at, offered, offer_turn, turn, ends_item, actor_after}
+use Rattle.sp_machine.specs.Step.{at, offer_word, offer_turn, turn, ends_item, actor_after}
 use Rattle.sp_machine.specs.Cases.{IsReady}
 use Rattle.sp_machine.specs.MachineView.{SumFits}
 
@@ -31,7 +31,7 @@ load_no_win max l d true won = cc
 load_no_win max l d false won = cc
 
 -- a win stores a pair
-pub wins_pair : {P : ℕ} (n : ℕ) (item : Option (Item P)) (loaded : Option ℕ) (held : Option Word) (x : Word) → IfSome item (IsItem n) → turn (max_dist P) (at item loaded) held x ≡ Wins → IsPair (offered (at item loaded))
+pub wins_pair : {P : ℕ} (n : ℕ) (item : Option (Item P)) (loaded : Option ℕ) (held : Option Word) (x : Word) → IfSome item (IsItem n) → turn (max_dist P) (at item loaded) held x ≡ Wins → IsPair (offer_word (at item loaded))
 wins_pair n None loaded held x within won = cc
 wins_pair n (Some (Offer v w)) loaded held x within won = within.1
 wins_pair n (Some (Read v)) loaded held x within won = cc

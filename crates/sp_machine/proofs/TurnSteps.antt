@@ -18,8 +18,8 @@ use Rattle.sp_machine.specs.declared.effect.Call.TheVariants.{Offer, Read}
 use Rattle.sp_machine.specs.declared.actor.Actor.{Actor}
 use Rattle.sp_paths.specs.Paths.{word_at}
 use Rattle.sp_machine.specs.Programme.{IsNumber, IsItem}
-use Rattle.sp_machine.specs.Step.{at, fresh_actor, vertex_at, offered, turn, load_turn, words_after, call_ended, actor_after}
-use Rattle.sp_machine.specs.Linear.{asked}
+use Rattle.sp_machine.specs.Step.{at, fresh_actor, vertex_at, offer_word, turn, load_turn, words_after, call_ended, actor_after}
+use Rattle.sp_machine.specs.Linear.{question_of}
 use Rattle.sp_machine.proofs.WordSteps.{kept_reply, lesser_kept, lesser_stored, same_words}
 
 -- the actor in place i, counted from 0
@@ -40,7 +40,7 @@ IsPlace n (Loading u v l) = IsNumber n u
 -- the offer is below a word that is held
 abbrev pub HoldsAbove : {P : ℕ} → At P → Option Word → Type 0
 HoldsAbove place None = Unit {0}
-HoldsAbove place (Some h) = is_below (offered place) h ≡ true
+HoldsAbove place (Some h) = is_below (offer_word place) h ≡ true
 
 -- the same of the actor in place i
 abbrev pub HoldsAt : {P : ℕ} → List (List (Item P)) → ℕ → Actor P → Type 0
@@ -49,8 +49,8 @@ HoldsAt rows i a = HoldsAbove (place_at rows i a) a.held
 -- the call that ends has the right answer, and the words change as it says
 pub record IsRight {P : ℕ} (n : ℕ) (old new : List Word) (vertex : ℕ) (call : Call P) : Type 0 where
   pub number : IsNumber n vertex
-  pub answered : IsAnswered (word_at old vertex) (asked call)
-  pub leaves : (u : ℕ) → IsNumber n u → word_at new u ≡ cond (eqb u vertex) (left_by (asked call) (word_at old u)) (word_at old u)
+  pub answered : IsAnswered (word_at old vertex) (question_of call)
+  pub leaves : (u : ℕ) → IsNumber n u → word_at new u ≡ cond (eqb u vertex) (left_by (question_of call) (word_at old u)) (word_at old u)
 
 -- where no call ends, the words stay
 abbrev pub EndsRight : {P : ℕ} → ℕ → (old new : List Word) → (vertex : ℕ) → Option (Call P) → Type 0
@@ -71,11 +71,11 @@ TurnIsRight n words place t = EndsRight n words (words_after words place t) (ver
 
 module _ (P n : ℕ) (words : List Word) (v : ℕ) (number : IsNumber n v) where
   -- a call that leaves the word it found
-  stays_right : (call : Call P) → IsAnswered (word_at words v) (asked call) → left_by (asked call) (word_at words v) ≡ word_at words v → IsRight n words words v call
+  stays_right : (call : Call P) → IsAnswered (word_at words v) (question_of call) → left_by (question_of call) (word_at words v) ≡ word_at words v → IsRight n words words v call
   stays_right call answered same = record {
     number = number;
     answered = answered;
-    leaves = λ u k. cond_both (eqb u v) (left_by (asked call) (word_at words u)) (word_at words u) (λ x. word_at words u ≡ x) (λ e. rw (eqb-true u v e) (sym same)) (λ e. refl);
+    leaves = λ u k. cond_both (eqb u v) (left_by (question_of call) (word_at words u)) (word_at words u) (λ x. word_at words u ≡ x) (λ e. rw (eqb-true u v e) (sym same)) (λ e. refl);
   }
 
   -- a read
@@ -135,13 +135,13 @@ words_size words (Reading v) t = refl
 words_size words (Loading u v l) t = refl
 
 -- an actor that comes to hold the word found is at an offer below it
-abbrev pub OfferIsBelow : Turn → (offered found : Word) → Type 0
-OfferIsBelow Holds offered found = is_below offered found ≡ true
-OfferIsBelow LosesAndHolds offered found = is_below offered found ≡ true
-OfferIsBelow other offered found = Unit {0}
+abbrev pub OfferIsBelow : Turn → (offer_word found : Word) → Type 0
+OfferIsBelow Holds offer_word found = is_below offer_word found ≡ true
+OfferIsBelow LosesAndHolds offer_word found = is_below offer_word found ≡ true
+OfferIsBelow other offer_word found = Unit {0}
 
 -- so it is at each place
-pub turn_below : {P : ℕ} (max : ℕ) (place : At P) (held : Option Word) (x : Word) → OfferIsBelow (turn max place held x) (offered place) x
+pub turn_below : {P : ℕ} (max : ℕ) (place : At P) (held : Option Word) (x : Word) → OfferIsBelow (turn max place held x) (offer_word place) x
 turn_below max Idle held x = tt
 turn_below max (Offering v w) None x = go (is_below w x) refl
   where
@@ -159,7 +159,7 @@ turn_below max (Loading u v l) held Unreached = tt
 turn_below max (Loading u v l) held (Pair d p) = elim (leb (d + l) max) as (λ fits. OfferIsBelow (cond fits GoesOn EndsLoad) Unreached (Pair d p)) [ true ↦ tt | false ↦ tt ]
 
 -- the offer of an actor stays below the word that it holds
-pub held_after : {P : ℕ} (rows : List (List (Item P))) (i : ℕ) (a : Actor P) (t : Turn) (x : Word) → HoldsAt rows i a → OfferIsBelow t (offered (place_at rows i a)) x → HoldsAt rows i (actor_after a t x)
+pub held_after : {P : ℕ} (rows : List (List (Item P))) (i : ℕ) (a : Actor P) (t : Turn) (x : Word) → HoldsAt rows i a → OfferIsBelow t (offer_word (place_at rows i a)) x → HoldsAt rows i (actor_after a t x)
 held_after rows i a Rests x above lower = above
 held_after rows i a Holds x above lower = lower
 held_after rows i a LosesAndHolds x above lower = lower

@@ -8,13 +8,13 @@ use Rattle.sp_machine.specs.declared.effect.Call.TheVariants.{Offer, Read}
 use Rattle.sp_machine.specs.declared.report.Finished.{Finished}
 use Rattle.sp_machine.specs.Programme.{IsNumber}
 
-abbrev pub asked : {P : ℕ} → Call P → Asked
-asked (Offer word found reply) = OfferAsked word found reply
-asked (Read found) = ReadAsked found
+abbrev pub question_of : {P : ℕ} → Call P → Asked
+question_of (Offer word found reply) = OfferAsked word found reply
+question_of (Read found) = ReadAsked found
 
 -- a finished call as the event of a history
 abbrev pub event_of : {P : ℕ} → Finished P → Event
-event_of call = record { by = call.ended.actor; vertex = call.ended.vertex; call = asked call.ended.call }
+event_of call = record { by = call.ended.actor; vertex = call.ended.vertex; call = question_of call.ended.call }
 
 -- a finished call, and the step at which it acts
 pub record Point (P : ℕ) : Type 0 where

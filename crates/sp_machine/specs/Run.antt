@@ -11,7 +11,7 @@ use Rattle.sp_machine.specs.declared.effect.Effect.{Effect}
 use Rattle.sp_machine.specs.declared.report.Finished.{Finished}
 use Rattle.sp_paths.specs.Paths.{word_at}
 use Rattle.sp_machine.specs.Programme.{Programme, opening_words}
-use Rattle.sp_machine.specs.Step.{Machine, fresh_actor, stepped}
+use Rattle.sp_machine.specs.Step.{Machine, fresh_actor, machine_after}
 
 -- what is known of the steps so far
 pub record Log (P : ℕ) : Type 0 where
@@ -57,8 +57,8 @@ loss (Some Won) = 0
 loss (Some Lost) = 1
 
 -- The next step is the actor's and does this.
-abbrev pub logged : {P : ℕ} → Log P → (actor : ℕ) → Effect P → Log P
-logged log actor effect = record {
+abbrev pub log_after : {P : ℕ} → Log P → (actor : ℕ) → Effect P → Log P
+log_after log actor effect = record {
   steps = log.steps + 1;
   begun = slice_set log.begun (actor - 1) (begun_after effect.ended (first_step log actor));
   calls = with_call log.calls effect.ended (first_step log actor) (log.steps + 1);
@@ -84,7 +84,7 @@ opening_run p = record { machine = opening_machine p; log = empty_log p.actors }
 
 -- one step of an actor
 abbrev pub run_step : {P : ℕ} → Run P → ℕ → Run P
-run_step r actor = record { machine = stepped r.machine actor; log = logged r.log actor (stepped r.machine actor).last }
+run_step r actor = record { machine = machine_after r.machine actor; log = log_after r.log actor (machine_after r.machine actor).last }
 
 abbrev pub run_from : {P : ℕ} → Run P → List ℕ → Run P
 run_from r [] = r

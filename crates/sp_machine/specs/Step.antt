@@ -99,19 +99,19 @@ words_after words Idle t = words
 words_after words (Reading v) t = words
 words_after words (Loading u v l) t = words
 
-abbrev pub offered : {P : ℕ} → At P → Word
-offered Idle = Unreached
-offered (Offering v w) = w
-offered (Reading v) = Unreached
-offered (Loading u v l) = Unreached
+abbrev pub offer_word : {P : ℕ} → At P → Word
+offer_word Idle = Unreached
+offer_word (Offering v w) = w
+offer_word (Reading v) = Unreached
+offer_word (Loading u v l) = Unreached
 
 -- the call that ends, with its answer
 abbrev pub call_ended : {P : ℕ} → At P → Turn → (x : Word) → Option (Call P)
 call_ended place Rests x = None
-call_ended place Keeps x = Some (calls.Offer (offered place) x replies.Kept)
+call_ended place Keeps x = Some (calls.Offer (offer_word place) x replies.Kept)
 call_ended place Holds x = None
-call_ended place Wins x = Some (calls.Offer (offered place) x (reply_to x (offered place)))
-call_ended place LosesAndKeeps x = Some (calls.Offer (offered place) x replies.Kept)
+call_ended place Wins x = Some (calls.Offer (offer_word place) x (reply_to x (offer_word place)))
+call_ended place LosesAndKeeps x = Some (calls.Offer (offer_word place) x replies.Kept)
 call_ended place LosesAndHolds x = None
 call_ended place EndsRead x = Some (calls.Read x)
 call_ended place EndsLoad x = Some (calls.Read x)
@@ -184,5 +184,5 @@ abbrev pub found_by : {P : ℕ} → Machine P → ℕ → Word
 found_by m actor = word_at m.words (vertex_at (place_of m actor))
 
 -- one step of an actor
-abbrev pub stepped : {P : ℕ} → Machine P → ℕ → Machine P
-stepped {P = P} m actor = stepped_by m actor (item_at m actor) (actor_of m actor) (turn (max_dist P) (place_of m actor) (actor_of m actor).held (found_by m actor)) (found_by m actor)
+abbrev pub machine_after : {P : ℕ} → Machine P → ℕ → Machine P
+machine_after {P = P} m actor = stepped_by m actor (item_at m actor) (actor_of m actor) (turn (max_dist P) (place_of m actor) (actor_of m actor).held (found_by m actor)) (found_by m actor)

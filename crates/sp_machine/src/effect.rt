@@ -2,7 +2,7 @@
 ghost use Rattle.std.specs.Prelude.{◌≡◌, true};
 ghost use Rattle.std.specs.Option.{option_copied};
 ghost use Rattle.sp_word.specs.Word.{is_layout, IsPair};
-ghost use Rattle.sp_machine.specs.Step.{ends_item, offered, at, call_ended, exchange_of, relaxation, effect};
+ghost use Rattle.sp_machine.specs.Step.{ends_item, offer_word, at, call_ended, exchange_of, relaxation, effect};
 ghost use Rattle.sp_machine.specs.Cases.{IsReady};
 
 use crate::actor::Actor;
@@ -74,7 +74,7 @@ impl<const P: u32> Effect<P> {
 
 fn offered_word<const P: u32>(place: &At<P>) -> Word<P>
     requires { is_layout P ≡ true }
-    ensures { result ≡ offered place.now }
+    ensures { result ≡ offer_word place.now }
 {
     match *place {
         At::Offering { word, .. } => word,
@@ -85,7 +85,7 @@ fn offered_word<const P: u32>(place: &At<P>) -> Word<P>
 // The call that a step ends, with its answer.
 fn call_ended<const P: u32>(place: &At<P>, turn: Turn, found: Word<P>) -> Option<Call<P>>
     requires layout { is_layout P ≡ true }
-    requires pair { turn ≡ Turn.Wins → IsPair (offered place.now) }
+    requires pair { turn ≡ Turn.Wins → IsPair (offer_word place.now) }
     ensures { result ≡ call_ended place.now turn found.entry }
 {
     let word = offered_word(place);
@@ -153,7 +153,8 @@ pub(crate) fn effect_of<const P: u32>(
 ) -> Effect<P>
     requires layout { is_layout P ≡ true }
     requires ready { IsReady (option_copied item) state.now.loaded }
-    requires pair { turn ≡ Turn.Wins → IsPair (offered (at (option_copied item) state.now.loaded)) }
+    requires pair { turn ≡ Turn.Wins
+        → IsPair (offer_word (at (option_copied item) state.now.loaded)) }
     ensures { result ≡ effect actor (option_copied item.entry) state.now turn found.entry }
 {
     let place = place_of(item, state.loaded);

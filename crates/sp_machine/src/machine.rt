@@ -4,7 +4,7 @@ ghost use Rattle.sp_word.specs.Word.{Unreached, is_layout};
 ghost use Rattle.sp_paths.specs.Paths.{word_at};
 ghost use Rattle.sp_machine.specs.Programme.{IsNumber, named_words};
 ghost use Rattle.sp_machine.specs.Run.{opening_machine};
-ghost use Rattle.sp_machine.specs.Step.{fresh_actor, vertex_at, words_after, stepped};
+ghost use Rattle.sp_machine.specs.Step.{fresh_actor, vertex_at, words_after, machine_after};
 
 use crate::actor::Actor;
 use crate::effect::{Effect, Ended, effect_of};
@@ -110,7 +110,7 @@ impl<'a, const P: u32> Machine<'a, P> {
     /// One step of an actor, by the cases of a step. An actor without a further item changes nothing but `last`.
     pub fn step(&mut self, actor: u32)
         requires { IsNumber (length self.old.actors) actor }
-        ensures { self.new ≡ stepped self.old actor }
+        ensures { self.new ≡ machine_after self.old actor }
     {
         let index = (actor - 1) as usize;
         let state = self.actors[index];

@@ -9,8 +9,8 @@ use Rattle.sp_word.specs.Word.{Word, is_below}
 use Rattle.sp_word.specs.History.{Table, Event, Call, Offer, Read, IsAnswered, left_by, after, run, IsLegal}
 use Rattle.sp_offer.specs.Order.{IsNoMore}
 use Rattle.sp_offer.specs.Histories.{blank, is_smaller, is_lowering, lowerings}
-use Rattle.sp_offer.specs.Story.{Story, Looks, Calls, Knows, gained, IsTried, Follows}
-use Rattle.sp_offer.specs.Sight.{Sight, story, merged}
+use Rattle.sp_offer.specs.Story.{Story, Looks, Calls, Knows, new_calls, IsTried, Follows}
+use Rattle.sp_offer.specs.Sight.{Sight, story, merged_sight}
 use Rattle.sp_offer.specs.Rule.{Hears}
 use Rattle.sp_offer.proofs.Orders.{smaller_is_below}
 use Rattle.sp_offer.proofs.Histories.{run_append, falls_along}
@@ -55,7 +55,7 @@ module _ (law : ℕ → Word → Type 0) where
   }
 
 -- one look tells a caller what it had seen and what it had heard
-pub follows : (law : ℕ → Word → Type 0) (vertex : ℕ) (found : Word) (u v w : Sight) → Hears (merged u v) w → Looks law vertex found (story (merged u v)) (story w) → Follows law (story u) (story v) (story w)
+pub follows : (law : ℕ → Word → Type 0) (vertex : ℕ) (found : Word) (u v w : Sight) → Hears (merged_sight u v) w → Looks law vertex found (story (merged_sight u v)) (story w) → Follows law (story u) (story v) (story w)
 follows law vertex found u v w x h = let begins : IsPrefix u.seen w.seen = (h.between, sym h.seen) in record {
   first = begins;
   second = x.1;
@@ -97,7 +97,7 @@ drop_begin : (xs ys : List Event) → drop (length xs) (xs ++ ys) ≡ ys
 drop_begin [] ys = refl
 drop_begin (x ∷ xs) ys = drop_begin xs ys
 
-gained_is : (s t : Story) (b : List Event) → t.seen ≡ s.seen ++ b → gained s t ≡ b
+gained_is : (s t : Story) (b : List Event) → t.seen ≡ s.seen ++ b → new_calls s t ≡ b
 gained_is s t b seen = ap (drop (length s.seen)) seen ∙ drop_begin s.seen b
 
 -- one more step of the call, in whose part of the history the vertex was lowered
@@ -107,5 +107,5 @@ tried_more vertex r s t a b tries first second more tried =
     let later = ap (lowerings vertex) (gained_is r t (a ++ b) (second ∙ (ap (λ (l : List Event). l ++ b) first ∙ append_assoc r.seen a b))) in
     let all = sum_by-append (λ (x : Event). cond (lowers vertex x) 1 0) a b in
     let x : ℕ = lowerings vertex a in let y : ℕ = lowerings vertex b in let z : ℕ = lowerings vertex (a ++ b) in
-    let p : ℕ = lowerings vertex (gained r s) in let q : ℕ = lowerings vertex (gained r t) in
+    let p : ℕ = lowerings vertex (new_calls r s) in let q : ℕ = lowerings vertex (new_calls r t) in
     let e1 : p ≡ x = before in let e2 : q ≡ z = later in let e3 : z ≡ x + y = all in let m : 1 ≤ y = more in let k : tries ≤ p + 1 = tried.1 in (omega arith, omega arith)

@@ -4,7 +4,7 @@ use Rattle.sp_word.specs.Word.{Word, Unreached}
 use Rattle.sp_word.specs.History.{Event, Read}
 use Rattle.sp_offer.specs.Order.{IsNoMore, IsKnownWord}
 use Rattle.sp_offer.specs.Histories.{event}
-use Rattle.sp_offer.specs.Story.{Story, Calls, known, Reads, reads_of, copied, IsCopy}
+use Rattle.sp_offer.specs.Story.{Story, Calls, known_table, Reads, reads_of, copied_word, IsCopy}
 use Rattle.sp_offer.proofs.Orders.{at_most-refl, at_most-trans}
 use Rattle.sp_offer.proofs.CallKnowledge.{knows}
 
@@ -21,33 +21,33 @@ reads_of_more by k (y ∷ ys) x = let shift : k + 1 + length ys ≡ k + length (
     ap (λ (es : List Event). event by k (Read y) ∷ es) (reads_of_more by (k + 1) ys x ∙ ap (λ (j : ℕ). reads_of by (k + 1) ys ++ event by j (Read x) ∷ []) shift)
 
 module _ (law : ℕ → Word → Type 0) (by : ℕ) where
-  falls : (k : ℕ) (xs : List Word) (s t : Story) → Reads law by k xs s t → (v : ℕ) → IsNoMore (known t v) (known s v)
-  falls k [] s t same v = subst (λ (m : Story). IsNoMore (known m v) (known s v)) same (at_most-refl (known s v))
-  falls k (x ∷ xs) s t (m, call, rest) v = at_most-trans (known t v) (known m v) (known s v) (falls (k + 1) xs m t rest v) ((knows law (event by k (Read x)) s m call).falls v)
+  falls : (k : ℕ) (xs : List Word) (s t : Story) → Reads law by k xs s t → (v : ℕ) → IsNoMore (known_table t v) (known_table s v)
+  falls k [] s t same v = subst (λ (m : Story). IsNoMore (known_table m v) (known_table s v)) same (at_most-refl (known_table s v))
+  falls k (x ∷ xs) s t (m, call, rest) v = at_most-trans (known_table t v) (known_table m v) (known_table s v) (falls (k + 1) xs m t rest v) ((knows law (event by k (Read x)) s m call).falls v)
 
-  words : (k : ℕ) (x : Word) (xs : List Word) (s t : Story) → Reads law by k (x ∷ xs) s t → (v : ℕ) → IsKnownWord law v (known t v)
-  words k x [] s t (m, call, same) v = subst (λ (r : Story). IsKnownWord law v (known r v)) same (call.words v)
+  words : (k : ℕ) (x : Word) (xs : List Word) (s t : Story) → Reads law by k (x ∷ xs) s t → (v : ℕ) → IsKnownWord law v (known_table t v)
+  words k x [] s t (m, call, same) v = subst (λ (r : Story). IsKnownWord law v (known_table r v)) same (call.words v)
   words k x (y ∷ ys) s t (m, call, rest) v = words (k + 1) y ys m t rest v
 
   -- the word that was read of a vertex
   abbrev Between : ℕ → Word → Story → Story → Type 0
-  Between v x s t = IsKnownWord law v x × IsNoMore x (known s v) × IsNoMore (known t v) x
+  Between v x s t = IsKnownWord law v x × IsNoMore x (known_table s v) × IsNoMore (known_table t v) x
 
   between : (k : ℕ) (xs : List Word) (s t : Story) → Reads law by k xs s t → (i : ℕ) → i < length xs → Between (k + i) (get_or xs i Unreached) s t
   between k [] s t same i inside = absurd (omega arith)
   between k (x ∷ xs) s t (m, call, rest) zero inside =
       let at_k : k ≡ k + 0 = omega arith in
       let told = knows law (event by k (Read x)) s m call in
-      subst (λ (v : ℕ). Between v x s t) at_k (call.lawful, told.below, subst (IsNoMore (known t k)) told.here (falls (k + 1) xs m t rest k))
+      subst (λ (v : ℕ). Between v x s t) at_k (call.lawful, told.below, subst (IsNoMore (known_table t k)) told.here (falls (k + 1) xs m t rest k))
   between k (x ∷ xs) s t (m, call, rest) (suc i) inside =
       let shift : k + 1 + i ≡ k + suc i = omega arith in
       let h = between (k + 1) xs m t rest i (omega arith) in
       let y : Word = get_or xs i Unreached in
-      subst (λ (v : ℕ). Between v y s t) shift (h.0, at_most-trans y (known m (k + 1 + i)) (known s (k + 1 + i)) h.1 ((knows law (event by k (Read x)) s m call).falls (k + 1 + i)), h.2)
+      subst (λ (v : ℕ). Between v y s t) shift (h.0, at_most-trans y (known_table m (k + 1 + i)) (known_table s (k + 1 + i)) h.1 ((knows law (event by k (Read x)) s m call).falls (k + 1 + i)), h.2)
 
-  at_vertex : (xs : List Word) (s t : Story) → Reads law by 1 xs s t → (v : ℕ) → 0 < v → v ≤ length xs → Between v (copied xs v) s t
+  at_vertex : (xs : List Word) (s t : Story) → Reads law by 1 xs s t → (v : ℕ) → 0 < v → v ≤ length xs → Between v (copied_word xs v) s t
   at_vertex xs s t reads v some low = let same : 1 + (v - 1) ≡ v = omega arith in
-      subst (λ (u : ℕ). Between u (copied xs v) s t) same (between 1 xs s t reads (v - 1) (omega arith))
+      subst (λ (u : ℕ). Between u (copied_word xs v) s t) same (between 1 xs s t reads (v - 1) (omega arith))
 
   pub copies : (xs : List Word) (s t : Story) → 0 < length xs → Reads law by 1 xs s t → IsCopy law xs s t
   copies [] s t some reads = absurd (omega arith)

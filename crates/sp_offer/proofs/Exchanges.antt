@@ -9,8 +9,8 @@ use Rattle.sp_word.specs.History.{Table, Event, run, IsLegal}
 use Rattle.sp_word.specs.Reply.{reply_to}
 use Rattle.sp_offer.specs.Order.{IsNoMore}
 use Rattle.sp_offer.specs.Histories.{blank, is_smaller, lowerings}
-use Rattle.sp_offer.specs.Story.{Story, Looks, Calls, IsTried, known}
-use Rattle.sp_offer.specs.Rule.{answered}
+use Rattle.sp_offer.specs.Story.{Story, Looks, Calls, IsTried, known_table}
+use Rattle.sp_offer.specs.Rule.{answer_event}
 use Rattle.sp_offer.specs.Lowering.{IsUnderWay, IsExchanged}
 use Rattle.sp_offer.proofs.Orders.{smaller_is_below}
 use Rattle.sp_offer.proofs.Ties.{spelled, word_fits, pair_small, bits_below, at_most_bits}
@@ -23,7 +23,7 @@ changed vertex x y s more legal was is other = lowered_between (run blank s.seen
     (λ same. other (sym is ∙ (ap (λ (f : Table). f vertex) (run_append blank s.seen more) ∙ (same ∙ was))))
 
 -- an exchange that is lost found lesser bits
-fallen : (P : ℕ) (law : ℕ → Word → Type 0) (by vertex : ℕ) (word : Word) (bits held found : ℕ) (s t : Story) → is_layout P ≡ true → bits < held → is_word P held ≡ true → known s vertex ≡ word_of P held
+fallen : (P : ℕ) (law : ℕ → Word → Type 0) (by vertex : ℕ) (word : Word) (bits held found : ℕ) (s t : Story) → is_layout P ≡ true → bits < held → is_word P held ≡ true → known_table s vertex ≡ word_of P held
     → IsExchanged P law by vertex word bits held found s t → found ≢ held → found < held
 fallen P law by vertex word bits held found s t layout less holds was step miss = dite (dec_le found bits) (λ small. omega arith) (λ more.
     let look = step.lost miss (omega arith) in
@@ -42,14 +42,14 @@ module _ (P : ℕ) (layout : is_layout P ≡ true) where
         (changed vertex (word_of P x) (word_of P y) s b.between (subst (IsLegal blank) b.seen b.is_story.legal) a.last (ap (λ (l : List Event). run blank l vertex) (sym b.seen) ∙ b.last) (other_word x y other)) tried
 
     tried_last : (by tries : ℕ) (word : Word) (r s t : Story) → Fits P word → is_word P y ≡ true → bits_of P word < x → Looks law vertex (word_of P x) r s
-        → Calls law (answered by vertex word (word_of P y)) s t → IsTried vertex r s tries → IsTried vertex r t (tries + 1)
-    tried_last by tries word r s t fits wy less a b tried = let e : Event = answered by vertex word (word_of P y) in
+        → Calls law (answer_event by vertex word (word_of P y)) s t → IsTried vertex r s tries → IsTried vertex r t (tries + 1)
+    tried_last by tries word r s t fits wy less a b tried = let e : Event = answer_event by vertex word (word_of P y) in
         tried_more vertex r s t a.between (b.between ++ e ∷ []) tries a.seen (b.seen ∙ append_assoc s.seen b.between (e ∷ [])) (dite (ℕ_discrete y x)
         (λ same. let one = ap one_or_none (lowers_here same) in omega (arith, one, sum_by-append (λ (z : Event). cond (lowers vertex z) 1 0) b.between (e ∷ [])))
         (λ other. let some = changed vertex (word_of P x) (word_of P y) s b.between (legal_begin blank (s.seen ++ b.between) (e ∷ []) (subst (IsLegal blank) b.seen b.is_story.legal)) a.last b.last (other_word x y other) in
         omega (arith, some, sum_by-append (λ (z : Event). cond (lowers vertex z) 1 0) b.between (e ∷ [])))) tried
       where
-        lowers_here : y ≡ x → lowers vertex (answered by vertex word (word_of P y)) ≡ true
+        lowers_here : y ≡ x → lowers vertex (answer_event by vertex word (word_of P y)) ≡ true
         lowers_here same = and_from (vertex == vertex) (is_smaller (reply_to (word_of P y) word)) (eq-eqb vertex vertex refl)
             (smaller_is_below (word_of P y) word
             ∙ (bits_below P word (word_of P y) layout fits (word_fits P y layout wy)
@@ -62,8 +62,8 @@ module _ (P : ℕ) (law : ℕ → Word → Type 0) (by vertex : ℕ) (word : Wor
 
   -- ## A win ends the call
 
-  pub won_call : found ≡ held → Calls law (answered by vertex word (word_of P found)) r t
-  won_call hit = look_then_call law vertex (word_of P held) (answered by vertex word (word_of P found)) r s t (way.seen less) (step.won hit)
+  pub won_call : found ≡ held → Calls law (answer_event by vertex word (word_of P found)) r t
+  won_call hit = look_then_call law vertex (word_of P held) (answer_event by vertex word (word_of P found)) r s t (way.seen less) (step.won hit)
 
   pub won_tries : found ≡ held → IsTried vertex r t (tries + 1)
   won_tries hit = tried_last P way.layout law vertex held found by tries word r s t way.offered.1 step.is_word below (way.seen less) (step.won hit) way.tried
@@ -83,7 +83,7 @@ module _ (P : ℕ) (law : ℕ → Word → Type 0) (by vertex : ℕ) (word : Wor
     layout = way.layout;
     offered = way.offered;
     is_word = step.is_word;
-    kept = λ small. look_then_call law vertex (word_of P held) (answered by vertex word (word_of P found)) r s t (way.seen less) (step.kept small);
+    kept = λ small. look_then_call law vertex (word_of P held) (answer_event by vertex word (word_of P found)) r s t (way.seen less) (step.kept small);
     seen = λ more. look_then_look law vertex (word_of P held) (word_of P found) r s t (way.seen less) (step.lost miss more);
     tried = dite (dec_le found bits)
         (λ small. tried_last P way.layout law vertex held found by tries word r s t way.offered.1 step.is_word below (way.seen less) (step.kept small) way.tried)

@@ -13,8 +13,8 @@ use Rattle.sp_word.specs.Reply.{reply_to}
 use Rattle.sp_offer.specs.Order.{lawful, IsKnownWord}
 use Rattle.sp_offer.specs.Histories.{blank, event, found_by, IsLawful}
 use Rattle.sp_offer.specs.Story.{Story, Looks, Calls}
-use Rattle.sp_offer.specs.Sight.{Sight, newcomer, story, listener, merged}
-use Rattle.sp_offer.specs.Rule.{rule, Hears, answered, met, was_read, loaded, exchanged, lessened}
+use Rattle.sp_offer.specs.Sight.{Sight, newcomer, story, listener, merged_sight}
+use Rattle.sp_offer.specs.Rule.{rule, Hears, answer_event, met, was_read, loaded, exchanged, lessened}
 use Rattle.sp_offer.proofs.Ties.{word_back, bits_lesser, bits_spell, spelled}
 use Rattle.sp_offer.proofs.Steps.{looking, calling, known_word, look_keeps, look_hears, look_tells, call_keeps, call_hears, call_tells, split_keeps, join_keeps}
 
@@ -93,7 +93,7 @@ module _ {S : Type 0} (P : ℕ) (layout : is_layout P ≡ true) (law told : ℕ 
   -- an offer, after which the word is the lesser of the word found and the word offered
   offer_goes : (s : State S Sight) (r : rule P law n s) (i id m by : ℕ) (me : Me S Sight) (word : Word) → i < n → get_elem? s.views id ≡ some me.0
       → law (i + 1) word → m ≡ min (get_or s.words i 0) (bits_of P word)
-      → (then : Me S Sight → Type 0) → ((w : Sight) → Hears me.0 w → Calls told (answered by (i + 1) word (word_of P (get_or s.words i 0))) (story me.0) (story w) → then (w, me.1))
+      → (then : Me S Sight → Type 0) → ((w : Sight) → Hears me.0 w → Calls told (answer_event by (i + 1) word (word_of P (get_or s.words i 0))) (story me.0) (story w) → then (w, me.1))
       → Goes s i id me then m
   offer_goes s r i id m by me word inside at fits new then tell = let x : Word = word_of P (get_or s.words i 0) in
       call_goes s r i id m by me (Offer word x (reply_to x word)) inside at (refl, refl) fits
@@ -135,7 +135,7 @@ module _ {S : Type 0} (P : ℕ) (law : ℕ → Word → Type 0) (n : ℕ) where
   pub splits : (id : ℕ) (v : Sight) → Splits {S = S} (rule P law n) id v v (listener v)
   splits id v s r at = split_keeps P law n s.words s.views r id v at
 
-  pub joins : (id other : ℕ) (v w : Sight) → Joins {S = S} (rule P law n) id v other w (merged v w) newcomer
+  pub joins : (id other : ℕ) (v w : Sight) → Joins {S = S} (rule P law n) id v other w (merged_sight v w) newcomer
   joins id other v w s r at apart there = join_keeps P law n s.words s.views r id other v w at apart there
 
 -- a lawful word is a pair that fits

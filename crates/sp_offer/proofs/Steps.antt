@@ -14,7 +14,7 @@ use Rattle.sp_word.specs.History.{Table, Event, IsAnswered, left_by, run, IsLega
 use Rattle.sp_offer.specs.Order.{IsKnownWord}
 use Rattle.sp_offer.specs.Histories.{blank, found_by, IsLawful}
 use Rattle.sp_offer.specs.Story.{times, once_below, IsOnce, Looks, Calls}
-use Rattle.sp_offer.specs.Sight.{Sight, newcomer, story, listener, merged}
+use Rattle.sp_offer.specs.Sight.{Sight, newcomer, story, listener, merged_sight}
 use Rattle.sp_offer.specs.Rule.{OneHistory, Hears}
 use Rattle.sp_offer.proofs.Histories.{run_append, legal_append, lawful_append, known_run, prefix_append, found_answered}
 
@@ -168,9 +168,9 @@ module _ (P : ℕ) (law : ℕ → Word → Type 0) (n : ℕ) where
   }
 
   -- one caller takes over the calls of another
-  pub join_keeps : (ws : List ℕ) (vs : List Sight) (r : Rule ws vs) (id other : ℕ) (v w : Sight) → get_elem? vs id ≡ some v → (other ≡ id → ⊥) → get_elem? (set vs id (merged v w)) other ≡ some w
-      → Rule ws (set (set vs id (merged v w)) other newcomer)
-  join_keeps ws vs r id other v w at apart there = let both : Sight = merged v w in let was : get_elem? vs other ≡ some w = sym (set_else vs id other both apart) ∙ there in record {
+  pub join_keeps : (ws : List ℕ) (vs : List Sight) (r : Rule ws vs) (id other : ℕ) (v w : Sight) → get_elem? vs id ≡ some v → (other ≡ id → ⊥) → get_elem? (set vs id (merged_sight v w)) other ≡ some w
+      → Rule ws (set (set vs id (merged_sight v w)) other newcomer)
+  join_keeps ws vs r id other v w at apart there = let both : Sight = merged_sight v w in let was : get_elem? vs other ≡ some w = sym (set_else vs id other both apart) ∙ there in record {
     log = r.log;
     wide = r.wide;
     legal = r.legal;

@@ -5,7 +5,7 @@ use Rattle.sp_word.specs.History.{Event, Offer, Read}
 use Rattle.sp_offer.specs.declared.table.Offered.{Offered}
 use Rattle.sp_offer.specs.Order.{lawful}
 use Rattle.sp_offer.specs.Histories.{event}
-use Rattle.sp_offer.specs.Story.{Knowledge, own_calls, beside, Calls, Knows, Follows, Reads, IsCopy}
+use Rattle.sp_offer.specs.Story.{Knowledge, own_calls, story_beside, Calls, Knows, Follows, Reads, IsCopy}
 use Rattle.sp_offer.specs.Rule.{Board}
 
 abbrev pub IsSameCaller : Knowledge → Knowledge → Type 0
@@ -21,7 +21,7 @@ HasSameCalls before after = own_calls after.story ≡ own_calls before.story
 
 -- a second caller of the table has seen what the first has, and has made no calls
 abbrev pub IsBeside : Knowledge → Knowledge → Type 0
-IsBeside first second = (second.table ≡ first.table) × (second.story ≡ beside first.story)
+IsBeside first second = (second.table ≡ first.table) × (second.story ≡ story_beside first.story)
 
 -- ## One call
 

@@ -4,7 +4,7 @@ use Rattle.atomic_table.specs.declared.shared.Seat.{Seat}
 use Rattle.sp_word.specs.Word.{Word, Fits, is_layout, is_word, bits_of, word_of}
 use Rattle.sp_offer.specs.Story.{Story, Calls, Looks, IsTried}
 use Rattle.sp_offer.specs.Sight.{Sight}
-use Rattle.sp_offer.specs.Rule.{answered, seat_story}
+use Rattle.sp_offer.specs.Rule.{answer_event, seat_story}
 
 module _ (P : ℕ) (law : ℕ → Word → Type 0) (by vertex : ℕ) (word : Word) (bits : ℕ) where
   -- After some steps: where the bits held are no larger than those offered the call is made, and else they were
@@ -13,7 +13,7 @@ module _ (P : ℕ) (law : ℕ → Word → Type 0) (by vertex : ℕ) (word : Wor
     pub layout : is_layout P ≡ true
     pub offered : (bits ≡ bits_of P word) × Fits P word
     pub is_word : is_word P held ≡ true
-    pub kept : held ≤ bits → Calls law (answered by vertex word (word_of P held)) s t
+    pub kept : held ≤ bits → Calls law (answer_event by vertex word (word_of P held)) s t
     pub seen : bits < held → Looks law vertex (word_of P held) s t
     pub tried : IsTried vertex s t tries
     pub fits : held < 18446744073709551616
@@ -24,8 +24,8 @@ module _ (P : ℕ) (law : ℕ → Word → Type 0) (by vertex : ℕ) (word : Wor
   pub record IsExchanged (held found : ℕ) (s t : Story) : Type 0 where
     pub is_word : is_word P found ≡ true
     pub fits : found < 18446744073709551616
-    pub won : found ≡ held → Calls law (answered by vertex word (word_of P found)) s t
-    pub kept : found ≤ bits → Calls law (answered by vertex word (word_of P found)) s t
+    pub won : found ≡ held → Calls law (answer_event by vertex word (word_of P found)) s t
+    pub kept : found ≤ bits → Calls law (answer_event by vertex word (word_of P found)) s t
     pub lost : found ≢ held → bits < found → Looks law vertex (word_of P found) s t
 
   module _ {S : Type 0} where

@@ -34,8 +34,8 @@ abbrev pub Hears : Sight → Sight → Type 0
 Hears v w = (w.heard ≡ []) × IsPrefix v.heard w.seen
 
 -- an offer, answered by the word found
-abbrev pub answered : ℕ → ℕ → Word → Word → Event
-answered by vertex word found = event by vertex (Offer word found (reply_to found word))
+abbrev pub answer_event : ℕ → ℕ → Word → Word → Event
+answer_event by vertex word found = event by vertex (Offer word found (reply_to found word))
 
 module _ {S : Type 0} (P : ℕ) (law : ℕ → Word → Type 0) where
   -- a seat holds no slot, before and after, and the bits found are those of a word
@@ -54,19 +54,19 @@ module _ {S : Type 0} (P : ℕ) (law : ℕ → Word → Type 0) where
       abbrev pub loaded : Step S → Me S Sight → ℕ → Me S Sight → Type 0
       loaded st m found m' =
           Stays m m' found
-          × (found ≤ bits_of P word → Calls law (answered by (st.word + 1) word (word_of P found)) (story m.0) (story m'.0))
+          × (found ≤ bits_of P word → Calls law (answer_event by (st.word + 1) word (word_of P found)) (story m.0) (story m'.0))
           × (bits_of P word < found → Looks law (st.word + 1) (word_of P found) (story m.0) (story m'.0))
 
       -- an exchange for a lesser word wins, or loses and decides, or loses and goes on
       abbrev pub exchanged : Step S → Me S Sight → ℕ → Me S Sight → Type 0
       exchanged st m found m' =
           Stays m m' found
-          × (found ≡ st.first → Calls law (answered by (st.word + 1) word (word_of P found)) (story m.0) (story m'.0))
-          × (found ≤ bits_of P word → Calls law (answered by (st.word + 1) word (word_of P found)) (story m.0) (story m'.0))
+          × (found ≡ st.first → Calls law (answer_event by (st.word + 1) word (word_of P found)) (story m.0) (story m'.0))
+          × (found ≤ bits_of P word → Calls law (answer_event by (st.word + 1) word (word_of P found)) (story m.0) (story m'.0))
           × (found ≢ st.first → bits_of P word < found → Looks law (st.word + 1) (word_of P found) (story m.0) (story m'.0))
 
       abbrev pub lessened : Step S → Me S Sight → ℕ → Me S Sight → Type 0
-      lessened st m found m' = Stays m m' found × Calls law (answered by (st.word + 1) word (word_of P found)) (story m.0) (story m'.0)
+      lessened st m found m' = Stays m m' found × Calls law (answer_event by (st.word + 1) word (word_of P found)) (story m.0) (story m'.0)
 
 -- ## Seats
 
@@ -126,7 +126,7 @@ module _ {S : Type 0} where
 
     -- it offered the word, and these bits decided
     abbrev pub SeatOffers : Word → (bits : ℕ) → Seat S Sight → Seat S Sight → Type 0
-    SeatOffers word bits p q = Calls law (answered by vertex word (word_of P bits)) (seat_story p) (seat_story q)
+    SeatOffers word bits p q = Calls law (answer_event by vertex word (word_of P bits)) (seat_story p) (seat_story q)
 
 -- what contracts see of a table: which it is, how many vertices it has, and its law
 pub record Board (L : Type 0) : Type 0 where

@@ -23,5 +23,5 @@ abbrev pub listener : Sight → Sight
 listener v = record { seen = v.seen; heard = []; own = [] }
 
 -- one caller takes over the calls of another, and has heard what that one had seen
-abbrev pub merged : Sight → Sight → Sight
-merged v w = record { seen = v.seen; heard = w.seen; own = v.own ++ w.own }
+abbrev pub merged_sight : Sight → Sight → Sight
+merged_sight v w = record { seen = v.seen; heard = w.seen; own = v.own ++ w.own }

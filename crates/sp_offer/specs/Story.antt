@@ -19,8 +19,8 @@ pub record Knowledge : Type 0 where
   pub story : Story
 
 -- What a caller knows of the table: the end of the history that it has seen. The word of a vertex is at most this.
-abbrev pub known : Story → Table
-known s = run blank s.seen
+abbrev pub known_table : Story → Table
+known_table s = run blank s.seen
 
 -- ## Own calls
 
@@ -48,18 +48,18 @@ own_calls s = map (λ p. slice_index_or s.seen p (event 0 0 (Read Unreached))) s
 -- ## New stories
 
 -- nothing was seen, and nothing done
-abbrev pub fresh : Story
-fresh = record { seen = []; own = [] }
+abbrev pub empty_story : Story
+empty_story = record { seen = []; own = [] }
 
 -- the same was seen, and nothing done
-abbrev pub beside : Story → Story
-beside s = record { seen = s.seen; own = [] }
+abbrev pub story_beside : Story → Story
+story_beside s = record { seen = s.seen; own = [] }
 
 -- ## What calls tell
 
 -- what a caller's history gained
-abbrev pub gained : Story → Story → List Event
-gained s t = drop (length s.seen) t.seen
+abbrev pub new_calls : Story → Story → List Event
+new_calls s t = drop (length s.seen) t.seen
 
 module _ (law : ℕ → Word → Type 0) where
   -- The history so far was seen, and nothing was called: it begins with all that was seen before, and its word of
@@ -68,9 +68,9 @@ module _ (law : ℕ → Word → Type 0) where
     pub between : List Event
     pub seen : t.seen ≡ s.seen ++ between
     pub own : t.own ≡ s.own
-    pub last : known t vertex ≡ found
+    pub last : known_table t vertex ≡ found
     pub lawful : IsKnownWord law vertex found
-    pub words : (v : ℕ) → IsKnownWord law v (known t v)
+    pub words : (v : ℕ) → IsKnownWord law v (known_table t v)
     pub is_story : IsStory t
 
   -- The history so far was seen, and this call put at its end: it begins with all that was seen before, the call
@@ -81,26 +81,26 @@ module _ (law : ℕ → Word → Type 0) where
     pub own : t.own ≡ s.own ++ length (s.seen ++ between) ∷ []
     pub last : run blank (s.seen ++ between) e.vertex ≡ found_by e.call
     pub lawful : IsKnownWord law e.vertex (found_by e.call)
-    pub words : (v : ℕ) → IsKnownWord law v (known t v)
+    pub words : (v : ℕ) → IsKnownWord law v (known_table t v)
     pub is_story : IsStory t
 
 -- The word found is at most what was known; then the word is known that the call left, and of no vertex is less
 -- known than before.
 pub record Knows (e : Event) (s t : Story) : Type 0 where
-  pub below : IsNoMore (found_by e.call) (known s e.vertex)
-  pub here : known t e.vertex ≡ left_by e.call (found_by e.call)
-  pub falls : (v : ℕ) → IsNoMore (known t v) (known s v)
+  pub below : IsNoMore (found_by e.call) (known_table s e.vertex)
+  pub here : known_table t e.vertex ≡ left_by e.call (found_by e.call)
+  pub falls : (v : ℕ) → IsNoMore (known_table t v) (known_table s v)
 
 -- each lost exchange found that the vertex had been lowered
 abbrev pub IsTried : ℕ → Story → Story → ℕ → Type 0
-IsTried vertex s t tries = (0 < tries) × (tries ≤ lowerings vertex (gained s t) + 1)
+IsTried vertex s t tries = (0 < tries) × (tries ≤ lowerings vertex (new_calls s t) + 1)
 
 -- A story that begins with what each of two had seen, and knows of each word what either knew.
 pub record Follows (law : ℕ → Word → Type 0) (r s t : Story) : Type 0 where
   pub first : IsPrefix r.seen t.seen
   pub second : IsPrefix s.seen t.seen
-  pub falls : (v : ℕ) → IsNoMore (known t v) (known r v) × IsNoMore (known t v) (known s v)
-  pub words : (v : ℕ) → IsKnownWord law v (known t v)
+  pub falls : (v : ℕ) → IsNoMore (known_table t v) (known_table r v) × IsNoMore (known_table t v) (known_table s v)
+  pub words : (v : ℕ) → IsKnownWord law v (known_table t v)
   pub is_story : IsStory t
 
 -- ## Copies
@@ -116,13 +116,13 @@ reads_of by k [] = []
 reads_of by k (x ∷ xs) = event by k (Read x) ∷ reads_of by (k + 1) xs
 
 -- the word of a vertex in a copy, where vertex 1 stands at place 0
-abbrev pub copied : List Word → ℕ → Word
-copied words v = slice_index_or words (v - 1) Unreached
+abbrev pub copied_word : List Word → ℕ → Word
+copied_word words v = slice_index_or words (v - 1) Unreached
 
 -- Each word of a copy is unreached or lawful, at most what was known before, and at least what is known afterwards.
 pub record IsCopy (law : ℕ → Word → Type 0) (words : List Word) (s t : Story) : Type 0 where
-  pub lawful : (v : ℕ) → 0 < v → v ≤ length words → IsKnownWord law v (copied words v)
-  pub below : (v : ℕ) → 0 < v → v ≤ length words → IsNoMore (copied words v) (known s v)
-  pub above : (v : ℕ) → 0 < v → v ≤ length words → IsNoMore (known t v) (copied words v)
-  pub falls : (v : ℕ) → IsNoMore (known t v) (known s v)
-  pub words_known : (v : ℕ) → IsKnownWord law v (known t v)
+  pub lawful : (v : ℕ) → 0 < v → v ≤ length words → IsKnownWord law v (copied_word words v)
+  pub below : (v : ℕ) → 0 < v → v ≤ length words → IsNoMore (copied_word words v) (known_table s v)
+  pub above : (v : ℕ) → 0 < v → v ≤ length words → IsNoMore (known_table t v) (copied_word words v)
+  pub falls : (v : ℕ) → IsNoMore (known_table t v) (known_table s v)
+  pub words_known : (v : ℕ) → IsKnownWord law v (known_table t v)

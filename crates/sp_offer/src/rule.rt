@@ -2,7 +2,7 @@
 ghost use Rattle.std.specs.Prelude.{ℕ, ◌+◌, ◌≤◌, ◌<◌};
 ghost use Rattle.sp_word.specs.Word.{Word, Unreached};
 ghost use Rattle.sp_offer.specs.Order.{lawful};
-ghost use Rattle.sp_offer.specs.Sight.{newcomer, listener, merged};
+ghost use Rattle.sp_offer.specs.Sight.{newcomer, listener, merged_sight};
 ghost use Rattle.sp_offer.specs.Rule.{rule, met, was_read, loaded, exchanged, lessened};
 
 use crate::law::Lawful;
@@ -111,7 +111,7 @@ impl Split<View> for Share {
 pub struct TakeOver;
 
 impl Join<View> for TakeOver {
-    ghost both = { merged };
+    ghost both = { merged_sight };
 
     ghost spent = { newcomer };
 }

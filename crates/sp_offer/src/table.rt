@@ -2,7 +2,7 @@
 ghost use Rattle.std.specs.Prelude.{◌≡◌, ℕ, ◌+◌, ◌≤◌, ◌<◌, true, ◌++◌, length, IfOk, IsOkAnd};
 ghost use Rattle.sp_word.specs.Word.{IsPair, is_layout};
 ghost use Rattle.sp_word.specs.Reply.{reply_to};
-ghost use Rattle.sp_offer.specs.Story.{IsTried, fresh, own_calls, reads_of};
+ghost use Rattle.sp_offer.specs.Story.{IsTried, empty_story, own_calls, reads_of};
 ghost use Rattle.sp_offer.specs.Calling.{IsSameCaller, KeepsPlaces, HasSameCalls, IsBeside, offer_of, read_of, Tells, Owns, OwnsAll, Offers, ReadsWord, ReadsWords, CopiesWords, SeesBoth};
 
 use crate::law::Lawful;
@@ -73,7 +73,7 @@ impl<L: Lawful, const P: u32> OfferTable<L, P> {
         requires some { 0 < n }
         requires layout { is_layout P ≡ true }
         ensures table { IfOk result (λ t. (t.0.law ≡ law) × (t.0.vertices ≡ n)) }
-        ensures caller { IfOk result (λ t. (t.1.table ≡ t.0.id) × (t.1.story ≡ fresh)) }
+        ensures caller { IfOk result (λ t. (t.1.table ≡ t.0.id) × (t.1.story ≡ empty_story)) }
     {
         let (words, seat) = Words::new(alloc, n, P, law)?;
         Ok((OfferTable { words }, Caller { seat }))

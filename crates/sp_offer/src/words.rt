@@ -2,7 +2,7 @@
 ghost use Rattle.std.specs.Prelude.{◌≡◌, ℕ, ◌+◌, ◌-◌, ◌≤◌, ◌<◌, true, ◌++◌, IfOk, replicate};
 ghost use Rattle.sp_word.specs.Word.{Word, is_layout, is_word, bits_of};
 ghost use Rattle.sp_offer.specs.Story.{IsTried};
-ghost use Rattle.sp_offer.specs.Sight.{listener, merged};
+ghost use Rattle.sp_offer.specs.Sight.{listener, merged_sight};
 ghost use Rattle.sp_offer.specs.Lowering.{HasCome, Swaps};
 ghost use Rattle.sp_offer.specs.Rule.{seat_story, own_places, Hears, HoldsNoSlot, IsFirstSeat, IsAtRest, IsSameSeat, IsAsItWas, HasSamePlaces, SeatLooks, SeatSees, SeatReads, SeatOffers};
 
@@ -174,7 +174,7 @@ impl<L: Lawful> Words<L> {
         requires seat { IsAtRest (id_of self.now) seat.old }
         requires other { IsAtRest (id_of self.now) other }
         ensures seat { HoldsNoSlot (id_of self.now) seat.new × IsSameSeat seat.old seat.new }
-        ensures view { seat.new.me.0 ≡ merged seat.old.me.0 other.me.0 }
+        ensures view { seat.new.me.0 ≡ merged_sight seat.old.me.0 other.me.0 }
     {
         self.table.shared.join_seat::<TakeOver>(seat, other);
     }

@@ -14,7 +14,7 @@ use Rattle.sp_paths.specs.Paths.{IsVertex, IsSettled, IsLawful, word_at}
 use Rattle.sp_paths.specs.Phase.{TestedIsSettled}
 use Rattle.sp_paths.proofs.Least.{least_exists}
 use Rattle.sp_offer.specs.Order.{IsNoMore}
-use Rattle.sp_offer.specs.Story.{Knowledge, known}
+use Rattle.sp_offer.specs.Story.{Knowledge, known_table}
 use Rattle.sp_offer.proofs.Orders.{at_most-both}
 use Rattle.sp_bucket.specs.declared.entry.Entry.{Entry}
 use Rattle.sp_bucket.specs.Content.{Content, IsLowest, Takes, bucket_of}
@@ -62,25 +62,25 @@ module _ (P : ℕ) (st : Stage) (stage : IsStage P st) where
       absurd (h.2 (λ _. f.light_below e.vertex e.dist h.1.0 at was below, λ _. f.heavy_below e.vertex e.dist h.1.0 at was below)))
       (λ (above : low ≤ e.dist). above) (cases_lt e.dist low)
 
-  pub queue_past : (low : ℕ) (l : Lead) (c : Knowledge) (words : List Word) (q : Content) (b : Bounds) (open' : List Entry) → Learns P st l.caller c → IsCopied P st c l.marks.each words → ((v : ℕ) → IsVertex st.graph.n v → IsNoMore (word_at words v) (known l.caller.story v))
+  pub queue_past : (low : ℕ) (l : Lead) (c : Knowledge) (words : List Word) (q : Content) (b : Bounds) (open' : List Entry) → Learns P st l.caller c → IsCopied P st c l.marks.each words → ((v : ℕ) → IsVertex st.graph.n v → IsNoMore (word_at words v) (known_table l.caller.story v))
       → All (IsOpen words l.marks.each b) open' → IsPermutation (l.buckets.entries ++ open') q.entries → IsPast P st low low l → IsPast P st low low (record l { caller = c; words = words; buckets = q })
   queue_past low l c words q b open' learns copy under all moved past = record {
-    owes = owes_falls st.graph.n (known l.caller.story) (known c.story) l.marks learns.falls past.owes;
-    final = final_falls P st stage low low (known l.caller.story) (known c.story) l.marks.each learns.falls learns.lawful past.final;
+    owes = owes_falls st.graph.n (known_table l.caller.story) (known_table c.story) l.marks learns.falls past.owes;
+    final = final_falls P st stage low low (known_table l.caller.story) (known_table c.story) l.marks.each learns.falls learns.lawful past.final;
     entries = All-permutation (λ e. low ≤ e.dist) (l.buckets.entries ++ open') q.entries moved
-        (All-append (λ e. low ≤ e.dist) l.buckets.entries open' past.entries (open_later low (known l.caller.story) c l.marks.each words b copy under past.final open' all));
+        (All-append (λ e. low ≤ e.dist) l.buckets.entries open' past.entries (open_later low (known_table l.caller.story) c l.marks.each words b copy under past.final open' all));
   }
 
   -- ## Tests
 
   -- a bucket that passed its test is final
   pub final_tested : TestedIsSettled → (c : Knowledge) (marks : List Mark) (words : List Word) → IsCopied P st c marks words → (i : ℕ) (b : Bounds) → b.light ≡ (i + 1) * st.delta → b.heavy ≡ i * st.delta
-      → AreRelaxed words marks b (length words) → IsFinal P st ((i + 1) * st.delta) (i * st.delta) (known c.story) marks
+      → AreRelaxed words marks b (length words) → IsFinal P st ((i + 1) * st.delta) (i * st.delta) (known_table c.story) marks
   final_tested law c marks words copy i b light heavy all =
       let there : (v : ℕ) → IsVertex st.graph.n v → IsVertex (length words) v = λ v at. subst (λ k. IsVertex k v) (sym copy.size) at in
       let settled = test_settled P st c marks words copy i b light heavy all law in
-      let was : (v d p : ℕ) → IsVertex st.graph.n v → known c.story v ≡ Pair d p → d < (i + 1) * st.delta → word_at words v ≡ Pair d p
-      = λ v d p at is below. pair_was ((i + 1) * st.delta) (word_at words) settled v d p (known c.story v) is below (known_pair P st v (known c.story v) d p (copy.lawful v) is).1 (known_lawful P st v (known c.story v) (copy.lawful v)) (copy.above v at) in
+      let was : (v d p : ℕ) → IsVertex st.graph.n v → known_table c.story v ≡ Pair d p → d < (i + 1) * st.delta → word_at words v ≡ Pair d p
+      = λ v d p at is below. pair_was ((i + 1) * st.delta) (word_at words) settled v d p (known_table c.story v) is below (known_pair P st v (known_table c.story v) d p (copy.lawful v) is).1 (known_lawful P st v (known_table c.story v) (copy.lawful v)) (copy.above v at) in
       record {
         order = omega arith;
         settled = test_told P st c marks words copy law i b light heavy all;
@@ -114,8 +114,8 @@ module _ (P : ℕ) (st : Stage) (stage : IsStage P st) where
 
   past_learns : (light heavy : ℕ) (l : Lead) (c : Knowledge) → Learns P st l.caller c → IsPast P st light heavy l → IsPast P st light heavy (record l { caller = c })
   past_learns light heavy l c learns past = record {
-    owes = owes_falls st.graph.n (known l.caller.story) (known c.story) l.marks learns.falls past.owes;
-    final = final_falls P st stage light heavy (known l.caller.story) (known c.story) l.marks.each learns.falls learns.lawful past.final;
+    owes = owes_falls st.graph.n (known_table l.caller.story) (known_table c.story) l.marks learns.falls past.owes;
+    final = final_falls P st stage light heavy (known_table l.caller.story) (known_table c.story) l.marks.each learns.falls learns.lawful past.final;
     entries = past.entries;
   }
 
@@ -142,7 +142,7 @@ come_back P st (Some i) closed l come =
     let past = come.1 in
     record {
       owes = past.owes;
-      final = final_less P st ((i + 1) * st.delta) (i * st.delta) (end_of st.delta closed) (known l.caller.story) l.marks.each le past.final;
+      final = final_less P st ((i + 1) * st.delta) (i * st.delta) (end_of st.delta closed) (known_table l.caller.story) l.marks.each le past.final;
       entries = λ k none inside. (let h = past.entries k none inside in omega arith);
     }
 
@@ -215,7 +215,7 @@ level_reaches P l l' same keeps closed come =
 
 -- the lowest bucket is emptied, and passes its test
 pub bucket_reached : (P : ℕ) (l l1 l' : Lead) (i : ℕ) → IsStage P l.stage → l'.stage ≡ l.stage → l.buckets.delta ≡ l.stage.delta → IsLowest l.buckets i → KeepsPast P l l1 → Empties i l l1 → KeepsLevel P l1 l' → StaysFrom l1 l'
-    → IsFinal P l'.stage ((i + 1) * l'.stage.delta) (i * l'.stage.delta) (known l'.caller.story) l'.marks.each → Reaches P (Some i) l l'
+    → IsFinal P l'.stage ((i + 1) * l'.stage.delta) (i * l'.stage.delta) (known_table l'.caller.story) l'.marks.each → Reaches P (Some i) l l'
 bucket_reached P l l1 l' i stage same width lowest first emptied second kept final closed come =
     let low = end_of l.stage.delta closed in
     let now = second low (first low low come) in

@@ -15,7 +15,7 @@ use Rattle.sp_paths.specs.Phase.{IsMarkedCopy, SweptIsTree, SweptIsFar}
 use Rattle.sp_graph.specs.LeftOut.{network, IsLeastLeftOut}
 use Rattle.sp_paths.proofs.Walks.{arc_in, walk_by_parts}
 use Rattle.sp_offer.specs.Order.{IsKnownWord, IsNoMore}
-use Rattle.sp_offer.specs.Story.{Knowledge, known, IsCopy}
+use Rattle.sp_offer.specs.Story.{Knowledge, known_table, IsCopy}
 use Rattle.sp_bucket.specs.declared.entry.Entry.{Entry}
 use Rattle.sp_tree.specs.Table.{TreeTable, HasPredWithin, table_of, tree_of}
 use Rattle.sp_store.specs.declared.marks.Mark.{Mark}
@@ -32,9 +32,9 @@ use Rattle.sp_phase.proofs.LeaderHolds.{dist_pair}
 
 -- nothing is known of what is no vertex
 known_outside : (P : ℕ) (st : Stage) (v : ℕ) (w : Word) (d p : ℕ) → IsStage P st → (IsVertex st.graph.n v → ⊥) → IsKnownWord (law_of P st) v w → IsAtMost w d p → ⊥
-known_outside P st v Unreached d p stage out known le = le
-known_outside P st v (Pair e q) d p stage out known le =
-    out (walk_vertex st.graph st.source v e stage.graph stage.source (lawful_walk st.graph st.source v e q (known_pair P st v (Pair e q) e q known refl).0))
+known_outside P st v Unreached d p stage out known_table le = le
+known_outside P st v (Pair e q) d p stage out known_table le =
+    out (walk_vertex st.graph st.source v e stage.graph stage.source (lawful_walk st.graph st.source v e q (known_pair P st v (Pair e q) e q known_table refl).0))
 
 is_vertex : (n v : ℕ) → IsVertex n v ⊎ (IsVertex n v → ⊥)
 is_vertex n v = go (cases_lt 0 v) (cases_lt n v)
@@ -44,28 +44,28 @@ is_vertex n v = go (cases_lt 0 v) (cases_lt n v)
     go (inl low) (inl high) = inr (λ at. absurd (let h = at.1 in omega arith))
     go (inl low) (inr high) = inl (omega arith, high)
 
-module _ (P : ℕ) (st : Stage) (stage : IsStage P st) (before after : Knowledge) (m : Noted) (words : List Word) (h : Holds P st before m) (size : length words ≡ st.graph.n) (copy : IsCopy (law_of P st) words before.story after.story) (lawful : (v : ℕ) → IsKnownWord (law_of P st) v (known after.story v)) where
+module _ (P : ℕ) (st : Stage) (stage : IsStage P st) (before after : Knowledge) (m : Noted) (words : List Word) (h : Holds P st before m) (size : length words ≡ st.graph.n) (copy : IsCopy (law_of P st) words before.story after.story) (lawful : (v : ℕ) → IsKnownWord (law_of P st) v (known_table after.story v)) where
   low_enough : (v : ℕ) → IsVertex st.graph.n v → v ≤ length words
   low_enough v at = let k = at.1 in omega arith
 
   known_word : (v : ℕ) → IsVertex st.graph.n v → IsKnownWord (law_of P st) v (word_at words v)
   known_word v at = copy.lawful v at.0 (low_enough v at)
 
-  below : (v : ℕ) → IsVertex st.graph.n v → IsNoMore (word_at words v) (known before.story v)
+  below : (v : ℕ) → IsVertex st.graph.n v → IsNoMore (word_at words v) (known_table before.story v)
   below v at = copy.below v at.0 (low_enough v at)
 
-  no_greater : (v d p : ℕ) → IsVertex st.graph.n v ⊎ (IsVertex st.graph.n v → ⊥) → IsAtMost (known before.story v) d p → IsAtMost (word_at words v) d p
-  no_greater v d p (inl at) le = at_most_pair (word_at words v) (known before.story v) d p (below v at) le
-  no_greater v d p (inr out) le = absurd (known_outside P st v (known before.story v) d p stage out (h.running.lawful v) le)
+  no_greater : (v d p : ℕ) → IsVertex st.graph.n v ⊎ (IsVertex st.graph.n v → ⊥) → IsAtMost (known_table before.story v) d p → IsAtMost (word_at words v) d p
+  no_greater v d p (inl at) le = at_most_pair (word_at words v) (known_table before.story v) d p (below v at) le
+  no_greater v d p (inr out) le = absurd (known_outside P st v (known_table before.story v) d p stage out (h.running.lawful v) le)
 
-  of_copy : IsMarkedCopy st.graph st.source (max_dist P) st.delta (known before.story) (word_at words) (light_at m.each) (heavy_at m.each)
+  of_copy : IsMarkedCopy st.graph st.source (max_dist P) st.delta (known_table before.story) (word_at words) (light_at m.each) (heavy_at m.each)
   of_copy = record {
     graph = stage.graph;
     source = stage.source;
     wide = stage.wide;
     table = record {
       lawful = λ v at. known_lawful P st v (word_at words v) (known_word v at);
-      source = zero_stays (word_at words st.source) (known before.story st.source) h.running.source (below st.source stage.source);
+      source = zero_stays (word_at words st.source) (known_table before.story st.source) h.running.source (below st.source stage.source);
     };
     within = λ v d p at is. (known_pair P st v (word_at words v) d p (known_word v at) is).1;
     relaxed = h.running.relaxed;
@@ -74,7 +74,7 @@ module _ (P : ℕ) (st : Stage) (stage : IsStage P st) (before after : Knowledge
 
   pub copied : IsCopied P st after m.each words
   copied = record {
-    words = known before.story;
+    words = known_table before.story;
     of = of_copy;
     size = size;
     above = λ v at. copy.above v at.0 (low_enough v at);
@@ -131,9 +131,9 @@ module _ (P : ℕ) (st : Stage) (c : Knowledge) (marks : List Mark) (words : Lis
 
 -- the leader knows no more than the tree's words, and no less
 pub known_words : (P : ℕ) (st : Stage) (c : Knowledge) (marks : List Mark) (words : List Word) (t : TreeTable) → IsCopied P st c marks words → IsTree st.graph st.source (table_of t) → HasWords t st.graph.n (word_at words)
-    → HasWords t st.graph.n (known c.story)
+    → HasWords t st.graph.n (known_table c.story)
 known_words P st c marks words t copy tree has v at =
-    tree_known P st v (table_of t v) (known c.story v) (tree v at) (copy.lawful v) (subst (IsNoMore (known c.story v)) (has v at) (copy.above v at))
+    tree_known P st v (table_of t v) (known_table c.story v) (tree v at) (copy.lawful v) (subst (IsNoMore (known_table c.story v)) (has v at) (copy.above v at))
 
 -- ## The search for open vertices
 

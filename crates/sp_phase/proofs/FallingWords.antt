@@ -5,7 +5,7 @@ use Rattle.sp_word.specs.History.{Table}
 use Rattle.sp_paths.specs.Paths.{IsVertex, IsTreeWord, IsSettled}
 use Rattle.sp_paths.proofs.Least.{least_exists}
 use Rattle.sp_offer.specs.Order.{IsKnownWord, IsNoMore}
-use Rattle.sp_offer.specs.Story.{Knowledge, known}
+use Rattle.sp_offer.specs.Story.{Knowledge, known_table}
 use Rattle.sp_offer.proofs.Orders.{at_most-refl, at_most-trans}
 use Rattle.sp_task.specs.declared.task.Task.{Task}
 use Rattle.sp_store.specs.declared.marks.Mark.{Mark}
@@ -35,7 +35,7 @@ falls_trans a b c one two v = at_most-trans (c v) (b v) (a v) (two v) (one v)
 pub learns_trans : (P : ℕ) (st : Stage) (a b c : Knowledge) → Learns P st a b → Learns P st b c → Learns P st a c
 learns_trans P st a b c one two = record {
   table = two.table ∙ one.table;
-  falls = falls_trans (known a.story) (known b.story) (known c.story) one.falls two.falls;
+  falls = falls_trans (known_table a.story) (known_table b.story) (known_table c.story) one.falls two.falls;
   lawful = two.lawful;
 }
 
@@ -45,8 +45,8 @@ learns_round P st c tasks l l' learns ran =
     let later = ran.done.later in
     learns_trans P st c l.caller l'.caller learns (record { table = later.table; falls = later.falls; lawful = later.stays learns.lawful })
 
-pub learns_none : (P : ℕ) (st : Stage) (c : Knowledge) → ((v : ℕ) → IsKnownWord (law_of P st) v (known c.story v)) → Learns P st c c
-learns_none P st c lawful = record { table = refl; falls = falls_refl (known c.story); lawful = lawful }
+pub learns_none : (P : ℕ) (st : Stage) (c : Knowledge) → ((v : ℕ) → IsKnownWord (law_of P st) v (known_table c.story v)) → Learns P st c c
+learns_none P st c lawful = record { table = refl; falls = falls_refl (known_table c.story); lawful = lawful }
 
 pub same_trans : (a b c : List Mark) → SameDistances a b → SameDistances b c → SameDistances a c
 same_trans a b c one two = (

@@ -17,7 +17,7 @@ use Rattle.sp_task.specs.declared.task.TaskKind.{TaskKind}
 use Rattle.sp_task.specs.declared.task.TaskKind.TheVariants.{Light, Heavy}
 use Rattle.sp_task.specs.declared.task.Task.{Task}
 use Rattle.sp_task.specs.Offers.{Asked, arcs_of, arcs_of_kind, offer_along, offers_along, offers_of, AreSameOffers}
-use Rattle.sp_task.specs.Calls.{asked, entries, entry_of_reply, entry_of_call, word_offered}
+use Rattle.sp_task.specs.Calls.{question_of, entries, entry_of_reply, entry_of_call, word_offered}
 use Rattle.sp_store.specs.Stage.{Stage, rows_of}
 use Rattle.sp_phase.specs.Running.{IsQueued}
 
@@ -72,12 +72,12 @@ module _ (test : ℕ → ℕ → Bool) where
   of_call v (Offer word found reply) h = of_reply v word reply h
   of_call v (Read found) h = All-nil entry_passes
 
-  entries_pass : (calls : List Event) → All (λ a. passes a ≡ true) (map asked calls) → All entry_passes (entries calls)
+  entries_pass : (calls : List Event) → All (λ a. passes a ≡ true) (map question_of calls) → All entry_passes (entries calls)
   entries_pass [] all = All-nil entry_passes
   entries_pass (e ∷ es) all =
       All-append entry_passes (entry_of_call e.vertex e.call) (entries es)
-      (of_call e.vertex e.call (All-head (λ a. passes a ≡ true) (asked e) (map asked es) all))
-      (entries_pass es (All-tail (λ a. passes a ≡ true) (asked e) (map asked es) all))
+      (of_call e.vertex e.call (All-head (λ a. passes a ≡ true) (question_of e) (map question_of es) all))
+      (entries_pass es (All-tail (λ a. passes a ≡ true) (question_of e) (map question_of es) all))
 
 -- ## The test that is wanted here
 
@@ -127,10 +127,10 @@ module _ (n low max : ℕ) where
       (tasks_pass rows ts gr same (All-tail (λ t. low ≤ t.dist) t ts all))
 
 pub found_queued : (P : ℕ) (st : Stage) (low : ℕ) (tasks : List Task) (calls : List Event) (found : List Entry) → IsGraph st.graph → All (λ t. low ≤ t.dist) tasks
-    → AreSameOffers (map asked calls) (flat_map (offers_of (max_dist P) (rows_of st)) tasks) → found ≡ entries calls → All (IsQueued P st low) found
+    → AreSameOffers (map question_of calls) (flat_map (offers_of (max_dist P) (rows_of st)) tasks) → found ≡ entries calls → All (IsQueued P st low) found
 found_queued P st low tasks calls found gr above same is k d lt =
     let test = is_queued st.graph.n low (max_dist P) in
-    let all = entries_pass test calls (same_pass test (map asked calls) (flat_map (offers_of (max_dist P) (rows_of st)) tasks) same (tasks_pass st.graph.n low (max_dist P) (rows_of st) tasks gr refl above)) in
+    let all = entries_pass test calls (same_pass test (map question_of calls) (flat_map (offers_of (max_dist P) (rows_of st)) tasks) same (tasks_pass st.graph.n low (max_dist P) (rows_of st) tasks gr refl above)) in
     let every : All (entry_passes test) found = subst (λ xs. All (entry_passes test) xs) (sym is) all in
     let e = get_or found k d in
     queued_means st.graph.n low (max_dist P) e.vertex e.dist (every k d lt)
@@ -172,10 +172,10 @@ module _ (max : ℕ) (rows : Split) (words : Table) where
       All-append IsReached (offers_of max rows t) (flat_map (offers_of max rows) ts) (relaxed_along t.dist (arcs_of rows t) (All-head D t ts all)) (tasks_reach ts (All-tail D t ts all))
 
   -- each entry's vertex is known at its distance or a lesser one
-  pub found_known : (tasks : List Task) (calls : List Event) (found : List Entry) → All (λ t. All (IsArcRelaxed max words t.dist) (arcs_of rows t)) tasks → AreSameOffers (map asked calls) (flat_map (offers_of max rows) tasks) → found ≡ entries calls
+  pub found_known : (tasks : List Task) (calls : List Event) (found : List Entry) → All (λ t. All (IsArcRelaxed max words t.dist) (arcs_of rows t)) tasks → AreSameOffers (map question_of calls) (flat_map (offers_of max rows) tasks) → found ≡ entries calls
       → All (λ e. (d p : ℕ) × (words e.vertex ≡ Pair d p) × (d ≤ e.dist)) found
   found_known tasks calls found done same is k none lt =
-      let all = entries_pass test_known calls (same_pass test_known (map asked calls) (flat_map (offers_of max rows) tasks) same (tasks_reach tasks done)) in
+      let all = entries_pass test_known calls (same_pass test_known (map question_of calls) (flat_map (offers_of max rows) tasks) same (tasks_reach tasks done)) in
       let every : All (entry_passes test_known) found = subst (λ xs. All (entry_passes test_known) xs) (sym is) all in
       let e = get_or found k none in
       within_means (words e.vertex) e.dist (every k none lt)

@@ -10,7 +10,7 @@ use Rattle.std.proofs.lemmas.List.{take_more, take-append-drop, append-nil, leng
 use Rattle.sp_word.specs.Word.{Word, Pair, Unreached, dist_of, max_dist}
 use Rattle.sp_word.specs.History.{Table}
 use Rattle.sp_paths.specs.Paths.{IsGraph, IsVertex}
-use Rattle.sp_offer.specs.Story.{Knowledge, known}
+use Rattle.sp_offer.specs.Story.{Knowledge, known_table}
 use Rattle.sp_bucket.specs.declared.entry.Entry.{Entry}
 use Rattle.sp_bucket.specs.Content.{Content, bucket_of, Puts, Takes}
 use Rattle.sp_bucket.proofs.EntryPlaces.{All-before, All-behind}
@@ -33,7 +33,7 @@ pub holds_learns : (P : ℕ) (st : Stage) (before after : Knowledge) (m : Noted)
 holds_learns P st before after m learns h = record {
   stage = h.stage;
   table = learns.table ∙ h.table;
-  running = running_falls P st (known before.story) (known after.story) m.each learns.falls learns.lawful h.running;
+  running = running_falls P st (known_table before.story) (known_table after.story) m.each learns.falls learns.lawful h.running;
   remembered = h.remembered;
 }
 
@@ -50,7 +50,7 @@ pub holds_enters : (P : ℕ) (st : Stage) (c : Knowledge) (before after : Noted)
 holds_enters P st c before after v gr at same more h = record {
   stage = h.stage;
   table = h.table;
-  running = same_distances P st (known c.story) before.each after.each gr same h.running;
+  running = same_distances P st (known_table c.story) before.each after.each gr same h.running;
   remembered = remember_more st.graph.n v before after at more h.remembered;
 }
 
@@ -59,7 +59,7 @@ pub holds_forgets : (P : ℕ) (st : Stage) (c : Knowledge) (before after : Noted
 holds_forgets P st c before after gr same more h = record {
   stage = h.stage;
   table = h.table;
-  running = same_distances P st (known c.story) before.each after.each gr same h.running;
+  running = same_distances P st (known_table c.story) before.each after.each gr same h.running;
   remembered = subst (λ xs. All (IsVertex st.graph.n) xs) (sym more) h.remembered;
 }
 
@@ -68,10 +68,10 @@ dist_pair Unreached d is = absurd (cc)
 dist_pair (Pair e q) d is = let same : e ≡ d = cc in (q, λ i. Pair (same i) q)
 
 -- a vertex at the distance that was read is due
-pub read_due : (P : ℕ) (st : Stage) (c : Knowledge) (m : Noted) (v d : ℕ) (w : Word) (kind : TaskKind) → Holds P st c m → IsVertex st.graph.n v → known c.story v ≡ w → dist_of w ≡ Some d → IsDue P st (record { vertex = v; dist = d; kind = kind })
+pub read_due : (P : ℕ) (st : Stage) (c : Knowledge) (m : Noted) (v d : ℕ) (w : Word) (kind : TaskKind) → Holds P st c m → IsVertex st.graph.n v → known_table c.story v ≡ w → dist_of w ≡ Some d → IsDue P st (record { vertex = v; dist = d; kind = kind })
 read_due P st c m v d w kind h at read is =
     let pair = dist_pair w d is in
-    let told = known_pair P st v (known c.story v) d pair.0 (h.running.lawful v) (read ∙ pair.1) in
+    let told = known_pair P st v (known_table c.story v) d pair.0 (h.running.lawful v) (read ∙ pair.1) in
     (at, told.1, lawful_walk st.graph st.source v d pair.0 told.0)
 
 -- ## Rounds
@@ -87,7 +87,7 @@ module _ (P : ℕ) (st : Stage) (stage : IsStage P st) (tasks : List Task) (befo
   round_holds m m' h keeps same = record {
     stage = stage;
     table = done.later.table ∙ h.table;
-    running = keeps P st (known after.story) stage.graph done.relaxed (running_falls P st (known before.story) (known after.story) m.each done.later.falls (done.later.stays h.running.lawful) h.running);
+    running = keeps P st (known_table after.story) stage.graph done.relaxed (running_falls P st (known_table before.story) (known_table after.story) m.each done.later.falls (done.later.stays h.running.lawful) h.running);
     remembered = subst (λ xs. All (IsVertex st.graph.n) xs) (sym same) h.remembered;
   }
 
@@ -176,7 +176,7 @@ replicate_at (suc k) zero = refl
 replicate_at (suc k) (suc i) = replicate_at k i
 
 -- the leader of a run that begins
-pub first_leads : (P : ℕ) (st : Stage) (before : Knowledge) (l : Lead) (n : ℕ) (old : Content) → IsStage P st → before.table ≡ st.table → Learns P st before l.caller → known l.caller.story st.source ≡ Pair 0 0
+pub first_leads : (P : ℕ) (st : Stage) (before : Knowledge) (l : Lead) (n : ℕ) (old : Content) → IsStage P st → before.table ≡ st.table → Learns P st before l.caller → known_table l.caller.story st.source ≡ Pair 0 0
     → n ≡ st.graph.n → l.marks.each ≡ replicate n no_mark → l.marks.remembered ≡ [] → old.delta ≡ st.delta → old.entries ≡ []
     → Puts (record { vertex = st.source; dist = 0 }) old l.buckets → length l.words ≡ st.graph.n → Leads P st l
 first_leads P st before l n old stage caller learns source size marks remembered width empty puts words = record {

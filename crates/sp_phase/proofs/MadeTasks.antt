@@ -7,7 +7,7 @@ use Rattle.std.proofs.lemmas.List.Elements.{All-nil, All-cons, All-append, Conta
 use Rattle.sp_word.specs.Word.{Word, Unreached, Pair, dist_of}
 use Rattle.sp_paths.specs.Paths.{IsVertex}
 use Rattle.sp_offer.specs.Order.{IsKnownWord}
-use Rattle.sp_offer.specs.Story.{Knowledge, known}
+use Rattle.sp_offer.specs.Story.{Knowledge, known_table}
 use Rattle.sp_task.specs.declared.task.TaskKind.{TaskKind}
 use Rattle.sp_task.specs.declared.task.TaskKind.TheVariants.{Light, Heavy}
 use Rattle.sp_task.specs.declared.task.Task.{Task}
@@ -16,7 +16,7 @@ use Rattle.sp_store.specs.Stage.{Stage, Learns, law_of}
 use Rattle.sp_store.specs.Marks.{Noted, SameDistances, is_remembered, Enters, Forgets}
 use Rattle.sp_store.specs.Rounds.{HasTask, IsDue}
 use Rattle.sp_store.proofs.TaskMarks.{task_of}
-use Rattle.sp_phase.specs.Lead.{Lead, recalled}
+use Rattle.sp_phase.specs.Lead.{Lead, lead_without_memory}
 use Rattle.sp_phase.specs.Behind.{AreCarried, OwesHeavy, WasKnown, MakesTasks, MakesLight, MakesHeavy, HandsOver, IsFrom, HandsSome, Reads, MakesDue, PreparesLight, GivesHeavy, GivesSome}
 use Rattle.sp_phase.specs.Running.{Holds, Leads}
 use Rattle.sp_phase.proofs.LeaderHolds.{dist_pair, read_due, holds_learns}
@@ -30,25 +30,25 @@ module _ (P : ℕ) (st : Stage) where
   makes_none kind c c' m m' learns same = record {
     learns = learns;
     same = same;
-    known_once = All-nil (WasKnown P st (known c.story) (known c'.story));
+    known_once = All-nil (WasKnown P st (known_table c.story) (known_table c'.story));
     kinds = All-nil (λ t. t.kind ≡ kind);
   }
 
   -- a task at the distance that was read
-  pub makes_one : (kind : TaskKind) (c c' : Knowledge) (m m' : Noted) (v d : ℕ) (w : Word) → Learns P st c c' → SameDistances m.each m'.each → known c'.story v ≡ w → dist_of w ≡ Some d → MakesTasks P st kind c c' m m' (task_of kind v d ∷ [])
+  pub makes_one : (kind : TaskKind) (c c' : Knowledge) (m m' : Noted) (v d : ℕ) (w : Word) → Learns P st c c' → SameDistances m.each m'.each → known_table c'.story v ≡ w → dist_of w ≡ Some d → MakesTasks P st kind c c' m m' (task_of kind v d ∷ [])
   makes_one kind c c' m m' v d w learns same read is =
       let pair = dist_pair w d is in
       record {
         learns = learns;
         same = same;
-        known_once = All-cons (WasKnown P st (known c.story) (known c'.story)) (task_of kind v d) [] (record {
-          words = known c'.story;
+        known_once = All-cons (WasKnown P st (known_table c.story) (known_table c'.story)) (task_of kind v d) [] (record {
+          words = known_table c'.story;
           since = learns.falls;
-          until = falls_refl (known c'.story);
+          until = falls_refl (known_table c'.story);
           lawful = learns.lawful;
           pred = pair.0;
           here = read ∙ pair.1;
-        }) (All-nil (WasKnown P st (known c.story) (known c'.story)));
+        }) (All-nil (WasKnown P st (known_table c.story) (known_table c'.story)));
         kinds = All-cons (λ t. t.kind ≡ kind) (task_of kind v d) [] refl (All-nil (λ t. t.kind ≡ kind));
       }
 
@@ -60,15 +60,15 @@ module _ (P : ℕ) (st : Stage) where
         makes = makes_none Light c c' m m' learns (subst S (sym same) (same_refl m.each));
         grows = λ v h. subst (λ r. Contains r v) (sym list) h;
         owes = λ o. (
-          (let k = owes_falls st.graph.n (known c.story) (known c'.story) m learns.falls o in
+          (let k = owes_falls st.graph.n (known_table c.story) (known_table c'.story) m learns.falls o in
               let is : m ≡ m' = λ i. record { each = sym same i; remembered = sym list i } in
-              subst (λ n. OwesHeavy st.graph.n (known c'.story) n) is k),
+              subst (λ n. OwesHeavy st.graph.n (known_table c'.story) n) is k),
           All-nil (λ t. Contains m'.remembered t.vertex),
         );
       }
 
   -- a live vertex gives its light task
-  pub light_one : (c c' : Knowledge) (m m' : Noted) (v d : ℕ) (w : Word) → length m.each ≡ st.graph.n → IsVertex st.graph.n v → Learns P st c c' → SameDistances m.each m'.each → Enters m m' v → known c'.story v ≡ w → dist_of w ≡ Some d
+  pub light_one : (c c' : Knowledge) (m m' : Noted) (v d : ℕ) (w : Word) → length m.each ≡ st.graph.n → IsVertex st.graph.n v → Learns P st c c' → SameDistances m.each m'.each → Enters m m' v → known_table c'.story v ≡ w → dist_of w ≡ Some d
       → MakesLight P st c c' m m' (task_of Light v d ∷ [])
   light_one c c' m m' v d w size at learns same enters read is = record {
     makes = makes_one Light c c' m m' v d w learns same read is;
@@ -77,8 +77,8 @@ module _ (P : ℕ) (st : Stage) where
       record {
         listed = λ u there on. ⊎_elim {C = Contains m'.remembered u} (λ e. subst (Contains m'.remembered) (sym e) (here o enters.list)) (λ h. grows enters.list u (o.listed u there h)) (enters.flags u (in' u there) on);
         carried = λ u e there mark.
-            carried_as (known c'.story) m.each m'.each (Contains m.remembered) (Contains m'.remembered) u e (same.1 u (in' u there)).1 (grows enters.list u)
-            (carried_falls (known c.story) (known c'.story) m.each (Contains m.remembered) u e learns.falls (o.carried u e there (sym (same.1 u (in' u there)).0 ∙ mark)));
+            carried_as (known_table c'.story) m.each m'.each (Contains m.remembered) (Contains m'.remembered) u e (same.1 u (in' u there)).1 (grows enters.list u)
+            (carried_falls (known_table c.story) (known_table c'.story) m.each (Contains m.remembered) u e learns.falls (o.carried u e there (sym (same.1 u (in' u there)).0 ∙ mark)));
       },
       All-cons (λ t. Contains m'.remembered t.vertex) (task_of Light v d) [] (here o enters.list) (All-nil (λ t. Contains m'.remembered t.vertex)),
     );
@@ -91,7 +91,7 @@ module _ (P : ℕ) (st : Stage) where
       grows (inl kept) u h = subst (λ r. Contains r u) (sym kept.1) h
       grows (inr more) u h = subst (λ xs. Contains xs u) (sym more) (Contains-append_left m.remembered (v ∷ []) u h)
 
-      here : OwesHeavy st.graph.n (known c.story) m → ((is_remembered m.each v ≡ true) × (m'.remembered ≡ m.remembered)) ⊎ (m'.remembered ≡ m.remembered ++ v ∷ []) → Contains m'.remembered v
+      here : OwesHeavy st.graph.n (known_table c.story) m → ((is_remembered m.each v ≡ true) × (m'.remembered ≡ m.remembered)) ⊎ (m'.remembered ≡ m.remembered ++ v ∷ []) → Contains m'.remembered v
       here o (inl kept) = subst (λ r. Contains r v) (sym kept.1) (o.listed v at kept.0)
       here o (inr more) = subst (λ xs. Contains xs v) (sym more) (Contains-push m.remembered v)
 
@@ -100,17 +100,17 @@ module _ (P : ℕ) (st : Stage) where
   from_contains : (xs : List ℕ) (v : ℕ) → Contains xs v → IsFrom xs 0 v
   from_contains xs v there = let inside = there.1 in (there.0, omega arith, inside, get_or_default xs there.0 0 v inside ∙ there.2)
 
-  pub hands_none : (c : Knowledge) (m m' : Noted) (vertices : List ℕ) → ((v : ℕ) → IsKnownWord (law_of P st) v (known c.story v)) → m'.each ≡ m.each → vertices ≡ m.remembered → HandsSome P st c c m m' [] vertices 0
+  pub hands_none : (c : Knowledge) (m m' : Noted) (vertices : List ℕ) → ((v : ℕ) → IsKnownWord (law_of P st) v (known_table c.story v)) → m'.each ≡ m.each → vertices ≡ m.remembered → HandsSome P st c c m m' [] vertices 0
   hands_none c m m' vertices lawful same is =
       let S : List Mark → Type 0 = λ ms. SameDistances m.each ms in
       let F : List Mark → Type 0 = λ ms. (v : ℕ) → IsVertex st.graph.n v → is_remembered ms v ≡ true → IsFrom vertices 0 v in
-      let C : List Mark → Type 0 = λ ms. AreCarried st.graph.n (known c.story) ms (λ v. IsFrom vertices 0 v ⊎ ((d : ℕ) × HasTask [] Heavy v d)) in
+      let C : List Mark → Type 0 = λ ms. AreCarried st.graph.n (known_table c.story) ms (λ v. IsFrom vertices 0 v ⊎ ((d : ℕ) × HasTask [] Heavy v d)) in
       let from : (v : ℕ) → Contains m.remembered v → IsFrom vertices 0 v = λ v h. from_contains vertices v (subst (λ xs. Contains xs v) (sym is) h) in
       record {
         makes = makes_none Heavy c c m m' (learns_none P st c lawful) (subst S (sym same) (same_refl m.each));
         owes = λ o. (
           subst F (sym same) (λ v at on. from v (o.listed v at on)),
-          subst C (sym same) (λ v d at is'. carried_as (known c.story) m.each m.each (Contains m.remembered) (λ u. IsFrom vertices 0 u ⊎ ((e : ℕ) × HasTask [] Heavy u e)) v d refl (λ h. inl (from v h)) (o.carried v d at is')),
+          subst C (sym same) (λ v d at is'. carried_as (known_table c.story) m.each m.each (Contains m.remembered) (λ u. IsFrom vertices 0 u ⊎ ((e : ℕ) × HasTask [] Heavy u e)) v d refl (λ h. inl (from v h)) (o.carried v d at is')),
         );
       }
 
@@ -129,8 +129,8 @@ module _ (P : ℕ) (st : Stage) where
               let off = over.flags v (in' v at) on in
               left v (off.0) (from_step vertices i v ((before.owes owed).0 v at off.1)),
           λ v d at mark.
-              let k = carried_falls (known b.story) (known c'.story) m1.each (λ u. IsFrom vertices i u ⊎ ((e : ℕ) × HasTask tasks Heavy u e)) v d over.makes.learns.falls ((before.owes owed).1 v d at (sym (over.makes.same.1 v (in' v at)).0 ∙ mark)) in
-              carried_as (known c'.story) m1.each m'.each (λ u. IsFrom vertices i u ⊎ ((e : ℕ) × HasTask tasks Heavy u e)) (λ u. IsFrom vertices (i + 1) u ⊎ ((e : ℕ) × HasTask (tasks ++ option_to_list o) Heavy u e)) v d
+              let k = carried_falls (known_table b.story) (known_table c'.story) m1.each (λ u. IsFrom vertices i u ⊎ ((e : ℕ) × HasTask tasks Heavy u e)) v d over.makes.learns.falls ((before.owes owed).1 v d at (sym (over.makes.same.1 v (in' v at)).0 ∙ mark)) in
+              carried_as (known_table c'.story) m1.each m'.each (λ u. IsFrom vertices i u ⊎ ((e : ℕ) × HasTask tasks Heavy u e)) (λ u. IsFrom vertices (i + 1) u ⊎ ((e : ℕ) × HasTask (tasks ++ option_to_list o) Heavy u e)) v d
               (over.makes.same.1 v (in' v at)).1 (λ due. owing v (k.dist) (k.pred) k.word due) k,
         );
       })
@@ -142,14 +142,14 @@ module _ (P : ℕ) (st : Stage) where
       left v ne (inl here) = absurd (ne (sym here ∙ is))
       left v ne (inr later) = later
 
-      gives : (p : Option Task) → IfSome p (λ t. t.vertex ≡ x) → IfNone p (known c'.story x ≡ Unreached) → All (λ t. t.kind ≡ Heavy) (option_to_list p) → (d q : ℕ) → known c'.story x ≡ Pair d q → (e : ℕ) × HasTask (option_to_list p) Heavy x e
+      gives : (p : Option Task) → IfSome p (λ t. t.vertex ≡ x) → IfNone p (known_table c'.story x ≡ Unreached) → All (λ t. t.kind ≡ Heavy) (option_to_list p) → (d q : ℕ) → known_table c'.story x ≡ Pair d q → (e : ℕ) × HasTask (option_to_list p) Heavy x e
       gives None given none kinds d q word = absurd (let e : Unreached ≡ Pair d q = sym none ∙ word in cc)
       gives (Some t) given none kinds d q word =
           let kind : t.kind ≡ Heavy = kinds 0 t (omega arith) in
           let same : t ≡ task_of Heavy x t.dist = λ j. record { vertex = given j; dist = t.dist; kind = kind j } in
           (t.dist, subst (λ (u : Task). Contains (t ∷ []) u) same (0, omega arith, refl))
 
-      owing : (v d q : ℕ) → known c'.story v ≡ Pair d q → IsFrom vertices i v ⊎ ((e : ℕ) × HasTask tasks Heavy v e) → IsFrom vertices (i + 1) v ⊎ ((e : ℕ) × HasTask (tasks ++ option_to_list o) Heavy v e)
+      owing : (v d q : ℕ) → known_table c'.story v ≡ Pair d q → IsFrom vertices i v ⊎ ((e : ℕ) × HasTask tasks Heavy v e) → IsFrom vertices (i + 1) v ⊎ ((e : ℕ) × HasTask (tasks ++ option_to_list o) Heavy v e)
       owing v d q word (inr task) = inr (task.0, Contains-append_left tasks (option_to_list o) (task_of Heavy v task.0) task.1)
       owing v d q word (inl from) = step (from_step vertices i v from)
         where
@@ -157,7 +157,7 @@ module _ (P : ℕ) (st : Stage) where
           step (inr later) = inl later
           step (inl here) =
               let same : x ≡ v = sym is ∙ here in
-              let task = gives o over.given over.none over.makes.kinds d q (ap (λ u. known c'.story u) same ∙ word) in
+              let task = gives o over.given over.none over.makes.kinds d q (ap (λ u. known_table c'.story u) same ∙ word) in
               let H : ℕ → Type 0 = λ u. HasTask (tasks ++ option_to_list o) Heavy u task.0 in
               inr (task.0, subst H same (Contains-append_right tasks (option_to_list o) (task_of Heavy x task.0) task.1))
 
@@ -167,7 +167,7 @@ module _ (P : ℕ) (st : Stage) where
     makes = hands.makes;
     owes = λ o. (
       λ v at on. none v ((hands.owes o).0 v at on),
-      λ v d at mark. carried_as (known c'.story) m'.each m'.each (λ u. IsFrom vertices i u ⊎ ((e : ℕ) × HasTask tasks Heavy u e)) (λ u. (e : ℕ) × HasTask tasks Heavy u e) v d refl (λ due. given v due) ((hands.owes o).1 v d at mark),
+      λ v d at mark. carried_as (known_table c'.story) m'.each m'.each (λ u. IsFrom vertices i u ⊎ ((e : ℕ) × HasTask tasks Heavy u e)) (λ u. (e : ℕ) × HasTask tasks Heavy u e) v d refl (λ due. given v due) ((hands.owes o).1 v d at mark),
     );
   }
     where
@@ -210,7 +210,7 @@ light_idle P l l' reads = record {
 }
 
 -- it gives one where it was live
-pub light_given : (P v d : ℕ) (w : Word) (l l' : Lead) (m : Noted) → Leads P l'.stage l' → IsVertex l.stage.graph.n v → Reads P l l' → known l'.caller.story v ≡ w → SameDistances l'.marks.each m.each → Enters l'.marks m v → dist_of w ≡ Some d
+pub light_given : (P v d : ℕ) (w : Word) (l l' : Lead) (m : Noted) → Leads P l'.stage l' → IsVertex l.stage.graph.n v → Reads P l l' → known_table l'.caller.story v ≡ w → SameDistances l'.marks.each m.each → Enters l'.marks m v → dist_of w ≡ Some d
     → PreparesLight P (task_of Light v d ∷ []) l (record l' { marks = m })
 light_given P v d w l l' m led at reads word same enters is =
     let st = l.stage in
@@ -230,7 +230,7 @@ light_given P v d w l l' m led at reads word same enters is =
     }
 
 -- a vertex is forgotten, and then read
-module _ (P v : ℕ) (w : Word) (l l' : Lead) (m : Noted) (same : SameDistances l.marks.each m.each) (forgets : Forgets l.marks.each m.each v) (kept : m.remembered ≡ l.marks.remembered) (reads : Reads P (record l { marks = m }) l') (word : known l'.caller.story v ≡ w) where
+module _ (P v : ℕ) (w : Word) (l l' : Lead) (m : Noted) (same : SameDistances l.marks.each m.each) (forgets : Forgets l.marks.each m.each v) (kept : m.remembered ≡ l.marks.remembered) (reads : Reads P (record l { marks = m }) l') (word : known_table l'.caller.story v ≡ w) where
   heavy_given : (o : Option Task) → All (IsDue P l.stage) (option_to_list o) → HandsOver P l.stage l.caller l'.caller l.marks m v o → GivesHeavy P v o l l'
   heavy_given o due hands =
       let marks : l'.marks ≡ m = ap (λ x. x.marks) reads.rest in
@@ -265,7 +265,7 @@ module _ (P v : ℕ) (w : Word) (l l' : Lead) (m : Noted) (same : SameDistances 
       unreached_is (Pair d p) e = absurd (cc)
 
 pub heavy_begins : (P : ℕ) (l : Lead) (vertices : List ℕ) → Leads P l.stage l → vertices ≡ l.marks.remembered
-    → GivesSome P [] vertices 0 l (recalled l)
+    → GivesSome P [] vertices 0 l (lead_without_memory l)
 heavy_begins P l vertices led is = record {
   due = record { stage = refl; buckets = refl; due = All-nil (IsDue P l.stage) };
   hands = hands_none P l.stage l.caller l.marks (record l.marks { remembered = [] }) vertices led.holds.running.lawful refl is;

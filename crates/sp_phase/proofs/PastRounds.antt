@@ -8,7 +8,7 @@ use Rattle.sp_word.specs.Word.{Pair, max_dist}
 use Rattle.sp_word.specs.History.{Table}
 use Rattle.sp_paths.specs.Paths.{IsVertex, IsSettled}
 use Rattle.sp_offer.specs.Order.{IsKnownWord}
-use Rattle.sp_offer.specs.Story.{Knowledge, known}
+use Rattle.sp_offer.specs.Story.{Knowledge, known_table}
 use Rattle.sp_bucket.specs.declared.entry.Entry.{Entry}
 use Rattle.sp_task.specs.declared.task.TaskKind.{TaskKind}
 use Rattle.sp_task.specs.declared.task.TaskKind.TheVariants.{Light, Heavy}
@@ -51,9 +51,9 @@ module _ (P : ℕ) (st : Stage) where
 
   pub makes_more : (kind : TaskKind) (a b c : Knowledge) (m m1 m2 : Noted) (ts us : List Task) → MakesTasks P st kind a b m m1 ts → MakesTasks P st kind b c m1 m2 us → MakesTasks P st kind a c m m2 (ts ++ us)
   makes_more kind a b c m m1 m2 ts us one two =
-      let first = known a.story in
-      let later = known b.story in
-      let last = known c.story in
+      let first = known_table a.story in
+      let later = known_table b.story in
+      let last = known_table c.story in
       record {
         learns = learns_trans P st a b c one.learns two.learns;
         same = same_trans m.each m1.each m2.each one.same two.same;
@@ -195,41 +195,41 @@ module _ (P : ℕ) (st : Stage) (stage : IsStage P st) (first last : Table) (tas
 
 module _ (P : ℕ) (st : Stage) (stage : IsStage P st) where
   -- what a round finds lies behind nothing
-  found_later : (tasks : List Task) (before after : Knowledge) (found : List Entry) → RoundDone (law_of P st) (max_dist P) (rows_of st) tasks before after found → ((v : ℕ) → IsKnownWord (law_of P st) v (known before.story v)) → (light : ℕ) → IsSettled st.graph st.source (max_dist P) light (known before.story) → EntriesFrom light found
+  found_later : (tasks : List Task) (before after : Knowledge) (found : List Entry) → RoundDone (law_of P st) (max_dist P) (rows_of st) tasks before after found → ((v : ℕ) → IsKnownWord (law_of P st) v (known_table before.story v)) → (light : ℕ) → IsSettled st.graph st.source (max_dist P) light (known_table before.story) → EntriesFrom light found
   found_later tasks before after found done lawful light settled k none inside =
       let e = get_or found k none in
-      let now = found_known (max_dist P) (rows_of st) (known after.story) tasks done.calls found done.relaxed done.each done.shorter k none inside in
+      let now = found_known (max_dist P) (rows_of st) (known_table after.story) tasks done.calls found done.relaxed done.each done.shorter k none inside in
       let low : now.0 ≤ e.dist = now.3 in
       ⊎_elim {C = light ≤ e.dist}
       (λ (below : e.dist < light).
-      let was = known_before P st stage (known before.story) (known after.story) done.later.falls (done.later.stays lawful) light settled e.vertex now.0 now.1 now.2 (omega arith) in
+      let was = known_before P st stage (known_table before.story) (known_table after.story) done.later.falls (done.later.stays lawful) light settled e.vertex now.0 now.1 now.2 (omega arith) in
       let less : e.dist < now.0 = done.nearer k none inside now.0 now.1 was in
       absurd (omega arith))
       (λ (above : light ≤ e.dist). above) (cases_lt e.dist light)
 
-  module _ (c : Knowledge) (m : Noted) (l l' : Lead) (tasks : List Task) (h : Holds P st c m) (ran : HasRun P st tasks l l') (light heavy : ℕ) (entries : EntriesFrom light l.buckets.entries) (final : IsFinal P st light heavy (known c.story) m.each) where
+  module _ (c : Knowledge) (m : Noted) (l l' : Lead) (tasks : List Task) (h : Holds P st c m) (ran : HasRun P st tasks l l') (light heavy : ℕ) (entries : EntriesFrom light l.buckets.entries) (final : IsFinal P st light heavy (known_table c.story) m.each) where
     -- the round keeps what is final
-    round_final : (kind : TaskKind) → MakesTasks P st kind c l.caller m l.marks tasks → IsFinal P st light heavy (known l'.caller.story) l'.marks.each
+    round_final : (kind : TaskKind) → MakesTasks P st kind c l.caller m l.marks tasks → IsFinal P st light heavy (known_table l'.caller.story) l'.marks.each
     round_final kind makes =
         let size : length m.each ≡ st.graph.n = h.running.size in
-        let then = final_falls P st stage light heavy (known c.story) (known l.caller.story) m.each makes.learns.falls makes.learns.lawful final in
-        let made = final_same P st stage light heavy (known l.caller.story) m.each l.marks.each size makes.same then in
-        let done = final_marked P st stage (known c.story) (known l.caller.story) tasks makes.known_once makes.learns.lawful light heavy l.marks.each l'.marks.each (makes.same.0 ∙ size) final.settled ran.marked made in
-        final_falls P st stage light heavy (known l.caller.story) (known l'.caller.story) l'.marks.each ran.done.later.falls (ran.done.later.stays makes.learns.lawful) done
+        let then = final_falls P st stage light heavy (known_table c.story) (known_table l.caller.story) m.each makes.learns.falls makes.learns.lawful final in
+        let made = final_same P st stage light heavy (known_table l.caller.story) m.each l.marks.each size makes.same then in
+        let done = final_marked P st stage (known_table c.story) (known_table l.caller.story) tasks makes.known_once makes.learns.lawful light heavy l.marks.each l'.marks.each (makes.same.0 ∙ size) final.settled ran.marked made in
+        final_falls P st stage light heavy (known_table l.caller.story) (known_table l'.caller.story) l'.marks.each ran.done.later.falls (ran.done.later.stays makes.learns.lawful) done
 
     round_entries_later : (kind : TaskKind) → MakesTasks P st kind c l.caller m l.marks tasks → EntriesFrom light l'.buckets.entries
     round_entries_later kind makes =
-        let settled = settled_stays P st (known c.story) (known l.caller.story) makes.learns.falls makes.learns.lawful light final.settled in
+        let settled = settled_stays P st (known_table c.story) (known_table l.caller.story) makes.learns.falls makes.learns.lawful light final.settled in
         All-permutation (λ e. light ≤ e.dist) (l.buckets.entries ++ ran.found) l'.buckets.entries ran.entries
         (All-append (λ e. light ≤ e.dist) l.buckets.entries ran.found entries (found_later tasks l.caller l'.caller ran.found ran.done makes.learns.lawful light settled))
 
-    pub light_past : MakesLight P st c l.caller m l.marks tasks → OwesHeavy st.graph.n (known c.story) m → IsPast P st light heavy l'
+    pub light_past : MakesLight P st c l.caller m l.marks tasks → OwesHeavy st.graph.n (known_table c.story) m → IsPast P st light heavy l'
     light_past light' owes =
         let o = light'.owes owes in
         let size : length l.marks.each ≡ st.graph.n = light'.makes.same.0 ∙ h.running.size in
         record {
-          owes = owes_falls st.graph.n (known l.caller.story) (known l'.caller.story) l'.marks ran.done.later.falls
-              (owes_light P st stage (known c.story) (known l.caller.story) tasks light'.makes.known_once light'.makes.learns.lawful st.graph.n l.marks l'.marks size light'.makes.kinds o.1 ran.marked ran.remembered o.0);
+          owes = owes_falls st.graph.n (known_table l.caller.story) (known_table l'.caller.story) l'.marks ran.done.later.falls
+              (owes_light P st stage (known_table c.story) (known_table l.caller.story) tasks light'.makes.known_once light'.makes.learns.lawful st.graph.n l.marks l'.marks size light'.makes.kinds o.1 ran.marked ran.remembered o.0);
           final = round_final Light light'.makes;
           entries = round_entries_later Light light'.makes;
         }
@@ -246,14 +246,14 @@ module _ (P : ℕ) (st : Stage) (stage : IsStage P st) where
           ⊎_elim {C = heavy_at m'.each v ≡ Some d} (λ done. done) (λ there. absurd (let low = (subst (λ xs. Contains xs v) none there).1 in omega arith)) (k.heavy same);
     }
 
-    pub heavy_past : MakesHeavy P st c l.caller m l.marks tasks → l.marks.remembered ≡ [] → OwesHeavy st.graph.n (known c.story) m → IsPast P st light light l'
+    pub heavy_past : MakesHeavy P st c l.caller m l.marks tasks → l.marks.remembered ≡ [] → OwesHeavy st.graph.n (known_table c.story) m → IsPast P st light light l'
     heavy_past heavy' none owes =
         let o = heavy'.owes owes in
-        let now = owes_falls st.graph.n (known l.caller.story) (known l'.caller.story) l'.marks ran.done.later.falls
-        (owes_heavy P st stage (known c.story) (known l.caller.story) tasks heavy'.makes.known_once heavy'.makes.learns.lawful st.graph.n m l.marks l'.marks h.running.size heavy'.makes.same heavy'.makes.kinds ran.marked owes o.0 o.1) in
+        let now = owes_falls st.graph.n (known_table l.caller.story) (known_table l'.caller.story) l'.marks ran.done.later.falls
+        (owes_heavy P st stage (known_table c.story) (known_table l.caller.story) tasks heavy'.makes.known_once heavy'.makes.learns.lawful st.graph.n m l.marks l'.marks h.running.size heavy'.makes.same heavy'.makes.kinds ran.marked owes o.0 o.1) in
         record {
           owes = now;
-          final = no_more_owed (known l'.caller.story) l'.marks (ran.remembered ∙ none) now (round_final Heavy heavy'.makes);
+          final = no_more_owed (known_table l'.caller.story) l'.marks (ran.remembered ∙ none) now (round_final Heavy heavy'.makes);
           entries = round_entries_later Heavy heavy'.makes;
         }
 

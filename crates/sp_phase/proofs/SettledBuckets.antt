@@ -10,7 +10,7 @@ use Rattle.sp_paths.specs.Phase.{PassesTest, TestedIsSettled, TestedIsPair, Swep
 use Rattle.sp_paths.proofs.Least.{least_exists}
 use Rattle.sp_graph.specs.LeftOut.{IsLeastLeftOut}
 use Rattle.sp_offer.specs.Order.{IsKnownWord}
-use Rattle.sp_offer.specs.Story.{Knowledge, known}
+use Rattle.sp_offer.specs.Story.{Knowledge, known_table}
 use Rattle.sp_bucket.specs.declared.entry.Entry.{Entry}
 use Rattle.sp_bucket.specs.Content.{Content, IsLowest}
 use Rattle.sp_store.specs.declared.marks.Mark.{Mark}
@@ -35,19 +35,19 @@ module _ (P : ℕ) (st : Stage) (stage : IsStage P st) (words : Table) (lawful :
 
 module _ (P : ℕ) (st : Stage) (c : Knowledge) (marks : List Mark) (words : List Word) (copy : IsCopied P st c marks words) where
   -- where the copy has the tree's word, the caller knows it
-  pub same_word : (v : ℕ) → IsVertex st.graph.n v → IsTreeWord st.graph st.source v (word_at words v) → known c.story v ≡ word_at words v
-  same_word v at tree = tree_known P st v (word_at words v) (known c.story v) tree (copy.lawful v) (copy.above v at)
+  pub same_word : (v : ℕ) → IsVertex st.graph.n v → IsTreeWord st.graph st.source v (word_at words v) → known_table c.story v ≡ word_at words v
+  same_word v at tree = tree_known P st v (word_at words v) (known_table c.story v) tree (copy.lawful v) (copy.above v at)
 
-  tree_word : (v : ℕ) → IsVertex st.graph.n v → IsTreeWord st.graph st.source v (word_at words v) → IsTreeWord st.graph st.source v (known c.story v)
+  tree_word : (v : ℕ) → IsVertex st.graph.n v → IsTreeWord st.graph st.source v (word_at words v) → IsTreeWord st.graph st.source v (known_table c.story v)
   tree_word v at tree = subst (IsTreeWord st.graph st.source v) (sym (same_word v at tree)) tree
 
-  pub settled_known : (bound : ℕ) → IsSettled st.graph st.source (max_dist P) bound (word_at words) → IsSettled st.graph st.source (max_dist P) bound (known c.story)
+  pub settled_known : (bound : ℕ) → IsSettled st.graph st.source (max_dist P) bound (word_at words) → IsSettled st.graph st.source (max_dist P) bound (known_table c.story)
   settled_known bound settled v d least below fits = tree_word v (walk_vertex st.graph st.source v d copy.stage.graph copy.stage.source least.walk) (settled v d least below fits)
 
-  pub ends_known : EndsInTree st.graph st.source (max_dist P) (word_at words) → EndsInTree st.graph st.source (max_dist P) (known c.story)
+  pub ends_known : EndsInTree st.graph st.source (max_dist P) (word_at words) → EndsInTree st.graph st.source (max_dist P) (known_table c.story)
   ends_known ends = record {
     near = λ v near. tree_word v (walk_vertex st.graph st.source v near.0 copy.stage.graph copy.stage.source near.1.walk) (ends.near v near);
-    others = λ v at far. far_unknown P st copy.stage (known c.story) copy.lawful v (known c.story v) refl far;
+    others = λ v at far. far_unknown P st copy.stage (known_table c.story) copy.lawful v (known_table c.story v) refl far;
   }
 
   -- the test of a bucket passed
@@ -107,13 +107,13 @@ module _ (P : ℕ) (st : Stage) (before after : Table) (falls : Falls before aft
   pub settled_stays : (bound : ℕ) → IsSettled st.graph st.source (max_dist P) bound before → IsSettled st.graph st.source (max_dist P) bound after
   settled_stays bound settled v d least below fits = tree_stays v (settled v d least below fits)
 
-module _ (P : ℕ) (st : Stage) (stage : IsStage P st) (before after : Knowledge) (falls : Falls (known before.story) (known after.story)) (lawful : (v : ℕ) → IsKnownWord (law_of P st) v (known after.story v)) where
+module _ (P : ℕ) (st : Stage) (stage : IsStage P st) (before after : Knowledge) (falls : Falls (known_table before.story) (known_table after.story)) (lawful : (v : ℕ) → IsKnownWord (law_of P st) v (known_table after.story v)) where
   pub told_stays : (bucket : Option ℕ) → IsTold P st bucket before → IsTold P st bucket after
   told_stays None ends = record {
-    near = λ v near. tree_stays P st (known before.story) (known after.story) falls lawful v (ends.near v near);
-    others = λ v at far. far_unknown P st stage (known after.story) lawful v (known after.story v) refl far;
+    near = λ v near. tree_stays P st (known_table before.story) (known_table after.story) falls lawful v (ends.near v near);
+    others = λ v at far. far_unknown P st stage (known_table after.story) lawful v (known_table after.story v) refl far;
   }
-  told_stays (Some i) settled = settled_stays P st (known before.story) (known after.story) falls lawful ((i + 1) * st.delta) settled
+  told_stays (Some i) settled = settled_stays P st (known_table before.story) (known_table after.story) falls lawful ((i + 1) * st.delta) settled
 
 -- ## The end of a bucket fits 64 bits
 

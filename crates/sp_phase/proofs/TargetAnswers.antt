@@ -16,7 +16,7 @@ use Rattle.sp_team.specs.Shown.{Shows, LeadsOut, IsClosedUpTo, IsArcRelaxed as I
 use Rattle.sp_team.specs.declared.scan.Scan.TheVariants.{Whole, LeavesOut}
 use Rattle.sp_phase.specs.declared.reach.PairAnswer.{PairAnswer as Told}
 use Rattle.sp_phase.specs.WholeRun.{IsPlace, IsOfWalks, IsRelaxedCopy}
-use Rattle.sp_phase.specs.Reach.{Reached, AnswersTargets, IsAnswerFor, IsUpTo, answer_of, answer_by, reached}
+use Rattle.sp_phase.specs.Reach.{Reached, AnswersTargets, IsAnswerFor, IsUpTo, answer_of, answer_by, reach_of}
 use Rattle.sp_phase.proofs.WholeRun.{whole_left}
 
 -- what the word of the target at a place tells
@@ -50,7 +50,7 @@ module _ (P : ℕ) (run : WalksFrom) (place : IsPlace P run) (words : List Word)
   near_answer far closed t at (Pair d p) is up =
       passed_is_pair run.graph run.source (max_dist P) (far + 1) 0 (word_at words) (passed far closed) t d p at is (omega (arith, up)) (copy.2 t d p at is)
 
-  pub near_answers : (far : ℕ) (targets : List ℕ) → IsClosedUpTo run.graph (max_dist P) far (word_at words) → All (IsVertex run.graph.n) targets → All (λ t. IsUpTo far (word_at words t)) targets → AnswersTargets P (reached run targets) words None
+  pub near_answers : (far : ℕ) (targets : List ℕ) → IsClosedUpTo run.graph (max_dist P) far (word_at words) → All (IsVertex run.graph.n) targets → All (λ t. IsUpTo far (word_at words t)) targets → AnswersTargets P (reach_of run targets) words None
   near_answers far targets closed vertices up = record {
     size = copy.0;
     vertices = vertices;
@@ -83,15 +83,15 @@ module _ (P : ℕ) (run : WalksFrom) (place : IsPlace P run) (words : List Word)
   whole_answer_by (Some v) relaxed left t at Unreached is = (finished_is_pair run.graph run.source (max_dist P) (word_at words) relaxed.1 t).too_far v is left.0 left.1
   whole_answer_by None relaxed left t at Unreached is = (finished_is_pair run.graph run.source (max_dist P) (word_at words) relaxed.1 t).no_walk is left
 
-  whole_answers : (far : Option ℕ) (targets : List ℕ) → IsRelaxedCopy P run words → IsLeastLeftOut run.graph (word_at words) far → All (IsVertex run.graph.n) targets → AnswersTargets P (reached run targets) words far
+  whole_answers : (far : Option ℕ) (targets : List ℕ) → IsRelaxedCopy P run words → IsLeastLeftOut run.graph (word_at words) far → All (IsVertex run.graph.n) targets → AnswersTargets P (reach_of run targets) words far
   whole_answers far targets relaxed left vertices = record {
     size = copy.0;
     vertices = vertices;
     answers = λ k d low. whole_answer_by far relaxed left (get_or targets k d) (vertices k d low) (word_at words (get_or targets k d)) refl;
   }
 
-  pub answers_whole : (targets : List ℕ) → All (IsVertex run.graph.n) targets → Shows (max_dist P) (word_at words) run.graph.arcs Whole → AnswersTargets P (reached run targets) words None
+  pub answers_whole : (targets : List ℕ) → All (IsVertex run.graph.n) targets → Shows (max_dist P) (word_at words) run.graph.arcs Whole → AnswersTargets P (reach_of run targets) words None
   answers_whole targets vertices shows = whole_answers None targets (relaxed shows.0) (whole_left P run words shows) vertices
 
-  pub answers_left : (v : ℕ) (targets : List ℕ) → All (IsVertex run.graph.n) targets → Shows (max_dist P) (word_at words) run.graph.arcs (LeavesOut v) → AnswersTargets P (reached run targets) words (Some v)
+  pub answers_left : (v : ℕ) (targets : List ℕ) → All (IsVertex run.graph.n) targets → Shows (max_dist P) (word_at words) run.graph.arcs (LeavesOut v) → AnswersTargets P (reach_of run targets) words (Some v)
   answers_left v targets vertices shows = whole_answers (Some v) targets (relaxed shows.0) (left_left v shows) vertices

@@ -4,7 +4,7 @@ use Rattle.sp_word.specs.Word.{Pair, Unreached, max_dist}
 use Rattle.sp_word.specs.History.{Table}
 use Rattle.sp_paths.specs.Paths.{IsVertex, IsSettled}
 use Rattle.sp_offer.specs.Order.{IsKnownWord}
-use Rattle.sp_offer.specs.Story.{Knowledge, known}
+use Rattle.sp_offer.specs.Story.{Knowledge, known_table}
 use Rattle.sp_bucket.specs.declared.entry.Entry.{Entry}
 use Rattle.sp_task.specs.declared.task.TaskKind.{TaskKind}
 use Rattle.sp_task.specs.declared.task.TaskKind.TheVariants.{Light, Heavy}
@@ -44,8 +44,8 @@ pub record IsFinal (P : ℕ) (st : Stage) (light heavy : ℕ) (words : Table) (m
 
 -- so it is for the leader, which has no entry below `light`
 pub record IsPast (P : ℕ) (st : Stage) (light heavy : ℕ) (l : Lead) : Type 0 where
-  pub owes : OwesHeavy st.graph.n (known l.caller.story) l.marks
-  pub final : IsFinal P st light heavy (known l.caller.story) l.marks.each
+  pub owes : OwesHeavy st.graph.n (known_table l.caller.story) l.marks
+  pub final : IsFinal P st light heavy (known_table l.caller.story) l.marks.each
   pub entries : EntriesFrom light l.buckets.entries
 
 -- where the buckets after the closed one begin
@@ -73,19 +73,19 @@ pub record WasKnown (P : ℕ) (st : Stage) (first last : Table) (t : Task) : Typ
 pub record MakesTasks (P : ℕ) (st : Stage) (kind : TaskKind) (c c' : Knowledge) (m m' : Noted) (tasks : List Task) : Type 0 where
   pub learns : Learns P st c c'
   pub same : SameDistances m.each m'.each
-  pub known_once : All (WasKnown P st (known c.story) (known c'.story)) tasks
+  pub known_once : All (WasKnown P st (known_table c.story) (known_table c'.story)) tasks
   pub kinds : All (λ t. t.kind ≡ kind) tasks
 
 -- light tasks: their vertices are remembered
 pub record MakesLight (P : ℕ) (st : Stage) (c c' : Knowledge) (m m' : Noted) (tasks : List Task) : Type 0 where
   pub makes : MakesTasks P st Light c c' m m' tasks
   pub grows : (v : ℕ) → Contains m.remembered v → Contains m'.remembered v
-  pub owes : OwesHeavy st.graph.n (known c.story) m → OwesHeavy st.graph.n (known c'.story) m' × All (λ t. Contains m'.remembered t.vertex) tasks
+  pub owes : OwesHeavy st.graph.n (known_table c.story) m → OwesHeavy st.graph.n (known_table c'.story) m' × All (λ t. Contains m'.remembered t.vertex) tasks
 
 -- heavy tasks: what was remembered is no more, and its heavy arcs are owed by the tasks
 pub record MakesHeavy (P : ℕ) (st : Stage) (c c' : Knowledge) (m m' : Noted) (tasks : List Task) : Type 0 where
   pub makes : MakesTasks P st Heavy c c' m m' tasks
-  pub owes : OwesHeavy st.graph.n (known c.story) m → ((v : ℕ) → IsVertex st.graph.n v → is_remembered m'.each v ≡ true → ⊥) × AreCarried st.graph.n (known c'.story) m'.each (λ v. (d : ℕ) × HasTask tasks Heavy v d)
+  pub owes : OwesHeavy st.graph.n (known_table c.story) m → ((v : ℕ) → IsVertex st.graph.n v → is_remembered m'.each v ≡ true → ⊥) × AreCarried st.graph.n (known_table c'.story) m'.each (λ v. (d : ℕ) × HasTask tasks Heavy v d)
 
 -- a round of tasks was run
 pub record HasRun (P : ℕ) (st : Stage) (tasks : List Task) (l l' : Lead) : Type 0 where
@@ -102,7 +102,7 @@ pub record HasRun (P : ℕ) (st : Stage) (tasks : List Task) (l l' : Lead) : Typ
 pub record HandsOver (P : ℕ) (st : Stage) (c c' : Knowledge) (m m' : Noted) (v : ℕ) (task : Option Task) : Type 0 where
   pub makes : MakesTasks P st Heavy c c' m m' (option_to_list task)
   pub given : IfSome task (λ t. t.vertex ≡ v)
-  pub none : IfNone task (known c'.story v ≡ Unreached)
+  pub none : IfNone task (known_table c'.story v ≡ Unreached)
   pub flags : Forgets m.each m'.each v
 
 -- one of the vertices from place i on
@@ -112,9 +112,9 @@ IsFrom vertices i v = (k : ℕ) × (i ≤ k) × (k < length vertices) × (slice_
 -- the vertices before place i gave their heavy tasks
 pub record HandsSome (P : ℕ) (st : Stage) (c c' : Knowledge) (m m' : Noted) (tasks : List Task) (vertices : List ℕ) (i : ℕ) : Type 0 where
   pub makes : MakesTasks P st Heavy c c' m m' tasks
-  pub owes : OwesHeavy st.graph.n (known c.story) m
+  pub owes : OwesHeavy st.graph.n (known_table c.story) m
       → ((v : ℕ) → IsVertex st.graph.n v → is_remembered m'.each v ≡ true → IsFrom vertices i v)
-      × AreCarried st.graph.n (known c'.story) m'.each (λ v. IsFrom vertices i v ⊎ ((d : ℕ) × HasTask tasks Heavy v d))
+      × AreCarried st.graph.n (known_table c'.story) m'.each (λ v. IsFrom vertices i v ⊎ ((d : ℕ) × HasTask tasks Heavy v d))
 
 -- ## What a leader does
 

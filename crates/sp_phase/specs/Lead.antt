@@ -5,7 +5,7 @@ use Rattle.sp_offer.specs.Story.{Knowledge}
 use Rattle.sp_bucket.specs.Content.{Content}
 use Rattle.sp_store.specs.declared.marks.Marks.{Marks}
 use Rattle.sp_store.specs.Stage.{Stage}
-use Rattle.sp_store.specs.Marks.{Noted, noted}
+use Rattle.sp_store.specs.Marks.{Noted, notes_of}
 
 -- the store's stage, the caller, what is written down of the vertices, what is queued, and a copy of all words
 pub record Lead : Type 0 where
@@ -16,8 +16,8 @@ pub record Lead : Type 0 where
   pub words : List Word
 
 abbrev pub lead_of : Stage → Knowledge → Marks → Content → List Word → Lead
-lead_of st c m b words = record { stage = st; caller = c; marks = noted m; buckets = b; words = words }
+lead_of st c m b words = record { stage = st; caller = c; marks = notes_of m; buckets = b; words = words }
 
 -- nothing is remembered any more
-abbrev pub recalled : Lead → Lead
-recalled l = record l { marks = record l.marks { remembered = [] } }
+abbrev pub lead_without_memory : Lead → Lead
+lead_without_memory l = record l { marks = record l.marks { remembered = [] } }

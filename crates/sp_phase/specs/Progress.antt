@@ -1,7 +1,7 @@
 -- What contracts see of a run.
 use Rattle.std.specs.Prelude.{◌≡◌, ℕ, Option, Some, None, IsSome, IsSomeAnd}
 use Rattle.sp_word.specs.Word.{Word}
-use Rattle.sp_offer.specs.Story.{Knowledge, known}
+use Rattle.sp_offer.specs.Story.{Knowledge, known_table}
 use Rattle.sp_store.specs.declared.answers.RunError.{RunError}
 use Rattle.sp_store.specs.declared.answers.RunError.TheVariants.{Memory, TooFar, NoSuchVertex}
 use Rattle.sp_store.specs.Stage.{Stage}
@@ -37,7 +37,7 @@ IsAsFar before after = (after.settled ≡ before.settled) × (after.closed ≡ b
 
 -- the caller's word of the vertex
 abbrev pub HasRead : Progress → (v : ℕ) → Word → Type 0
-HasRead run v word = IsSomeAnd run.caller (λ c. known c.story v ≡ word)
+HasRead run v word = IsSomeAnd run.caller (λ c. known_table c.story v ≡ word)
 
 -- nothing but a growth was refused
 abbrev pub IsMemory : RunError → Type 0

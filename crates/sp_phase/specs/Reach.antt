@@ -15,8 +15,8 @@ pub record Reached : Type 0 where
   pub source : ℕ
   pub targets : List ℕ
 
-abbrev pub reached : WalksFrom → List ℕ → Reached
-reached run targets = record { graph = run.graph; source = run.source; targets = targets }
+abbrev pub reach_of : WalksFrom → List ℕ → Reached
+reach_of run targets = record { graph = run.graph; source = run.source; targets = targets }
 
 abbrev pub answer_of : Told → PairAnswer
 answer_of (Found d p) = FoundPair d p
@@ -46,5 +46,5 @@ IsUpTo far (Pair d p) = d ≤ far
 
 -- what a copy of the words shows of the targets: their answers, or nothing
 abbrev pub IsShown : (P : ℕ) → WalksFrom → (targets : List ℕ) → List Word → Shown → Type 0
-IsShown P run targets words (Final far) = AnswersTargets P (reached run targets) words far
+IsShown P run targets words (Final far) = AnswersTargets P (reach_of run targets) words far
 IsShown P run targets words Open = Unit {0}

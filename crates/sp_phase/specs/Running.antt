@@ -3,7 +3,7 @@ use Rattle.std.specs.Prelude.{◌≡◌, ℕ, ◌≤◌, List, ◌++◌, length,
 use Rattle.std.specs.List.Sorted.{IsPermutation}
 use Rattle.sp_word.specs.Word.{max_dist}
 use Rattle.sp_paths.specs.Paths.{IsVertex}
-use Rattle.sp_offer.specs.Story.{Knowledge, known}
+use Rattle.sp_offer.specs.Story.{Knowledge, known_table}
 use Rattle.sp_bucket.specs.declared.entry.Entry.{Entry}
 use Rattle.sp_bucket.specs.Content.{Content}
 use Rattle.sp_task.specs.declared.task.Task.{Task}
@@ -20,7 +20,7 @@ IsQueued P st low e = IsVertex st.graph.n e.vertex × (low ≤ e.dist) × (e.dis
 pub record Holds (P : ℕ) (st : Stage) (c : Knowledge) (m : Noted) : Type 0 where
   pub stage : IsStage P st
   pub table : c.table ≡ st.table
-  pub running : IsRunning P st (known c.story) m.each
+  pub running : IsRunning P st (known_table c.story) m.each
   pub remembered : All (IsVertex st.graph.n) m.remembered
 
 -- a leader between two rounds of a run

@@ -2,15 +2,15 @@
 use Rattle.std.specs.Prelude.{ℕ, ◌+◌, ◌*◌, ◌<◌, Option, Some, None, IfSome, IsSomeAnd}
 use Rattle.sp_word.specs.Word.{max_dist}
 use Rattle.sp_paths.specs.Paths.{EndsInTree, IsSettled}
-use Rattle.sp_offer.specs.Story.{Knowledge, known}
+use Rattle.sp_offer.specs.Story.{Knowledge, known_table}
 use Rattle.sp_store.specs.Stage.{Stage}
 use Rattle.sp_phase.specs.Lead.{Lead}
 use Rattle.sp_phase.specs.Progress.{Progress}
 
 -- the bucket is final for the caller, and so is each below it; where none is told, all words are
 abbrev pub IsTold : (P : ℕ) → Stage → Option ℕ → Knowledge → Type 0
-IsTold P st None c = EndsInTree st.graph st.source (max_dist P) (known c.story)
-IsTold P st (Some i) c = IsSettled st.graph st.source (max_dist P) ((i + 1) * st.delta) (known c.story)
+IsTold P st None c = EndsInTree st.graph st.source (max_dist P) (known_table c.story)
+IsTold P st (Some i) c = IsSettled st.graph st.source (max_dist P) ((i + 1) * st.delta) (known_table c.story)
 
 -- so it is for the leader's caller
 abbrev pub Tells : (P : ℕ) → Option ℕ → Lead → Type 0

@@ -5,7 +5,7 @@ use Rattle.sp_word.specs.History.{Table}
 use Rattle.sp_paths.specs.Paths.{IsVertex, word_at}
 use Rattle.sp_paths.specs.Phase.{IsMarkedCopy, HasNoOpen}
 use Rattle.sp_offer.specs.Order.{IsKnownWord, IsNoMore}
-use Rattle.sp_offer.specs.Story.{Knowledge, known}
+use Rattle.sp_offer.specs.Story.{Knowledge, known_table}
 use Rattle.sp_tree.specs.Table.{TreeTable, table_of}
 use Rattle.sp_bucket.specs.declared.entry.Entry.{Entry}
 use Rattle.sp_store.specs.declared.marks.Mark.{Mark}
@@ -39,9 +39,9 @@ pub record IsCopied (P : ℕ) (st : Stage) (c : Knowledge) (marks : List Mark) (
   pub words : Table
   pub of : IsMarkedCopy st.graph st.source (max_dist P) st.delta words (word_at copy) (light_at marks) (heavy_at marks)
   pub size : length copy ≡ st.graph.n
-  pub above : (v : ℕ) → IsVertex st.graph.n v → IsNoMore (known c.story v) (word_at copy v)
+  pub above : (v : ℕ) → IsVertex st.graph.n v → IsNoMore (known_table c.story v) (word_at copy v)
   pub stage : IsStage P st
-  pub lawful : (v : ℕ) → IsKnownWord (law_of P st) v (known c.story v)
+  pub lawful : (v : ℕ) → IsKnownWord (law_of P st) v (known_table c.story v)
 
 -- and no vertex is open in it
 abbrev pub IsSwept : (P : ℕ) → Stage → Knowledge → List Mark → List Word → Type 0
@@ -62,7 +62,7 @@ HasRelaxed b l = AreRelaxed l.words l.marks.each b (length l.words)
 pub record TakesCopy (P : ℕ) (l l' : Lead) : Type 0 where
   pub rest : l' ≡ record l { caller = l'.caller; words = l'.words }
   pub copied : HasCopied P l'
-  pub below : (v : ℕ) → IsVertex l.stage.graph.n v → IsNoMore (word_at l'.words v) (known l.caller.story v)
+  pub below : (v : ℕ) → IsVertex l.stage.graph.n v → IsNoMore (word_at l'.words v) (known_table l.caller.story v)
   pub learns : Learns P l.stage l.caller l'.caller
 
 -- a tree with these words

@@ -3,7 +3,7 @@ use Rattle.std.specs.Prelude.{◌≡◌, ℕ, ◌≤◌, List, length, true}
 use Rattle.sp_word.specs.Word.{Word, Pair, is_layout, max_dist, max_pred}
 use Rattle.sp_paths.specs.Paths.{IsGraph, IsVertex, IsTableFrom, IsWithin, word_at}
 use Rattle.sp_paths.specs.Theorems.{IsFinished}
-use Rattle.sp_offer.specs.Story.{Knowledge, known}
+use Rattle.sp_offer.specs.Story.{Knowledge, known_table}
 use Rattle.sp_task.specs.Walking.{WalksFrom}
 
 -- a source in a graph, in the ranges of words with P bits of predecessor
@@ -19,7 +19,7 @@ TakesWalks run law vertices = (law ≡ run) × (vertices ≡ run.graph.n)
 
 -- a caller knows the source's pair
 abbrev pub HasOpened : WalksFrom → Knowledge → Type 0
-HasOpened run c = known c.story run.source ≡ Pair 0 0
+HasOpened run c = known_table c.story run.source ≡ Pair 0 0
 
 -- a copy of all words holds walks from the source
 abbrev pub IsOfWalks : (P : ℕ) → WalksFrom → List Word → Type 0

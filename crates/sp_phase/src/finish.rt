@@ -1,7 +1,7 @@
 //! The end of a run.
 ghost use Rattle.std.specs.Prelude.{◌≡◌, None, IfOk, IfErr};
 ghost use Rattle.sp_graph.specs.LeftOut.{IsLeastLeftOut};
-ghost use Rattle.sp_offer.specs.Story.{known};
+ghost use Rattle.sp_offer.specs.Story.{known_table};
 ghost use Rattle.sp_paths.specs.Paths.{word_at};
 ghost use Rattle.sp_phase.specs.Answer.{IsAnswer, IsRefusal};
 ghost use Rattle.sp_phase.specs.Sweep.{HasSwept, HasWords};
@@ -21,7 +21,7 @@ impl<'a, 'g, const P: u32> Leader<'a, 'g, P> {
         requires none { IsLeastLeftOut self.now.stage.graph (word_at self.now.words) None }
         ensures tree { IfOk result (IsAnswer P self.now.stage.graph self.now.stage.source) }
         ensures known { IfOk result (λ tree.
-            HasWords tree self.now.stage.graph.n (known self.now.caller.story)) }
+            HasWords tree self.now.stage.graph.n (known_table self.now.caller.story)) }
     {
         swept_copy();
         let tree = Tree::of_words(self.alloc, self.store.source(), self.words.as_slice())?;
@@ -35,7 +35,7 @@ impl<'a, 'g, const P: u32> Leader<'a, 'g, P> {
             IsAnswer P self.entry.stage.graph self.entry.stage.source done.0) }
         ensures caller { IfOk result (λ done. done.1.table ≡ self.entry.stage.table) }
         ensures known { IfOk result (λ done.
-            HasWords done.0 self.entry.stage.graph.n (known done.1.story)) }
+            HasWords done.0 self.entry.stage.graph.n (known_table done.1.story)) }
         ensures refused { IfErr result
             (IsRefusal P self.entry.stage.graph self.entry.stage.source) }
     {

@@ -1,10 +1,10 @@
 //! The leader of a run.
 ghost use Rattle.std.specs.Prelude.{◌≡◌, ◌≤◌, None, IfOk, IfSome};
 ghost use Rattle.sp_paths.specs.Paths.{IsVertex};
-ghost use Rattle.sp_offer.specs.Story.{known};
+ghost use Rattle.sp_offer.specs.Story.{known_table};
 ghost use Rattle.sp_bucket.specs.Content.{IsLowest};
 ghost use Rattle.sp_store.specs.Stage.{IsStage};
-ghost use Rattle.sp_phase.specs.Lead.{recalled};
+ghost use Rattle.sp_phase.specs.Lead.{lead_without_memory};
 ghost use Rattle.sp_phase.specs.Behind.{HasCome, Reads};
 
 use sp_bucket::{Buckets, Entry};
@@ -104,7 +104,7 @@ impl<'a, 'g, const P: u32> Leader<'a, 'g, P> {
     pub(crate) fn read(&mut self, vertex: u32) -> Word<P>
         requires { IsVertex self.old.stage.graph.n vertex }
         ensures reads { Reads P self.old self.new }
-        ensures word { known self.new.caller.story vertex ≡ result }
+        ensures word { known_table self.new.caller.story vertex ≡ result }
     {
         self.store.read(&mut self.caller, vertex)
     }
@@ -119,7 +119,7 @@ impl<'a, 'g, const P: u32> Leader<'a, 'g, P> {
     /// Hands out the vertices that are remembered.
     pub(crate) fn recall(&mut self) -> Vec<u32>
         ensures vertices { result.items ≡ self.old.marks.remembered }
-        ensures marks { self.new ≡ recalled self.old }
+        ensures marks { self.new ≡ lead_without_memory self.old }
     {
         self.marks.recall(self.alloc)
     }

@@ -10,7 +10,7 @@ ghost use Rattle.sp_phase.specs.Reach.{
   IsUpTo,
   answer_of,
   answer_by,
-  reached,
+  reach_of,
 };
 
 use crate::whole::WholeRun;
@@ -164,7 +164,7 @@ impl<'g, const P: u32> WholeRun<'g, P> {
         requires opened { HasOpened self.now caller }
         requires targets { All (IsVertex self.now.graph.n) targets.now }
         requires room { length words.old ≡ self.now.graph.n }
-        ensures { IfOk result (AnswersTargets P (reached self.now targets.now) words.new) }
+        ensures { IfOk result (AnswersTargets P (reach_of self.now targets.now) words.new) }
     {
         let mut queue = vec![in self.alloc; self.source]?;
         for _ in rt.forever() {
@@ -192,7 +192,7 @@ impl<'g, const P: u32> WholeRun<'g, P> {
     ) -> Result<Option<u32>, AllocError>
         requires targets { All (IsVertex self.now.graph.n) targets.now }
         requires room { length words.old ≡ self.now.graph.n }
-        ensures { IfOk result (AnswersTargets P (reached self.now targets.now) words.new) }
+        ensures { IfOk result (AnswersTargets P (reach_of self.now targets.now) words.new) }
     {
         let (table, caller) = self.open()?;
         self.reach_turns(rt, &table, caller, targets, words)

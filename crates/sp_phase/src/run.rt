@@ -1,7 +1,7 @@
 //! Runs.
 ghost use Rattle.std.specs.Prelude.{◌≡◌, ℕ, ◌≤◌, Option, Some, None, IfOk, IfErr, OnOk, IsErrAnd};
 ghost use Rattle.std.specs.Option.{option_or};
-ghost use Rattle.sp_offer.specs.Story.{known};
+ghost use Rattle.sp_offer.specs.Story.{known_table};
 ghost use Rattle.sp_paths.specs.Paths.{IsVertex};
 ghost use Rattle.sp_phase.specs.Answer.{IsAnswer, IsRefusal};
 ghost use Rattle.sp_phase.specs.Sweep.{HasWords};
@@ -174,7 +174,7 @@ impl<'a, 'g, const P: u32> Run<'a, 'g, P> {
             (λ done. IsAnswer P self.entry.stage.graph self.entry.stage.source done.0) }
         ensures caller { IfOk result (λ done. done.1.table ≡ self.entry.stage.table) }
         ensures known { IfOk result
-            (λ done. HasWords done.0 self.entry.stage.graph.n (known done.1.story)) }
+            (λ done. HasWords done.0 self.entry.stage.graph.n (known_table done.1.story)) }
         ensures refused { IfErr result
             (IsRefusal P self.entry.stage.graph self.entry.stage.source) }
         ensures spent { IsSpent self.entry → IsErrAnd result IsMemory }

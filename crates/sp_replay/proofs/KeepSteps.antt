@@ -9,7 +9,7 @@ use Rattle.sp_word.specs.Word.{Word, Pair}
 use Rattle.sp_machine.specs.declared.item.Item.{Item}
 use Rattle.sp_machine.specs.Programme.{row_of}
 use Rattle.sp_text.specs.Text.{Item as Line, is_named}
-use Rattle.sp_replay.specs.Replay.{named_by, asked, item_for, step_by, IsReplay, AreKept}
+use Rattle.sp_replay.specs.Replay.{named_by, items_of_form, item_for, step_by, IsReplay, AreKept}
 
 flat_push : {A B : Type 0} (f : A → List B) (xs : List A) (x : A) → flat_map f (xs ++ x ∷ []) ≡ flat_map f xs ++ f x
 flat_push f xs x = flat_map-append f xs (x ∷ []) ∙ ap (λ (t : List _). flat_map f xs ++ t) (append-nil (f x))
@@ -49,7 +49,7 @@ start_kept before line has more given all lists steps ns place first h kind numb
 
 -- `o A V D P`, `r A V` and `a A U V L`
 pub item_kept : {P : ℕ} (before : List Line) (line : Line) (has : ℕ → Bool) (given : List (ℕ × Word)) (lists all : List (List (Item P))) (steps ns : List ℕ) (place first : ℕ) (item : Item P) → AreKept before has given lists steps
-    → line.kind ≡ place → line.numbers ≡ ns → eqb place 0 ≡ false → eqb place 4 ≡ false → first ≡ slice_index ns 0 → asked place ns ≡ item ∷ [] → ((actor : ℕ) → 1 ≤ actor → row_of all actor ≡ row_of lists actor ++ cond (eqb first actor) (item ∷ []) [])
+    → line.kind ≡ place → line.numbers ≡ ns → eqb place 0 ≡ false → eqb place 4 ≡ false → first ≡ slice_index ns 0 → items_of_form place ns ≡ item ∷ [] → ((actor : ℕ) → 1 ≤ actor → row_of all actor ≡ row_of lists actor ++ cond (eqb first actor) (item ∷ []) [])
     → AreKept (before ++ line ∷ []) has given all steps
 item_kept before line has given lists all steps ns place first item h kind numbers no_start no_step first_is is pushed = record {
   known = λ vertex. h.known vertex ∙ (unmarked (eqb (slice_index line.numbers 0) vertex) (is_named 0 vertex before) ∙ sym (named_push vertex before line ∙ rw (kind, no_start) refl));

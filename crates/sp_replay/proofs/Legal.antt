@@ -13,7 +13,7 @@ use Rattle.sp_text.specs.Accepted.{IsAllowed, IsAccepted}
 use Rattle.sp_machine.specs.declared.item.Item.{Item}
 use Rattle.sp_machine.specs.Programme.{Programme, IsNumber, IsItem, IsProgramme}
 use Rattle.sp_replay.specs.ReplayFormat.{replay, offers, actors_file, actors_line, replay_lines, start_line, offer_line, read_line, relax_line, step_line}
-use Rattle.sp_replay.specs.Replay.{named_by, offer_of, asked, item_for, step_by, IsReplay}
+use Rattle.sp_replay.specs.Replay.{named_by, offer_of, items_of_form, item_for, step_by, IsReplay}
 use Rattle.sp_replay.specs.Offers.{offer_for, IsOffers}
 use Rattle.sp_replay.proofs.Bounds.{at_most, at_least}
 
@@ -70,7 +70,7 @@ step_in P problem line allowed =
 offered_in : (P : ℕ) (problem ns : List ℕ) → Has P problem offer_line ns → IsItem {P = P} (slice_index problem 0) (offer_of ns)
 offered_in P problem ns has = (numbered P problem offer_line ns 1 0 86 has (lit< tt) refl, tt)
 
-asked_in : (P : ℕ) (problem : List ℕ) (line : Line) → IsAllowed replay (ranges_of P) problem line → All (IsItem {P = P} (slice_index problem 0)) (asked line.kind line.numbers)
+asked_in : (P : ℕ) (problem : List ℕ) (line : Line) → IsAllowed replay (ranges_of P) problem line → All (IsItem {P = P} (slice_index problem 0)) (items_of_form line.kind line.numbers)
 asked_in P problem line allowed =
     let n = slice_index problem 0 in
     let Q : Item P → Type 0 = IsItem n in

@@ -22,15 +22,15 @@ abbrev pub offer_of : {P : ℕ} → List ℕ → Item P
 offer_of ns = Offer (slice_index ns 1) (Pair (slice_index ns 2) (slice_index ns 3))
 
 -- what a line of the form at this place with these numbers asks an actor to do: `o A V D P`, `r A V` or `a A U V L`
-abbrev pub asked : {P : ℕ} → (place : ℕ) → List ℕ → List (Item P)
-asked place ns =
+abbrev pub items_of_form : {P : ℕ} → (place : ℕ) → List ℕ → List (Item P)
+items_of_form place ns =
     if place == 1 then offer_of ns ∷ []
     else (if place == 2 then Read (slice_index ns 1) ∷ []
     else (if place == 3 then Relax (slice_index ns 1) (slice_index ns 2) (slice_index ns 3) ∷ [] else []))
 
 -- what a line asks actor A to do
 abbrev pub item_for : {P : ℕ} → (actor : ℕ) → Line → List (Item P)
-item_for actor line = if number 0 line == actor then asked line.kind line.numbers else []
+item_for actor line = if number 0 line == actor then items_of_form line.kind line.numbers else []
 
 -- `s A` is a step of actor A
 abbrev pub step_by : Line → List ℕ

@@ -14,7 +14,7 @@ use Rattle.sp_task.specs.declared.task.TaskKind.TheVariants.{Light, Heavy}
 use Rattle.sp_task.specs.declared.task.Task.{Task}
 use Rattle.sp_store.specs.declared.marks.Mark.{Mark}
 use Rattle.sp_store.specs.Stage.{Stage}
-use Rattle.sp_store.specs.Marks.{no_mark, mark_of, light_at, heavy_at, with_task, marked}
+use Rattle.sp_store.specs.Marks.{no_mark, mark_of, light_at, heavy_at, with_task, marks_with}
 use Rattle.sp_store.specs.Rounds.{IsRunning, IsDone}
 
 -- the mark of a vertex after a write
@@ -56,7 +56,7 @@ running_same P st words marks after gr size same run = record {
 -- a task that is done is marked
 module _ (P : ℕ) (st : Stage) (words : Table) (marks : List Mark) (t d : ℕ) (gr : IsGraph st.graph) (run : IsRunning P st words marks) (at : IsVertex (length marks) t) where
   abbrev after : TaskKind → List Mark
-  after kind = marked marks (task_of kind t d)
+  after kind = marks_with marks (task_of kind t d)
 
   here : (kind : TaskKind) (u : ℕ) → u ≡ t → mark_of (after kind) u ≡ with_task kind d (mark_of marks t)
   here kind u same = mark_here marks t u (with_task kind d (mark_of marks t)) at same

@@ -12,8 +12,8 @@ pub record Noted : Type 0 where
   pub each : List Mark
   pub remembered : List ℕ
 
-abbrev pub noted : Marks → Noted
-noted m = record { each = m.each.items; remembered = m.remembered.items }
+abbrev pub notes_of : Marks → Noted
+notes_of m = record { each = m.each.items; remembered = m.remembered.items }
 
 abbrev pub no_mark : Mark
 no_mark = record { light = None; heavy = None; round = 0; remembered = false }
@@ -34,8 +34,8 @@ abbrev pub with_task : TaskKind → (dist : ℕ) → Mark → Mark
 with_task Light dist mark = record mark { light = Some dist }
 with_task Heavy dist mark = record mark { heavy = Some dist }
 
-abbrev pub marked : List Mark → Task → List Mark
-marked marks t = slice_set marks (t.vertex - 1) (with_task t.kind t.dist (mark_of marks t.vertex))
+abbrev pub marks_with : List Mark → Task → List Mark
+marks_with marks t = slice_set marks (t.vertex - 1) (with_task t.kind t.dist (mark_of marks t.vertex))
 
 -- the same distances stand for each vertex
 abbrev pub SameDistances : (before after : List Mark) → Type 0

@@ -6,7 +6,7 @@ use Rattle.sp_paths.specs.Paths.{Graph, IsGraph, IsVertex, IsLawful}
 use Rattle.sp_graph.specs.RowsValue.{Split}
 use Rattle.sp_word.specs.History.{Table}
 use Rattle.sp_offer.specs.Order.{IsNoMore, IsKnownWord, lawful}
-use Rattle.sp_offer.specs.Story.{Knowledge, known}
+use Rattle.sp_offer.specs.Story.{Knowledge, known_table}
 use Rattle.sp_task.specs.Walking.{WalksFrom}
 use Rattle.sp_store.specs.declared.answers.RunError.{RunError}
 use Rattle.sp_store.specs.declared.answers.RunError.TheVariants.{Memory, TooFar, NoSuchVertex}
@@ -59,8 +59,8 @@ Falls before after = (v : ℕ) → IsNoMore (after v) (before v)
 -- A caller of the stage's table went on: nowhere does it know less than before, and what it knows is lawful.
 pub record Learns (P : ℕ) (st : Stage) (before after : Knowledge) : Type 0 where
   pub table : after.table ≡ before.table
-  pub falls : Falls (known before.story) (known after.story)
-  pub lawful : (v : ℕ) → IsKnownWord (law_of P st) v (known after.story v)
+  pub falls : Falls (known_table before.story) (known_table after.story)
+  pub lawful : (v : ℕ) → IsKnownWord (law_of P st) v (known_table after.story v)
 
 -- why nothing was stored: the source is no vertex exactly where that is told
 abbrev pub IsUnstored : Graph → (s : ℕ) → RunError → Type 0

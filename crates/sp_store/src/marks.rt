@@ -1,7 +1,7 @@
 //! What the leader writes down of each vertex.
 ghost use Rattle.std.specs.Prelude.{◌≡◌, [], false, vec_len, replicate, All, IsTrue, IfOk};
 ghost use Rattle.sp_paths.specs.Paths.{IsVertex};
-ghost use Rattle.sp_store.specs.Marks.{no_mark, noted, marked, SameDistances, Remembers, Enters, Forgets};
+ghost use Rattle.sp_store.specs.Marks.{no_mark, notes_of, marks_with, SameDistances, Remembers, Enters, Forgets};
 ghost use Rattle.sp_store.specs.Rounds.{KeepsRunning, AreMarked};
 
 use sp_task::{Task, TaskKind};
@@ -60,7 +60,7 @@ impl Marks {
 
     /// The next round begins. The greatest number stays.
     pub fn begin_round(&mut self)
-        ensures { noted self.new ≡ noted self.old }
+        ensures { notes_of self.new ≡ notes_of self.old }
     {
         self.round = self.round.saturating_add(1);
     }
@@ -69,9 +69,9 @@ impl Marks {
     pub fn enter(&mut self, vertex: u32) -> Result<bool, AllocError>
         requires { IsVertex (vec_len self.old.each) vertex }
         ensures distances { SameDistances self.old.each.items self.new.each.items }
-        ensures remembered { Remembers (noted self.old) (noted self.new) vertex }
+        ensures remembered { Remembers (notes_of self.old) (notes_of self.new) vertex }
         ensures entered { IfOk result (λ entered. IsTrue entered
-            → Enters (noted self.old) (noted self.new) vertex) }
+            → Enters (notes_of self.old) (notes_of self.new) vertex) }
         ensures stayed { IfOk result (λ entered. entered ≡ false → self.new ≡ self.old) }
     {
         let place = (vertex - 1) as usize;
@@ -123,7 +123,7 @@ impl Marks {
 // Writes down that a task was run.
 fn mark_task(marks: &mut Vec<Mark>, task: Task)
     requires { IsVertex (vec_len marks.old) task.vertex }
-    ensures { marks.new.items ≡ marked marks.old.items task }
+    ensures { marks.new.items ≡ marks_with marks.old.items task }
 {
     let place = (task.vertex - 1) as usize;
     match task.kind {

@@ -2,7 +2,7 @@
 ghost use Rattle.std.specs.Prelude.{◌≡◌, ◌<◌, ◌≤◌, ◌↔◌, [], true, IsTrue, length, vec_len, All, IfOk, IfErr};
 ghost use Rattle.sp_word.specs.Word.{Pair, is_layout, max_pred};
 ghost use Rattle.sp_paths.specs.Paths.{IsVertex, IsArc};
-ghost use Rattle.sp_offer.specs.Story.{fresh, known, IsCopy};
+ghost use Rattle.sp_offer.specs.Story.{empty_story, known_table, IsCopy};
 ghost use Rattle.sp_store.specs.Stage.{IsUnstored, IsStage, IsOf, AreRowsOf, Learns, law_of};
 ghost use Rattle.sp_store.specs.Held.{split_of};
 ghost use Rattle.sp_store.specs.Rounds.{IsDue, IsRoundOf};
@@ -92,7 +92,7 @@ impl<'g, const P: u32> Store<'g, P> {
         ensures range { IfOk result (λ made. IsStage P made.0) }
         ensures shared_from { IfOk result (λ made. made.0.shared_from ≡ 0) }
         ensures caller { IfOk result
-            (λ made. (made.1.table ≡ made.0.table) × (made.1.story ≡ fresh)) }
+            (λ made. (made.1.table ≡ made.0.table) × (made.1.story ≡ empty_story)) }
         ensures claimer { IfOk result
             (λ made. (made.2.table ≡ made.0.claims) × (made.2.grants ≡ [])) }
         ensures refused { IfErr result (IsUnstored graph.entry.now source) }
@@ -121,7 +121,7 @@ impl<'g, const P: u32> Store<'g, P> {
         ensures range { IfOk result (λ made. IsStage P made.0) }
         ensures shared_from { IfOk result (λ made. made.0.shared_from ≡ 0) }
         ensures caller { IfOk result
-            (λ made. (made.1.table ≡ made.0.table) × (made.1.story ≡ fresh)) }
+            (λ made. (made.1.table ≡ made.0.table) × (made.1.story ≡ empty_story)) }
         ensures claimer { IfOk result
             (λ made. (made.2.table ≡ made.0.claims) × (made.2.grants ≡ [])) }
         ensures refused { IfErr result (IsUnstored graph.entry.now source) }
@@ -148,7 +148,7 @@ impl<'g, const P: u32> Store<'g, P> {
         ensures range { IfOk result (λ made. IsStage P made.0) }
         ensures shared_from { IfOk result (λ made. made.0.shared_from ≡ 0) }
         ensures caller { IfOk result
-            (λ made. (made.1.table ≡ made.0.table) × (made.1.story ≡ fresh)) }
+            (λ made. (made.1.table ≡ made.0.table) × (made.1.story ≡ empty_story)) }
         ensures claimer { IfOk result
             (λ made. (made.2.table ≡ made.0.claims) × (made.2.grants ≡ [])) }
     {
@@ -230,7 +230,7 @@ impl<'g, const P: u32> Store<'g, P> {
         requires vertex { IsVertex self.now.graph.n vertex }
         requires caller { caller.old.table ≡ self.now.table }
         ensures caller { Learns P self.now caller.old caller.new }
-        ensures word { known caller.new.story vertex ≡ result }
+        ensures word { known_table caller.new.story vertex ≡ result }
     {
         self.table.read(caller, vertex)
     }
@@ -239,7 +239,7 @@ impl<'g, const P: u32> Store<'g, P> {
     pub fn open(&self, caller: &mut Caller)
         requires { caller.old.table ≡ self.now.table }
         ensures caller { Learns P self.now caller.old caller.new }
-        ensures source { known caller.new.story self.now.source ≡ Pair 0 0 }
+        ensures source { known_table caller.new.story self.now.source ≡ Pair 0 0 }
     {
         let source = self.source;
         self.table.offer(caller, source, Word::pack(0, 0));

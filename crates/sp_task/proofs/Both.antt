@@ -2,7 +2,7 @@
 use Rattle.std.proofs.Common.{◌≡◌, ℕ, ◌+◌, ◌≤◌, List, [], Result, Ok, Err, IfOk, IfErr, refl, sym, ap, ◌∙◌, subst, arith}
 use Rattle.sp_word.specs.Word.{Word}
 use Rattle.sp_offer.specs.Order.{IsNoMore}
-use Rattle.sp_offer.specs.Story.{Story, Knowledge, known, own_calls, beside}
+use Rattle.sp_offer.specs.Story.{Story, Knowledge, known_table, own_calls, story_beside}
 use Rattle.sp_claim.specs.Held.{Held}
 use Rattle.sp_task.specs.declared.workers.Done.{Done}
 use Rattle.sp_task.specs.declared.workers.RoundRefused.{RoundRefused}
@@ -25,7 +25,7 @@ module _ (law : ℕ → Word → Type 0) (jobs : List Job) (number : ℕ) where
   at_ok : (caller : Knowledge) (claimer : Held) (count : ℕ) (r : Result Done RoundRefused) (d : Done) → r ≡ Ok d → Answers law jobs number caller claimer count r → Answers law jobs number caller claimer count (Ok d)
   at_ok caller claimer count r d e h = subst (λ (x : Result Done RoundRefused). Answers law jobs number caller claimer count x) e h
 
-  pub both_answer : (c d : Knowledge) (h i : Held) (m n : ℕ) (mine theirs r : Result Done RoundRefused) → own_calls d.story ≡ [] → ((v : ℕ) → IsNoMore (known d.story v) (known c.story v)) → i.grants ≡ []
+  pub both_answer : (c d : Knowledge) (h i : Held) (m n : ℕ) (mine theirs r : Result Done RoundRefused) → own_calls d.story ≡ [] → ((v : ℕ) → IsNoMore (known_table d.story v) (known_table c.story v)) → i.grants ≡ []
       → Answers law jobs number c h m mine → Answers law jobs number d i n theirs → IsMerged law mine theirs r → Answers law jobs number c h (m + n) r
   both_answer c d h i m n mine theirs (Ok x) none low bare p q b =
       let first = at_ok c h m mine b.0 b.2 p in
@@ -47,11 +47,11 @@ module _ (law : ℕ → Word → Type 0) (jobs : List Job) (number : ℕ) where
       wider (Err e) q = q
 
   -- the answer of two groups whose tokens come from a split
-  pub after_split : (c c' d : Knowledge) (h h' i : Held) (m n k : ℕ) (mine theirs r : Result Done RoundRefused) → c' ≡ c → h' ≡ h → d.story ≡ beside c.story → i.grants ≡ [] → m + n ≤ k
+  pub after_split : (c c' d : Knowledge) (h h' i : Held) (m n k : ℕ) (mine theirs r : Result Done RoundRefused) → c' ≡ c → h' ≡ h → d.story ≡ story_beside c.story → i.grants ≡ [] → m + n ≤ k
       → Answers law jobs number c' h' m mine → Answers law jobs number d i n theirs → IsMerged law mine theirs r → Answers law jobs number c h k r
   after_split c c' d h h' i m n k mine theirs r same same' second bare fit p q b =
       let p' = answer_of_more c c' h h' m m mine same same' (omega arith) p in
-      let low : (v : ℕ) → IsNoMore (known d.story v) (known c.story v) = λ v. subst (λ (s : Story). IsNoMore (known s v) (known c.story v)) (sym second) (at_most_itself (known c.story v)) in
+      let low : (v : ℕ) → IsNoMore (known_table d.story v) (known_table c.story v) = λ v. subst (λ (s : Story). IsNoMore (known_table s v) (known_table c.story v)) (sym second) (at_most_itself (known_table c.story v)) in
       answer_of_more c c h h (m + n) k r refl refl fit (both_answer c d h i m n mine theirs r (ap own_calls second) low bare p' q b)
 
 -- two groups that both ended well, brought together

@@ -10,10 +10,10 @@ use Rattle.sp_word.specs.declared.reply.Reply.{Reply}
 use Rattle.sp_word.specs.declared.reply.Reply.TheVariants.{Shorter, SmallerPred, Kept}
 use Rattle.sp_offer.specs.Order.{IsNoMore}
 use Rattle.sp_offer.specs.Histories.{event}
-use Rattle.sp_offer.specs.Story.{Story, Knowledge, Calls, Knows, Follows, known, own_calls}
+use Rattle.sp_offer.specs.Story.{Story, Knowledge, Calls, Knows, Follows, known_table, own_calls}
 use Rattle.sp_bucket.specs.declared.entry.Entry.{Entry}
 use Rattle.sp_task.specs.Offers.{Asked}
-use Rattle.sp_task.specs.Calls.{asked, entries, entry_of_call, IsNearer, AllKnown}
+use Rattle.sp_task.specs.Calls.{question_of, entries, entry_of_call, IsNearer, AllKnown}
 use Rattle.sp_task.specs.Later.{IsLater, HasLegalHistory}
 use Rattle.sp_task.specs.Work.{Made, MadeOffers}
 use Rattle.sp_task.proofs.Words.{at_most_itself, at_most_along, lesser_at_most, no_farther, shorter_below}
@@ -28,7 +28,7 @@ entries-append (x ∷ xs) ys =
     let first = entry_of_call x.vertex x.call in
     ap (λ l. first ++ l) (entries-append xs ys) ∙ sym (append_assoc first (entries xs) (entries ys))
 
-pub AllKnown-lower : (s t : Story) (calls : List Event) → ((v : ℕ) → IsNoMore (known t v) (known s v)) → AllKnown s calls → AllKnown t calls
+pub AllKnown-lower : (s t : Story) (calls : List Event) → ((v : ℕ) → IsNoMore (known_table t v) (known_table s v)) → AllKnown s calls → AllKnown t calls
 AllKnown-lower s t [] low h = tt
 AllKnown-lower s t (x ∷ xs) low h = (at_most_along _ _ _ (low x.vertex) h.0, AllKnown-lower s t xs low h.1)
 
@@ -61,7 +61,7 @@ module _ (law : ℕ → Word → Type 0) where
   later_itself a = record {
     table = refl;
     begins = prefix_itself a.story.seen;
-    falls = λ v. at_most_itself (known a.story v);
+    falls = λ v. at_most_itself (known_table a.story v);
     stays = λ h. h;
     legal = λ h. h;
   }
@@ -70,7 +70,7 @@ module _ (law : ℕ → Word → Type 0) where
   later_along a b c p q = record {
     table = q.table ∙ p.table;
     begins = prefix_along a.story.seen b.story.seen c.story.seen p.begins q.begins;
-    falls = λ v. at_most_along (known c.story v) (known b.story v) (known a.story v) (q.falls v) (p.falls v);
+    falls = λ v. at_most_along (known_table c.story v) (known_table b.story v) (known_table a.story v) (q.falls v) (p.falls v);
     stays = λ h. q.stays (p.stays h);
     legal = λ h. q.legal (p.legal h);
   }
@@ -99,7 +99,7 @@ module _ (law : ℕ → Word → Type 0) where
     later = later_along a b c p.later q.later;
     mine = q.mine ∙ (ap (λ l. l ++ ys) p.mine ∙ append_assoc (own_calls a.story) xs ys);
     found = q.found ∙ (ap (λ l. l ++ entries ys) p.found ∙ (append_assoc f (entries xs) (entries ys) ∙ ap (λ l. f ++ l) (sym (entries-append xs ys))));
-    nearer = nearer_append (known b.story) (known a.story) xs ys p.later.falls p.nearer q.nearer;
+    nearer = nearer_append (known_table b.story) (known_table a.story) xs ys p.later.falls p.nearer q.nearer;
     knows = AllKnown-append c.story xs ys (AllKnown-lower b.story c.story xs q.later.falls p.knows) q.knows;
   }
 
@@ -108,14 +108,14 @@ module _ (law : ℕ → Word → Type 0) where
     later = later_itself a;
     mine = sym (append-nil (own_calls a.story));
     found = sym (append-nil f);
-    nearer = All-nil (IsNearer (known a.story));
+    nearer = All-nil (IsNearer (known_table a.story));
     knows = tt;
   }
 
   pub offers_more : (xs ys : List Asked) (a b c : Knowledge) (f g h : List Entry) → MadeOffers law xs a b f g → MadeOffers law ys b c g h → MadeOffers law (xs ++ ys) a c f h
   offers_more xs ys a b c f g h p q = (
     p.0 ++ q.0,
-    map-append asked p.0 q.0 ∙ (ap (λ l. l ++ map asked q.0) p.1 ∙ ap (λ l. xs ++ l) q.1),
+    map-append question_of p.0 q.0 ∙ (ap (λ l. l ++ map question_of q.0) p.1 ∙ ap (λ l. xs ++ l) q.1),
     made_more p.0 q.0 a b c f g h p.2 q.2,
   )
 
@@ -129,7 +129,7 @@ module _ (law : ℕ → Word → Type 0) where
       → Knows (event by v (Offer word found reply)) a.story b.story
       → own_calls b.story ≡ own_calls a.story ++ event by v (Offer word found reply) ∷ []
       → g ≡ f ++ entries (event by v (Offer word found reply) ∷ [])
-      → All (IsNearer (known a.story)) (entries (event by v (Offer word found reply) ∷ []))
+      → All (IsNearer (known_table a.story)) (entries (event by v (Offer word found reply) ∷ []))
       → MadeOffers law (record { vertex = v; word = word } ∷ []) a b f g
   made_one by v word found reply a b f g table call knows own bag nearer = (
     event by v (Offer word found reply) ∷ [],
@@ -174,10 +174,10 @@ module _ (law : ℕ → Word → Type 0) where
   made_shorter by v d p word found reply a b f g pair is answer table call knows own bag =
       let one = entries_shorter by v d p word found reply pair is in
       let shorter : reply_to found (Pair d p) ≡ Shorter = ap (reply_to found) (sym pair) ∙ (sym answer ∙ is) in
-      let near : IsNearer (known a.story) (record { vertex = v; dist = d }) = λ e q at. shorter_below found d p e q shorter (subst (λ (w : Word). IsNoMore found w) at knows.below) in
+      let near : IsNearer (known_table a.story) (record { vertex = v; dist = d }) = λ e q at. shorter_below found d p e q shorter (subst (λ (w : Word). IsNoMore found w) at knows.below) in
       subst (λ (w : Word). MadeOffers law (record { vertex = v; word = w } ∷ []) a b f g) pair
       (made_one law by v word found reply a b f g table call knows own (bag ∙ ap (λ l. f ++ l) (sym one))
-      (subst (All (IsNearer (known a.story))) (sym one) (All-cons (IsNearer (known a.story)) (record { vertex = v; dist = d }) [] near (All-nil (IsNearer (known a.story))))))
+      (subst (All (IsNearer (known_table a.story))) (sym one) (All-cons (IsNearer (known_table a.story)) (record { vertex = v; dist = d }) [] near (All-nil (IsNearer (known_table a.story))))))
 
   pub made_other : (by v d p : ℕ) (word found : Word) (reply : Reply) (a b : Knowledge) (f g : List Entry)
       → word ≡ Pair d p → (reply ≡ SmallerPred) ⊎ (reply ≡ Kept)
@@ -191,4 +191,4 @@ module _ (law : ℕ → Word → Type 0) where
       let none = entries_other by v d p word found reply pair is in
       subst (λ (w : Word). MadeOffers law (record { vertex = v; word = w } ∷ []) a b f g) pair
       (made_one law by v word found reply a b f g table call knows own (bag ∙ (sym (append-nil f) ∙ ap (λ l. f ++ l) (sym none)))
-      (subst (All (IsNearer (known a.story))) (sym none) (All-nil (IsNearer (known a.story)))))
+      (subst (All (IsNearer (known_table a.story))) (sym none) (All-nil (IsNearer (known_table a.story)))))

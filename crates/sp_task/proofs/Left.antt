@@ -11,16 +11,16 @@ use Rattle.sp_word.specs.History.{Event}
 use Rattle.sp_paths.specs.declared.arc.Arc.{Arc}
 use Rattle.sp_paths.specs.Rows.{IsArcRelaxed}
 use Rattle.sp_graph.specs.RowsValue.{Split}
-use Rattle.sp_offer.specs.Story.{Story, Knowledge, known, own_calls}
+use Rattle.sp_offer.specs.Story.{Story, Knowledge, known_table, own_calls}
 use Rattle.sp_bucket.specs.declared.entry.Entry.{Entry}
 use Rattle.sp_claim.specs.Held.{Held}
 use Rattle.sp_claim.specs.declared.grants.Grant.{Grant}
 use Rattle.sp_claim.specs.Grants.{times, EachOnce}
 use Rattle.sp_task.specs.declared.task.Task.{Task}
 use Rattle.sp_task.specs.Offers.{Asked, arcs_of, offer_along, offers_along, offers_of, AreSameOffers}
-use Rattle.sp_task.specs.Calls.{asked, IsNearer, AllKnown}
+use Rattle.sp_task.specs.Calls.{question_of, IsNearer, AllKnown}
 use Rattle.sp_task.specs.Work.{Job, job_of, jobs_of, offers_at, slot_at, grant_at, calls_weight, Did, start, Made, MadeOffers, Goes, AllBelow}
-use Rattle.sp_task.specs.Left.{tally, upto, unmarked, IsMarked, RanLeft, IsTaskDone, RoundDone}
+use Rattle.sp_task.specs.Left.{tally, upto, unmarked_value, IsMarked, RanLeft, IsTaskDone, RoundDone}
 use Rattle.sp_task.proofs.Words.{not_above, at_most, within_pair}
 use Rattle.sp_task.specs.Later.{IsLater}
 use Rattle.sp_task.proofs.CallsInRow.{made_more, made_none, nearer_along, later_along}
@@ -41,7 +41,7 @@ module _ (law : ℕ → Word → Type 0) (jobs : List Job) (marks : List Bool) w
         let x = p.2 w in
         let s = calls_weight-append w p.0 q.0 in
         let z = ap (sum_by w) q.1 in
-        let all : unmarked marks (λ k. sum_by w (offers_at jobs k)) i ≡ sum_by w (offers_at jobs i) = ap (λ (b : Bool). if b then 0 else sum_by w (offers_at jobs i)) none in
+        let all : unmarked_value marks (λ k. sum_by w (offers_at jobs k)) i ≡ sum_by w (offers_at jobs i) = ap (λ (b : Bool). if b then 0 else sum_by w (offers_at jobs i)) none in
         rw add-one (omega arith)),
   )
 
@@ -52,7 +52,7 @@ module _ (law : ℕ → Word → Type 0) (jobs : List Job) (marks : List Bool) w
     p.1,
     (λ w.
         let x = p.2 w in
-        let none : unmarked marks (λ k. sum_by w (offers_at jobs k)) i ≡ 0 = ap (λ (b : Bool). if b then 0 else sum_by w (offers_at jobs i)) some in
+        let none : unmarked_value marks (λ k. sum_by w (offers_at jobs k)) i ≡ 0 = ap (λ (b : Bool). if b then 0 else sum_by w (offers_at jobs i)) some in
         rw add-one (omega arith)),
   )
 
@@ -88,14 +88,14 @@ abbrev one_if : Bool → ℕ
 one_if b = if b then 1 else 0
 
 abbrev above : Story → Asked → ℕ
-above s o = one_if (is_below o.word (known s o.vertex))
+above s o = one_if (is_below o.word (known_table s o.vertex))
 
 none_above : (s : Story) (calls : List Event) → AllKnown s calls → calls_weight (above s) calls ≡ 0
 none_above s [] h = refl
 none_above s (c ∷ cs) h =
-    let e = sum_by-cons (above s) (asked c) (map asked cs) in
+    let e = sum_by-cons (above s) (question_of c) (map question_of cs) in
     let more = none_above s cs h.1 in
-    let here : above s (asked c) ≡ 0 = ap one_if (not_above (known s c.vertex) (asked c).word h.0) in
+    let here : above s (question_of c) ≡ 0 = ap one_if (not_above (known_table s c.vertex) (question_of c).word h.0) in
     omega arith
 
 at_zero : (b : Bool) → one_if b ≡ 0 → b ≡ false
@@ -116,12 +116,12 @@ each_zero h p (x ∷ xs) e = go (p x) refl (λ f. each_zero h p xs f) e
 is_within : (x max : ℕ) → x ≤ max → nat_le x max ≡ true
 is_within x max h = grind (arith, nat_tests, h)
 
-arc_known : (s : Story) (max d : ℕ) (a : Arc) → (nat_le (d + a.len) max ≡ true → above s (offer_along d a) ≡ 0) → IsArcRelaxed max (known s) d a
+arc_known : (s : Story) (max d : ℕ) (a : Arc) → (nat_le (d + a.len) max ≡ true → above s (offer_along d a) ≡ 0) → IsArcRelaxed max (known_table s) d a
 arc_known s max d a h fits =
-    within_pair (known s a.head) (d + a.len) a.tail
-    (at_most (known s a.head) (Pair (d + a.len) a.tail) (at_zero (is_below (Pair (d + a.len) a.tail) (known s a.head)) (h (is_within (d + a.len) max fits))))
+    within_pair (known_table s a.head) (d + a.len) a.tail
+    (at_most (known_table s a.head) (Pair (d + a.len) a.tail) (at_zero (is_below (Pair (d + a.len) a.tail) (known_table s a.head)) (h (is_within (d + a.len) max fits))))
 
-arcs_known : (s : Story) (max d : ℕ) (arcs : List Arc) → sum_by (above s) (offers_along max d arcs) ≡ 0 → All (IsArcRelaxed max (known s) d) arcs
+arcs_known : (s : Story) (max d : ℕ) (arcs : List Arc) → sum_by (above s) (offers_along max d arcs) ≡ 0 → All (IsArcRelaxed max (known_table s) d) arcs
 arcs_known s max d arcs e k x low =
     let f : sum_by (λ (a : Arc). above s (offer_along d a)) (filter (λ (a : Arc). nat_le (d + a.len) max) arcs) ≡ 0 =
     sym (sum_by-map (above s) (offer_along d) (filter (λ (a : Arc). nat_le (d + a.len) max) arcs)) ∙ e in
@@ -144,14 +144,14 @@ module _ (law : ℕ → Word → Type 0) (max : ℕ) (rows : Split) (tasks : Lis
       ∙ (weight-upto w (jobs_of max rows tasks)
       ∙ (sum_by-map (λ (j : Job). sum_by w j.offers) (job_of max rows) tasks ∙ sym (sum_by-flat_map w (offers_of max rows) tasks)))
 
-  done_by : (calls : List Event) (c d : Knowledge) (f : List Entry) → Made law calls c d [] f → AreSameOffers (map asked calls) (flat_map (offers_of max rows) tasks) → RoundDone law max rows tasks c d f
+  done_by : (calls : List Event) (c d : Knowledge) (f : List Entry) → Made law calls c d [] f → AreSameOffers (map question_of calls) (flat_map (offers_of max rows) tasks) → RoundDone law max rows tasks c d f
   done_by calls c d f made each = record {
     later = made.later;
     calls = calls;
     own = made.mine;
     each = each;
     shorter = made.found;
-    nearer = subst (All (IsNearer (known c.story))) (sym made.found) made.nearer;
+    nearer = subst (All (IsNearer (known_table c.story))) (sym made.found) made.nearer;
     relaxed = tasks_known d max rows tasks (sym (each (above d.story)) ∙ none_above d.story calls made.knows);
   }
 
@@ -163,7 +163,7 @@ module _ (law : ℕ → Word → Type 0) (max : ℕ) (rows : Split) (tasks : Lis
     own = r.own ∙ ap (λ l. l ++ r.calls) same;
     each = r.each;
     shorter = r.shorter;
-    nearer = All-weaker (IsNearer (known b.story)) (IsNearer (known a.story)) (λ e near. nearer_along (known b.story) (known a.story) e (later.falls e.vertex) near) f r.nearer;
+    nearer = All-weaker (IsNearer (known_table b.story)) (IsNearer (known_table a.story)) (λ e near. nearer_along (known_table b.story) (known_table a.story) e (later.falls e.vertex) near) f r.nearer;
     relaxed = r.relaxed;
   }
 

@@ -6,7 +6,7 @@ use mathlib.Core.Logic.{dite}
 use native.Mathlib.Decide.{ℕ_discrete}
 use Rattle.sp_task.specs.Offers.{Asked}
 use Rattle.sp_task.specs.Work.{Job, offers_at, AllBelow}
-use Rattle.sp_task.specs.Left.{tally, upto, unmarked, IsMarked}
+use Rattle.sp_task.specs.Left.{tally, upto, unmarked_value, IsMarked}
 
 pub upto-same : (g h : ℕ → ℕ) (n : ℕ) → ((k : ℕ) → k < n → g k ≡ h k) → upto g n ≡ upto h n
 upto-same g h zero e = refl
@@ -65,15 +65,15 @@ part f marks k t false is once in_list out = rw (out refl) (omega arith)
 
 -- the numbers in the list, and those that have no mark
 pub in_or_left : (f : ℕ → ℕ) (n : ℕ) (rs : List ℕ) (marks : List Bool) → ((k : ℕ) → tally k rs ≤ 1) → IsMarked n rs marks
-    → upto (λ k. tally k rs * f k) n + upto (unmarked marks f) n ≡ upto f n
+    → upto (λ k. tally k rs * f k) n + upto (unmarked_value marks f) n ≡ upto f n
 in_or_left f n rs marks once marked =
-    sym (upto-add (λ k. tally k rs * f k) (unmarked marks f) n)
-    ∙ upto-same (λ k. tally k rs * f k + unmarked marks f k) f n
+    sym (upto-add (λ k. tally k rs * f k) (unmarked_value marks f) n)
+    ∙ upto-same (λ k. tally k rs * f k + unmarked_value marks f k) f n
     (λ k low. part f marks k (tally k rs) (slice_index_or marks k false) refl (once k) (marked k low).0 (marked k low).1)
 
 -- with no mark at all, every number is left
-pub all_left : (f : ℕ → ℕ) (n : ℕ) → upto (unmarked [] f) n ≡ upto f n
-all_left f n = upto-same (unmarked [] f) f n (λ k low. refl)
+pub all_left : (f : ℕ → ℕ) (n : ℕ) → upto (unmarked_value [] f) n ≡ upto f n
+all_left f n = upto-same (unmarked_value [] f) f n (λ k low. refl)
 
 -- what all jobs weigh
 pub weight-upto : (h : Asked → ℕ) (jobs : List Job) → upto (λ k. sum_by h (offers_at jobs k)) (length jobs) ≡ sum_by (λ (j : Job). sum_by h j.offers) jobs

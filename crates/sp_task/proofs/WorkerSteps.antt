@@ -5,7 +5,7 @@ use Rattle.std.specs.Prelude.{sum_by}
 use Rattle.sp_word.specs.Word.{Word}
 use Rattle.sp_word.specs.History.{Event}
 use Rattle.sp_offer.specs.Order.{IsNoMore}
-use Rattle.sp_offer.specs.Story.{Knowledge, known, own_calls}
+use Rattle.sp_offer.specs.Story.{Knowledge, known_table, own_calls}
 use Rattle.sp_claim.specs.Held.{Held}
 use Rattle.sp_claim.specs.declared.grants.Grant.{Grant}
 use Rattle.sp_claim.specs.Grants.{times}
@@ -14,7 +14,7 @@ use Rattle.sp_bucket.specs.declared.entry.Entry.{Entry}
 use Rattle.sp_graph.specs.RowsValue.{Split}
 use Rattle.sp_task.specs.declared.task.Task.{Task}
 use Rattle.sp_task.specs.Offers.{Asked, offers_of}
-use Rattle.sp_task.specs.Calls.{asked}
+use Rattle.sp_task.specs.Calls.{question_of}
 use Rattle.sp_task.specs.Work.{Job, jobs_of, offers_at, slot_at, grant_at, calls_weight, Did, Made, MadeOffers, AllBelow, Goes, start, Joined}
 use Rattle.sp_task.proofs.CallsInRow.{map-append, made_more, made_none, entries-append, nearer_append, AllKnown-lower, AllKnown-append, later_along, later_joined}
 
@@ -44,7 +44,7 @@ AllBelow-append n (x ∷ xs) ys h k = (h.0, AllBelow-append n xs ys h.1 k)
 
 -- the weight of calls, and of more calls
 pub calls_weight-append : (h : Asked → ℕ) (xs ys : List Event) → calls_weight h (xs ++ ys) ≡ calls_weight h xs + calls_weight h ys
-calls_weight-append h xs ys = ap (sum_by h) (map-append asked xs ys) ∙ sum_by-append h (map asked xs) (map asked ys)
+calls_weight-append h xs ys = ap (sum_by h) (map-append question_of xs ys) ∙ sum_by-append h (map question_of xs) (map question_of ys)
 
 module _ (law : ℕ → Word → Type 0) (jobs : List Job) (number : ℕ) where
   pub goes_none : (a : Did) → Goes law jobs number a a
@@ -115,7 +115,7 @@ module _ (law : ℕ → Word → Type 0) (jobs : List Job) (number : ℕ) where
   }
 
   -- two groups, of which the second began with no calls and no grants of its own
-  pub goes_joined : (c d : Knowledge) (h i : Held) (a b j : Did) → own_calls d.story ≡ [] → ((v : ℕ) → IsNoMore (known d.story v) (known c.story v)) → i.grants ≡ []
+  pub goes_joined : (c d : Knowledge) (h i : Held) (a b j : Did) → own_calls d.story ≡ [] → ((v : ℕ) → IsNoMore (known_table d.story v) (known_table c.story v)) → i.grants ≡ []
       → Goes law jobs number (start c h) a → Goes law jobs number (start d i) b → Joined law a b j → Goes law jobs number (start c h) j
   goes_joined c d h i a b j none low bare p q both = record {
     calls = p.calls ++ q.calls;
@@ -126,7 +126,7 @@ module _ (law : ℕ → Word → Type 0) (jobs : List Job) (number : ℕ) where
           both.tokens.own
           ∙ ((λ k. p.made.mine k ++ (q.made.mine ∙ ap (λ l. l ++ q.calls) none) k) ∙ append_assoc (own_calls c.story) p.calls q.calls);
       found = both.found ∙ ((λ k. p.made.found k ++ q.made.found k) ∙ sym (entries-append p.calls q.calls));
-      nearer = nearer_append (known d.story) (known c.story) p.calls q.calls low p.made.nearer q.made.nearer;
+      nearer = nearer_append (known_table d.story) (known_table c.story) p.calls q.calls low p.made.nearer q.made.nearer;
       knows =
           AllKnown-append j.caller.story p.calls q.calls
           (AllKnown-lower a.caller.story j.caller.story p.calls (λ v. (both.tokens.follows.falls v).0) p.made.knows)

@@ -5,7 +5,7 @@ use Rattle.sp_word.specs.History.{Table, Call, Offer, Read, Event}
 use Rattle.sp_word.specs.declared.reply.Reply.{Reply}
 use Rattle.sp_word.specs.declared.reply.Reply.TheVariants.{Shorter, SmallerPred, Kept}
 use Rattle.sp_offer.specs.Order.{IsNoMore}
-use Rattle.sp_offer.specs.Story.{Story, known}
+use Rattle.sp_offer.specs.Story.{Story, known_table}
 use Rattle.sp_bucket.specs.declared.entry.Entry.{Entry}
 use Rattle.sp_task.specs.Offers.{Asked}
 
@@ -14,8 +14,8 @@ abbrev pub word_offered : Call → Word
 word_offered (Offer word found reply) = word
 word_offered (Read found) = Unreached
 
-abbrev pub asked : Event → Asked
-asked e = record { vertex = e.vertex; word = word_offered e.call }
+abbrev pub question_of : Event → Asked
+question_of e = record { vertex = e.vertex; word = word_offered e.call }
 
 -- the entry of an offer that made the distance of its vertex smaller
 abbrev pub entry_of_reply : ℕ → Word → Reply → List Entry
@@ -40,4 +40,4 @@ IsNearer t e = (d p : ℕ) → t e.vertex ≡ Pair d p → e.dist < d
 -- what is known is at most each word that was offered
 abbrev pub AllKnown : Story → List Event → Type 0
 AllKnown s [] = Unit {0}
-AllKnown s (e ∷ es) = IsNoMore (known s e.vertex) (word_offered e.call) × AllKnown s es
+AllKnown s (e ∷ es) = IsNoMore (known_table s e.vertex) (word_offered e.call) × AllKnown s es

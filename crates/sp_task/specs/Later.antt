@@ -3,18 +3,18 @@ use Rattle.std.specs.Prelude.{◌≡◌, ℕ}
 use mathlib.Core.List.{IsPrefix}
 use Rattle.sp_word.specs.Word.{Word}
 use Rattle.sp_offer.specs.Order.{IsNoMore, IsKnownWord}
-use Rattle.sp_offer.specs.Story.{Knowledge, known, IsStory}
+use Rattle.sp_offer.specs.Story.{Knowledge, known_table, IsStory}
 
 -- The caller's history is legal, its calls stand there, each once, and every word that it knows is unreached or lawful.
 pub record HasLegalHistory (law : ℕ → Word → Type 0) (caller : Knowledge) : Type 0 where
   pub is_story : IsStory caller.story
-  pub words : (v : ℕ) → IsKnownWord law v (known caller.story v)
+  pub words : (v : ℕ) → IsKnownWord law v (known_table caller.story v)
 
 -- The caller is of the same table, and its history begins with what it had seen. Nowhere does it know less, what it
 -- knows stays lawful, and its history legal.
 pub record IsLater (law : ℕ → Word → Type 0) (before after : Knowledge) : Type 0 where
   pub table : after.table ≡ before.table
   pub begins : IsPrefix before.story.seen after.story.seen
-  pub falls : (v : ℕ) → IsNoMore (known after.story v) (known before.story v)
-  pub stays : ((v : ℕ) → IsKnownWord law v (known before.story v)) → (v : ℕ) → IsKnownWord law v (known after.story v)
+  pub falls : (v : ℕ) → IsNoMore (known_table after.story v) (known_table before.story v)
+  pub stays : ((v : ℕ) → IsKnownWord law v (known_table before.story v)) → (v : ℕ) → IsKnownWord law v (known_table after.story v)
   pub legal : IsStory before.story → IsStory after.story

@@ -4,11 +4,11 @@ use Rattle.sp_word.specs.Word.{Word}
 use Rattle.sp_word.specs.History.{Event}
 use Rattle.sp_paths.specs.Rows.{IsArcRelaxed}
 use Rattle.sp_graph.specs.RowsValue.{Split}
-use Rattle.sp_offer.specs.Story.{Knowledge, known, own_calls}
+use Rattle.sp_offer.specs.Story.{Knowledge, known_table, own_calls}
 use Rattle.sp_bucket.specs.declared.entry.Entry.{Entry}
 use Rattle.sp_task.specs.declared.task.Task.{Task}
 use Rattle.sp_task.specs.Offers.{Asked, arcs_of, offers_of, AreSameOffers}
-use Rattle.sp_task.specs.Calls.{asked, entries, IsNearer}
+use Rattle.sp_task.specs.Calls.{question_of, entries, IsNearer}
 use Rattle.sp_task.specs.Later.{IsLater}
 use Rattle.sp_task.specs.Work.{Job, Made, offers_at, calls_weight}
 
@@ -28,20 +28,20 @@ upto g zero = 0
 upto g (suc n) = upto g n + g n
 
 -- the value of g at each number that has no mark
-abbrev pub unmarked : List Bool → (ℕ → ℕ) → ℕ → ℕ
-unmarked marks g k = if slice_index_or marks k false then 0 else g k
+abbrev pub unmarked_value : List Bool → (ℕ → ℕ) → ℕ → ℕ
+unmarked_value marks g k = if slice_index_or marks k false then 0 else g k
 
 -- the jobs below n that have no mark were run
 abbrev pub RanLeft : (ℕ → Word → Type 0) → List Job → List Bool → ℕ → Knowledge → Knowledge → List Entry → List Entry → Type 0
 RanLeft law jobs marks n before after bag bag' =
     (calls : List Event) × Made law calls before after bag bag'
-    × ((h : Asked → ℕ) → calls_weight h calls ≡ upto (unmarked marks (λ k. sum_by h (offers_at jobs k))) n)
+    × ((h : Asked → ℕ) → calls_weight h calls ≡ upto (unmarked_value marks (λ k. sum_by h (offers_at jobs k))) n)
 
 -- ## Rounds
 
 -- each arc of the task was relaxed at its distance: what the caller knows is at most what the arc offered
 abbrev pub IsTaskDone : (max : ℕ) → Split → Knowledge → Task → Type 0
-IsTaskDone max rows after t = All (IsArcRelaxed max (known after.story) t.dist) (arcs_of rows t)
+IsTaskDone max rows after t = All (IsArcRelaxed max (known_table after.story) t.dist) (arcs_of rows t)
 
 -- The caller gained own calls: these are each offer of each task, each once, and no other. It knows every word of
 -- them. Each call that was answered Shorter gave its entry, which is nearer than what the caller knew before.
@@ -49,7 +49,7 @@ pub record RoundDone (law : ℕ → Word → Type 0) (max : ℕ) (rows : Split) 
   pub later : IsLater law before after
   pub calls : List Event
   pub own : own_calls after.story ≡ own_calls before.story ++ calls
-  pub each : AreSameOffers (map asked calls) (flat_map (offers_of max rows) tasks)
+  pub each : AreSameOffers (map question_of calls) (flat_map (offers_of max rows) tasks)
   pub shorter : found ≡ entries calls
-  pub nearer : All (IsNearer (known before.story)) found
+  pub nearer : All (IsNearer (known_table before.story)) found
   pub relaxed : All (IsTaskDone max rows after) tasks

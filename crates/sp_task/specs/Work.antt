@@ -3,7 +3,7 @@ use Rattle.std.specs.Prelude.{◌≡◌, ℕ, zero, suc, ◌+◌, ◌-◌, ◌�
 use Rattle.atomic_table.specs.Seated.{TableId}
 use Rattle.sp_word.specs.Word.{Word, is_layout, max_dist}
 use Rattle.sp_word.specs.History.{Event}
-use Rattle.sp_offer.specs.Story.{Knowledge, Follows, known, own_calls}
+use Rattle.sp_offer.specs.Story.{Knowledge, Follows, known_table, own_calls}
 use Rattle.sp_claim.specs.Held.{Held}
 use Rattle.sp_claim.specs.declared.grants.Grant.{Grant}
 use Rattle.sp_claim.specs.Grants.{grant, times}
@@ -14,7 +14,7 @@ use Rattle.sp_task.specs.declared.workers.Receipt.{Receipt}
 use Rattle.sp_task.specs.declared.workers.Done.{Done}
 use Rattle.sp_task.specs.declared.workers.RoundRefused.{RoundRefused}
 use Rattle.sp_task.specs.Offers.{Asked, offers_of, IsTask}
-use Rattle.sp_task.specs.Calls.{asked, entries, IsNearer, AllKnown}
+use Rattle.sp_task.specs.Calls.{question_of, entries, IsNearer, AllKnown}
 use Rattle.sp_task.specs.Later.{IsLater}
 
 -- ## Jobs
@@ -52,7 +52,7 @@ abbrev pub weight_at : (Asked → ℕ) → List Job → List ℕ → ℕ
 weight_at h jobs ks = sum_by (λ k. sum_by h (offers_at jobs k)) ks
 
 abbrev pub calls_weight : (Asked → ℕ) → List Event → ℕ
-calls_weight h calls = sum_by h (map asked calls)
+calls_weight h calls = sum_by h (map question_of calls)
 
 -- ## What a round stands on
 
@@ -94,13 +94,13 @@ pub record Made (law : ℕ → Word → Type 0) (calls : List Event) (before aft
   pub later : IsLater law before after
   pub mine : own_calls after.story ≡ own_calls before.story ++ calls
   pub found : bag' ≡ bag ++ entries calls
-  pub nearer : All (IsNearer (known before.story)) (entries calls)
+  pub nearer : All (IsNearer (known_table before.story)) (entries calls)
   pub knows : AllKnown after.story calls
 
 -- the calls are these offers, in their order
 abbrev pub MadeOffers : (ℕ → Word → Type 0) → List Asked → Knowledge → Knowledge → List Entry → List Entry → Type 0
 MadeOffers law offers before after bag bag' =
-    (calls : List Event) × (map asked calls ≡ offers) × Made law calls before after bag bag'
+    (calls : List Event) × (map question_of calls ≡ offers) × Made law calls before after bag bag'
 
 -- each number is below n
 abbrev pub AllBelow : ℕ → List ℕ → Type 0

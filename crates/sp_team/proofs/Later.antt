@@ -3,7 +3,7 @@ use Rattle.std.proofs.Common.{◌≡◌, ℕ, List, [], ◌∷◌, ◌++◌, len
 use mathlib.Core.List.{IsPrefix}
 use Rattle.sp_word.specs.Word.{Word}
 use Rattle.sp_word.specs.History.{Event}
-use Rattle.sp_offer.specs.Story.{Knowledge, Calls, Knows, Follows, known}
+use Rattle.sp_offer.specs.Story.{Knowledge, Calls, Knows, Follows, known_table}
 use Rattle.sp_offer.proofs.Orders.{at_most-refl, at_most-trans}
 use Rattle.sp_team.specs.Later.{IsLater}
 
@@ -19,7 +19,7 @@ module _ (law : ℕ → Word → Type 0) where
     table = refl;
     begins = prefix_itself a.story.seen;
     own = prefix_itself a.story.own;
-    falls = λ v. at_most-refl (known a.story v);
+    falls = λ v. at_most-refl (known_table a.story v);
     stays = λ h. h;
   }
 
@@ -28,7 +28,7 @@ module _ (law : ℕ → Word → Type 0) where
     table = q.table ∙ p.table;
     begins = prefix_along a.story.seen b.story.seen c.story.seen p.begins q.begins;
     own = prefix_along a.story.own b.story.own c.story.own p.own q.own;
-    falls = λ v. at_most-trans (known c.story v) (known b.story v) (known a.story v) (q.falls v) (p.falls v);
+    falls = λ v. at_most-trans (known_table c.story v) (known_table b.story v) (known_table a.story v) (q.falls v) (p.falls v);
     stays = λ h. q.stays (p.stays h);
   }
 

@@ -3,7 +3,7 @@ use Rattle.std.specs.Prelude.{◌≡◌, ℕ}
 use mathlib.Core.List.{IsPrefix}
 use Rattle.sp_word.specs.Word.{Word}
 use Rattle.sp_offer.specs.Order.{IsNoMore, IsKnownWord}
-use Rattle.sp_offer.specs.Story.{Knowledge, known}
+use Rattle.sp_offer.specs.Story.{Knowledge, known_table}
 
 -- The caller is of the same table, its history begins with what it had seen, and its own calls are its own still. Nowhere
 -- does it know less, and what it knows stays lawful.
@@ -11,5 +11,5 @@ pub record IsLater (law : ℕ → Word → Type 0) (before after : Knowledge) : 
   pub table : after.table ≡ before.table
   pub begins : IsPrefix before.story.seen after.story.seen
   pub own : IsPrefix before.story.own after.story.own
-  pub falls : (v : ℕ) → IsNoMore (known after.story v) (known before.story v)
-  pub stays : ((v : ℕ) → IsKnownWord law v (known before.story v)) → (v : ℕ) → IsKnownWord law v (known after.story v)
+  pub falls : (v : ℕ) → IsNoMore (known_table after.story v) (known_table before.story v)
+  pub stays : ((v : ℕ) → IsKnownWord law v (known_table before.story v)) → (v : ℕ) → IsKnownWord law v (known_table after.story v)

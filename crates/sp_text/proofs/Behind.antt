@@ -9,7 +9,7 @@ use Rattle.sp_text.specs.declared.faults.DimacsError.{DimacsError}
 use Rattle.sp_text.specs.declared.feeding.Feeder.{Feeder}
 use Rattle.sp_text.specs.Lines.{cut, ended, rest, lines, last_line}
 use Rattle.sp_text.specs.Meaning.{HasNoLf}
-use Rattle.sp_text.specs.First.{Judge, or_at, line_fault, first_after, first_fault, rest_fault, fault_so_far, fault_at_failure, cut_short, unfinished, fault_at_end}
+use Rattle.sp_text.specs.First.{Judge, or_at, line_fault, first_after, first_fault, rest_fault, fault_so_far, fault_at_failure, cut_short, fault_without_end, fault_at_end}
 use Rattle.sp_text.specs.Feeding.{IsBehind, Refused, IsMemory, Fed, lines_taken, IsToldOf, IsClosed, Closed}
 use Rattle.sp_text.proofs.LineCuts.{cut-append, front_byte, or_else_none, ended_at_lf, rest_at_lf, ended_at_run, rest_at_run, early_at_run, clean_parts, open_while, first_push, early_at_lf, early_at_other, fault_lasts}
 
@@ -260,7 +260,7 @@ lines_short : (text : List ℕ) → length (lines text) ≤ length text + 1
 unfolding lines
 lines_short text = omega (arith, length-append (ended text) (last_line (rest text)), ended_short text, last_short (rest text))
 
-unfinished_none : (needs_lf : Bool) (judge : Judge) (text : List ℕ) → first_fault judge (lines text) ≡ None → (needs_lf ≡ true → rest text ≡ []) → unfinished needs_lf judge text ≡ None
+unfinished_none : (needs_lf : Bool) (judge : Judge) (text : List ℕ) → first_fault judge (lines text) ≡ None → (needs_lf ≡ true → rest text ≡ []) → fault_without_end needs_lf judge text ≡ None
 unfinished_none false judge text clean whole = refl
 unfinished_none true judge text clean whole =
     let none : rest text ≡ [] = whole refl in

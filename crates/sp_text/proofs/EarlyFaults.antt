@@ -3,7 +3,7 @@ use Rattle.std.proofs.Common.{◌≡◌, ℕ, ◌+◌, Bool, true, false, List, 
 use Rattle.sp_text.specs.declared.faults.Kind.{Kind}
 use Rattle.sp_text.specs.declared.faults.DimacsError.{DimacsError}
 use Rattle.sp_text.specs.Lines.{ended, rest, lines, last_line}
-use Rattle.sp_text.specs.First.{Judge, or_at, or_else, or_kind, size_fault, first_after, first_fault, rest_fault, fault_so_far, unfinished, fault_at_end}
+use Rattle.sp_text.specs.First.{Judge, or_at, or_else, or_kind, size_fault, first_after, first_fault, rest_fault, fault_so_far, fault_without_end, fault_at_end}
 use Rattle.sp_text.proofs.LineCuts.{first_after-append, fault_lasts}
 
 by_size : (size : Option Kind) (n : ℕ) (before : List (List ℕ)) (fault : Option Kind) (missing : Option DimacsError) (e : DimacsError) → n ≡ length before + 1
@@ -19,7 +19,7 @@ told_early judge n (Some x) before r missing e is h = h
 told_early judge n None before [] missing e is h = cc
 told_early judge n None before (b ∷ r) missing e is h = by_size (size_fault judge before (b ∷ r)) n before (judge.fault before (b ∷ r)) missing e is h
 
-early_first : (needs_lf : Bool) (judge : Judge) (text : List ℕ) (later : Option DimacsError) (e : DimacsError) → fault_so_far judge text ≡ Some e → later ≡ Some e → or_else (unfinished needs_lf judge text) later ≡ Some e
+early_first : (needs_lf : Bool) (judge : Judge) (text : List ℕ) (later : Option DimacsError) (e : DimacsError) → fault_so_far judge text ≡ Some e → later ≡ Some e → or_else (fault_without_end needs_lf judge text) later ≡ Some e
 early_first false judge text later e h is = is
 early_first true judge text later e h is = rw h refl
 

@@ -9,7 +9,7 @@ use Rattle.sp_text.specs.declared.formats.Form.{Form}
 use Rattle.sp_text.specs.declared.formats.FileFormat.{FileFormat}
 use Rattle.sp_text.specs.declared.matching.Numbers.{Numbers}
 use Rattle.sp_text.specs.declared.matching.Numbers.TheVariants.{Within}
-use Rattle.sp_text.specs.Lines.{without_cr, parted, fields}
+use Rattle.sp_text.specs.Lines.{without_cr, fields_from, fields}
 use Rattle.sp_text.specs.Formats.{form_of, format_of, IsSmallForm}
 use Rattle.sp_text.specs.Text.{is_comment, behind_words, of_form, Item, IsItem, item_reading, reading_of, reading}
 use Rattle.sp_text.specs.Matching.{Are, IsLetter, AreSpaced}
@@ -21,15 +21,15 @@ item_here items place d line ns within is so_far =
     so_far ∙ (ap (λ (forms : List Form). item_reading place (map form_of forms) line) (drop_more items place d within) ∙ rw is refl)
 
 pub found_item : (format : FileFormat) (line text : List ℕ) (place : ℕ) (d : Form) (ranges : Ranges) (ps ns : List ℕ) (numbers : Numbers)
-    → text ≡ without_cr line → false ≡ is_comment (parted [] text) → of_form (form_of format.problem) (parted [] text) ≡ None
-    → item_reading 0 (map form_of format.items.now) (parted [] text) ≡ item_reading place (map form_of (drop place format.items.now)) (parted [] text)
-    → place < length format.items.now → of_form (form_of (get_or format.items.now place d)) (parted [] text) ≡ Some ns
+    → text ≡ without_cr line → false ≡ is_comment (fields_from [] text) → of_form (form_of format.problem) (fields_from [] text) ≡ None
+    → item_reading 0 (map form_of format.items.now) (fields_from [] text) ≡ item_reading place (map form_of (drop place format.items.now)) (fields_from [] text)
+    → place < length format.items.now → of_form (form_of (get_or format.items.now place d)) (fields_from [] text) ≡ Some ns
     → IsSmallForm (get_or format.items.now place d)
     → Are ranges ps (form_of (get_or format.items.now place d)).fields ns numbers
     → (item : Item) × (reading (format_of format) line ≡ IsItem item) × (item.kind ≡ place) × (slice_get (format_of format).items place ≡ Some item.form) × (item.form ≡ form_of (get_or format.items.now place d)) × IsSmallForm (get_or format.items.now place d) × Are ranges ps item.form.fields item.numbers numbers
 unfolding reading reading_of fields
 found_item format line text place d ranges ps ns numbers cr remark problem so_far within is plain are =
-    let here = item_here format.items.now place d (parted [] text) ns within is so_far in (
+    let here = item_here format.items.now place d (fields_from [] text) ns within is so_far in (
       record { kind = place; form = form_of (get_or format.items.now place d); numbers = ns },
       rw (← cr, ← remark, problem) here,
       refl,
@@ -40,27 +40,27 @@ found_item format line text place d ranges ps ns numbers cr remark problem so_fa
     )
 
 -- A line does not have a form with whose words it does not begin.
-pub next_form : (items : List Form) (place : ℕ) (d : Form) (text : List ℕ) → place < length items → ((ds : List Field) → behind_words (parted [] (get_or items place d).words.now) ds (parted [] text) ≡ None)
-    → item_reading 0 (map form_of items) (parted [] text) ≡ item_reading place (map form_of (drop place items)) (parted [] text)
-    → item_reading 0 (map form_of items) (parted [] text) ≡ item_reading (place + 1) (map form_of (drop (place + 1) items)) (parted [] text)
+pub next_form : (items : List Form) (place : ℕ) (d : Form) (text : List ℕ) → place < length items → ((ds : List Field) → behind_words (fields_from [] (get_or items place d).words.now) ds (fields_from [] text) ≡ None)
+    → item_reading 0 (map form_of items) (fields_from [] text) ≡ item_reading place (map form_of (drop place items)) (fields_from [] text)
+    → item_reading 0 (map form_of items) (fields_from [] text) ≡ item_reading (place + 1) (map form_of (drop (place + 1) items)) (fields_from [] text)
 unfolding of_form
 next_form items place d text within none so_far =
-    so_far ∙ (ap (λ (forms : List Form). item_reading place (map form_of forms) (parted [] text)) (drop_more items place d within) ∙ rw (none (get_or items place d).fields.now) refl)
+    so_far ∙ (ap (λ (forms : List Form). item_reading place (map form_of forms) (fields_from [] text)) (drop_more items place d within) ∙ rw (none (get_or items place d).fields.now) refl)
 
-no_form : (form : Form) (line : List (List ℕ)) → ((ds : List Field) → behind_words (parted [] form.words.now) ds line ≡ None) → of_form (form_of form) line ≡ None
+no_form : (form : Form) (line : List (List ℕ)) → ((ds : List Field) → behind_words (fields_from [] form.words.now) ds line ≡ None) → of_form (form_of form) line ≡ None
 unfolding of_form
 no_form form line none = none form.fields.now
 
-letter_form : (form : Form) (text rest : List ℕ) (ranges : Ranges) (ps ns : List ℕ) → IsLetter form.words.now text rest → AreSpaced ranges ps form.fields.now rest ns → of_form (form_of form) (parted [] text) ≡ Some ns
+letter_form : (form : Form) (text rest : List ℕ) (ranges : Ranges) (ps ns : List ℕ) → IsLetter form.words.now text rest → AreSpaced ranges ps form.fields.now rest ns → of_form (form_of form) (fields_from [] text) ≡ Some ns
 unfolding of_form
 letter_form form text rest ranges ps ns letter spaced = letter spaced.apart form.fields.now ∙ spaced.spelled
 
 -- An item whose form begins with a letter.
 pub found_usual : (format : FileFormat) (line text rest : List ℕ) (place : ℕ) (d : Form) (ranges : Ranges) (ps ns : List ℕ) → IsSmallForm (get_or format.items.now place d)
-    → text ≡ without_cr line → false ≡ is_comment (parted [] text) → ((ds : List Field) → behind_words (parted [] format.problem.words.now) ds (parted [] text) ≡ None)
-    → item_reading 0 (map form_of format.items.now) (parted [] text) ≡ item_reading place (map form_of (drop place format.items.now)) (parted [] text)
+    → text ≡ without_cr line → false ≡ is_comment (fields_from [] text) → ((ds : List Field) → behind_words (fields_from [] format.problem.words.now) ds (fields_from [] text) ≡ None)
+    → item_reading 0 (map form_of format.items.now) (fields_from [] text) ≡ item_reading place (map form_of (drop place format.items.now)) (fields_from [] text)
     → place < length format.items.now → IsLetter (get_or format.items.now place d).words.now text rest → AreSpaced ranges ps (get_or format.items.now place d).fields.now rest ns
     → (item : Item) × (reading (format_of format) line ≡ IsItem item) × (item.kind ≡ place) × (slice_get (format_of format).items place ≡ Some item.form) × (item.form ≡ form_of (get_or format.items.now place d)) × IsSmallForm (get_or format.items.now place d) × Are ranges ps item.form.fields item.numbers (Within ns)
 found_usual format line text rest place d ranges ps ns small cr remark problem so_far within letter spaced =
-    found_item format line text place d ranges ps ns (Within ns) cr remark (no_form format.problem (parted [] text) problem) so_far within
+    found_item format line text place d ranges ps ns (Within ns) cr remark (no_form format.problem (fields_from [] text) problem) so_far within
     (letter_form (get_or format.items.now place d) text rest ranges ps ns letter spaced) small (spaced.within, refl)

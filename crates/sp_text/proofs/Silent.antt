@@ -5,7 +5,7 @@ use Rattle.sp_text.specs.declared.faults.Kind.{Kind}
 use Rattle.sp_text.specs.declared.faults.Kind.TheVariants.{LongLine, TooMany, Read}
 use Rattle.sp_text.specs.declared.faults.DimacsError.{DimacsError}
 use Rattle.sp_text.specs.Lines.{ended, rest, lines}
-use Rattle.sp_text.specs.First.{Judge, IsSilent, or_at, or_else, or_kind, size_fault, line_fault, first_after, first_fault, rest_fault, fault_so_far, cut_short, unfinished, fault_at_end}
+use Rattle.sp_text.specs.First.{Judge, IsSilent, or_at, or_else, or_kind, size_fault, line_fault, first_after, first_fault, rest_fault, fault_so_far, cut_short, fault_without_end, fault_at_end}
 use Rattle.sp_text.specs.Text.{judge}
 
 at_silent : (n : ℕ) (kind : Option Kind) (later : Option DimacsError) (e : DimacsError) → kind ≢ Some Read → (later ≡ Some e → e.kind ≢ Read) → or_at n kind later ≡ Some e → e.kind ≢ Read
@@ -55,7 +55,7 @@ short_silent : (r : List ℕ) → cut_short r ≢ Some Read
 short_silent [] h = cc
 short_silent (b ∷ r) h = cc
 
-unfinished_silent : (needs_lf : Bool) (judge : Judge) → IsSilent judge → (text : List ℕ) (e : DimacsError) → unfinished needs_lf judge text ≡ Some e → e.kind ≢ Read
+unfinished_silent : (needs_lf : Bool) (judge : Judge) → IsSilent judge → (text : List ℕ) (e : DimacsError) → fault_without_end needs_lf judge text ≡ Some e → e.kind ≢ Read
 unfinished_silent false judge silent text e h is = cc
 unfinished_silent true judge silent text e h is =
     else_silent (fault_so_far judge text) (or_at (length (ended text) + 1) (cut_short (rest text)) None) e (early_silent judge silent text e)
@@ -65,6 +65,6 @@ pub told_silent : (judge : Judge) → IsSilent judge → (text : List ℕ) (e : 
 unfolding fault_at_end
 told_silent judge silent text e h =
     let ending = or_at (length (lines text) + 1) (judge.missing (lines text)) None in
-    else_silent (unfinished judge.needs_lf judge text) (or_else (first_fault judge (lines text)) ending) e (unfinished_silent judge.needs_lf judge silent text e)
+    else_silent (fault_without_end judge.needs_lf judge text) (or_else (first_fault judge (lines text)) ending) e (unfinished_silent judge.needs_lf judge silent text e)
     (else_silent (first_fault judge (lines text)) ending e (after_silent judge silent [] (lines text) e)
     (at_silent (length (lines text) + 1) (judge.missing (lines text)) None e (silent.missing (lines text)) (no_more e))) h

@@ -4,7 +4,7 @@ use Rattle.std.proofs.lemmas.List.{get_or-drop, length-drop, drop_more}
 use Rattle.sp_text.specs.declared.formats.Ranges.{Ranges}
 use Rattle.sp_text.specs.declared.formats.Field.{Field}
 use Rattle.sp_text.specs.declared.numbers.Numeral.TheVariants as numerals
-use Rattle.sp_text.specs.Numeral.{IsFront, IsQuick, ranged}
+use Rattle.sp_text.specs.Numeral.{IsFront, IsQuick, numeral_within}
 use Rattle.sp_text.specs.Text.{top}
 use Rattle.sp_text.specs.Matching.{StandsApart, AreSpaced}
 use Rattle.sp_text.proofs.Digits.{is_number_parts}
@@ -16,7 +16,7 @@ ranged_cases : (b : Bool) (n v : ℕ) → numerals.Value v ≡ cond b (numerals.
 ranged_cases true n v is = (cc, refl)
 ranged_cases false n v is = cc
 
-ranged_value : (n v least most : ℕ) → numerals.Value v ≡ ranged n least most → (v ≡ n) × ((leb least n && leb n most) ≡ true)
+ranged_value : (n v least most : ℕ) → numerals.Value v ≡ numeral_within n least most → (v ≡ n) × ((leb least n && leb n most) ≡ true)
 ranged_value n v least most is = ranged_cases (leb least n && leb n most) n v is
 
 -- Where the rest stands apart, a number at the front is the first field.
@@ -40,7 +40,7 @@ spaced_front ranges ps d ds (b ∷ text) ns n end some space front within others
     }
 
 pub spaced_more : (ranges : Ranges) (ps : List ℕ) (fields : List Field) (i : ℕ) (d : Field) (text ns : List ℕ) (n m end most : ℕ) → i < length fields → 1 ≤ length text → get_or text 0 0 ≡ 32 → IsFront (drop 1 text) m end
-    → most ≡ top ranges ps (get_or fields i d).most → numerals.Value n ≡ ranged m (get_or fields i d).least most
+    → most ≡ top ranges ps (get_or fields i d).most → numerals.Value n ≡ numeral_within m (get_or fields i d).least most
     → AreSpaced ranges ps (drop (i + 1) fields) (drop end (drop 1 text)) ns → AreSpaced ranges ps (drop i fields) text (n ∷ ns)
 spaced_more ranges ps fields i d text ns n m end most below some space front most_is found others =
     let value = ranged_value m n (get_or fields i d).least most found in

@@ -65,12 +65,12 @@ abbrev pub cut_short : List ℕ → Option Kind
 cut_short [] = None
 cut_short (b ∷ bytes) = Some TooFew
 
-abbrev pub unfinished : (needs_lf : Bool) → Judge → List ℕ → Option DimacsError
-unfinished false judge text = None
-unfinished true judge text = or_else (fault_so_far judge text) (or_at (length (ended text) + 1) (cut_short (rest text)) None)
+abbrev pub fault_without_end : (needs_lf : Bool) → Judge → List ℕ → Option DimacsError
+fault_without_end false judge text = None
+fault_without_end true judge text = or_else (fault_so_far judge text) (or_at (length (ended text) + 1) (cut_short (rest text)) None)
 
 -- The text has ended: its last line lacks an LF that it needs, or a line has a fault, or something is missing at the
 -- line after the last.
 unfoldable pub fault_at_end : Judge → List ℕ → Option DimacsError
-fault_at_end judge text = or_else (unfinished judge.needs_lf judge text)
+fault_at_end judge text = or_else (fault_without_end judge.needs_lf judge text)
     (or_else (first_fault judge (lines text)) (or_at (length (lines text) + 1) (judge.missing (lines text)) None))

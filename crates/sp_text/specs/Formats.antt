@@ -6,7 +6,7 @@ use Rattle.sp_text.specs.declared.formats.Form.{Form}
 use Rattle.sp_text.specs.declared.formats.FileFormat.{FileFormat}
 use Rattle.sp_word.specs.Word.{max_dist, max_pred}
 use Rattle.sp_text.specs.declared.formats.Ranges.{Ranges}
-use Rattle.sp_text.specs.Lines.{parted}
+use Rattle.sp_text.specs.Lines.{fields_from}
 
 -- Its words, and then a number for each field. Lines of forms of one group are counted together, up to
 -- the limit. Where a form is fresh, its first number stands in no earlier line of the form.
@@ -25,7 +25,7 @@ pub record Format : Type 0 where
 
 -- what the program's data say
 abbrev pub form_of : Form → LineForm
-form_of f = record { words = parted [] f.words.now; fields = f.fields.now; fresh = f.fresh; group = f.group; limit = f.limit }
+form_of f = record { words = fields_from [] f.words.now; fields = f.fields.now; fresh = f.fresh; group = f.group; limit = f.limit }
 
 abbrev pub format_of : FileFormat → Format
 format_of l = record { problem = form_of l.problem; items = map form_of l.items.now; needed = l.needed }

@@ -37,12 +37,12 @@ with_field [] fields = fields
 with_field (b ∷ field) fields = (b ∷ field) ∷ fields
 
 -- What blanks part. `field` stands before the bytes.
-abbrev pub parted : List ℕ → List ℕ → List (List ℕ)
-parted field [] = with_field field []
-parted field (b ∷ bytes) = if is_blank b then with_field field (parted [] bytes) else parted (field ++ b ∷ []) bytes
+abbrev pub fields_from : List ℕ → List ℕ → List (List ℕ)
+fields_from field [] = with_field field []
+fields_from field (b ∷ bytes) = if is_blank b then with_field field (fields_from [] bytes) else fields_from (field ++ b ∷ []) bytes
 
 unfoldable pub fields : List ℕ → List (List ℕ)
-fields line = parted [] (without_cr line)
+fields line = fields_from [] (without_cr line)
 
 -- `0`, or decimal digits without a leading zero, any number of them
 unfoldable pub is_number : List ℕ → Bool

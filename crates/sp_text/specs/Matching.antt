@@ -1,7 +1,7 @@
 -- What a line was found to be.
 use Rattle.std.specs.Prelude.{◌≡◌, ℕ, ◌<◌, true, ◌&&◌, nat_le, List, [], ◌∷◌, ◌++◌, length, slice_get, slice_index, Option, Some, None, Result, Ok, Err}
 use Rattle.std.specs.Borrow.{Bor}
-use Rattle.sp_text.specs.Lines.{is_blank, parted}
+use Rattle.sp_text.specs.Lines.{is_blank, fields_from}
 use Rattle.sp_text.specs.declared.formats.Ranges.{Ranges}
 use Rattle.sp_text.specs.declared.formats.Field.{Field}
 use Rattle.sp_text.specs.declared.formats.Form.{Form}
@@ -28,7 +28,7 @@ Spells ranges ps ds found old new Within = (ns : List ℕ) × (found ≡ Some ns
 -- The first number is this one, and in its range, and the rest of the line spells the others; or the line does
 -- not spell such numbers; or it does, and the first is out of its range.
 abbrev pub NumberTaken : Ranges → List ℕ → Field → List Field → Option (List ℕ) → Result (ℕ × Bor (List ℕ)) Spelled → Type 0
-NumberTaken ranges ps d ds found (Ok (n, rest)) = (found ≡ with_number n (numbers ds (parted [] rest.now))) × ((nat_le d.least n && nat_le n (top ranges ps d.most)) ≡ true)
+NumberTaken ranges ps d ds found (Ok (n, rest)) = (found ≡ with_number n (numbers ds (fields_from [] rest.now))) × ((nat_le d.least n && nat_le n (top ranges ps d.most)) ≡ true)
 NumberTaken ranges ps d ds found (Err No) = found ≡ None
 NumberTaken ranges ps d ds found (Err (Out letter)) = (letter ≡ d.letter) × (ns : List ℕ) × (found ≡ Some ns) × (first_out ranges ps (d ∷ ds) ns ≡ Some letter)
 NumberTaken ranges ps d ds found (Err Within) = ⊥
@@ -57,12 +57,12 @@ StandsApart text = 0 < length text → is_blank (slice_index text 0) ≡ true
 
 -- The words are a letter, which the line begins with, and this is the rest of it.
 abbrev pub IsLetter : List ℕ → List ℕ → List ℕ → Type 0
-IsLetter words line rest = StandsApart rest → (ds : List Field) → behind_words (parted [] words) ds (parted [] line) ≡ numbers ds (parted [] rest)
+IsLetter words line rest = StandsApart rest → (ds : List Field) → behind_words (fields_from [] words) ds (fields_from [] line) ≡ numbers ds (fields_from [] rest)
 
 -- The text stands apart, and spells these numbers, which are in their ranges.
 pub record AreSpaced (ranges : Ranges) (ps : List ℕ) (ds : List Field) (text ns : List ℕ) : Type 0 where
   pub apart : StandsApart text
-  pub spelled : numbers ds (parted [] text) ≡ Some ns
+  pub spelled : numbers ds (fields_from [] text) ≡ Some ns
   pub within : first_out ranges ps ds ns ≡ None
 
 abbrev pub IsFound : Format → Ranges → List ℕ → Reading → Found → Type 0

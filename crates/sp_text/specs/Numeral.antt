@@ -6,15 +6,15 @@ use Rattle.std.specs.List.{list_all, take_while}
 use Rattle.std.specs.Char.{is_ascii_digit}
 use Rattle.sp_text.specs.Lines.{is_blank, is_number, value}
 
-abbrev pub ranged : ℕ → ℕ → ℕ → Numeral
-ranged n least most = if nat_le least n && nat_le n most then Value n else Out
+abbrev pub numeral_within : ℕ → ℕ → ℕ → Numeral
+numeral_within n least most = if nat_le least n && nat_le n most then Value n else Out
 
 abbrev pub numeral : List ℕ → ℕ → ℕ → Numeral
-numeral field least most = if is_number field then ranged (value field) least most else Bad
+numeral field least most = if is_number field then numeral_within (value field) least most else Bad
 
 -- A number as 64 bits can hold it: 2^64 - 1 stands for each that is too large.
-abbrev pub capped : ℕ → ℕ
-capped n = min n (2 ^ 64 - 1)
+abbrev pub capped_value : ℕ → ℕ
+capped_value n = min n (2 ^ 64 - 1)
 
 -- The digits at the front of a text, as many as stand there.
 abbrev pub leading_digits : List ℕ → List ℕ
@@ -27,7 +27,7 @@ HasNoLead text = is_number (leading_digits text) ≡ false
 -- These digits, so many, spell this number, as 64 bits can hold it.
 pub record Leads (text : List ℕ) (n end : ℕ) : Type 0 where
   pub spelled : is_number (leading_digits text) ≡ true
-  pub number : n ≡ capped (value (leading_digits text))
+  pub number : n ≡ capped_value (value (leading_digits text))
   pub digits : leading_digits text ≡ take end text
   pub within : end ≤ length text
 

@@ -1,6 +1,6 @@
 //! The fields of a line.
 ghost use Rattle.std.specs.Prelude.{◌≡◌, ℕ, ◌<◌, ◌≤◌, Bool, true, not, List, [], ◌∷◌, length, slice_index, MatchOption};
-ghost use Rattle.sp_text.specs.Lines.{is_blank, without_cr, parted, StartsOtherwise};
+ghost use Rattle.sp_text.specs.Lines.{is_blank, without_cr, fields_from, StartsOtherwise};
 
 /// Whether the byte is a blank.
 #[inline(always)]
@@ -39,7 +39,7 @@ pub(crate) fn drop_cr(line: &[u8]) -> &[u8]
 /// The text without the blanks at its front.
 #[inline(always)]
 pub(crate) fn skip_blanks(text: &[u8]) -> &[u8]
-    ensures { parted [] result.now ≡ parted [] text.now }
+    ensures { fields_from [] result.now ≡ fields_from [] text.now }
 {
     let (_, rest) = text.split_at(run(text, true));
     rest
@@ -47,8 +47,8 @@ pub(crate) fn skip_blanks(text: &[u8]) -> &[u8]
 
 /// The first field, and what stands after it.
 pub(crate) fn next_field(text: &[u8]) -> Option<(&[u8], &[u8])>
-    ensures { MatchOption result (parted [] text.now ≡ [])
-        (λ x. (parted [] text.now ≡ x.0.now ∷ parted [] x.1.now)
+    ensures { MatchOption result (fields_from [] text.now ≡ [])
+        (λ x. (fields_from [] text.now ≡ x.0.now ∷ fields_from [] x.1.now)
         × (length x.1.now < length text.now)) }
 {
     let (_, rest) = text.split_at(run(text, true));

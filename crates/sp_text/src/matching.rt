@@ -1,6 +1,6 @@
 //! A line against the forms of a file.
 ghost use Rattle.std.specs.Prelude.{◌≡◌, ◌+◌, ◌≤◌, ℕ, List, [], ◌∷◌, length, slice_index, true, Some, None, IfSome, MatchOption, MatchBool};
-ghost use Rattle.sp_text.specs.Lines.{parted};
+ghost use Rattle.sp_text.specs.Lines.{fields_from};
 ghost use Rattle.sp_text.specs.declared.formats.Field.{Field};
 ghost use Rattle.sp_text.specs.declared.formats.Ranges.{Ranges};
 ghost use Rattle.sp_text.specs.Formats.{form_of};
@@ -58,8 +58,8 @@ impl Numbers {
 
 // The first field as a number, and what stands after it.
 fn next_number(text: &[u8], least: u64, most: u64) -> Option<(Numeral, &[u8])>
-    ensures { MatchOption result (parted [] text.now ≡ [])
-        (λ x. (field : List ℕ) × (parted [] text.now ≡ field ∷ parted [] x.1.now)
+    ensures { MatchOption result (fields_from [] text.now ≡ [])
+        (λ x. (field : List ℕ) × (fields_from [] text.now ≡ field ∷ fields_from [] x.1.now)
         × (x.0 ≡ numeral field least most)) }
 {
     let (field, rest) = next_field(text)?;
@@ -68,8 +68,9 @@ fn next_number(text: &[u8], least: u64, most: u64) -> Option<(Numeral, &[u8])>
 
 // Whether the fields of the text are numbers, one for each of these, and nothing else.
 fn are_numbers(fields: &[Field], text: &[u8]) -> bool
-    ensures { MatchBool result ((ns : List ℕ) × (numbers fields.now (parted [] text.now) ≡ Some ns))
-        (numbers fields.now (parted [] text.now) ≡ None) }
+    ensures { MatchBool result
+        ((ns : List ℕ) × (numbers fields.now (fields_from [] text.now) ≡ Some ns))
+        (numbers fields.now (fields_from [] text.now) ≡ None) }
 {
     let [_, more @ ..] = fields else {
         return next_field(text).is_none();
@@ -94,7 +95,7 @@ fn take_number<'a>(
     text: &'a [u8],
 ) -> Result<(u64, &'a [u8]), Spelled>
     ensures { NumberTaken ranges.now problem.now field.now more.now
-        (numbers (field.now ∷ more.now) (parted [] text.now)) result }
+        (numbers (field.now ∷ more.now) (fields_from [] text.now)) result }
 {
     let most = greatest(field.most, ranges, problem);
     let Some((numeral, rest)) = next_number(text, field.least, most) else {
@@ -116,7 +117,7 @@ fn take_number<'a>(
 #[inline(always)]
 fn end_numbers(text: &[u8]) -> Spelled
     ensures { (ranges : Ranges) (ps values : List ℕ)
-        → Spells ranges ps [] (numbers [] (parted [] text.now)) values values result }
+        → Spells ranges ps [] (numbers [] (fields_from [] text.now)) values values result }
 {
     if next_field(text).is_none() {
         Spelled::Within
@@ -136,7 +137,7 @@ fn take_numbers(
 ) -> Spelled
     requires { length values.old + length fields.now ≤ 4 }
     ensures { Spells ranges.now problem.now fields.now
-        (numbers fields.now (parted [] text.now)) values.old values.new result }
+        (numbers fields.now (fields_from [] text.now)) values.old values.new result }
 {
     let mut fields = fields;
     let mut rest = text;
@@ -156,9 +157,10 @@ fn take_numbers(
 // What stands behind the words, if the line begins with them.
 fn after_fields<'a>(words: &[u8], text: &'a [u8]) -> Option<&'a [u8]>
     ensures { (ds : List Field)
-        → MatchOption result (behind_words (parted [] words.now) ds (parted [] text.now) ≡ None)
-        (λ rest. behind_words (parted [] words.now) ds (parted [] text.now)
-        ≡ numbers ds (parted [] rest.now)) }
+        → MatchOption result
+        (behind_words (fields_from [] words.now) ds (fields_from [] text.now) ≡ None)
+        (λ rest. behind_words (fields_from [] words.now) ds (fields_from [] text.now)
+        ≡ numbers ds (fields_from [] rest.now)) }
 {
     let mut words = words;
     let mut rest = text;
@@ -177,7 +179,7 @@ fn after_fields<'a>(words: &[u8], text: &'a [u8]) -> Option<&'a [u8]>
 #[inline(always)]
 pub(crate) fn begins_otherwise(words: &[u8], text: &[u8]) -> bool
     ensures { result ≡ true → (ds : List Field)
-        → behind_words (parted [] words.now) ds (parted [] text.now) ≡ None }
+        → behind_words (fields_from [] words.now) ds (fields_from [] text.now) ≡ None }
 {
     match words {
         [first, ..] => starts_otherwise(words, b' ') && starts_otherwise(text, *first),
@@ -244,7 +246,7 @@ pub(crate) fn match_form(
 ) -> Option<Numbers>
     requires { length form.now.fields.now ≤ 4 }
     ensures { Matched ranges.now problem.now form.now.fields.now
-        (of_form (form_of form.now) (parted [] text.now)) result }
+        (of_form (form_of form.now) (fields_from [] text.now)) result }
 {
     if begins_otherwise(form.words, text) {
         return None;

@@ -3,7 +3,7 @@ ghost use Rattle.std.specs.Prelude.{◌≡◌, ◌<◌, ◌≤◌, ◌^◌, leng
 ghost use Rattle.std.specs.List.{list_all};
 ghost use Rattle.std.specs.Char.{is_ascii_digit};
 ghost use Rattle.sp_text.specs.Lines.{value, is_number};
-ghost use Rattle.sp_text.specs.Numeral.{numeral, ranged, HasNoLead, Leads, starts_number, begins_number, IsFront, IsQuick};
+ghost use Rattle.sp_text.specs.Numeral.{numeral, numeral_within, HasNoLead, Leads, starts_number, begins_number, IsFront, IsQuick};
 
 use crate::fields::parts_fields;
 use crate::packed::packed_number;
@@ -67,7 +67,7 @@ fn long_number(field: &[u8], least: u64, most: u64) -> Numeral
 /// The number, if it is from `least` to `most`.
 #[inline(always)]
 pub(crate) fn ranged(value: u64, least: u64, most: u64) -> Numeral
-    ensures { result ≡ ranged value least most }
+    ensures { result ≡ numeral_within value least most }
 {
     if least <= value && value <= most {
         Numeral::Value(value)

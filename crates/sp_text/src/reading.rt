@@ -1,6 +1,6 @@
 //! What a line is.
 ghost use Rattle.std.specs.Prelude.{◌≡◌, [], IfSome};
-ghost use Rattle.sp_text.specs.Lines.{parted};
+ghost use Rattle.sp_text.specs.Lines.{fields_from};
 ghost use Rattle.sp_text.specs.Formats.{format_of, IsSmall};
 ghost use Rattle.sp_text.specs.Text.{is_comment, reading};
 ghost use Rattle.sp_text.specs.Matching.{IsFound, IsUsualItem};
@@ -22,7 +22,7 @@ pub enum Found {
 
 #[inline(always)]
 fn is_remark(text: &[u8]) -> bool
-    ensures { result ≡ is_comment (parted [] text.now) }
+    ensures { result ≡ is_comment (fields_from [] text.now) }
 {
     if starts_otherwise(text, b'c') {
         return false;

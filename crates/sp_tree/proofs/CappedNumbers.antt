@@ -10,8 +10,8 @@ use Rattle.sp_tree.specs.declared.lines.Line.{Line}
 use Rattle.sp_tree.specs.declared.lines.Line.TheVariants.{Problem, Row, End}
 use Rattle.sp_tree.specs.declared.taking.TreeLines.{TreeLines}
 use Rattle.sp_tree.specs.Table.{TreeTable, IsTable, last_vertex}
-use Rattle.sp_tree.specs.Spelling.{Spelled, Nothing, Open, Whole, next, spelled_from, spelled, in_range, fault, line_in, is_row, tree_judge}
-use Rattle.sp_text.specs.Numeral.{capped}
+use Rattle.sp_tree.specs.Spelling.{Spelled, Nothing, Open, Whole, next, spelled_from, spelling_state, in_range, fault, line_in, is_row, tree_judge}
+use Rattle.sp_text.specs.Numeral.{capped_value}
 use Rattle.sp_tree.specs.Fields.{capped_line}
 use Rattle.sp_tree.specs.Taking.{HasTable, IsAt, Answers}
 use Rattle.sp_tree.proofs.RisingRows.{few_rows}
@@ -31,13 +31,13 @@ range_facts letter least most n later h = grind (arith, tests)
 pub range_ok : (letter least most n : ℕ) (later : Option Kind) → least ≤ n → n ≤ most → later ≡ None → in_range letter least most n later ≡ None
 range_ok letter least most n later low high none = grind (arith, tests)
 
-small_same : (n : ℕ) → n < 2 ^ 64 - 1 → capped n ≡ n
+small_same : (n : ℕ) → n < 2 ^ 64 - 1 → capped_value n ≡ n
 small_same n small = omega arith
 
-range_capped : (letter least most n : ℕ) (later other : Option Kind) → most < 2 ^ 64 - 1 → (n < 2 ^ 64 - 1 → later ≡ other) → in_range letter least most (capped n) later ≡ in_range letter least most n other
+range_capped : (letter least most n : ℕ) (later other : Option Kind) → most < 2 ^ 64 - 1 → (n < 2 ^ 64 - 1 → later ≡ other) → in_range letter least most (capped_value n) later ≡ in_range letter least most n other
 range_capped letter least most n later other room same = ⊎_elim
     (λ (small : n < 2 ^ 64 - 1). rw (small_same n small, same small) refl)
-    (λ (large : 2 ^ 64 - 1 ≤ n). out_is letter least most (capped n) later (omega arith) ∙ sym (out_is letter least most n other (omega arith)))
+    (λ (large : 2 ^ 64 - 1 ≤ n). out_is letter least most (capped_value n) later (omega arith) ∙ sym (out_is letter least most n other (omega arith)))
     (cases_lt n (2 ^ 64 - 1))
 
 pub open_small : (P : ℕ) (t : TreeTable) → IsTable P t → (t.n < 2 ^ 64 - 1) × (length t.rows < 2 ^ 64 - 1) × (max_dist P < 2 ^ 64 - 1)
@@ -90,7 +90,7 @@ push_from : (s : Spelled) (before : List (List ℕ)) (line : List ℕ) → spell
 push_from s [] line = refl
 push_from s (x ∷ before) line = push_from (next s (line_in x)) before line
 
-pub spelled_push : (before : List (List ℕ)) (line : List ℕ) → spelled (before ++ line ∷ []) ≡ next (spelled before) (line_in line)
+pub spelled_push : (before : List (List ℕ)) (line : List ℕ) → spelling_state (before ++ line ∷ []) ≡ next (spelling_state before) (line_in line)
 spelled_push before line = push_from Nothing before line
 
 capped_row : (line : Option Line) → is_row (capped_line line) ≡ is_row line
@@ -105,11 +105,11 @@ uncapped {P = P} s line (Ok u) new layout table h =
     (none, rw (capped_same P s line layout table none) at h.1)
 uncapped {P = P} s line (Err kind) new layout table h = rw (capped_fault P s line layout table, capped_row line) at h
 
-taken_by : {P : ℕ} (before : List (List ℕ)) (line : List ℕ) (result : Result (Unit {0}) Kind) (new : TreeLines P) → Answers (spelled before) (line_in line) result new
-    → Takes (tree_judge P) (λ (k : TreeLines P) (lines : List (List ℕ)). IsAt k (spelled lines)) before line result new
+taken_by : {P : ℕ} (before : List (List ℕ)) (line : List ℕ) (result : Result (Unit {0}) Kind) (new : TreeLines P) → Answers (spelling_state before) (line_in line) result new
+    → Takes (tree_judge P) (λ (k : TreeLines P) (lines : List (List ℕ)). IsAt k (spelling_state lines)) before line result new
 taken_by before line (Ok u) new h = (h.0, rw (spelled_push before line) h.1)
 taken_by before line (Err kind) new h = h
 
-pub taken : {P : ℕ} (before : List (List ℕ)) (line : List ℕ) (old new : TreeLines P) (found : Option Line) (result : Result (Unit {0}) Kind) → is_layout P ≡ true → IsAt old (spelled before) → found ≡ capped_line (line_in line) → Answers (spelled before) found result new
-    → Takes (tree_judge P) (λ (k : TreeLines P) (lines : List (List ℕ)). IsAt k (spelled lines)) before line result new
-taken before line old new found result layout h is answers = taken_by before line result new (uncapped (spelled before) (line_in line) result new layout h.table (rw is at answers))
+pub taken : {P : ℕ} (before : List (List ℕ)) (line : List ℕ) (old new : TreeLines P) (found : Option Line) (result : Result (Unit {0}) Kind) → is_layout P ≡ true → IsAt old (spelling_state before) → found ≡ capped_line (line_in line) → Answers (spelling_state before) found result new
+    → Takes (tree_judge P) (λ (k : TreeLines P) (lines : List (List ℕ)). IsAt k (spelling_state lines)) before line result new
+taken before line old new found result layout h is answers = taken_by before line result new (uncapped (spelling_state before) (line_in line) result new layout h.table (rw is at answers))

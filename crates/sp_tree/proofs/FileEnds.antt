@@ -9,20 +9,20 @@ use Rattle.sp_text.specs.Whole.{AllRead, IsSpelled}
 use Rattle.sp_tree.specs.declared.taking.TreeLines.{TreeLines}
 use Rattle.sp_tree.specs.declared.reading.TreeReader.{TreeReader}
 use Rattle.sp_tree.specs.Table.{TreeTable, IsTable}
-use Rattle.sp_tree.specs.Spelling.{Whole, spelled, tree_judge}
+use Rattle.sp_tree.specs.Spelling.{Whole, spelling_state, tree_judge}
 use Rattle.sp_tree.specs.Taking.{IsAt}
 use Rattle.sp_tree.specs.Reading.{TreeFinished, TreeRead}
 use Rattle.sp_tree.proofs.TreeTexts.{finished}
 
 abbrev SpellsTree : List (List ℕ) → TreeTable → Type 0
-SpellsTree all tree = spelled all ≡ Whole tree
+SpellsTree all tree = spelling_state all ≡ Whole tree
 
 -- Where a text ends all its lines were taken, and so no row is.
 no_memory : (P : ℕ) (text : List ℕ) (e : DimacsError) → IsMemory (tree_judge P) (ended text) (ended text) e → ⊥
 no_memory P text e h = omega (arith, h.later, ap length h.parts, length-append h.front (h.line ∷ h.behind))
 
 pub tree_finished : {P : ℕ} (text : List ℕ) (new : TreeReader P) (result : Result TreeTable DimacsError) → is_layout P ≡ true
-    → Finished (tree_judge P) (λ (k : TreeLines P) (lines : List (List ℕ)). IsAt k (spelled lines)) SpellsTree text result new.feeder → TreeFinished text result new
+    → Finished (tree_judge P) (λ (k : TreeLines P) (lines : List (List ℕ)). IsAt k (spelling_state lines)) SpellsTree text result new.feeder → TreeFinished text result new
 tree_finished {P = P} text new (Ok tree) layout (none, spells, begins) =
     let is = finished P text tree layout none spells in
     (is.0, is.1, begins)

@@ -13,7 +13,7 @@ use Rattle.sp_tree.specs.declared.lines.Line.{Line}
 use Rattle.sp_tree.specs.declared.lines.Line.TheVariants.{Problem, Row, End}
 use Rattle.sp_tree.specs.Table.{TreeTable, IsTable, AreRows, IsPairWithin, last_after, last_vertex}
 use Rattle.sp_tree.specs.TreeText.{problem_text, reached_text, row_text, end_text, tree_text}
-use Rattle.sp_tree.specs.Spelling.{Spelled, Nothing, Open, Whole, next, spelled, fault, line_in, is_whole, tree_judge}
+use Rattle.sp_tree.specs.Spelling.{Spelled, Nothing, Open, Whole, next, spelling_state, fault, line_in, is_whole, tree_judge}
 use Rattle.sp_tree.proofs.CappedNumbers.{range_ok, open_small, spelled_push}
 use Rattle.sp_tree.proofs.Canonical.{line_bytes, IsSmall, read_back, bytes_no_lf, bytes_short, problem_is, reached_is, end_is}
 use Rattle.sp_tree.proofs.TreeTexts.{with_lf, whole_same}
@@ -111,12 +111,12 @@ lines_no_lf P t h =
 size_none : (judge : Judge) (before : List (List ℕ)) (line : List ℕ) → judge.closed before ≡ false → length line ≤ 1024 → size_fault judge before line ≡ None
 size_none judge before line open_still short = rw (open_still, le-ltb 1024 (length line) short) refl
 
-line_clean : (P : ℕ) (before : List (List ℕ)) (s : Spelled) (l : Line) → spelled before ≡ s → is_whole s ≡ false → IsSmall l → fault P s (Some l) ≡ None → line_fault (tree_judge P) before (line_bytes l) ≡ None
+line_clean : (P : ℕ) (before : List (List ℕ)) (s : Spelled) (l : Line) → spelling_state before ≡ s → is_whole s ≡ false → IsSmall l → fault P s (Some l) ≡ None → line_fault (tree_judge P) before (line_bytes l) ≡ None
 line_clean P before s l is open_still sizes none =
     let first = size_none (tree_judge P) before (line_bytes l) (ap is_whole is ∙ open_still) (bytes_short l sizes) in
     rw first (ap (λ (x : Spelled). fault P x (line_in (line_bytes l))) is ∙ (ap (fault P s) (read_back l sizes) ∙ none))
 
-then_spelled : (before : List (List ℕ)) (s : Spelled) (l : Line) → spelled before ≡ s → IsSmall l → spelled (before ++ line_bytes l ∷ []) ≡ next s (Some l)
+then_spelled : (before : List (List ℕ)) (s : Spelled) (l : Line) → spelling_state before ≡ s → IsSmall l → spelling_state (before ++ line_bytes l ∷ []) ≡ next s (Some l)
 then_spelled before s l is sizes = spelled_push before (line_bytes l) ∙ (ap (λ (x : Spelled). next x (line_in (line_bytes l))) is ∙ ap (next s) (read_back l sizes))
 
 first_then : (judge : Judge) (before : List (List ℕ)) (line : List ℕ) (more : List (List ℕ)) → line_fault judge before line ≡ None → first_after judge (before ++ line ∷ []) more ≡ None → first_after judge before (line ∷ more) ≡ None
@@ -137,16 +137,16 @@ with_rows t rows = record { n = t.n; source = t.source; rows = t.rows ++ rows }
 
 record IsClean (P : ℕ) (before more : List (List ℕ)) (t : TreeTable) : Type 0 where
   none : first_after (tree_judge P) before more ≡ None
-  spells : spelled (before ++ more) ≡ Whole t
+  spells : spelling_state (before ++ more) ≡ Whole t
 
-end_clean : (P count : ℕ) (before : List (List ℕ)) (t : TreeTable) → spelled before ≡ Open t → count ≡ length t.rows → count < 2 ^ 64 → IsClean P before (line_bytes (End count) ∷ []) (with_rows t [])
+end_clean : (P count : ℕ) (before : List (List ℕ)) (t : TreeTable) → spelling_state before ≡ Open t → count ≡ length t.rows → count < 2 ^ 64 → IsClean P before (line_bytes (End count) ∷ []) (with_rows t [])
 end_clean P count before t is count_is count_small = record {
   none = first_last (tree_judge P) before (line_bytes (End count)) (line_clean P before (Open t) (End count) is refl count_small (range_ok 82 (length t.rows) (length t.rows) count None (omega (arith, count_is)) (omega (arith, count_is)) refl));
   spells = then_spelled before (Open t) (End count) is count_small ∙ ap (λ (r : List (ℕ × Word)). Whole (record { n = t.n; source = t.source; rows = r })) (sym (append-nil t.rows));
 }
 
-row_clean : (P v : ℕ) (word : Word) (before more : List (List ℕ)) (t all : TreeTable) → spelled before ≡ Open t → last_vertex t.rows < v → v ≤ t.n → t.n < 2 ^ 64 → max_dist P < 2 ^ 64 → IsPairWithin (max_dist P) t.n word
-    → (spelled (before ++ line_bytes (reached_line v word) ∷ []) ≡ Open (with_rows t ((v, word) ∷ [])) → IsClean P (before ++ line_bytes (reached_line v word) ∷ []) more all)
+row_clean : (P v : ℕ) (word : Word) (before more : List (List ℕ)) (t all : TreeTable) → spelling_state before ≡ Open t → last_vertex t.rows < v → v ≤ t.n → t.n < 2 ^ 64 → max_dist P < 2 ^ 64 → IsPairWithin (max_dist P) t.n word
+    → (spelling_state (before ++ line_bytes (reached_line v word) ∷ []) ≡ Open (with_rows t ((v, word) ∷ [])) → IsClean P (before ++ line_bytes (reached_line v word) ∷ []) more all)
     → IsClean P before (line_bytes (reached_line v word) ∷ more) all
 unfolding reached_line
 row_clean P v Unreached before more t all is above most n_small max_small h later = absurd h
@@ -156,10 +156,10 @@ row_clean P v (Pair d p) before more t all is above most n_small max_small h lat
     let own = line_clean P before (Open t) (Row v d p) is refl sizes (range_ok 86 (last_vertex t.rows + 1) t.n v _ (omega arith) most (range_ok 68 0 (max_dist P) d _ (omega arith) h.0 (range_ok 80 0 t.n p None (omega arith) h.1 refl))) in
     record {
       none = first_then (tree_judge P) before (line_bytes (Row v d p)) more own rest_clean.none;
-      spells = ap spelled (sym (append_assoc before (line_bytes (Row v d p) ∷ []) more)) ∙ rest_clean.spells;
+      spells = ap spelling_state (sym (append_assoc before (line_bytes (Row v d p) ∷ []) more)) ∙ rest_clean.spells;
     }
 
-rows_clean : (P count : ℕ) (before : List (List ℕ)) (t : TreeTable) (rows : List (ℕ × Word)) → spelled before ≡ Open t → AreRows (max_dist P) t.n (last_vertex t.rows) rows → t.n < 2 ^ 64 → max_dist P < 2 ^ 64 → count < 2 ^ 64 → count ≡ length t.rows + length rows
+rows_clean : (P count : ℕ) (before : List (List ℕ)) (t : TreeTable) (rows : List (ℕ × Word)) → spelling_state before ≡ Open t → AreRows (max_dist P) t.n (last_vertex t.rows) rows → t.n < 2 ^ 64 → max_dist P < 2 ^ 64 → count < 2 ^ 64 → count ≡ length t.rows + length rows
     → IsClean P before (map row_bytes rows ++ line_bytes (End count) ∷ []) (with_rows t rows)
 unfolding row_bytes
 rows_clean P count before t [] is are n_small max_small count_small count_is = end_clean P count before t is (omega (arith, count_is)) count_small
@@ -173,9 +173,9 @@ rows_clean P count before t (row ∷ more) is are n_small max_small count_small 
 
 pub record IsAccepted (P : ℕ) (t : TreeTable) : Type 0 where
   pub none : fault_at_end (tree_judge P) (tree_text t) ≡ None
-  pub spells : spelled (ended (tree_text t)) ≡ Whole t
+  pub spells : spelling_state (ended (tree_text t)) ≡ Whole t
 
-told_none : (P : ℕ) (text : List ℕ) (all : List (List ℕ)) (t : TreeTable) → ended text ≡ all → rest text ≡ [] → first_fault (tree_judge P) all ≡ None → spelled all ≡ Whole t → fault_at_end (tree_judge P) text ≡ None
+told_none : (P : ℕ) (text : List ℕ) (all : List (List ℕ)) (t : TreeTable) → ended text ≡ all → rest text ≡ [] → first_fault (tree_judge P) all ≡ None → spelling_state all ≡ Whole t → fault_at_end (tree_judge P) text ≡ None
 unfolding fault_at_end fault_so_far
 told_none P text all t ended_is rest_is none spells =
     let same : lines text ≡ all = lines_whole text rest_is ∙ ended_is in
@@ -197,8 +197,8 @@ accepts P t h =
     let none = first_then (tree_judge P) [] (line_bytes (Problem t.n t.source)) (map row_bytes t.rows ++ line_bytes (End (length t.rows)) ∷ []) first rows.none in
     let ended_is : ended (tree_text t) ≡ all = ap ended same ∙ back.0 in
     let rest_is : rest (tree_text t) ≡ [] = ap rest same ∙ back.1 in
-    record { none = told_none P (tree_text t) all t ended_is rest_is none rows.spells; spells = ap spelled ended_is ∙ rows.spells }
+    record { none = told_none P (tree_text t) all t ended_is rest_is none rows.spells; spells = ap spelling_state ended_is ∙ rows.spells }
 
 -- Two tables have two texts.
 pub one_table : (P : ℕ) (t u : TreeTable) → IsTable P t → IsTable P u → tree_text t ≡ tree_text u → t ≡ u
-one_table P t u first second same = whole_same t u (sym (accepts P t first).spells ∙ (ap (λ (text : List ℕ). spelled (ended text)) same ∙ (accepts P u second).spells))
+one_table P t u first second same = whole_same t u (sym (accepts P t first).spells ∙ (ap (λ (text : List ℕ). spelling_state (ended text)) same ∙ (accepts P u second).spells))

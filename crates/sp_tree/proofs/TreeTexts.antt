@@ -5,7 +5,7 @@ use Rattle.std.proofs.lemmas.List.Concat.{flat_map-append}
 use Rattle.std.specs.List.{flat_map}
 use Rattle.sp_word.specs.Word.{Pair, is_layout, max_dist, max_pred}
 use Rattle.sp_text.specs.Lines.{ended, rest, lines}
-use Rattle.sp_text.specs.First.{or_at, or_else, size_fault, line_fault, first_after, first_fault, fault_so_far, cut_short, unfinished, fault_at_end}
+use Rattle.sp_text.specs.First.{or_at, or_else, size_fault, line_fault, first_after, first_fault, fault_so_far, cut_short, fault_without_end, fault_at_end}
 use Rattle.sp_text.proofs.LineCuts.{clean_parts}
 use Rattle.sp_text.proofs.Meant.{text_is}
 use Rattle.sp_text.proofs.Behind.{lines_whole}
@@ -14,7 +14,7 @@ use Rattle.sp_tree.specs.declared.lines.Line.{Line}
 use Rattle.sp_tree.specs.declared.lines.Line.TheVariants.{Problem, Row, End}
 use Rattle.sp_tree.specs.Table.{TreeTable, IsTable, last_vertex}
 use Rattle.sp_tree.specs.TreeText.{problem_text, row_text, end_text, tree_text}
-use Rattle.sp_tree.specs.Spelling.{Spelled, Nothing, Open, Whole, next, spelled, fault, line_in, missing_of, tree_judge}
+use Rattle.sp_tree.specs.Spelling.{Spelled, Nothing, Open, Whole, next, spelling_state, fault, line_in, missing_of, tree_judge}
 use Rattle.sp_tree.specs.Taking.{HasTable}
 use Rattle.sp_tree.proofs.RisingRows.{row_added}
 use Rattle.sp_tree.proofs.CappedNumbers.{maxima_small, range_facts, open_small, spelled_push}
@@ -68,12 +68,12 @@ step P (Open t) line (Some (End count)) is layout table none =
 
 -- What the lines say so far is their text.
 record IsTold (P : ℕ) (lines : List (List ℕ)) : Type 0 where
-  text : with_lf lines ≡ text_of (spelled lines)
-  table : HasTable P (spelled lines)
+  text : with_lf lines ≡ text_of (spelling_state lines)
+  table : HasTable P (spelling_state lines)
 
-told_line : (P : ℕ) (before : List (List ℕ)) (line : List ℕ) → is_layout P ≡ true → IsTold P before → fault P (spelled before) (line_in line) ≡ None → IsTold P (before ++ line ∷ [])
+told_line : (P : ℕ) (before : List (List ℕ)) (line : List ℕ) → is_layout P ≡ true → IsTold P before → fault P (spelling_state before) (line_in line) ≡ None → IsTold P (before ++ line ∷ [])
 told_line P before line layout h none =
-    let more = step P (spelled before) line (line_in line) refl layout h.table none in
+    let more = step P (spelling_state before) line (line_in line) refl layout h.table none in
     record {
       text = rw (spelled_push before line) (flat_map-append (λ l. l ++ 10 ∷ []) before (line ∷ []) ∙ (ap (λ (t : List ℕ). with_lf before ++ t) (append-nil (line ++ 10 ∷ [])) ∙ (ap (λ (t : List ℕ). t ++ (line ++ 10 ∷ [])) h.text ∙ more.0)));
       table = rw (spelled_push before line) more.1;
@@ -84,7 +84,7 @@ unfolding first_after
 told_lines P before [] layout h none = rw (append-nil before) h
 told_lines P before (line ∷ more) layout h none =
     let parts = at_none (length before + 1) (line_fault (tree_judge P) before line) (first_after (tree_judge P) (before ++ line ∷ []) more) none in
-    let own = kind_none (size_fault (tree_judge P) before line) (fault P (spelled before) (line_in line)) parts.0 in
+    let own = kind_none (size_fault (tree_judge P) before line) (fault P (spelling_state before) (line_in line)) parts.0 in
     rw (← append_assoc before (line ∷ []) more) (told_lines P (before ++ line ∷ []) more layout (told_line P before line layout h own.1) parts.1)
 
 starts_told : (P : ℕ) → IsTold P []
@@ -95,9 +95,9 @@ pub record IsTree (P : ℕ) (text : List ℕ) : Type 0 where
   pub tree : TreeTable
   pub table : IsTable P tree
   pub is : text ≡ tree_text tree
-  pub spells : spelled (lines text) ≡ Whole tree
+  pub spells : spelling_state (lines text) ≡ Whole tree
 
-whole_tree : (P : ℕ) (text : List ℕ) (s : Spelled) → lines text ≡ ended text → spelled (ended text) ≡ s → missing_of s ≡ None → text ≡ with_lf (ended text) → IsTold P (ended text) → IsTree P text
+whole_tree : (P : ℕ) (text : List ℕ) (s : Spelled) → lines text ≡ ended text → spelling_state (ended text) ≡ s → missing_of s ≡ None → text ≡ with_lf (ended text) → IsTold P (ended text) → IsTree P text
 unfolding text_of
 whole_tree P text Nothing same is none all h = cc
 whole_tree P text (Open t) same is none all h = cc
@@ -111,20 +111,20 @@ not_cut (b ∷ r) h = cc
 pub accepted : (P : ℕ) (text : List ℕ) → is_layout P ≡ true → fault_at_end (tree_judge P) text ≡ None → IsTree P text
 unfolding fault_at_end
 accepted P text layout none =
-    let parts = else_none (unfinished true (tree_judge P) text) (or_else (first_fault (tree_judge P) (lines text)) (or_at (length (lines text) + 1) (missing_of (spelled (lines text))) None)) none in
+    let parts = else_none (fault_without_end true (tree_judge P) text) (or_else (first_fault (tree_judge P) (lines text)) (or_at (length (lines text) + 1) (missing_of (spelling_state (lines text))) None)) none in
     let whole = else_none (fault_so_far (tree_judge P) text) (or_at (length (ended text) + 1) (cut_short (rest text)) None) parts.0 in
     let nothing = not_cut (rest text) (at_none (length (ended text) + 1) (cut_short (rest text)) None whole.1).0 in
     let same = lines_whole text nothing in
-    let last = else_none (first_fault (tree_judge P) (lines text)) (or_at (length (lines text) + 1) (missing_of (spelled (lines text))) None) parts.1 in
-    let missing = at_none (length (lines text) + 1) (missing_of (spelled (lines text))) None last.1 in
+    let last = else_none (first_fault (tree_judge P) (lines text)) (or_at (length (lines text) + 1) (missing_of (spelling_state (lines text))) None) parts.1 in
+    let missing = at_none (length (lines text) + 1) (missing_of (spelling_state (lines text))) None last.1 in
     let clean = clean_parts (tree_judge P) text whole.0 in
-    whole_tree P text (spelled (ended text)) same refl (rw same at missing.0) ((text_is text).whole ∙ (ap (λ (t : List ℕ). with_lf (ended text) ++ t) nothing ∙ append-nil (with_lf (ended text)))) (told_lines P [] (ended text) layout (starts_told P) clean.0)
+    whole_tree P text (spelling_state (ended text)) same refl (rw same at missing.0) ((text_is text).whole ∙ (ap (λ (t : List ℕ). with_lf (ended text) ++ t) nothing ∙ append-nil (with_lf (ended text)))) (told_lines P [] (ended text) layout (starts_told P) clean.0)
 
 pub whole_same : (t u : TreeTable) → ◌≡◌ {A = Spelled} (Whole t) (Whole u) → t ≡ u
 whole_same t u h = cc
 
 -- The tree that such a text spells is a table, and the text is its text.
-pub finished : (P : ℕ) (text : List ℕ) (tree : TreeTable) → is_layout P ≡ true → fault_at_end (tree_judge P) text ≡ None → spelled (lines text) ≡ Whole tree → (text ≡ tree_text tree) × IsTable P tree
+pub finished : (P : ℕ) (text : List ℕ) (tree : TreeTable) → is_layout P ≡ true → fault_at_end (tree_judge P) text ≡ None → spelling_state (lines text) ≡ Whole tree → (text ≡ tree_text tree) × IsTable P tree
 finished P text tree layout none spells =
     let h = accepted P text layout none in
     let same = whole_same h.tree tree (sym h.spells ∙ spells) in

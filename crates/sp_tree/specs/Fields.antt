@@ -2,20 +2,20 @@
 use Rattle.std.specs.Prelude.{◌≡◌, ℕ, List, [], ◌∷◌, Option, Some, None, if◌then◌else◌}
 use Rattle.std.specs.Borrow.{Bor}
 use Rattle.sp_text.specs.Lines.{is_number, value}
-use Rattle.sp_text.specs.Numeral.{capped}
+use Rattle.sp_text.specs.Numeral.{capped_value}
 use Rattle.sp_tree.specs.Spelling.{fields}
 use Rattle.sp_tree.specs.declared.lines.Line.{Line}
 use Rattle.sp_tree.specs.declared.lines.Line.TheVariants.{Problem, Row, End}
 
 abbrev pub capped_line : Option Line → Option Line
 capped_line None = None
-capped_line (Some (Problem n source)) = Some (Problem (capped n) (capped source))
-capped_line (Some (Row vertex dist pred)) = Some (Row (capped vertex) (capped dist) (capped pred))
-capped_line (Some (End count)) = Some (End (capped count))
+capped_line (Some (Problem n source)) = Some (Problem (capped_value n) (capped_value source))
+capped_line (Some (Row vertex dist pred)) = Some (Row (capped_value vertex) (capped_value dist) (capped_value pred))
+capped_line (Some (End count)) = Some (End (capped_value count))
 
 -- the number of a field
 abbrev pub number_in : List ℕ → Option ℕ
-number_in field = if is_number field then Some (capped (value field)) else None
+number_in field = if is_number field then Some (capped_value (value field)) else None
 
 -- There is no second field, or the first is no number.
 abbrev pub HasNoNext : List (List ℕ) → Type 0

@@ -8,12 +8,12 @@ use Rattle.sp_tree.specs.declared.reading.TreeReader.{TreeReader}
 use Rattle.sp_tree.specs.declared.taking.TreeLines.{TreeLines}
 use Rattle.sp_tree.specs.Table.{TreeTable, IsTable}
 use Rattle.sp_tree.specs.TreeText.{tree_text}
-use Rattle.sp_tree.specs.Spelling.{spelled, tree_judge}
+use Rattle.sp_tree.specs.Spelling.{spelling_state, tree_judge}
 use Rattle.sp_tree.specs.Taking.{IsAt}
 
 -- The reader stands behind this text, in which there is no fault yet.
 abbrev pub IsBehindTree : {P : ℕ} → List ℕ → TreeReader P → Type 0
-IsBehindTree {P} text reader = IsBehind (tree_judge P) (λ (k : TreeLines P) (lines : List (List ℕ)). IsAt k (spelled lines)) text reader.feeder
+IsBehindTree {P} text reader = IsBehind (tree_judge P) (λ (k : TreeLines P) (lines : List (List ℕ)). IsAt k (spelling_state lines)) text reader.feeder
 
 -- The reader has refused its text with this fault.
 abbrev pub IsSpentTree : {P : ℕ} → DimacsError → TreeReader P → Type 0
@@ -22,7 +22,7 @@ IsSpentTree e reader = reader.feeder.spent ≡ Some e
 -- The answer to one piece more of a text: the reader stands behind it, or is spent by its first fault. Where a
 -- row finds no room, that is a row of lines that end in this piece.
 abbrev pub TreeFed : {P : ℕ} {U : Type 0} → (text piece : List ℕ) → Result U DimacsError → TreeReader P → Type 0
-TreeFed {P} text piece result new = Fed (tree_judge P) (λ (k : TreeLines P) (lines : List (List ℕ)). IsAt k (spelled lines)) (ended text) (text ++ piece) result new.feeder
+TreeFed {P} text piece result new = Fed (tree_judge P) (λ (k : TreeLines P) (lines : List (List ℕ)). IsAt k (spelling_state lines)) (ended text) (text ++ piece) result new.feeder
 
 -- The answer where the text ends: the tree whose text it is, and a reader behind no text; or its first fault.
 abbrev pub TreeFinished : {P : ℕ} → List ℕ → Result TreeTable DimacsError → TreeReader P → Type 0

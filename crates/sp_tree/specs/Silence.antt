@@ -5,7 +5,7 @@ use Rattle.sp_text.specs.declared.faults.Kind.TheVariants.{OutOfRange, Read}
 use Rattle.sp_text.specs.First.{IsSilent}
 use Rattle.sp_tree.specs.declared.lines.Line.{Line}
 use Rattle.sp_tree.specs.declared.lines.Line.TheVariants.{Problem, Row, End}
-use Rattle.sp_tree.specs.Spelling.{Spelled, Nothing, Open, Whole, in_range, fault, missing_of, spelled, line_in, tree_judge}
+use Rattle.sp_tree.specs.Spelling.{Spelled, Nothing, Open, Whole, in_range, fault, missing_of, spelling_state, line_in, tree_judge}
 
 by_test : (b : Bool) (letter : ℕ) (later : Option Kind) → later ≢ Some Read → cond b later (Some (OutOfRange letter)) ≢ Some Read
 by_test true letter later silent h = silent h
@@ -34,4 +34,4 @@ missing_silent (Open t) h = cc
 missing_silent (Whole t) h = cc
 
 pub tree_silent : (P : ℕ) → IsSilent (tree_judge P)
-tree_silent P = record { fault = λ before line. fault_silent P (spelled before) (line_in line); missing = λ all. missing_silent (spelled all) }
+tree_silent P = record { fault = λ before line. fault_silent P (spelling_state before) (line_in line); missing = λ all. missing_silent (spelling_state all) }

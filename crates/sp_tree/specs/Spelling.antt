@@ -54,14 +54,14 @@ abbrev pub next : Spelled → Option Line → Spelled
 next Nothing (Some (Problem n source)) = Open (record { n = n; source = source; rows = [] })
 next (Open t) (Some (Row vertex dist pred)) = Open (with_row t vertex dist pred)
 next (Open t) (Some (End count)) = Whole t
-next spelled line = spelled
+next spelling_state line = spelling_state
 
 abbrev pub spelled_from : Spelled → List (List ℕ) → Spelled
-spelled_from spelled [] = spelled
-spelled_from spelled (line ∷ more) = spelled_from (next spelled (line_in line)) more
+spelled_from spelling_state [] = spelling_state
+spelled_from spelling_state (line ∷ more) = spelled_from (next spelling_state (line_in line)) more
 
-abbrev pub spelled : List (List ℕ) → Spelled
-spelled lines = spelled_from Nothing lines
+abbrev pub spelling_state : List (List ℕ) → Spelled
+spelling_state lines = spelled_from Nothing lines
 
 -- 3. The fault of a line.
 
@@ -101,9 +101,9 @@ is_row line = false
 
 abbrev pub tree_judge : (P : ℕ) → Judge
 tree_judge P = record {
-  closed = λ lines. is_whole (spelled lines);
-  fault = λ before line. fault P (spelled before) (line_in line);
-  missing = λ lines. missing_of (spelled lines);
+  closed = λ lines. is_whole (spelling_state lines);
+  fault = λ before line. fault P (spelling_state before) (line_in line);
+  missing = λ lines. missing_of (spelling_state lines);
   is_item = λ line. is_row (line_in line);
   needs_lf = true;
 }

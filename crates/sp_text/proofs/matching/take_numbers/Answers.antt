@@ -1,6 +1,6 @@
 use Rattle.std.proofs.Common.{[], ◌∷◌, arith, length-append, length-drop}
 use Rattle.std.proofs.lemmas.List.{take_rest, nil_from_length}
-use Rattle.sp_text.specs.Lines.{parted}
+use Rattle.sp_text.specs.Lines.{fields_from}
 use Rattle.sp_text.proofs.Forms.{next_first}
 use Rattle.sp_text.proofs.matching.take_numbers.Goals as goal
 
@@ -12,7 +12,7 @@ loop-fields-preserved c =
     record {
       room = rw (take_rest fields 1, c.push.ensures) (omega (arith, length-drop 1 fields, length-append values (c.in-Ok.n ∷ [])));
       spells = λ new result h. c.loop-fields.invariant.spells new result
-          (next_first c.args.ranges.now c.args.problem.now fields _ (parted [] c.loop-fields.rest.now) (parted [] c.in-Ok.after.now) c.in-Ok.n values c.push.new.self new result (omega arith)
+          (next_first c.args.ranges.now c.args.problem.now fields _ (fields_from [] c.loop-fields.rest.now) (fields_from [] c.in-Ok.after.now) c.in-Ok.n values c.push.new.self new result (omega arith)
           (rw (take_rest fields 1) at taken.0) taken.1 c.push.ensures (rw (take_rest fields 1) at h));
     }
 

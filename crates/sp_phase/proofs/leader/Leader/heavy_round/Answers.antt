@@ -4,7 +4,7 @@ use Rattle.std.proofs.lemmas.Result.{IfOk-weaker}
 use Rattle.sp_paths.specs.Paths.{IsVertex}
 use Rattle.sp_store.specs.Stage.{Stage}
 use Rattle.sp_store.specs.Rounds.{IsDue}
-use Rattle.sp_phase.specs.Lead.{Lead, recalled}
+use Rattle.sp_phase.specs.Lead.{Lead, lead_without_memory}
 use Rattle.sp_phase.specs.Running.{Leads}
 use Rattle.sp_phase.specs.Behind.{GivesSome, HasRun}
 use Rattle.sp_phase.proofs.MadeTasks.{heavy_begins, heavy_goes_on, heavy_ends}
@@ -17,7 +17,7 @@ loop-vertex-init g c =
     let vs = c.as_slice-vertex-items.result.now in
     let led = subst (λ (l : Lead). Leads g.row.P l.stage l) c.self.view_is c.self.invariant.1 in
     let after = c.recall-vertices.new.self in
-    let is = c.recall-vertices.ensures.marks ∙ ap recalled c.begin_round.ensures in
+    let is = c.recall-vertices.ensures.marks ∙ ap lead_without_memory c.begin_round.ensures in
     let listed = c.as_slice-vertex-items.ensures.value ∙ (c.recall-vertices.ensures.vertices ∙ ap (λ (l : Lead). l.marks.remembered) c.begin_round.ensures) in
     subst (λ ts. GivesSome g.row.P ts vs 0 a after) (sym c.new-tasks.ensures.items) (subst (λ l. GivesSome g.row.P [] vs 0 a l) (sym is) (heavy_begins g.row.P a vs led listed))
 

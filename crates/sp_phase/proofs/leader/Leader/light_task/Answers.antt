@@ -1,10 +1,10 @@
 use Rattle.std.proofs.Common.{◌≡◌, [], false, true, Some, ◌∙◌, ap, sym, subst, rules}
 use Rattle.sp_word.specs.Word.{dist_of}
 use Rattle.sp_paths.specs.Paths.{IsVertex}
-use Rattle.sp_offer.specs.Story.{known}
+use Rattle.sp_offer.specs.Story.{known_table}
 use Rattle.sp_store.specs.declared.marks.Marks.{Marks}
 use Rattle.sp_store.specs.Stage.{Stage}
-use Rattle.sp_store.specs.Marks.{noted}
+use Rattle.sp_store.specs.Marks.{notes_of}
 use Rattle.sp_phase.specs.Lead.{Lead, lead_of}
 use Rattle.sp_phase.specs.Behind.{Reads, PreparesLight}
 use Rattle.sp_phase.proofs.LeaderHolds.{holds_enters, leads_holds}
@@ -26,10 +26,10 @@ pub invariant_of-self-2 : goal.invariant_of-self-2
 invariant_of-self-2 g c =
     let r = c.self.inside in
     let led = c.self.invariant.1 in
-    let m = noted c.enter.new.self in
+    let m = notes_of c.enter.new.self in
     let here = ap (λ (l : Lead). l.stage) (c.self.view_is ∙ c.read-word.ensures.reads.rest) in
     let at = subst (λ (s : Stage). IsVertex s.graph.n c.args.entry.now.vertex) (sym here) c.requires in
-    let holds = holds_enters g.row.P r.store.now r.caller (noted r.marks) m c.args.entry.now.vertex led.holds.stage.graph at c.enter.ensures.distances c.enter.ensures.remembered led.holds in
+    let holds = holds_enters g.row.P r.store.now r.caller (notes_of r.marks) m c.args.entry.now.vertex led.holds.stage.graph at c.enter.ensures.distances c.enter.ensures.remembered led.holds in
     (c.self.invariant.0, leads_holds g.row.P r.store.now _ r.caller m holds led)
 
 pub returns-clause-prepares : goal.returns-clause-prepares
@@ -41,5 +41,5 @@ returns-clause-prepares g c =
     let on : c.in_ok-enter.field-0 ≡ true = search rules in
     let is : dist_of w ≡ Some c.args.entry.now.dist = search rules in
     let reads = subst (Reads g.row.P c.args.self.now) (sym c.self.view_is) c.read-word.ensures.reads in
-    let W : Lead → Type 0 = λ x. known x.caller.story v ≡ w in
-    light_given g.row.P v c.args.entry.now.dist w c.args.self.now l (noted c.enter.new.self) c.self.invariant.1 c.requires reads (subst W (sym c.self.view_is) c.read-word.ensures.word) c.enter.ensures.distances (c.in_ok-enter.ensures.entered on) is
+    let W : Lead → Type 0 = λ x. known_table x.caller.story v ≡ w in
+    light_given g.row.P v c.args.entry.now.dist w c.args.self.now l (notes_of c.enter.new.self) c.self.invariant.1 c.requires reads (subst W (sym c.self.view_is) c.read-word.ensures.word) c.enter.ensures.distances (c.in_ok-enter.ensures.entered on) is

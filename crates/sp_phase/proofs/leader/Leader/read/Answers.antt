@@ -1,6 +1,6 @@
 use Rattle.std.proofs.Common.{ap, subst}
 use Rattle.sp_store.specs.Stage.{Learns}
-use Rattle.sp_store.specs.Marks.{noted}
+use Rattle.sp_store.specs.Marks.{notes_of}
 use Rattle.sp_phase.specs.Lead.{Lead}
 use Rattle.sp_phase.proofs.LeaderHolds.{holds_learns, leads_holds}
 use Rattle.sp_phase.proofs.leader.Leader.read.Goals as goal
@@ -10,7 +10,7 @@ invariant_of-self g c =
     let r = c.self.inside in
     let led = c.self.invariant.1 in
     let after = c.read.new.caller in
-    (c.self.invariant.0, leads_holds g.row.P r.store.now _ after (noted r.marks) (holds_learns g.row.P r.store.now r.caller after (noted r.marks) c.read.ensures.caller led.holds) led)
+    (c.self.invariant.0, leads_holds g.row.P r.store.now _ after (notes_of r.marks) (holds_learns g.row.P r.store.now r.caller after (notes_of r.marks) c.read.ensures.caller led.holds) led)
 
 pub returns-clause-reads : goal.returns-clause-reads
 returns-clause-reads g c =

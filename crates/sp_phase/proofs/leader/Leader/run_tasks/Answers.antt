@@ -3,7 +3,7 @@ use Rattle.std.specs.Prelude.{All}
 use Rattle.std.specs.List.Sorted.{IsPermutation}
 use Rattle.sp_bucket.specs.declared.entry.Entry.{Entry}
 use Rattle.sp_task.specs.declared.task.Task.{Task}
-use Rattle.sp_store.specs.Marks.{noted}
+use Rattle.sp_store.specs.Marks.{notes_of}
 use Rattle.sp_store.specs.Rounds.{IsDue}
 use Rattle.sp_phase.specs.Lead.{Lead, lead_of}
 use Rattle.sp_phase.specs.Behind.{HasRun}
@@ -24,7 +24,7 @@ invariant_of-result g c =
     let M : List Entry → Type 0 = λ es. IsPermutation (r.buckets.entries ++ es) q.entries in
     let moved = subst M c.as_slice.ensures.value c.in_ok-put_all.ensures.all in (
       c.in_ok-out.ensures.claimer ∙ c.self.invariant.0,
-      round_leads g.row.P r.store.now c.as_slice-list.result.now _ out.caller (noted c.write.new.self) q out.found.items c.self.invariant.1 c.in_ok-out.ensures.done c.write.ensures.running (ap (λ v. v.items) c.write.ensures.remembered) c.put_all.ensures.width moved,
+      round_leads g.row.P r.store.now c.as_slice-list.result.now _ out.caller (notes_of c.write.new.self) q out.found.items c.self.invariant.1 c.in_ok-out.ensures.done c.write.ensures.running (ap (λ v. v.items) c.write.ensures.remembered) c.put_all.ensures.width moved,
     )
 
 pub returns : goal.returns

@@ -1,9 +1,9 @@
 use Rattle.std.proofs.Common.{◌≡◌, ℕ, length, ap, sym, subst, ◌∙◌, arith}
 use Rattle.sp_paths.specs.Paths.{IsVertex, word_at}
 use Rattle.sp_offer.specs.Order.{IsNoMore}
-use Rattle.sp_offer.specs.Story.{known}
+use Rattle.sp_offer.specs.Story.{known_table}
 use Rattle.sp_store.specs.Stage.{Learns}
-use Rattle.sp_store.specs.Marks.{noted}
+use Rattle.sp_store.specs.Marks.{notes_of}
 use Rattle.sp_phase.specs.Lead.{Lead}
 use Rattle.sp_phase.proofs.LeaderHolds.{holds_learns}
 use Rattle.sp_phase.proofs.CopiedWords.{copied}
@@ -16,7 +16,7 @@ invariant_of-self g c =
     let size = sym c.copy_words.new.words.ok.0 ∙ (c.copy_words.ensures.length ∙ (r.words.ok.0 ∙ led.size)) in (
       c.self.invariant.0,
       record {
-        holds = holds_learns g.row.P r.store.now r.caller c.copy_words.new.caller (noted r.marks) c.copy_words.ensures.caller led.holds;
+        holds = holds_learns g.row.P r.store.now r.caller c.copy_words.new.caller (notes_of r.marks) c.copy_words.ensures.caller led.holds;
         width = led.width;
         entries = led.entries;
         size = size;
@@ -30,10 +30,10 @@ returns g c =
     let after = c.copy_words.new.caller in
     let words = c.copy_words.new.words.items in
     let size : length words ≡ r.store.now.graph.n = sym c.copy_words.new.words.ok.0 ∙ (c.copy_words.ensures.length ∙ (r.words.ok.0 ∙ led.size)) in
-    let B : Lead → Type 0 = λ l. (v : ℕ) → IsVertex l.stage.graph.n v → IsNoMore (word_at words v) (known l.caller.story v) in
+    let B : Lead → Type 0 = λ l. (v : ℕ) → IsVertex l.stage.graph.n v → IsNoMore (word_at words v) (known_table l.caller.story v) in
     record {
       rest = ap (λ (l : Lead). record l { caller = after; words = words }) c.self.view_is;
-      copied = copied g.row.P r.store.now led.holds.stage r.caller after (noted r.marks) words led.holds size c.copy_words.ensures.copy c.copy_words.ensures.caller.lawful;
+      copied = copied g.row.P r.store.now led.holds.stage r.caller after (notes_of r.marks) words led.holds size c.copy_words.ensures.copy c.copy_words.ensures.caller.lawful;
       below = subst B c.self.view_is (λ v at. let last = at.1 in c.copy_words.ensures.copy.below v at.0 (omega arith));
       learns = subst (λ (l : Lead). Learns g.row.P l.stage l.caller after) c.self.view_is c.copy_words.ensures.caller;
     }

@@ -1,6 +1,6 @@
 use Rattle.std.proofs.Common.{ℕ, Option, IfOk, refl, sym, ap, ◌∙◌, subst, arith}
 use Rattle.std.specs.Prelude.{IfNone}
-use Rattle.sp_offer.specs.Story.{Knowledge, known}
+use Rattle.sp_offer.specs.Story.{Knowledge, known_table}
 use Rattle.sp_tree.specs.Table.{TreeTable}
 use Rattle.sp_store.specs.Stage.{Stage}
 use Rattle.sp_phase.specs.Progress.{Progress}
@@ -18,5 +18,5 @@ returns-in-Ok-clause-known g c =
     let r = c.self.inside in
     let may = led g.row.P r.store.now r.settled r.closed r.leader c.in-Some.leader (sym c.in-Some.is) c.self.invariant.1 in
     let same = c.in-Ok.ensures.stage ∙ (may.0 ∙ ap (λ (p : Progress). p.stage) c.self.view_is) in
-    let K : Stage → Type 0 = λ s. IfOk c.answer.result (λ (done : TreeTable × Knowledge). HasWords done.0 s.graph.n (known done.1.story)) in
+    let K : Stage → Type 0 = λ s. IfOk c.answer.result (λ (done : TreeTable × Knowledge). HasWords done.0 s.graph.n (known_table done.1.story)) in
     subst K same c.answer.ensures.known
