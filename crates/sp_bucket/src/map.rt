@@ -20,14 +20,14 @@ impl Model for BucketMap {
     ghost use Rattle.std.specs.Prelude.{◌<◌, None};
     ghost use Rattle.std.specs.BTreeMap.{values};
     ghost use Rattle.sp_bucket.specs.Content.{Content};
-    ghost use Rattle.sp_bucket.specs.Filed.{gathered, IsFiled};
+    ghost use Rattle.sp_bucket.specs.Filed.{all_entries, IsFiled};
 
     ghost Value = { Content };
 
     ghost view = { λ m. record {
       delta = m.delta;
       ring = None;
-      entries = gathered (values m.buckets);
+      entries = all_entries (values m.buckets);
     } };
 
     ghost invariant = { λ m. (0 < m.delta) × IsFiled m.delta m.buckets.entries };

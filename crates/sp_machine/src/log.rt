@@ -28,7 +28,7 @@ pub(crate) struct Log<const P: u32> {
 
 impl<const P: u32> Log<P> {
     ghost use Rattle.sp_machine.specs.LogView.{log_of};
-    ghost use Rattle.sp_machine.specs.Run.{empty_log, logged};
+    ghost use Rattle.sp_machine.specs.Run.{empty_log, log_after};
 
     /// Nothing was done yet.
     pub(crate) fn new(alloc: Global, actors: u32) -> Result<Log<P>, AllocError>
@@ -48,7 +48,7 @@ impl<const P: u32> Log<P> {
     pub(crate) fn take(&mut self, actor: u32, effect: &Effect<P>) -> Result<(), AllocError>
         requires actor { IsNumber (vec_len self.old.begun) actor }
         requires steps { self.old.steps + 1 < 2 ^ 64 }
-        ensures { OnOk result (log_of self.new ≡ logged (log_of self.old) actor effect.now) }
+        ensures { OnOk result (log_of self.new ≡ log_after (log_of self.old) actor effect.now) }
     {
         let place = (actor - 1) as usize;
         let step = self.steps + 1;

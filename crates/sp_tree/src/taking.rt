@@ -99,7 +99,7 @@ impl<const P: u32> TreeLines<P> {
 
 impl<const P: u32> LineTaker for TreeLines<P> {
     ghost use Rattle.std.specs.Prelude.{◌≡◌, ℕ, List};
-    ghost use Rattle.sp_tree.specs.Spelling.{Whole, spelled, tree_judge};
+    ghost use Rattle.sp_tree.specs.Spelling.{Whole, spelling_state, tree_judge};
     ghost use Rattle.sp_tree.specs.Taking.{IsAt};
     ghost use Rattle.sp_tree.specs.Silence.{tree_silent};
 
@@ -107,9 +107,9 @@ impl<const P: u32> LineTaker for TreeLines<P> {
 
     ghost rules = { tree_judge P };
 
-    ghost After = { λ lines before. IsAt lines (spelled before) };
+    ghost After = { λ lines before. IsAt lines (spelling_state before) };
 
-    ghost Spelled = { λ all tree. spelled all ≡ Whole tree };
+    ghost Spelled = { λ all tree. spelling_state all ≡ Whole tree };
 
     fn is_closed(&self) -> bool {
         self.whole
