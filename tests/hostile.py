@@ -1,0 +1,236 @@
+#!/usr/bin/env python3
+"""Runs each command of the program on a system that turns against it, and looks at status, text and line.
+
+Usage: python3 tests/hostile.py [--program PROGRAM] [--vertices N]
+
+Standard output closed before the first byte and after the first line, a device that is full at once and in the middle of
+the text, a read that fails in the middle of each file, and address space limited from where the program starts and has its stack
+to where there is enough. Each run must end as with enough of everything, or with the status and the line of what went wrong, behind a
+beginning of its text; never by a signal, never late, never with status 0 and a text cut short. The last line is
+'N passed, M failed'. A C compiler is needed: it makes the library whose reads fail (tests/refuse.c).
+"""
+
+import argparse
+import collections
+import os
+import re
+import resource
+import signal
+import subprocess
+import sys
+import tempfile
+
+sys.dont_write_bytecode = True
+import refused  # noqa: E402
+import trees  # noqa: E402
+from trees import HOME, Count, graphs  # noqa: E402
+
+SECONDS = 120
+PAGE = 4096
+# the grain in which address space is measured
+GRAIN = 16 * PAGE
+# What the main thread's stack takes, with much to spare. Where the system can't let it grow, it ends any program by a signal.
+STACK = 512 * 1024
+# no command here takes so much
+MOST_SPACE = 1 << 30
+# a text that a pipe holds at once
+SHORT = 64 * 1024
+# limits of address space that are tried for each command
+LIMITS = 60
+MEMORY = re.compile(r"spt: (memory|(gr|ss|pairs|tree|replay|offers): line [1-9][0-9]*: 8 Memory)\n")
+WRITE_FAILED = (6, "spt: write failed\n")
+
+# A command line, the text that it writes, its status, and the files that it reads with the names that faults give them.
+Case = collections.namedtuple("Case", "name words text status files")
+
+
+# ## Cases
+
+
+def put(folder, name, text):
+    with open(f"{folder}/{name}", "w") as it:
+        it.write(text)
+    return f"{folder}/{name}"
+
+
+def cases(folder, vertices):
+    """Each command on a graph or a list of this size; every text but that of `check` is long."""
+    graph = f"{folder}/roads.gr"
+    _, mean = graphs.write_graph(graph, "roads", vertices, 1)
+    rows = {vertex: [] for vertex in range(1, vertices + 1)}
+    with open(graph) as it:
+        for tail, head, length in (map(int, row.split()[1:]) for row in it if row.startswith("a ")):
+            rows[tail].append((head, length))
+    words, far = trees.dijkstra(rows, 1)
+    block = trees.block(vertices, 1, words, far)
+    sources, tree = put(folder, "one.ss", "p aux sp ss 1\ns 1\n"), put(folder, "roads.tree", block)
+    asked = put(folder, "all.pairs", f"p pairs {vertices}\n" + "".join(f"q 1 {it}\n" for it in rows))
+    told = "".join("d 1 {} {} {}\n".format(it, *words[it]) if it in words else f"n 1 {it}\n" for it in rows)
+    for workers in ("1", "4"):
+        crew = ("--delta", str(mean), "--workers", workers)
+        named = "1 worker" if workers == "1" else f"{workers} workers"
+        yield Case(f"tree, {named}", ("tree", graph, sources, *crew), block, 0, {"gr": graph, "ss": sources})
+        yield Case(f"pairs, {named}", ("pairs", graph, asked, *crew), told, 0, {"gr": graph, "pairs": asked})
+    yield Case("check", ("check", graph, tree), "yes\n", 0, {"gr": graph, "tree": tree})
+    offers = "".join(f"o 1 {it} {it} 1\n" for it in rows)
+    kept = "".join(f"w {it} {it} 1\n" for it in rows)
+    made = put(folder, "long.off", f"p off {vertices} 1\n{offers}")
+    yield Case("offers", ("offers", made), f"{kept}e {vertices}\n", 0, {"offers": made})
+    steps = put(folder, "long.rep", f"p rep {vertices} 1\n{offers}" + 2 * vertices * "s 1\n")
+    calls = "".join(f"o 1 {it} {it} 1 shorter {2 * it - 1} {2 * it}\n" for it in rows)
+    yield Case("replay", ("replay", steps), f"{calls}{kept}t {vertices} 0\nclosed yes\n", 0, {"replay": steps})
+
+
+# ## Runs
+
+
+def limited(kind, amount):
+    """What a process does before it becomes the program: signals as a shell leaves them, and this limit, if any."""
+
+    def begin():
+        signal.signal(signal.SIGPIPE, signal.SIG_DFL)
+        signal.signal(signal.SIGXFSZ, signal.SIG_IGN)
+        if kind is not None:
+            resource.setrlimit(kind, (amount, amount))
+
+    return begin
+
+
+def start(program, words, out, kind=None, amount=0, known=None):
+    begin = limited(kind, amount)
+    return subprocess.Popen([program, *words], stdout=out, stderr=subprocess.PIPE, preexec_fn=begin, restore_signals=False, env=known)
+
+
+def ended(process):
+    """Status and errors, or None where it doesn't end."""
+    try:
+        _, errors = process.communicate(timeout=SECONDS)
+    except subprocess.TimeoutExpired:
+        process.kill()
+        return None
+    return process.returncode, errors.decode()
+
+
+def into_file(program, case, folder, **settings):
+    """Status, errors and text of a run that writes into a file."""
+    path = f"{folder}/text"
+    with open(path, "wb") as out:
+        told = ended(start(program, case.words, out, **settings))
+    with open(path) as it:
+        return told, it.read()
+
+
+# ## Devices
+
+
+def close_at_once(count, program, case):
+    reading, writing = os.pipe()
+    os.close(reading)
+    process = start(program, case.words, writing)
+    os.close(writing)
+    count.of(f"{case.name}: output closed at once", ended(process) == WRITE_FAILED)
+
+
+def close_after_a_line(count, program, case):
+    process = start(program, case.words, subprocess.PIPE)
+    line = process.stdout.readline().decode()
+    process.stdout.close()
+    process.stdout = None
+    told = ended(process)
+    count.of(f"{case.name}: output closed after a line: {told}", case.text.startswith(line) and told == WRITE_FAILED)
+
+
+def fill_device(count, program, case, folder):
+    with open("/dev/full", "wb") as out:
+        count.of(f"{case.name}: a full device", ended(start(program, case.words, out)) == WRITE_FAILED)
+    size = len(case.text)
+    for room in (1, size // 2, size - 1):
+        told, text = into_file(program, case, folder, kind=resource.RLIMIT_FSIZE, amount=room)
+        fits = told == WRITE_FAILED and text == case.text[:room]
+        count.of(f"{case.name}: a device with room for {room} bytes: {told}", fits)
+    told, text = into_file(program, case, folder, kind=resource.RLIMIT_FSIZE, amount=size)
+    count.of(f"{case.name}: a device with room for all", told == (case.status, "") and text == case.text)
+
+
+def fail_reads(count, refuser, program, case, folder):
+    """A read fails in the middle of each file, which is told at the line whose end didn't come."""
+    for name, path in case.files.items():
+        size = os.path.getsize(path)
+        for room in (0, size // 2, size):
+            with open(path, "rb") as it:
+                line = it.read(room).count(b"\n") + 1
+            known = {**os.environ, "LD_PRELOAD": refuser.library, "READS_OF": path, "READ_FAILS_AT": str(room)}
+            told, text = into_file(program, case, folder, known=known)
+            wanted = (6, f"spt: {name}: line {line}: 9 Read\n")
+            count.of(f"{case.name}: a read of {name} that fails after {room} bytes: {told}", told == wanted and text == "")
+
+
+# ## Address space
+
+
+def least_to_start(program):
+    """The least address space with which the program tells its version, and has its stack."""
+    for amount in range(GRAIN, MOST_SPACE, GRAIN):
+        begin = limited(resource.RLIMIT_AS, amount)
+        done = subprocess.run([program, "--version"], capture_output=True, preexec_fn=begin, restore_signals=False)
+        if done.returncode == 0:
+            return amount + STACK
+    return None
+
+
+def is_short(case, told, text):
+    return told is not None and told[0] == 5 and MEMORY.fullmatch(told[1]) is not None and case.text.startswith(text)
+
+
+def is_whole(case, told, text):
+    return told == (case.status, "") and text == case.text
+
+
+def enough_space(program, case, folder, least):
+    """The least address space with which the command is done."""
+    for amount in range(least, MOST_SPACE, GRAIN):
+        told, text = into_file(program, case, folder, kind=resource.RLIMIT_AS, amount=amount)
+        if is_whole(case, told, text):
+            return amount
+    return None
+
+
+def limit_memory(count, program, case, folder, least):
+    """From where the program starts to what is enough."""
+    enough = enough_space(program, case, folder, least)
+    wrong, refusals = [], 0
+    for place in range(LIMITS):
+        amount = (least + place * (enough - least) // LIMITS) // PAGE * PAGE
+        told, text = into_file(program, case, folder, kind=resource.RLIMIT_AS, amount=amount)
+        refusals += is_short(case, told, text)
+        if not is_short(case, told, text) and not is_whole(case, told, text):
+            wrong.append((amount, told, len(text)))
+    for it in wrong[:3]:
+        print(f"{case.name}, address space {it[0]}: {it[1]}, {it[2]} bytes of text")
+    count.of(f"{case.name}: address space", refusals > LIMITS // 3 and not wrong)
+    print(f"{case.name}: address space refused in {refusals} runs of {LIMITS}", flush=True)
+
+
+def main():
+    options = argparse.ArgumentParser(description=__doc__, formatter_class=argparse.RawDescriptionHelpFormatter)
+    options.add_argument("--program", help="this spt, as it is, in place of a build")
+    options.add_argument("--vertices", type=int, default=20000)
+    chosen = options.parse_args()
+    program = refused.program_of(chosen)
+    count = Count()
+    with tempfile.TemporaryDirectory() as folder:
+        refuser = refused.Refuser(folder)
+        least = least_to_start(program)
+        for case in cases(folder, chosen.vertices):
+            close_at_once(count, program, case)
+            if len(case.text) > SHORT:
+                close_after_a_line(count, program, case)
+            fill_device(count, program, case, folder)
+            fail_reads(count, refuser, program, case, folder)
+            limit_memory(count, program, case, folder, least)
+    print(f"{count.passed} passed, {count.failed} failed")
+    return 1 if count.failed else 0
+
+
+if __name__ == "__main__":
+    sys.exit(main())
