@@ -1,6 +1,7 @@
-# How the program that was built from these sources is kept, for ./spt and ./test, which read this file; $home is the
-# folder of the repository.
+# Which program ./spt runs, for ./spt and ./test, which read this file; $home is the folder of the repository. One that was
+# proved and built here is kept in .spt/, one that was built for a release in dist/, each beside the digest of its sources.
 made=$home/.spt
+release=$home/dist
 
 # what the program is made from, as one line; tests, edits and the benchmark play no part
 sources() {
@@ -10,8 +11,14 @@ sources() {
     )
 }
 
-is_kept() {
-    [ -x "$made/spt" ] && [ "$(sources)" = "$(cat "$made/sources" 2> /dev/null)" ]
+# program SOURCES: the program that was built from these sources, nothing where there is none
+program() {
+    for folder in "$made" "$release"; do
+        if [ -x "$folder/spt" ] && [ "$1" = "$(cat "$folder/sources" 2> /dev/null)" ]; then
+            echo "$folder/spt"
+            return
+        fi
+    done
 }
 
 # Keeps the program that was just built in crates/spt, from the sources that the argument names.
@@ -20,4 +27,10 @@ keep() {
     cp "$home/crates/spt/out/spt" "$made/spt.new"
     mv "$made/spt.new" "$made/spt"
     echo "$1" > "$made/sources"
+    rt version > "$made/kit"
+}
+
+# Whether the program that was built here must be the released one byte for byte: its sources and the kit are the same.
+is_comparable() {
+    [ -x "$made/spt" ] && cmp -s "$made/sources" "$release/sources" && cmp -s "$made/kit" "$release/kit"
 }

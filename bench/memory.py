@@ -104,11 +104,9 @@ def main():
     options = argparse.ArgumentParser(description=__doc__, formatter_class=argparse.RawDescriptionHelpFormatter)
     options.add_argument("--program", help="this spt, as it is, in place of a build")
     chosen = options.parse_args()
-    if chosen.program is None:
-        subprocess.run([f"{parts.HOME}/spt", "--version"], check=True, stdout=subprocess.DEVNULL)
     print("| memory of | bytes |\n|---|---|")
     with tempfile.TemporaryDirectory() as folder:
-        for name, amount in figures(chosen.program or f"{parts.HOME}/.spt/spt", folder):
+        for name, amount in figures(chosen.program or parts.program(), folder):
             print(f"| {name} | {amount:.1f} |", flush=True)
 
 

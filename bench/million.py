@@ -54,7 +54,7 @@ def main():
     options.add_argument("--keep", metavar="FOLDER", type=os.path.abspath, help="where graphs are found or made, and stay")
     options.add_argument("--built-spt", metavar="PROGRAM", type=os.path.abspath, help="this spt, as it is, in place of a build")
     chosen = options.parse_args()
-    spt = chosen.built_spt or whole.build_spt()
+    spt = chosen.built_spt or parts.program()
     if chosen.keep:
         os.makedirs(chosen.keep, exist_ok=True)
     with tempfile.TemporaryDirectory() as folder:

@@ -22,6 +22,9 @@ HOME = os.path.dirname(os.path.dirname(os.path.abspath(__file__)))
 MADE = os.path.join(HOME, ".spt")
 SEED = 1
 
+# Large lists in large pages, as ./spt has them, for the programs that are compared too.
+os.environ.setdefault("GLIBC_TUNABLES", "glibc.malloc.hugetlb=1")
+
 GRAPH_PARTS = ["read_gr", "build", "split"]
 TREE_PARTS = ["read_tree", "write_tree"]
 
@@ -45,6 +48,13 @@ def sources():
         with open(path, "rb") as file:
             known.update(path.encode() + b"\0" + file.read() + b"\0")
     return known.hexdigest()
+
+
+def program():
+    """The program that `./spt` runs, which it builds first where there is none of these sources."""
+    subprocess.run([os.path.join(HOME, "spt"), "--version"], check=True, stdout=subprocess.DEVNULL)
+    words = ["sh", "-c", 'home=$0; . "$home/.ci/program.sh"; program "$(sources)"', HOME]
+    return subprocess.run(words, check=True, capture_output=True, text=True).stdout.strip()
 
 
 def build_ours(name="spt_bench", *words):

@@ -269,19 +269,13 @@ def print_table(comparison, told, runs, found):
     return [aim[2] for aim in aims if aim]
 
 
-def build_spt():
-    """The program that `./spt` keeps, which it builds first where it isn't yet."""
-    subprocess.run([os.path.join(HOME, "spt"), "--version"], check=True, stdout=subprocess.DEVNULL)
-    return os.path.join(HOME, ".spt", "spt")
-
-
 def programs_of(chosen, folder):
     plain = parts.build_plain(folder, "dijkstra")
     if plain is None:
         sys.exit("whole: no C++ compiler")
     if chosen.plain:
         return Programs(plain, None, None)
-    spt = chosen.built_spt or build_spt()
+    spt = chosen.built_spt or parts.program()
     return Programs(plain, spt, None if chosen.no_parts else chosen.built or parts.build_ours())
 
 

@@ -4,8 +4,8 @@
 Usage: python3 tests/hostile.py [--program PROGRAM] [--vertices N]
 
 Standard output closed before the first byte and after the first line, a device that is full at once and in the middle of
-the text, a read that fails in the middle of each file, and address space limited from where the program starts and has its stack
-to where there is enough. Each run must end as with enough of everything, or with the status and the line of what went wrong, behind a
+the text, a read that fails in the middle of each file, and address space limited from where the program starts to where there is
+enough. Each run must end as with enough of everything, or with the status and the line of what went wrong, behind a
 beginning of its text; never by a signal, never late, never with status 0 and a text cut short. The last line is
 'N passed, M failed'. A C compiler is needed: it makes the library whose reads fail (tests/refuse.c).
 """
@@ -22,15 +22,16 @@ import tempfile
 
 sys.dont_write_bytecode = True
 import refused  # noqa: E402
+from refused import parts  # noqa: E402
 import trees  # noqa: E402
 from trees import HOME, Count, graphs  # noqa: E402
 
 SECONDS = 120
 PAGE = 4096
+# Small pages, so that limits may lie near one another.
+os.environ["GLIBC_TUNABLES"] = ""
 # the grain in which address space is measured
 GRAIN = 16 * PAGE
-# What the main thread's stack takes, with much to spare. Where the system can't let it grow, it ends any program by a signal.
-STACK = 512 * 1024
 # no command here takes so much
 MOST_SPACE = 1 << 30
 # a text that a pipe holds at once
@@ -169,12 +170,12 @@ def fail_reads(count, refuser, program, case, folder):
 
 
 def least_to_start(program):
-    """The least address space with which the program tells its version, and has its stack."""
+    """Address space with which the program tells its version, and some more, since systems lay programs out at random."""
     for amount in range(GRAIN, MOST_SPACE, GRAIN):
         begin = limited(resource.RLIMIT_AS, amount)
         done = subprocess.run([program, "--version"], capture_output=True, preexec_fn=begin, restore_signals=False)
         if done.returncode == 0:
-            return amount + STACK
+            return amount + 2 * GRAIN
     return None
 
 
@@ -191,7 +192,7 @@ def enough_space(program, case, folder, least):
     for amount in range(least, MOST_SPACE, GRAIN):
         told, text = into_file(program, case, folder, kind=resource.RLIMIT_AS, amount=amount)
         if is_whole(case, told, text):
-            return amount
+            return amount + 2 * GRAIN
     return None
 
 
@@ -216,7 +217,7 @@ def main():
     options.add_argument("--program", help="this spt, as it is, in place of a build")
     options.add_argument("--vertices", type=int, default=20000)
     chosen = options.parse_args()
-    program = refused.program_of(chosen)
+    program = chosen.program or parts.program()
     count = Count()
     with tempfile.TemporaryDirectory() as folder:
         refuser = refused.Refuser(folder)

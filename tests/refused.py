@@ -180,13 +180,6 @@ def try_calls(count, refuser, program):
                 try_each(count, " ".join(words), refuser, [program, *words], (0, text, ""), fits)
 
 
-def program_of(chosen):
-    """The program that `spt` keeps: it builds it first where it isn't from these sources."""
-    if chosen.program is None:
-        subprocess.run([f"{HOME}/spt", "--version"], check=True, stdout=subprocess.DEVNULL)
-    return chosen.program or f"{HOME}/.spt/spt"
-
-
 def main():
     options = argparse.ArgumentParser(description=__doc__, formatter_class=argparse.RawDescriptionHelpFormatter)
     options.add_argument("--program", help="this spt, as it is, in place of a build")
@@ -202,7 +195,7 @@ def main():
         else:
             try_calls(count, refuser, chosen.calls or parts.build_ours("spt_refused", "read_gr", "diamond", "1"))
             write_long_path(folder)
-            try_commands(count, refuser, program_of(chosen), folder)
+            try_commands(count, refuser, chosen.program or parts.program(), folder)
     print(f"{count.passed} passed, {count.failed} failed")
     return 1 if count.failed else 0
 

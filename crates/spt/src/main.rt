@@ -9,6 +9,18 @@ use std::sync::Wait;
 use std::thread::Threads;
 use std::{env, fs, io};
 
+// More of the main thread's stack than any command takes, in bytes.
+const STACK: usize = 500_000;
+
+/// Takes the main thread's stack, and answers whether two places are one. Where memory is short, a stack that grows later
+/// finds no room, and the system ends the program by a signal in the middle of its work.
+#[inline(never)]
+fn take_stack(one: usize, other: usize) -> bool {
+    let mut room = [0u8; STACK];
+    room[one % STACK] = 1;
+    room[other % STACK] == 1
+}
+
 /// The files of the system.
 #[derive(Clone, Copy)]
 struct Disk<'a, R> {
@@ -32,6 +44,9 @@ fn run<R: AllocGlobal + Env + Files + Threads + Wait + Sync, W: Write, E: Write>
     let alloc = rt.alloc();
     let arguments: Vec<String> = env::args(rt)?.collect(alloc)?;
     let words: Vec<&str> = arguments.iter().map(|word| word.as_str()).collect(alloc)?;
+    if !take_stack(arguments.len(), words.len()) {
+        return Err(io::ErrorKind::OutOfMemory.into());
+    }
     Ok(run_command(rt, alloc, &words, &Disk { rt }, out, err))
 }
 
