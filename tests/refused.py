@@ -98,6 +98,16 @@ def call_says_nothing_else(wanted, told):
     return call_ends_short(wanted, told) and told[1] == ""
 
 
+def round_says_all(wanted, told):
+    """Whether of two rounds the one that memory was wanting to left the same words, or it was wanting outside of them."""
+    return told in ((5, wanted[1], ""), (OUTSIDE, "", ""))
+
+
+def words_end_short(wanted, told):
+    """Whether memory was wanting to the words of the command line alone."""
+    return told == (5, "", "spt: memory\n")
+
+
 def example(name):
     with open(f"{HOME}/examples/{name}") as it:
         return it.read()
@@ -111,6 +121,7 @@ def long_path():
     return {
         "long.gr": "p sp 18 17\n" + "".join(f"a {tail} {tail + 1} {length}\n" for tail, length in arcs),
         "long.ss": "p aux sp ss 1\ns 1\n",
+        "announced.gr": "p sp 268435454 1073741824\n",
         "long.pairs": "p pairs 2\nq 1 18\nq 17 17\n",
         "long.tree": f"p spt 18 1\nv 1 0 0\n{rows}e 17\n",
     }
@@ -134,6 +145,9 @@ def commands(folder):
             (0, "d 1 4 5 2\nd 1 1 0 0\nn 4 1\n", ""), says_nothing_else)
         yield ["pairs", f"{folder}/long.gr", f"{folder}/long.pairs", "--delta", far, *crew], (
             (4, f"x 1 18\n{one}", ""), says_nothing_else)
+    # a reader takes no memory by what is announced
+    yield ["tree", f"{folder}/announced.gr", f"{folder}/long.ss", "--delta", far], (
+        (2, "", "spt: gr: line 2: 7 TooFew\n"), words_end_short)
     yield ["check", "examples/diamond.gr", "examples/diamond.tree"], ((0, "yes\n", ""), says_nothing_else)
     yield ["check", f"{folder}/long.gr", f"{folder}/long.tree"], ((3, "no 18 5\n", ""), says_nothing_else)
     for name in ("diamond", "kept", "lost_exchange", "not_closed"):
@@ -169,13 +183,19 @@ def texts_of_calls():
     for name in ("read_replay", "replay"):
         yield name, (example("diamond.report"), example("lost_exchange.report"))
     yield "read_offers", ("p off 1 2\n", "p off 1 2\n")
+    # where two workers meet, on a graph of its own
+    yield "round", ("w 1 0 0\nw 2 1 1\nw 3 1 1\nw 4 2 2\nw 5 2 3\n",)
+
+
+# What else a call may end with.
+FITS = {"run_pairs": call_says_nothing_else, "round": round_says_all}
 
 
 def try_calls(count, refuser, program):
     for name, texts in texts_of_calls():
-        fits = call_says_nothing_else if name == "run_pairs" else call_ends_short
+        fits = FITS.get(name, call_ends_short)
         for sample, text in zip(("diamond", "long"), texts):
-            for workers in WORKERS if name.startswith("run") else WORKERS[:1]:
+            for workers in WORKERS if name.startswith(("run", "round")) else WORKERS[:1]:
                 words = [name, sample, str(workers)]
                 try_each(count, " ".join(words), refuser, [program, *words], (0, text, ""), fits)
 

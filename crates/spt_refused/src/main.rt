@@ -6,6 +6,7 @@ mod batches;
 mod files;
 mod reading;
 mod report;
+mod rounds;
 mod runs;
 mod sample;
 mod stages;
@@ -41,6 +42,7 @@ fn call<R: AllocGlobal + Eprint + Print + Threads + Wait + Sync, W: Write>(
         "run_batch" => batches::call_run_batch(rt, out, sample, workers),
         "run_pairs" => batches::call_run_pairs(rt, out, sample, workers),
         "run" => stages::call_run(rt, out, sample, workers),
+        "round" => rounds::call_round(rt, workers),
         "run_targets" => runs::call_run_targets(rt, sample, workers),
         "check" => files::call_check(rt, sample),
         "read_replay" => files::call_read_replay(rt, out, sample),
