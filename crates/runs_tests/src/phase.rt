@@ -76,7 +76,7 @@ fn run_by_team<const P: u32>(
 {
     assert!(rt; graph.n() <= Word::<P>::max_pred());
     let (delta, workers) = (width(rt, delta), crew(rt, workers));
-    sp_phase::run_by_team(rt, rt.alloc(), graph, Team { delta, workers }, source)
+    sp_solve::run_by_team(rt, rt.alloc(), graph, Team { delta, workers }, source)
 }
 
 // The first caller of a store, and another.

@@ -13,7 +13,7 @@ use Rattle.sp_paths.proofs.TheoremProofs.{far_is_meant}
 use Rattle.sp_paths.proofs.Existence.{trees_exist}
 use Rattle.sp_tree.specs.Table.{TreeTable, tree_of, table_of, rows_from, HasPredWithin, IsTable}
 use Rattle.sp_tree.proofs.RisingRows.{tree_is_table, words_are}
-use Rattle.sp_phase.specs.Answer.{IsAnswer}
+use Rattle.sp_solve.specs.Answer.{IsAnswer}
 use Rattle.sp_batch.specs.Batch.{Answer, TreeOf, FarFrom, IsAnswerTo, AreAnswers, batch_text, HasBegun}
 use Rattle.sp_batch.specs.Steps.{HasBegunFirst}
 use Rattle.sp_batch.proofs.AnswersInOrder.{answers_both, all_behind, text_both}

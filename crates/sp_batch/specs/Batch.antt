@@ -6,7 +6,7 @@ use Rattle.sp_device.specs.Devices.{IsBegun}
 use Rattle.sp_paths.specs.Paths.{Graph, IsFar}
 use Rattle.sp_tree.specs.Table.{TreeTable, IsTable}
 use Rattle.sp_tree.specs.TreeText.{tree_text, far_text}
-use Rattle.sp_phase.specs.Answer.{IsAnswer}
+use Rattle.sp_solve.specs.Answer.{IsAnswer}
 use Rattle.sp_batch.specs.declared.answers.Summary.{Summary}
 
 -- the answer to one source: its tree, or the vertex that is too far

@@ -5,7 +5,7 @@ ghost use Rattle.sp_batch.specs.Slots.{IsClosed, slot_of, IsPairOf, AreAllOpen, 
 
 use crate::finding::Plan;
 use sp_graph::Graph;
-use sp_phase::{PairAnswer, Reach, run_targets, useful_workers};
+use sp_solve::{PairAnswer, Reach, run_targets, useful_workers};
 use sp_team::Team;
 use std::alloc::{AllocError, Global};
 use std::sync::Wait;

@@ -6,7 +6,7 @@ ghost use Rattle.sp_batch.specs.Found.{IsReady, IsFound, AreFound};
 
 use crate::watch::Watch;
 use sp_graph::Graph;
-use sp_phase::{RunError, run_source};
+use sp_solve::{RunError, run_source};
 use sp_tree::Tree;
 use sp_word::{Delta, Workers};
 use std::alloc::{AllocError, Global};

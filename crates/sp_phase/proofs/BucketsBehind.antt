@@ -28,7 +28,8 @@ use Rattle.sp_phase.specs.Sweep.{AreRelaxed, IsOpen, IsCopied, HasCopied, TakesC
 use Rattle.sp_phase.specs.Settling.{IsLaterBucket}
 use Rattle.sp_phase.specs.Progress.{MayLead}
 use Rattle.sp_phase.specs.Behind.{IsFinal, IsPast, HasCome, end_of, KeepsPast, KeepsLevel, CatchesUp, StaysFrom, Empties, Reaches}
-use Rattle.sp_phase.proofs.KnownWords.{known_pair, known_lawful, lawful_walk, tree_lowest}
+use Rattle.sp_solve.proofs.WholeRun.{lawful_walk}
+use Rattle.sp_phase.proofs.KnownWords.{known_pair, known_lawful, tree_lowest}
 use Rattle.sp_phase.proofs.LeaderHolds.{replicate_at, takes_from, takes_past, bucket_next, leads_queued, put_queued}
 use Rattle.sp_phase.proofs.CopiedWords.{open_queued}
 use Rattle.sp_phase.proofs.SettledBuckets.{test_settled, test_told}

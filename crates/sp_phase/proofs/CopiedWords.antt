@@ -26,8 +26,9 @@ use Rattle.sp_store.proofs.TaskMarks.{some_same}
 use Rattle.sp_phase.specs.declared.sweeping.Bounds.{Bounds}
 use Rattle.sp_phase.specs.Running.{IsQueued, Holds}
 use Rattle.sp_phase.specs.Sweep.{IsMarkedAt, IsRelaxedAtDist, IsRelaxedHere, AreRelaxed, IsOpen, IsCopied, IsSwept, HasWords}
-use Rattle.sp_phase.specs.Answer.{IsAnswer, IsRefusal}
-use Rattle.sp_phase.proofs.KnownWords.{at_most_pair, zero_stays, known_pair, known_lawful, lawful_walk, walk_vertex, tree_known}
+use Rattle.sp_solve.specs.Answer.{IsAnswer, IsRefusal}
+use Rattle.sp_solve.proofs.WholeRun.{lawful_walk}
+use Rattle.sp_phase.proofs.KnownWords.{at_most_pair, zero_stays, known_pair, known_lawful, walk_vertex, tree_known}
 use Rattle.sp_phase.proofs.LeaderHolds.{dist_pair}
 
 -- nothing is known of what is no vertex

@@ -13,7 +13,8 @@ use Rattle.sp_store.specs.Stage.{Stage, IsStage, Falls, Learns, law_of}
 use Rattle.sp_store.specs.Marks.{heavy_at, SameDistances}
 use Rattle.sp_phase.specs.Lead.{Lead}
 use Rattle.sp_phase.specs.Behind.{IsCarried, IsFinal, HasRun}
-use Rattle.sp_phase.proofs.KnownWords.{known_pair, lawful_walk}
+use Rattle.sp_solve.proofs.WholeRun.{lawful_walk}
+use Rattle.sp_phase.proofs.KnownWords.{known_pair}
 use Rattle.sp_phase.proofs.SettledBuckets.{word_stays, settled_stays}
 
 pub pair_same : (d p e q : ℕ) → Pair d p ≡ Pair e q → d ≡ e

@@ -10,6 +10,7 @@ use Rattle.sp_offer.proofs.Orders.{at_most-both}
 use Rattle.sp_store.specs.declared.marks.Mark.{Mark}
 use Rattle.sp_store.specs.Stage.{Stage, law_of, Falls}
 use Rattle.sp_store.specs.Rounds.{IsRunning}
+use Rattle.sp_solve.proofs.WholeRun.{lawful_walk}
 
 -- a word that is no more than one that is at most a pair
 pub at_most_pair : (a b : Word) (d p : ℕ) → IsNoMore a b → IsAtMost b d p → IsAtMost a d p
@@ -42,11 +43,6 @@ running_falls P st before after marks falls lawful run = record {
 }
 
 -- ## Lawful words
-
--- a lawful pair is of a walk
-pub lawful_walk : (g : Graph) (s v d p : ℕ) → IsLawful g s v (Pair d p) → HasWalk g s v d
-lawful_walk g s v d p (inl own) = rw (own.0, own.1) (walk_none g s)
-lawful_walk g s v d p (inr by) = walk_from_by g s v d p by
 
 -- what is known of a vertex as a pair is the length of a walk, and fits
 pub known_pair : (P : ℕ) (st : Stage) (v : ℕ) (w : Word) (d p : ℕ) → IsKnownWord (law_of P st) v w → w ≡ Pair d p → IsLawful st.graph st.source v (Pair d p) × (d ≤ max_dist P)

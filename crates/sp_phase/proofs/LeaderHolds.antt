@@ -25,7 +25,8 @@ use Rattle.sp_store.proofs.TaskMarks.{running_same}
 use Rattle.sp_phase.specs.Lead.{Lead}
 use Rattle.sp_phase.specs.Running.{IsQueued, Holds, Leads, TasksFrom, EntriesFrom}
 use Rattle.sp_phase.specs.Behind.{IsPast}
-use Rattle.sp_phase.proofs.KnownWords.{running_falls, lawful_walk, known_pair}
+use Rattle.sp_solve.proofs.WholeRun.{lawful_walk}
+use Rattle.sp_phase.proofs.KnownWords.{running_falls, known_pair}
 use Rattle.sp_phase.proofs.FoundEntries.{found_queued}
 
 -- a caller that learns more holds what it held

@@ -7,5 +7,3 @@ pub mod FallingWords
 pub mod PastRounds
 pub mod MadeTasks
 pub mod BucketsBehind
-pub mod WholeRun
-pub mod TargetAnswers

@@ -20,7 +20,8 @@ use Rattle.sp_phase.specs.declared.sweeping.Bounds.{Bounds}
 use Rattle.sp_phase.specs.Running.{IsQueued}
 use Rattle.sp_phase.specs.Sweep.{AreRelaxed, IsCopied, IsSwept}
 use Rattle.sp_phase.specs.Settling.{IsTold}
-use Rattle.sp_phase.proofs.KnownWords.{tree_known, known_pair, lawful_walk, walk_vertex}
+use Rattle.sp_solve.proofs.WholeRun.{lawful_walk}
+use Rattle.sp_phase.proofs.KnownWords.{tree_known, known_pair, walk_vertex}
 
 -- a vertex of which a pair is known is near
 module _ (P : ℕ) (st : Stage) (stage : IsStage P st) (words : Table) (lawful : (v : ℕ) → IsKnownWord (law_of P st) v (words v)) where

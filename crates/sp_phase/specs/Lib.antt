@@ -1,10 +1,7 @@
-pub mod Answer
 pub mod Lead
 pub mod Running
 pub mod Sweep
 pub mod Behind
 pub mod Progress
 pub mod Settling
-pub mod WholeRun
 pub mod Pairs
-pub mod Reach

@@ -3,7 +3,7 @@ ghost use Rattle.std.specs.Prelude.{◌≡◌, None, IfOk, IfErr};
 ghost use Rattle.sp_graph.specs.LeftOut.{IsLeastLeftOut};
 ghost use Rattle.sp_offer.specs.Story.{known_table};
 ghost use Rattle.sp_paths.specs.Paths.{word_at};
-ghost use Rattle.sp_phase.specs.Answer.{IsAnswer, IsRefusal};
+ghost use Rattle.sp_solve.specs.Answer.{IsAnswer, IsRefusal};
 ghost use Rattle.sp_phase.specs.Sweep.{HasSwept, HasWords};
 
 use crate::leader::Leader;

@@ -1,20 +1,17 @@
-//! Runs from a source: the shortest-path tree of a graph, or the vertex that is too far.
+//! Runs from a source by rounds: what is final before the end, the shortest-path tree, or the vertex that is too far.
 #![tactic(auto)]
 
 mod advancing;
 mod finish;
 mod leader;
 mod pair;
-mod reach;
-mod relaxing;
 mod rounds;
 mod run;
 mod source;
 mod sweeping;
-mod whole;
 
 pub use pair::{run_pair, run_pair_with};
-pub use reach::{PairAnswer, Reach, run_targets};
 pub use run::Run;
-pub use source::{run_by_team, run_source, run_source_with, useful_workers};
+pub use source::run_source_with;
+pub use sp_solve::run_source;
 pub use sp_store::{RunError, Store};

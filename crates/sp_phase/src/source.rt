@@ -1,80 +1,21 @@
-//! A run from one source.
+//! A run from one source, by rounds.
 ghost use Rattle.std.specs.Prelude.{◌≡◌, ◌≤◌, true, IfOk, IfErr};
 ghost use Rattle.sp_word.specs.Word.{is_layout, max_pred};
-ghost use Rattle.sp_phase.specs.Answer.{IsAnswer, IsRefusal};
+ghost use Rattle.sp_solve.specs.Answer.{IsAnswer, IsRefusal};
 
 use crate::run::Run;
-use crate::whole::WholeRun;
 use sp_claim::Claimer;
 use sp_graph::Graph;
 use sp_offer::Caller;
 use sp_store::{RunError, Store};
 use sp_task::Gate;
-use sp_team::Team;
 use sp_tree::Tree;
 use sp_word::{Delta, Workers};
 use std::alloc::Global;
 use std::sync::Wait;
-use std::thread;
 use std::thread::Threads;
 
-// A worker for fewer vertices takes longer to start than it saves.
-const LEAST_VERTICES: u32 = 5000;
-
-/// How many of the workers there is work for: no more than processors, and one for some thousand vertices.
-pub fn useful_workers<R: Threads>(rt: &R, n: u32, workers: Workers) -> Workers {
-    let few = workers.at_most((n / LEAST_VERTICES) as usize);
-    if few.get() == 1 {
-        return few;
-    }
-    match thread::available_parallelism(rt) {
-        Ok(count) => few.at_most(count.get()),
-        Err(_) => few,
-    }
-}
-
-/// The shortest-path tree from the source, or the vertex that is too far for a word of `P` bits of predecessor.
-///
-/// `delta` is the width of a bucket, `workers` the greatest number of threads, the leader counted. The answer is the same
-/// for each of both. There are no more threads than processors, and one for some thousand vertices.
-pub fn run_source<const P: u32, R: Threads + Wait + Sync>(
-    rt: &R,
-    alloc: Global,
-    graph: &Graph,
-    delta: Delta<P>,
-    workers: Workers,
-    source: u32,
-) -> Result<Tree<P>, RunError>
-    requires layout { is_layout P ≡ true }
-    requires n { graph.now.n ≤ max_pred P }
-    ensures tree { IfOk result (IsAnswer P graph.now source) }
-    ensures refused { IfErr result (IsRefusal P graph.now source) }
-{
-    let workers = useful_workers(rt, graph.n(), workers);
-    run_by_team(rt, alloc, graph, Team { delta, workers }, source)
-}
-
-/// The same with just so many threads.
-pub fn run_by_team<const P: u32, R: Threads + Wait + Sync>(
-    rt: &R,
-    alloc: Global,
-    graph: &Graph,
-    team: Team<P>,
-    source: u32,
-) -> Result<Tree<P>, RunError>
-    requires layout { is_layout P ≡ true }
-    requires n { graph.now.n ≤ max_pred P }
-    ensures tree { IfOk result (IsAnswer P graph.now source) }
-    ensures refused { IfErr result (IsRefusal P graph.now source) }
-{
-    let n = graph.n();
-    if source < 1 || source > n {
-        return Err(RunError::NoSuchVertex);
-    }
-    WholeRun::new(alloc, graph, source, team).solve(rt)
-}
-
-/// The same by rounds of tasks, with a gate round every offer, and every round shared among the workers.
+/// What `run_source` answers, by rounds of tasks, with a gate round every offer, and every round shared among the workers.
 pub fn run_source_with<const P: u32, R: Threads + Wait + Sync, G: Gate + Sync>(
     rt: &R,
     alloc: Global,

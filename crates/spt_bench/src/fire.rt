@@ -4,8 +4,8 @@ ghost use Rattle.sp_word.specs.Word.{is_layout, max_pred};
 ghost use Rattle.sp_paths.specs.Paths.{IsVertex};
 
 use sp_graph::Graph;
-use sp_phase::{RunError, run_by_team};
 use sp_plain::{Answer, GraphKind, Random, plain_tree, random_graph};
+use sp_solve::{RunError, run_by_team};
 use sp_team::Team;
 use sp_tree::Tree;
 use sp_word::{Delta, Word, Workers};

@@ -8,7 +8,7 @@ use crate::report::print_each;
 use crate::whole::Plan;
 use sp_dimacs::{GrFile, OfRead, PairsFile, read_gr, read_pairs};
 use sp_graph::Graph;
-use sp_phase::{run_targets, useful_workers};
+use sp_solve::{run_targets, useful_workers};
 use sp_team::Team;
 use std::alloc::{AllocError, Global};
 use std::rt::Files;

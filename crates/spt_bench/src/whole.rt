@@ -6,7 +6,7 @@ ghost use Rattle.sp_dimacs.specs.Graph.{IsNetwork};
 use crate::report::print_each;
 use sp_dimacs::{GrFile, OfRead, OfWrite, SsFile, Write, read_gr, read_ss};
 use sp_graph::Graph;
-use sp_phase::run_source;
+use sp_solve::run_source;
 use sp_tree::{Tree, write_tree};
 use sp_word::{Delta, Workers};
 use std::rt::Files;

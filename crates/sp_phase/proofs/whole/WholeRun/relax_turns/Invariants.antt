@@ -1,6 +1,0 @@
-use Rattle.std.proofs.Common.{◌≡◌, length}
-use Rattle.sp_phase.specs.WholeRun.{HasOpened}
-use Rattle.sp_phase.proofs.whole.WholeRun.relax_turns.Given as goal
-
-abbrev pub invariant-loop : goal.invariant-loop
-invariant-loop g l = (l.caller.table ≡ l.table.id) × HasOpened l.self l.caller × (length l.words ≡ l.self.graph.n)

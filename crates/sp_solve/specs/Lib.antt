@@ -1,0 +1,3 @@
+pub mod Answer
+pub mod WholeRun
+pub mod Reach

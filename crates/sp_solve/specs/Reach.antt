@@ -1,0 +1,50 @@
+-- What a run finds for some targets of its source.
+use Rattle.std.specs.Prelude.{◌≡◌, ◌≤◌, ℕ, List, All, length, Option, Some, None}
+use Rattle.sp_word.specs.Word.{Word, Pair, Unreached, max_dist}
+use Rattle.sp_paths.specs.Paths.{Graph, IsVertex, IsPair, PairAnswer, word_at}
+use Rattle.sp_paths.specs.Paths.{Found as FoundPair, TooFar as FarVertex, NoWalk as NoWay}
+use Rattle.sp_task.specs.Walking.{WalksFrom}
+use Rattle.sp_solve.specs.declared.reach.Shown.{Shown}
+use Rattle.sp_solve.specs.declared.reach.Shown.TheVariants.{Final, Open}
+use Rattle.sp_solve.specs.declared.reach.PairAnswer.{PairAnswer as Told}
+use Rattle.sp_solve.specs.declared.reach.PairAnswer.TheVariants.{Found, TooFar, NoWalk}
+
+-- a source in a graph, and targets
+pub record Reached : Type 0 where
+  pub graph : Graph
+  pub source : ℕ
+  pub targets : List ℕ
+
+abbrev pub reach_of : WalksFrom → List ℕ → Reached
+reach_of run targets = record { graph = run.graph; source = run.source; targets = targets }
+
+abbrev pub answer_of : Told → PairAnswer
+answer_of (Found d p) = FoundPair d p
+answer_of (TooFar v) = FarVertex v
+answer_of NoWalk = NoWay
+
+-- the answer for a target
+abbrev pub IsAnswerFor : (P : ℕ) → Graph → (s t : ℕ) → Told → Type 0
+IsAnswerFor P g s t told = IsPair g s t (max_dist P) (answer_of told)
+
+-- what a word of the tree tells of its vertex, or, where it is none, the vertex that is too far
+abbrev pub answer_by : Word → (far : Option ℕ) → PairAnswer
+answer_by (Pair d p) far = FoundPair d p
+answer_by Unreached (Some v) = FarVertex v
+answer_by Unreached None = NoWay
+
+-- The words, and the vertex that is too far, tell the answer for each of the targets, which are vertices.
+pub record AnswersTargets (P : ℕ) (r : Reached) (words : List Word) (far : Option ℕ) : Type 0 where
+  pub size : length words ≡ r.graph.n
+  pub vertices : All (IsVertex r.graph.n) r.targets
+  pub answers : All (λ t. IsPair r.graph r.source t (max_dist P) (answer_by (word_at words t) far)) r.targets
+
+-- the word has a distance up to this one
+abbrev pub IsUpTo : (far : ℕ) → Word → Type 0
+IsUpTo far Unreached = ⊥
+IsUpTo far (Pair d p) = d ≤ far
+
+-- what a copy of the words shows of the targets: their answers, or nothing
+abbrev pub IsShown : (P : ℕ) → WalksFrom → (targets : List ℕ) → List Word → Shown → Type 0
+IsShown P run targets words (Final far) = AnswersTargets P (reach_of run targets) words far
+IsShown P run targets words Open = Unit {0}

@@ -1,0 +1,109 @@
+//! A whole run by a team.
+//!
+//! The team lowers the words, in whatever order. What the run answers rests on a copy of the words alone: where every arc
+//! is relaxed there, it is the tree's.
+ghost use Rattle.std.specs.Prelude.{◌≡◌, ◌≤◌, None, true, length, IfOk, IfErr};
+ghost use Rattle.sp_word.specs.Word.{is_layout, max_pred};
+ghost use Rattle.sp_paths.specs.Paths.{IsVertex, word_at};
+ghost use Rattle.sp_graph.specs.LeftOut.{IsLeastLeftOut};
+ghost use Rattle.sp_solve.specs.Answer.{IsAnswer, IsRefusal};
+ghost use Rattle.sp_solve.specs.WholeRun.{IsRelaxedCopy};
+
+use sp_graph::Graph;
+use sp_paths::finished_table;
+use sp_store::RunError;
+use sp_team::Team;
+use sp_tree::Tree;
+use sp_word::Word;
+use std::alloc::{AllocError, Global};
+use std::marker::Model;
+use std::sync::Wait;
+use std::thread::Threads;
+
+/// A run from a source of a graph to its end, by a team. Contracts see the graph and the source.
+#[derive(Drop)]
+pub(crate) struct WholeRun<'g, const P: u32> {
+    pub(crate) alloc: Global,
+    pub(crate) graph: &'g Graph,
+    pub(crate) source: u32,
+    pub(crate) team: Team<P>,
+}
+
+impl<'g, const P: u32> Model for WholeRun<'g, P> {
+    ghost use Rattle.sp_task.specs.Walking.{WalksFrom};
+    ghost use Rattle.sp_solve.specs.WholeRun.{IsPlace};
+
+    ghost Value = { WalksFrom };
+
+    ghost view = { λ r. record { graph = r.graph.now; source = r.source } };
+
+    ghost invariant = { λ r. IsPlace P (record { graph = r.graph.now; source = r.source }) };
+}
+
+impl<'g, const P: u32> WholeRun<'g, P> {
+    /// A run from a vertex of the graph.
+    pub(crate) fn new(
+        alloc: Global,
+        graph: &'g Graph,
+        source: u32,
+        team: Team<P>,
+    ) -> WholeRun<'g, P>
+        requires layout { is_layout P ≡ true }
+        requires most { graph.now.n ≤ max_pred P }
+        requires source { IsVertex graph.now.n source }
+        ensures graph { result.graph ≡ graph.entry.now }
+        ensures source { result.source ≡ source }
+    {
+        let _ = graph.n();
+        WholeRun {
+            alloc,
+            graph,
+            source,
+            team,
+        }
+    }
+
+    // The tree of words in which every arc is relaxed, and that leave no vertex out.
+    fn tree_of(&self, words: &[Word<P>]) -> Result<Tree<P>, AllocError>
+        requires relaxed { IsRelaxedCopy P self.now words.now }
+        requires none { IsLeastLeftOut self.now.graph (word_at words.now) None }
+        ensures { IfOk result (IsAnswer P self.now.graph self.now.source) }
+    {
+        finished_table();
+        let _ = self.graph.n();
+        let tree = Tree::of_words(self.alloc, self.source, words)?;
+        Ok(tree)
+    }
+
+    // What words in which every arc is relaxed say, with the smallest vertex that they leave out.
+    fn answer_of(&self, words: &[Word<P>], left: Option<u32>) -> Result<Tree<P>, RunError>
+        requires relaxed { IsRelaxedCopy P self.now words.now }
+        requires left { IsLeastLeftOut self.now.graph (word_at words.now) left }
+        ensures tree { IfOk result (IsAnswer P self.now.graph self.now.source) }
+        ensures refused { IfErr result (IsRefusal P self.now.graph self.now.source) }
+    {
+        finished_table();
+        match left {
+            Some(vertex) => Err(RunError::TooFar(vertex)),
+            None => match self.tree_of(words) {
+                Ok(tree) => Ok(tree),
+                Err(_) => Err(RunError::Memory),
+            },
+        }
+    }
+
+    /// The tree, or the vertex that is too far.
+    pub(crate) fn solve<R: Threads + Wait + Sync>(&self, rt: &R) -> Result<Tree<P>, RunError>
+        ensures tree { IfOk result (IsAnswer P self.now.graph self.now.source) }
+        ensures refused { IfErr result (IsRefusal P self.now.graph self.now.source) }
+    {
+        let n = self.graph.n() as usize;
+        let Ok(mut words) = vec![in self.alloc; Word::unreached(); n] else {
+            return Err(RunError::Memory);
+        };
+        let Ok(left) = self.relax(rt, words.as_mut_slice()) else {
+            return Err(RunError::Memory);
+        };
+        self.answer_of(words.as_slice(), left)
+    }
+}
