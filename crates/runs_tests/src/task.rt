@@ -1,16 +1,13 @@
 //! Rounds on threads.
 ghost use Rattle.std.specs.Prelude.{◌≡◌, ℕ, ◌<◌, ◌≤◌, length, All, IfOk, IfErr, IsTrue};
-ghost use Rattle.sp_paths.specs.Paths.{IsArc, IsVertex};
-ghost use Rattle.sp_word.specs.Word.{max_dist};
-ghost use Rattle.sp_offer.specs.Order.{lawful};
-ghost use Rattle.sp_task.specs.Offers.{IsTask};
-ghost use base.Stored.{Coded-set};
-ghost use Rattle.atomic_table.specs.Seated.{table_id_coded};
 
+use crate::phase::crew;
+use gates::{Count, Meeting, Thief};
+use round_samples::{Bench, MOST_DIST, MOST_VERTICES, any_tasks, set_up};
+use samples::{DIAMOND, Triple};
 use sp_bucket::Entry;
-use sp_claim::{ClaimTable, Claimer};
-use sp_graph::{Graph, Rows};
-use sp_offer::{AnyWord, Caller, Loop, Lowering, OfferTable, OneMin};
+use sp_graph::Rows;
+use sp_offer::{AnyWord, Loop, Lowering, OneMin};
 use sp_paths::Arc;
 use sp_task::{
     Gate, OpenGate, Round, RoundOut, RoundRefused, Task, TaskKind, run_round, run_round_by,
@@ -23,80 +20,6 @@ use std::test::Fail;
 use std::thread::Threads;
 
 mod gates;
-
-use crate::phase::crew;
-use gates::{Count, Meeting, Thief};
-
-const MOST_VERTICES: u32 = 1_000_000;
-
-const MOST_DIST: u64 = 1_000_000_000;
-
-/// The rows of a graph, and tables over them that take every word.
-#[derive(Drop)]
-struct Bench {
-    rows: Rows,
-    table: OfferTable<AnyWord, 28>,
-    claims: ClaimTable,
-    caller: Caller,
-    claimer: Claimer,
-    ghost few: { rows.graph.n ≤ 1000000 },
-    ghost words: { table.vertices ≡ rows.graph.n },
-    ghost slots: { rows.graph.n ≤ claims.words },
-    ghost caller_is_here: { caller.table ≡ table.id } by { Coded-set table_id_coded _ _ },
-    ghost claimer_is_here: { claimer.table ≡ claims } by { Coded-set table_id_coded _ _ },
-}
-
-fn are_arcs(n: u32, arcs: &[Arc]) -> bool
-    ensures { IsTrue result → All (IsArc n) arcs.now }
-{
-    for arc in arcs {
-        if arc.tail < 1 || arc.tail > n || arc.head < 1 || arc.head > n || arc.len < 1 {
-            return false;
-        }
-    }
-    true
-}
-
-fn are_tasks(n: u32, tasks: &[Task]) -> bool
-    ensures { IsTrue result → All (λ t. IsVertex n t.vertex × (t.dist ≤ 1000000000)) tasks.now }
-{
-    for task in tasks {
-        if task.vertex < 1 || task.vertex > n || task.dist > MOST_DIST {
-            return false;
-        }
-    }
-    true
-}
-
-// These tasks, or none where one is out of range.
-#[tactic(auto, using(sp_task::proofs::Checks::no_tasks))]
-fn any_tasks<'a>(rows: &Rows, tasks: &'a [Task]) -> &'a [Task]
-    requires { rows.now.graph.n ≤ 1000000 }
-    ensures { All (IsTask (lawful 28 (λ _ _. Unit {0})) (max_dist 28) rows.now) result.now }
-{
-    if are_tasks(rows.n(), tasks) {
-        tasks
-    } else {
-        &[]
-    }
-}
-
-fn set_up(alloc: Global, n: u32, arcs: &[Arc], delta: u64) -> Result<Bench, AllocError> {
-    if n < 1 || n > MOST_VERTICES || !are_arcs(n, arcs) {
-        return Err(AllocError);
-    }
-    let graph = Graph::build(alloc, n, arcs)?;
-    let rows = Rows::split(alloc, &graph, delta)?;
-    let (table, caller) = OfferTable::new(alloc, n, AnyWord)?;
-    let (claims, claimer) = ClaimTable::new(alloc, n)?;
-    Ok(Bench {
-        rows,
-        table,
-        claims,
-        caller,
-        claimer,
-    })
-}
 
 /// What a round found, in the order of the vertices, and how many workers it had.
 #[derive(Drop)]
@@ -221,10 +144,6 @@ fn light(vertex: u32, dist: u64) -> Task {
     }
 }
 
-fn arc(tail: u32, head: u32, len: u32) -> Arc {
-    Arc { tail, head, len }
-}
-
 fn entry(vertex: u32, dist: u64) -> Entry {
     Entry { vertex, dist }
 }
@@ -242,7 +161,7 @@ fn are_entries(found: &[Entry], wanted: &[Entry]) -> bool {
 #[test]
 fn two_workers_meet(rt: HostRuntime) -> Result<(), Fail> {
     let alloc = rt.alloc();
-    let arcs = [arc(1, 2, 1), arc(1, 3, 1), arc(2, 4, 1), arc(3, 5, 1)];
+    let arcs = [(1, 2, 1), (1, 3, 1), (2, 4, 1), (3, 5, 1)];
     let mut bench = set_up(alloc, 5, &arcs, 1)?;
     offer(&mut bench, 1, 0, 0);
     offer(&mut bench, 2, 1, 1);
@@ -269,12 +188,12 @@ fn two_workers_meet(rt: HostRuntime) -> Result<(), Fail> {
 fn thief_takes(rt: HostRuntime) -> Result<(), Fail> {
     let alloc = rt.alloc();
     let arcs = [
-        arc(1, 2, 1),
-        arc(1, 3, 1),
-        arc(1, 4, 1),
-        arc(2, 5, 1),
-        arc(3, 6, 1),
-        arc(4, 7, 1),
+        (1, 2, 1),
+        (1, 3, 1),
+        (1, 4, 1),
+        (2, 5, 1),
+        (3, 6, 1),
+        (4, 7, 1),
     ];
     let mut bench = set_up(alloc, 7, &arcs, 1)?;
     offer(&mut bench, 1, 0, 0);
@@ -307,14 +226,7 @@ fn diamond<M: Lowering + Send + Sync, R: Threads + Wait + Sync>(
     first: &[Task],
     workers: Workers,
 ) -> Result<bool, AllocError> {
-    let arcs = [
-        arc(1, 2, 3),
-        arc(1, 3, 3),
-        arc(2, 4, 2),
-        arc(3, 4, 2),
-        arc(1, 4, 6),
-    ];
-    let mut bench = set_up(alloc, 4, &arcs, 100)?;
+    let mut bench = set_up(alloc, 4, &DIAMOND, 100)?;
     offer(&mut bench, 1, 0, 0);
     let one = play::<M, R, OpenGate>(rt, alloc, bench, first, 1, workers, &OpenGate);
     let wanted = [entry(2, 3), entry(3, 3), entry(4, 6)];
@@ -360,14 +272,14 @@ fn next_random(seed: u64) -> u64 {
 }
 
 /// Four arcs from each vertex to random heads.
-fn random_arcs(alloc: Global) -> Result<Vec<Arc>, AllocError> {
+fn random_arcs(alloc: Global) -> Result<Vec<Triple>, AllocError> {
     let mut arcs = Vec::new(alloc);
     let mut seed = 1;
     for place in 0..4 * MANY {
         seed = next_random(seed);
         let head = (seed >> 33) % MANY as u64 + 1;
         let len = (seed >> 20) % 50 + 1;
-        arcs.push(arc(place / 4 + 1, head as u32, len as u32))?;
+        arcs.push((place / 4 + 1, head as u32, len as u32))?;
     }
     Ok(arcs)
 }
@@ -419,7 +331,7 @@ fn many_workers_leave_the_words_of_one_caller(rt: HostRuntime) -> Result<(), Fai
 #[test]
 fn refused_rounds_are_made_up_for(rt: HostRuntime) -> Result<(), Fail> {
     let alloc = rt.alloc();
-    let arcs = [arc(1, 2, 1), arc(1, 3, 1), arc(2, 4, 1), arc(3, 5, 1)];
+    let arcs = [(1, 2, 1), (1, 3, 1), (2, 4, 1), (3, 5, 1)];
     let mut bench = set_up(alloc, 5, &arcs, 1)?;
     offer(&mut bench, 1, 0, 0);
     offer(&mut bench, 2, 1, 1);

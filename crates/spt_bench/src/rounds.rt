@@ -1,18 +1,11 @@
 //! Rounds of tasks.
-ghost use Rattle.std.specs.Prelude.{◌≡◌, ◌≤◌, All, IsTrue};
-ghost use Rattle.sp_paths.specs.Paths.{IsArc, IsVertex};
-ghost use Rattle.sp_word.specs.Word.{max_dist};
-ghost use Rattle.sp_offer.specs.Order.{lawful};
-ghost use Rattle.sp_task.specs.Offers.{IsTask};
-ghost use base.Stored.{Coded-set};
-ghost use Rattle.atomic_table.specs.Seated.{table_id_coded};
+ghost use Rattle.std.specs.Prelude.{◌≤◌};
 
 use crate::offers::{next_random, vertex_of};
 use crate::report::print_each;
-use sp_claim::{ClaimTable, Claimer};
-use sp_graph::{Graph, Rows};
-use sp_offer::{AnyWord, Caller, OfferTable};
-use sp_paths::Arc;
+use round_samples::{Bench, any_tasks, set_up};
+use samples::Triple;
+use sp_offer::AnyWord;
 use sp_task::{OpenGate, Round, Task, TaskKind, run_round};
 use sp_word::Workers;
 use std::alloc::{AllocError, Global};
@@ -24,8 +17,6 @@ use std::time::{Clock, Duration, Instant};
 const MOST_TASKS: u32 = 1_000_000;
 
 const MOST_ROUNDS: u32 = 1_000_000;
-
-const MOST_DIST: u64 = 1_000_000_000;
 
 // No arc is longer.
 const LONGEST: u64 = 50;
@@ -54,23 +45,8 @@ impl Drill {
     }
 }
 
-/// The rows of a graph, and tables over them that take every word.
-#[derive(Drop)]
-struct Bench {
-    rows: Rows,
-    table: OfferTable<AnyWord, 28>,
-    claims: ClaimTable,
-    caller: Caller,
-    claimer: Claimer,
-    ghost few: { rows.graph.n ≤ 1000000 },
-    ghost words: { table.vertices ≡ rows.graph.n },
-    ghost slots: { rows.graph.n ≤ claims.words },
-    ghost caller_is_here: { caller.table ≡ table.id } by { Coded-set table_id_coded _ _ },
-    ghost claimer_is_here: { claimer.table ≡ claims } by { Coded-set table_id_coded _ _ },
-}
-
 // Four arcs from each of n vertices to random heads.
-fn random_arcs(alloc: Global, n: u32) -> Result<Vec<Arc>, AllocError>
+fn random_arcs(alloc: Global, n: u32) -> Result<Vec<Triple>, AllocError>
     requires { (1 ≤ n) × (n ≤ 1000000) }
 {
     let mut arcs = Vec::new(alloc);
@@ -78,44 +54,9 @@ fn random_arcs(alloc: Global, n: u32) -> Result<Vec<Arc>, AllocError>
     for place in 0..4 * n {
         random = next_random(random);
         let len = (random >> 20) % LONGEST + 1;
-        arcs.push(Arc {
-            tail: place / 4 + 1,
-            head: vertex_of(random, n),
-            len: len as u32,
-        })?;
+        arcs.push((place / 4 + 1, vertex_of(random, n), len as u32))?;
     }
     Ok(arcs)
-}
-
-fn are_arcs(n: u32, arcs: &[Arc]) -> bool
-    ensures { IsTrue result → All (IsArc n) arcs.now }
-{
-    for arc in arcs {
-        if arc.tail < 1 || arc.tail > n || arc.head < 1 || arc.head > n || arc.len < 1 {
-            return false;
-        }
-    }
-    true
-}
-
-fn set_up(alloc: Global, n: u32) -> Result<Bench, AllocError>
-    requires { (1 ≤ n) × (n ≤ 1000000) }
-{
-    let arcs = random_arcs(alloc, n)?;
-    if !are_arcs(n, &arcs) {
-        return Err(AllocError);
-    }
-    let graph = Graph::build(alloc, n, &arcs)?;
-    let rows = Rows::split(alloc, &graph, LONGEST)?;
-    let (table, caller) = OfferTable::new(alloc, n, AnyWord)?;
-    let (claims, claimer) = ClaimTable::new(alloc, n)?;
-    Ok(Bench {
-        rows,
-        table,
-        claims,
-        caller,
-        claimer,
-    })
 }
 
 // A light task for each vertex, all at one distance.
@@ -129,30 +70,6 @@ fn tasks_at(alloc: Global, n: u32, dist: u64) -> Result<Vec<Task>, AllocError> {
         })?;
     }
     Ok(tasks)
-}
-
-fn are_tasks(n: u32, tasks: &[Task]) -> bool
-    ensures { IsTrue result → All (λ t. IsVertex n t.vertex × (t.dist ≤ 1000000000)) tasks.now }
-{
-    for task in tasks {
-        if task.vertex < 1 || task.vertex > n || task.dist > MOST_DIST {
-            return false;
-        }
-    }
-    true
-}
-
-// These tasks, or none where one is out of range.
-#[tactic(auto, using(sp_task::proofs::Checks::no_tasks))]
-fn any_tasks<'a>(rows: &Rows, tasks: &'a [Task]) -> &'a [Task]
-    requires { rows.now.graph.n ≤ 1000000 }
-    ensures { All (IsTask (lawful 28 (λ _ _. Unit {0})) (max_dist 28) rows.now) result.now }
-{
-    if are_tasks(rows.n(), tasks) {
-        tasks
-    } else {
-        &[]
-    }
 }
 
 // Runs a round, and tells how long it took.
@@ -201,7 +118,8 @@ pub fn time_rounds<R: AllocGlobal + Clock + Print + Threads + Wait + Sync>(
     drill: Drill,
 ) -> io::Result<()> {
     let alloc = rt.alloc();
-    let mut bench = set_up(alloc, drill.tasks)?;
+    let arcs = random_arcs(alloc, drill.tasks)?;
+    let mut bench = set_up(alloc, drill.tasks, &arcs, LONGEST)?;
     let mut total = Duration::from_secs(0);
     for number in 1..=drill.rounds {
         let dist = (drill.rounds - number) as u64 * LONGEST;

@@ -3,7 +3,7 @@ use Rattle.sp_paths.specs.Paths.{IsVertex}
 use Rattle.sp_task.specs.declared.task.Task.{Task}
 use Rattle.sp_task.specs.declared.task.TaskKind.TheVariants.{Light}
 use Rattle.sp_task.proofs.Checks.{all_more}
-use Rattle.spt_bench.proofs.rounds.are_tasks.Goals as goal
+use Rattle.round_samples.proofs.are_tasks.Goals as goal
 
 pub loop-task-preserved : goal.loop-task-preserved
 loop-task-preserved c =

@@ -3,7 +3,7 @@ use Rattle.std.specs.Prelude.{All}
 use Rattle.sp_paths.specs.Paths.{IsVertex}
 use Rattle.sp_task.specs.declared.task.Task.{Task}
 use Rattle.sp_task.proofs.Checks.{any_tasks}
-use Rattle.runs_tests.proofs.task.any_tasks.Goals as goal
+use Rattle.round_samples.proofs.any_tasks.Goals as goal
 
 pub returns-then-are_tasks : goal.returns-then-are_tasks
 returns-then-are_tasks c =
