@@ -1,7 +1,7 @@
 //! What the leader writes down of each vertex.
-ghost use Rattle.std.specs.Prelude.{◌≡◌, [], false, vec_len, replicate, All, IsTrue, IfOk};
+ghost use Rattle.std.specs.Prelude.{◌≡◌, ◌+◌, ◌<◌, [], false, vec_len, replicate, All, IsTrue, IfOk, OnOk};
 ghost use Rattle.sp_paths.specs.Paths.{IsVertex};
-ghost use Rattle.sp_store.specs.Marks.{no_mark, notes_of, marks_with, SameDistances, Remembers, Enters, Forgets};
+ghost use Rattle.sp_store.specs.Marks.{no_mark, notes_of, mark_of, marks_with, SameDistances, Remembers, Enters, Forgets};
 ghost use Rattle.sp_store.specs.Rounds.{KeepsRunning, AreMarked};
 
 use sp_task::{Task, TaskKind};
@@ -60,7 +60,9 @@ impl Marks {
 
     /// The next round begins. The greatest number stays.
     pub fn begin_round(&mut self)
-        ensures { notes_of self.new ≡ notes_of self.old }
+        ensures notes { notes_of self.new ≡ notes_of self.old }
+        ensures round { self.old.round + 1 < 18446744073709551616
+            → self.new.round ≡ self.old.round + 1 }
     {
         self.round = self.round.saturating_add(1);
     }
@@ -73,6 +75,9 @@ impl Marks {
         ensures entered { IfOk result (λ entered. IsTrue entered
             → Enters (notes_of self.old) (notes_of self.new) vertex) }
         ensures stayed { IfOk result (λ entered. entered ≡ false → self.new ≡ self.old) }
+        ensures marked { OnOk result
+            ((mark_of self.new.each.items vertex).round ≡ self.new.round) }
+        ensures round { self.new.round ≡ self.old.round }
     {
         let place = (vertex - 1) as usize;
         let mark = self.each[place];
@@ -95,6 +100,7 @@ impl Marks {
         ensures result { result.items ≡ self.old.remembered.items }
         ensures remembered { self.new.remembered.items ≡ [] }
         ensures each { self.new.each ≡ self.old.each }
+        ensures round { self.new.round ≡ self.old.round }
     {
         mem::replace(&mut self.remembered, Vec::new(alloc))
     }
@@ -105,6 +111,7 @@ impl Marks {
         ensures distances { SameDistances self.old.each.items self.new.each.items }
         ensures remembered { self.new.remembered ≡ self.old.remembered }
         ensures forgets { Forgets self.old.each.items self.new.each.items vertex }
+        ensures round { self.new.round ≡ self.old.round }
     {
         self.each[(vertex - 1) as usize].remembered = false;
     }
@@ -115,6 +122,7 @@ impl Marks {
         ensures running { KeepsRunning tasks.now self.old.each.items self.new.each.items }
         ensures marked { AreMarked tasks.now self.old.each.items self.new.each.items }
         ensures remembered { self.new.remembered ≡ self.old.remembered }
+        ensures round { self.new.round ≡ self.old.round }
     {
         mark_tasks(&mut self.each, tasks);
     }

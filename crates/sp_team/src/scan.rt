@@ -1,5 +1,5 @@
 //! Whether all arcs are relaxed in a list of words, and which vertex they leave out.
-ghost use Rattle.std.specs.Prelude.{◌≡◌, ◌≤◌, true, [], ◌∷◌, length, All, IsTrue, IfOk, OnOk};
+ghost use Rattle.std.specs.Prelude.{◌≡◌, ◌≤◌, ◌↔◌, true, [], ◌∷◌, length, All, IsTrue, IfOk, OnOk};
 ghost use denote.Param.Send.{IsSync};
 ghost use Rattle.sp_word.specs.Word.{is_layout, max_dist, max_pred};
 ghost use Rattle.sp_paths.specs.Paths.{IsArc, IsVertex, word_at};
@@ -83,7 +83,7 @@ fn is_arc_relaxed<const P: u32>(words: &[Word<P>], arc: Arc, dist: u64) -> bool
     requires most { length words.now ≤ max_pred P }
     requires dist { dist ≤ max_dist P }
     requires arc { IsArc (length words.now) arc }
-    ensures { IsTrue result → IsRelaxedAtDist (max_dist P) (word_at words.now) dist arc }
+    ensures { IsTrue result ↔ IsRelaxedAtDist (max_dist P) (word_at words.now) dist arc }
 {
     let sum = dist + u64::from(arc.len);
     sum > Word::<P>::max_dist()
@@ -97,7 +97,7 @@ fn is_row_relaxed<const P: u32>(words: &[Word<P>], row: &[Arc], dist: u64) -> bo
     requires dist { dist ≤ max_dist P }
     requires arcs { All (IsArc (length words.now)) row.now }
     ensures { IsTrue result
-        → All (IsRelaxedAtDist (max_dist P) (word_at words.now) dist) row.now }
+        ↔ All (IsRelaxedAtDist (max_dist P) (word_at words.now) dist) row.now }
 {
     for arc in row {
         if !is_arc_relaxed(words, *arc, dist) {
@@ -114,7 +114,7 @@ fn is_vertex_relaxed<const P: u32>(words: &[Word<P>], graph: &Graph, far: u64, v
     requires size { length words.now ≡ graph.now.n }
     requires vertex { IsVertex graph.now.n vertex }
     ensures { IsTrue result
-        → IsRowClosedUpTo graph.now (max_dist P) far (word_at words.now) vertex }
+        ↔ IsRowClosedUpTo graph.now (max_dist P) far (word_at words.now) vertex }
 {
     match look_up(words, vertex).dist() {
         Some(dist) if dist <= far => is_row_relaxed(words, graph.row(vertex), dist),
@@ -127,7 +127,7 @@ pub fn is_relaxed_up_to<const P: u32>(words: &[Word<P>], graph: &Graph, far: u64
     requires layout { is_layout P ≡ true }
     requires most { graph.now.n ≤ max_pred P }
     requires size { length words.now ≡ graph.now.n }
-    ensures { IsTrue result → IsClosedUpTo graph.now (max_dist P) far (word_at words.now) }
+    ensures { IsTrue result ↔ IsClosedUpTo graph.now (max_dist P) far (word_at words.now) }
 {
     for place in 0..words.len() {
         if !is_vertex_relaxed(words, graph, far, place as u32 + 1) {

@@ -19,7 +19,7 @@ returns-then-is_relaxed_up_to g c =
     let copy = subst (λ r. IsOfWalks g.row.P r words) (sym c.self.view_is) c.requires.copy in
     let vertices = subst (λ (r : WalksFrom). All (IsVertex r.graph.n) targets) (sym c.self.view_is) c.requires.targets in
     subst (λ r. AnswersTargets g.row.P (reach_of r targets) words None) c.self.view_is
-    (near_answers g.row.P run c.self.invariant words copy c.in-Some.far targets (c.is_relaxed_up_to.ensures c.if-is_relaxed_up_to.true) vertices c.in-Some.ensures)
+    (near_answers g.row.P run c.self.invariant words copy c.in-Some.far targets (c.is_relaxed_up_to.ensures.0 c.if-is_relaxed_up_to.true) vertices c.in-Some.ensures)
 
 pub returns-in-Whole : goal.returns-in-Whole
 returns-in-Whole g c =
