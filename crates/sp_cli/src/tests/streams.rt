@@ -31,6 +31,10 @@ fn files_that_fail(rt: HostRuntime) -> Result<(), Fail> {
         ("begun.off", Stored::Failing(b"p off 1 1\no 1 1 5 0\n")),
     ];
     for (line, status, fault) in [
+        ("tree --delta 1 - -", 1, "standard input twice"),
+        ("pairs --delta 1 - -", 1, "standard input twice"),
+        ("check - -", 1, "standard input twice"),
+        ("check - no.tree", 6, "gr: cannot open"),
         ("tree --delta 1 no.gr no.ss", 6, "gr: cannot open"),
         ("tree --delta 1 no.gr one.ss", 6, "gr: cannot open"),
         ("tree --delta 1 empty no.ss", 6, "ss: cannot open"),

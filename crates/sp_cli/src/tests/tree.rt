@@ -141,16 +141,41 @@ fn refused_sources(rt: HostRuntime) -> Result<(), Fail> {
 
 #[test]
 fn options(rt: HostRuntime) -> Result<(), Fail> {
-    let files = [("g.gr", whole(DIAMOND)), ("g.ss", whole(FROM_1))];
+    let files = [
+        ("g.gr", whole(DIAMOND)),
+        ("-", whole(DIAMOND)),
+        ("g.ss", whole(FROM_1)),
+    ];
     for line in [
         "spt tree g.gr g.ss --delta=3",
         "spt tree --workers=2 --delta 3 g.gr g.ss",
+        "spt tree - g.ss --delta 3",
+        "spt tree g.gr g.ss --delta 3 --far-ok",
         "spt tree g.gr g.ss --delta 17592186044414 --pred-bits 20",
         "spt tree g.gr g.ss --delta 1099511627774 --pred-bits 24",
         "spt tree g.gr g.ss --delta 68719476734 --pred-bits 28",
         "spt tree g.gr g.ss --delta 4294967294 --pred-bits 32",
     ] {
         tells(&rt, rt.alloc(), line, line, &files, 0, DIAMOND_TREE)?;
+    }
+    Ok(())
+}
+
+// The status alone is another.
+#[test]
+fn far_vertices_that_are_fine(rt: HostRuntime) -> Result<(), Fail> {
+    let files = [
+        ("g.gr", whole(path!("17", "15\n"))),
+        ("g.ss", whole(FROM_1)),
+        ("g.pairs", whole("p pairs 1\nq 1 18\n")),
+    ];
+    for (line, status) in [
+        ("spt tree g.gr g.ss --delta 1", 4),
+        ("spt tree g.gr g.ss --delta 1 --far-ok", 0),
+        ("spt pairs g.gr g.pairs --delta 1", 4),
+        ("spt pairs --far-ok g.gr g.pairs --delta 1", 0),
+    ] {
+        tells(&rt, rt.alloc(), line, line, &files, status, "x 1 18\n")?;
     }
     Ok(())
 }
