@@ -1,5 +1,5 @@
 -- How commands end.
-use Rattle.std.specs.Prelude.{ℕ, List, ◌++◌, ◌==◌, codes, decimal, if◌then◌else◌}
+use Rattle.std.specs.Prelude.{ℕ, Bool, true, false, List, ◌++◌, ◌==◌, codes, decimal, if◌then◌else◌}
 use Rattle.sp_word.specs.Word.{max_dist}
 use Rattle.sp_paths.specs.Paths.{Graph}
 use Rattle.sp_tree.specs.Table.{TreeTable, table_of}
@@ -16,9 +16,10 @@ use Rattle.sp_cli.specs.declared.faults.FileKind.TheVariants as file
 use Rattle.sp_cli.specs.declared.faults.Status.{Status}
 use Rattle.sp_cli.specs.declared.faults.Status.TheVariants as status
 
--- all answers were written
-abbrev pub end_of : Summary → Status
-end_of summary = if summary.too_far == 0 then status.Done else status.TooFar
+-- All answers were written. Where a vertex is too far this is told, unless it was said to be fine.
+abbrev pub end_of : Bool → Summary → Status
+end_of true summary = status.Done
+end_of false summary = if summary.too_far == 0 then status.Done else status.TooFar
 
 abbrev pub fault_of : BatchError → Fault
 fault_of (batch.Gr error) = fault.Input file.Graph error

@@ -1,7 +1,7 @@
 //! What keeps a command from being done: its line on standard error, and its exit status.
-ghost use Rattle.std.specs.Prelude.{◌≡◌, ◌≤◌, false, IfErr};
+ghost use Rattle.std.specs.Prelude.{◌≡◌, ◌≤◌, ◌⊎◌, false, IfErr, codes};
 ghost use Rattle.sp_cli.specs.Faults.{code_of, is_done, status_of};
-ghost use Rattle.sp_cli.specs.declared.faults.Fault.TheVariants.{CannotOpen, Input, Memory, WriteFailed};
+ghost use Rattle.sp_cli.specs.declared.faults.Fault.TheVariants.{CannotOpen, Input, InputTwice, Memory, WriteFailed};
 
 use crate::inputs::Inputs;
 use sp_device::WriteFault;
@@ -61,6 +61,26 @@ impl FileKind {
         }
     }
 
+    /// Opens a graph and then a file of this kind, each at its beginning. Standard input can be one of them.
+    pub fn open_with_graph<F: Inputs>(
+        self,
+        files: &F,
+        graph: &str,
+        path: &str,
+    ) -> Result<(F::File, F::File), Fault>
+        ensures twice { graph.now ≡ codes "-" → path.now ≡ codes "-" → result ≡ Err InputTwice }
+        ensures once { IfErr result
+            (λ fault. fault ≡ InputTwice → (graph.now ≡ codes "-") × (path.now ≡ codes "-")) }
+        ensures untold { IfErr result (λ fault. (fault ≡ InputTwice)
+            ⊎ ((fault ≡ CannotOpen FileKind.Graph) ⊎ (fault ≡ CannotOpen self))) }
+    {
+        if graph == "-" && path == "-" {
+            return Err(Fault::InputTwice);
+        }
+        let gr = FileKind::Graph.open(files, graph)?;
+        Ok((gr, self.open(files, path)?))
+    }
+
     /// The fault of a command whose file has this one.
     pub fn fault(self, error: DimacsError) -> Fault
         ensures { result ≡ Input self error }
@@ -91,6 +111,9 @@ pub enum Fault {
     /// The delta is greater than the distances of the words.
     #[error("spt: delta out of range\n")]
     DeltaOutOfRange,
+    /// Standard input was named for both files.
+    #[error("spt: standard input twice\n")]
+    InputTwice,
     /// A file could not be opened.
     #[error("spt: {0}: cannot open\n")]
     CannotOpen(FileKind),
@@ -115,7 +138,7 @@ impl Fault {
         ensures fails { is_done result ≡ false }
     {
         match self {
-            Fault::Usage(_) | Fault::DeltaOutOfRange => Status::Usage,
+            Fault::Usage(_) | Fault::DeltaOutOfRange | Fault::InputTwice => Status::Usage,
             Fault::CannotOpen(_) | Fault::WriteFailed => Status::Failed,
             Fault::Input { error, .. } => match error.kind {
                 Kind::Memory => Status::Memory,

@@ -38,15 +38,16 @@ pub const PROGRAM: &str = "A shortest-path tree engine";
 /// How a run of the program ends, and how to begin.
 pub const PROGRAM_MORE: &str = after_help!(
     "\
-A command reads its files, and writes its result to standard output. What keeps it from being done
-is told on standard error. `spt COMMAND --help` tells all of a command.
+A command reads its files, one of which may be `-` for standard input, and writes its result to
+standard output. What keeps it from being done is told on standard error. `spt COMMAND --help` tells
+all of a command.
 ",
     statuses:
         0 "done"
         1 "the command line is wrong"
         2 "a file is refused"
         3 "check: the tree is not the one of its source"
-        4 "tree, pairs: for some source a vertex is too far; all answers are written";
+        4 "tree, pairs: for some source a vertex is too far, without --far-ok; all answers are written";
         "a file" "the output",
     example: "
 

@@ -6,6 +6,7 @@ pub trait Inputs {
     /// An opened file.
     type File: Read + Drop;
 
-    /// Opens a file at its beginning, or answers `None` where it cannot be opened.
+    /// Opens a file at its beginning, or answers `None` where it cannot be opened. The path `-` is standard input, which
+    /// begins where it stands.
     fn open_input(&self, path: &str) -> Option<Self::File>;
 }

@@ -109,8 +109,7 @@ fn check_files<const P: u32, R: Threads + Sync, F: Inputs, W: Write>(
     ensures done { IfOk result (λ status. is_done status ≡ true) }
     ensures unwritten { IfErr result (λ fault. fault ≢ Fault.WriteFailed → out.new ≡ out.old) }
 {
-    let mut gr = FileKind::Graph.open(files, given.graph)?;
-    let mut tree = FileKind::Tree.open(files, given.tree)?;
+    let (mut gr, mut tree) = FileKind::Tree.open_with_graph(files, given.graph, given.tree)?;
     let file = match read_gr::<P, _>(alloc, &mut gr) {
         Ok(file) => file,
         Err(error) => return Err(FileKind::Graph.fault(error)),

@@ -1,5 +1,5 @@
 //! `spt pairs`: for each pair of a list how far its target is from its source.
-use super::running::{Running, end_of};
+use super::running::Running;
 use super::{Command, Words, file};
 use crate::faults::{Fault, FileKind, Status};
 use crate::help::{GRAPH_FILE, after_help};
@@ -73,6 +73,7 @@ A fault of a file is told with its line, as in `spt: pairs: line 2: 7 TooFew`; F
 Others are
   spt: FILE: cannot open             (exit status 6)
   spt: delta out of range            a word of this layout has no such distance (exit status 1)
+  spt: standard input twice          both files are `-` (exit status 1)
   spt: source V: no such vertex      the first number of a pair above N, S before T; nothing is
                                      written (exit status 2)
   spt: memory                        nothing is written (exit status 5)
@@ -82,16 +83,15 @@ Others are
             0 "done"
             1 "the command line is wrong, or delta is out of range"
             2 "a file is refused, or a source or a target is no vertex"
-            4 "for some pair a vertex is too far; all answers are written";
+            4 "for some pair a vertex is too far, without --far-ok; all answers are written";
             "a file" "the output"
     );
 
     fn words(alloc: Global) -> Words<'a> {
-        clap::Command::new(alloc, Self::NAME)
+        let command = clap::Command::new(alloc, Self::NAME)
             .arg(file(alloc, "GR", GRAPH_FILE))?
-            .arg(file(alloc, "PAIRS", "The pairs, a file of lines q S T"))?
-            .arg(Running::delta(alloc))?
-            .arg(Running::workers(alloc, WORKERS_LONG))
+            .arg(file(alloc, "PAIRS", "The pairs, a file of lines q S T"))?;
+        Running::add_to(command, alloc, WORKERS_LONG)
     }
 
     fn read(given: &ArgMatches<'a>) -> Option<Self> {
@@ -113,8 +113,9 @@ impl<const P: u32> Run<P> for Pairs<'_> {
         out: &mut W,
     ) -> Result<Status, Fault> {
         let (delta, workers) = self.running.team::<P>()?;
-        let mut gr = FileKind::Graph.open(files, self.graph)?;
-        let mut pairs = FileKind::Pairs.open(files, self.pairs)?;
-        end_of(run_pairs::<P, R, _, _, W>(rt, alloc, &mut gr, &mut pairs, out, delta, workers))
+        let (mut gr, mut pairs) = FileKind::Pairs.open_with_graph(files, self.graph, self.pairs)?;
+        self.running.end_of(run_pairs::<P, R, _, _, W>(
+            rt, alloc, &mut gr, &mut pairs, out, delta, workers,
+        ))
     }
 }

@@ -5,8 +5,9 @@ ghost use Rattle.sp_word.specs.Ranges.{IsCrew};
 ghost use Rattle.sp_cli.specs.Ends.{end_of, fault_of};
 ghost use Rattle.sp_cli.specs.declared.faults.Fault.TheVariants.{DeltaOutOfRange};
 
+use super::Words;
 use crate::faults::{Fault, FileKind, Status};
-use clap::{Arg, ArgMatches, value_parser};
+use clap::{Arg, ArgAction, ArgMatches, Command, value_parser};
 use sp_batch::{BatchError, Summary};
 use sp_word::{Delta, Workers};
 use std::alloc::Global;
@@ -26,12 +27,21 @@ pub struct Running {
     delta: u64,
     // How many threads may work, the main thread counted.
     workers: u32,
+    // Whether a run is done where a vertex is too far.
+    far_ok: bool,
     ghost crew: { IsCrew workers },
 }
 
 impl Running {
-    /// The option of the width.
-    pub fn delta<'a>(alloc: Global) -> Arg<'a> {
+    /// Adds its options to those of a command, with what there is to know of the number of threads.
+    pub fn add_to<'a>(command: Command<'a>, alloc: Global, workers: &'a str) -> Words<'a> {
+        command
+            .arg(Self::delta(alloc))?
+            .arg(Self::workers(alloc, workers))?
+            .arg(Self::far_ok(alloc))
+    }
+
+    fn delta<'a>(alloc: Global) -> Arg<'a> {
         Arg::new(alloc, "delta")
             .long("delta")
             .value_name("D")
@@ -41,8 +51,7 @@ impl Running {
             .long_help(DELTA_LONG)
     }
 
-    /// The option of the number of threads, with what there is to know of it.
-    pub fn workers<'a>(alloc: Global, about: &'a str) -> Arg<'a> {
+    fn workers<'a>(alloc: Global, about: &'a str) -> Arg<'a> {
         Arg::new(alloc, "workers")
             .long("workers")
             .value_name("W")
@@ -52,17 +61,25 @@ impl Running {
             .long_help(about)
     }
 
-    /// Reads both.
+    fn far_ok<'a>(alloc: Global) -> Arg<'a> {
+        Arg::new(alloc, "far-ok")
+            .long("far-ok")
+            .action(ArgAction::SetTrue)
+            .help("End with exit status 0 where a vertex is too far")
+    }
+
+    /// Reads them.
     pub fn read(given: &ArgMatches<'_>) -> Option<Self> {
         let workers: u32 = given.get_one("workers")?;
         let _ = Workers::new(workers)?;
         Some(Running {
             delta: given.get_one("delta")?,
             workers,
+            far_ok: given.get_flag("far-ok"),
         })
     }
 
-    /// Both, if words with `P` bits of predecessor have such a distance.
+    /// The width and the number of threads, if words with `P` bits of predecessor have such a distance.
     pub fn team<const P: u32>(&self) -> Result<(Delta<P>, Workers), Fault>
         requires { is_layout P ≡ true }
         ensures { IfErr result (λ fault. fault ≡ DeltaOutOfRange) }
@@ -75,24 +92,24 @@ impl Running {
         };
         Ok((delta, workers))
     }
-}
 
-/// How a run ends that has answered so.
-pub fn end_of(answer: Result<Summary, BatchError>) -> Result<Status, Fault>
-    ensures { MatchResult answer (λ summary. result ≡ Ok (end_of summary))
-        (λ error. result ≡ Err (fault_of error)) }
-{
-    match answer {
-        Ok(summary) => Ok(status_after(summary)),
-        Err(error) => Err(fault_of(error)),
+    /// How a run ends that has answered so.
+    pub fn end_of(&self, answer: Result<Summary, BatchError>) -> Result<Status, Fault>
+        ensures { MatchResult answer (λ summary. result ≡ Ok (end_of self.now.far_ok summary))
+            (λ error. result ≡ Err (fault_of error)) }
+    {
+        match answer {
+            Ok(summary) => Ok(status_after(summary, self.far_ok)),
+            Err(error) => Err(fault_of(error)),
+        }
     }
 }
 
 // How a run ends that has written all answers.
-fn status_after(summary: Summary) -> Status
-    ensures { result ≡ end_of summary }
+fn status_after(summary: Summary, far_ok: bool) -> Status
+    ensures { result ≡ end_of far_ok summary }
 {
-    if summary.too_far == 0 {
+    if far_ok || summary.too_far == 0 {
         Status::Done
     } else {
         Status::TooFar

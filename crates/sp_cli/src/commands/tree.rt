@@ -1,5 +1,5 @@
 //! `spt tree`: for each source of a list its shortest-path tree.
-use super::running::{Running, end_of};
+use super::running::Running;
 use super::{Command, Words, file};
 use crate::faults::{Fault, FileKind, Status};
 use crate::help::{GRAPH_FILE, after_help};
@@ -49,7 +49,8 @@ The sources are a .ss file:
   p aux sp ss K there are K sources, at most 1048576; it stands first, and once
   s V           a source; there are K of these lines
   c ...         a comment; so is a line without a field
-Both are read, the graph first, and all sources are tested, before anything is written.
+Both are read, the graph first, and all sources are tested, before anything is written. One of them
+may be `-` for standard input.
 
 For each source, in the order of its file, a block is written:
   p spt N S     the tree of source S, of N vertices
@@ -87,6 +88,7 @@ A fault of a file is told with its line, as in `spt: gr: line 2: 5 OutOfRange V`
 Others are
   spt: FILE: cannot open             (exit status 6)
   spt: delta out of range            a word of this layout has no such distance (exit status 1)
+  spt: standard input twice          both files are `-` (exit status 1)
   spt: source V: no such vertex      the first source above N; nothing is written (exit status 2)
   spt: memory                        a beginning of the output may stand (exit status 5)
   spt: write failed                  a beginning of the output may stand (exit status 6)
@@ -95,16 +97,15 @@ Others are
             0 "done"
             1 "the command line is wrong, or delta is out of range"
             2 "a file is refused, or a source is no vertex"
-            4 "for some source a vertex is too far; all answers are written";
+            4 "for some source a vertex is too far, without --far-ok; all answers are written";
             "a file" "the output"
     );
 
     fn words(alloc: Global) -> Words<'a> {
-        clap::Command::new(alloc, Self::NAME)
+        let command = clap::Command::new(alloc, Self::NAME)
             .arg(file(alloc, "GR", GRAPH_FILE))?
-            .arg(file(alloc, "SS", "The sources, a .ss file"))?
-            .arg(Running::delta(alloc))?
-            .arg(Running::workers(alloc, WORKERS_LONG))
+            .arg(file(alloc, "SS", "The sources, a .ss file"))?;
+        Running::add_to(command, alloc, WORKERS_LONG)
     }
 
     fn read(given: &ArgMatches<'a>) -> Option<Self> {
@@ -126,8 +127,9 @@ impl<const P: u32> Run<P> for Tree<'_> {
         out: &mut W,
     ) -> Result<Status, Fault> {
         let (delta, workers) = self.running.team::<P>()?;
-        let mut gr = FileKind::Graph.open(files, self.graph)?;
-        let mut ss = FileKind::Sources.open(files, self.sources)?;
-        end_of(run_batch::<P, R, _, _, W>(rt, alloc, &mut gr, &mut ss, out, delta, workers))
+        let (mut gr, mut ss) = FileKind::Sources.open_with_graph(files, self.graph, self.sources)?;
+        self.running.end_of(run_batch::<P, R, _, _, W>(
+            rt, alloc, &mut gr, &mut ss, out, delta, workers,
+        ))
     }
 }

@@ -18,7 +18,7 @@ fn expect(rt: &impl Abort, alloc: Global, fault: Fault, status: u8, line: &str) 
 
 #[test]
 fn kinds(rt: HostRuntime) {
-    let cases = [
+    for (kind, status, line) in [
         (Kind::LongLine, 2, "spt: replay: line 7: 1 LongLine\n"),
         (Kind::BadLine, 2, "spt: replay: line 7: 2 BadLine\n"),
         (Kind::NoProblem, 2, "spt: replay: line 7: 3 NoProblem\n"),
@@ -36,31 +36,24 @@ fn kinds(rt: HostRuntime) {
         (Kind::TooFew, 2, "spt: replay: line 7: 7 TooFew\n"),
         (Kind::Memory, 5, "spt: replay: line 7: 8 Memory\n"),
         (Kind::Read, 6, "spt: replay: line 7: 9 Read\n"),
-    ];
-    for (kind, status, line) in cases {
-        let fault = Fault::Input {
-            file: FileKind::Replay,
-            error: DimacsError { line: 7, kind },
-        };
+    ] {
+        let fault = FileKind::Replay.fault(DimacsError { line: 7, kind });
         expect(&rt, rt.alloc(), fault, status, line);
     }
 }
 
 #[test]
-fn memory(rt: HostRuntime) {
+fn others(rt: HostRuntime) {
     expect(&rt, rt.alloc(), Fault::from(AllocError), 5, "spt: memory\n");
-}
-
-#[test]
-fn memory_for_the_words(rt: HostRuntime) {
+    expect(
+        &rt,
+        rt.alloc(),
+        Fault::from(WriteFault),
+        6,
+        "spt: write failed\n",
+    );
     match answer_to(clap::Error::from(AllocError)) {
         Ok(_) => panic!(rt; "no order stands there"),
         Err(fault) => expect(&rt, rt.alloc(), fault, 5, "spt: memory\n"),
     }
-}
-
-#[test]
-fn write_failed(rt: HostRuntime) {
-    let fault = Fault::from(WriteFault);
-    expect(&rt, rt.alloc(), fault, 6, "spt: write failed\n");
 }
