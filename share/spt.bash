@@ -1,0 +1,31 @@
+# Made by share/make.py from what spt --help prints.
+_spt() {
+    local words='' word=${COMP_WORDS[COMP_CWORD]}
+    if [ "$COMP_CWORD" = 1 ]; then
+        mapfile -t COMPREPLY < <(compgen -W 'tree pairs check replay offers help --help --version' -- "$word")
+        return
+    fi
+    case ${COMP_WORDS[COMP_CWORD - 1]} in
+        --delta) words='' ;;
+        --pred-bits) words='20 24 28 32' ;;
+        --workers) words='' ;;
+        *) words=none ;;
+    esac
+    if [ "$words" != none ]; then
+        mapfile -t COMPREPLY < <(compgen -W "$words" -- "$word")
+        return
+    fi
+    case ${COMP_WORDS[1]} in
+        tree) words='--delta --workers --far-ok --pred-bits --help' ;;
+        pairs) words='--delta --workers --far-ok --pred-bits --help' ;;
+        check) words='--pred-bits --help' ;;
+        replay) words='--pred-bits --help' ;;
+        offers) words='--pred-bits --help' ;;
+        *) words='' ;;
+    esac
+    case $word in
+        -*) mapfile -t COMPREPLY < <(compgen -W "$words" -- "$word") ;;
+        *) mapfile -t COMPREPLY < <(compgen -f -- "$word") ;;
+    esac
+}
+complete -o filenames -F _spt spt
