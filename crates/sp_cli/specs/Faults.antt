@@ -34,6 +34,7 @@ abbrev pub status_of : Fault → Status
 status_of (fault.Usage error) = status.Usage
 status_of fault.DeltaOutOfRange = status.Usage
 status_of fault.InputTwice = status.Usage
+status_of fault.NoPlaces = status.Usage
 status_of (fault.CannotOpen file) = status.Failed
 status_of (fault.Input file error) = status_of_kind error.kind
 status_of (fault.NoSuchVertex source) = status.Refused

@@ -7,6 +7,7 @@ mod offers;
 mod pairs;
 mod replay;
 mod running;
+mod sources;
 mod tree;
 
 use crate::faults::{Fault, Status};
@@ -45,7 +46,7 @@ pub trait Command<'a>: Drop {
     fn words(alloc: Global) -> Words<'a>;
 
     /// Reads its arguments.
-    fn read(given: &ArgMatches<'a>) -> Option<Self>;
+    fn read(alloc: Global, given: &ArgMatches<'a>) -> Result<Option<Self>, AllocError>;
 }
 
 /// One command or several. A value is one of them.
@@ -54,7 +55,11 @@ pub trait Commands<'a>: Drop {
     fn add_to(program: clap::Command<'a>, alloc: Global) -> Words<'a>;
 
     /// Reads the arguments of the command that has this name.
-    fn read_named(name: &str, given: &ArgMatches<'a>) -> Option<Self>;
+    fn read_named(
+        alloc: Global,
+        name: &str,
+        given: &ArgMatches<'a>,
+    ) -> Result<Option<Self>, AllocError>;
 }
 
 impl<'a, C: Command<'a>> Commands<'a> for C {
@@ -67,11 +72,15 @@ impl<'a, C: Command<'a>> Commands<'a> for C {
         program.subcommand(command)
     }
 
-    fn read_named(name: &str, given: &ArgMatches<'a>) -> Option<Self> {
+    fn read_named(
+        alloc: Global,
+        name: &str,
+        given: &ArgMatches<'a>,
+    ) -> Result<Option<Self>, AllocError> {
         if name == C::NAME {
-            C::read(given)
+            C::read(alloc, given)
         } else {
-            None
+            Ok(None)
         }
     }
 }
@@ -88,10 +97,17 @@ impl<'a, A: Commands<'a>, B: Commands<'a>> Commands<'a> for OneOf<A, B> {
         B::add_to(A::add_to(program, alloc)?, alloc)
     }
 
-    fn read_named(name: &str, given: &ArgMatches<'a>) -> Option<Self> {
-        match A::read_named(name, given) {
-            Some(command) => Some(OneOf::First(command)),
-            None => Some(OneOf::Second(B::read_named(name, given)?)),
+    fn read_named(
+        alloc: Global,
+        name: &str,
+        given: &ArgMatches<'a>,
+    ) -> Result<Option<Self>, AllocError> {
+        if let Some(command) = A::read_named(alloc, name, given)? {
+            return Ok(Some(OneOf::First(command)));
+        }
+        match B::read_named(alloc, name, given)? {
+            Some(command) => Ok(Some(OneOf::Second(command))),
+            None => Ok(None),
         }
     }
 }

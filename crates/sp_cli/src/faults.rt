@@ -114,6 +114,9 @@ pub enum Fault {
     /// Standard input was named for both files.
     #[error("spt: standard input twice\n")]
     InputTwice,
+    /// The places of sources are not spelled as two numbers.
+    #[error("spt: sources are not A-B\n")]
+    NoPlaces,
     /// A file could not be opened.
     #[error("spt: {0}: cannot open\n")]
     CannotOpen(FileKind),
@@ -138,7 +141,8 @@ impl Fault {
         ensures fails { is_done result ≡ false }
     {
         match self {
-            Fault::Usage(_) | Fault::DeltaOutOfRange | Fault::InputTwice => Status::Usage,
+            Fault::Usage(_) => Status::Usage,
+            Fault::DeltaOutOfRange | Fault::InputTwice | Fault::NoPlaces => Status::Usage,
             Fault::CannotOpen(_) | Fault::WriteFailed => Status::Failed,
             Fault::Input { error, .. } => match error.kind {
                 Kind::Memory => Status::Memory,

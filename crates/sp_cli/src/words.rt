@@ -50,19 +50,22 @@ pub fn answer_to<'a>(error: Error) -> Result<Order<'a>, Fault>
 fn match_words<'a>(alloc: Global, words: &'a [&'a str]) -> Result<Order<'a>, Error> {
     let mut program = program(alloc)?;
     let matches = program.try_get_matches_from_mut(words)?;
-    match order_of(&matches) {
+    match order_of(alloc, &matches)? {
         Some(order) => Ok(order),
         // A command whose words let something through that it can't read.
         None => Err(program.error(ErrorKind::MissingSubcommand, "a command is needed")?),
     }
 }
 
-fn order_of<'a>(matches: &ArgMatches<'a>) -> Option<Order<'a>> {
-    let (name, given) = matches.subcommand()?;
-    Some(Order::Run {
-        command: AnyCommand::read_named(name, given)?,
-        pred_bits: given.get_one(PredBits::ID)?,
-    })
+fn order_of<'a>(alloc: Global, matches: &ArgMatches<'a>) -> Result<Option<Order<'a>>, AllocError> {
+    let Some((name, given)) = matches.subcommand() else {
+        return Ok(None);
+    };
+    let command = AnyCommand::read_named(alloc, name, given)?;
+    match (command, given.get_one(PredBits::ID)) {
+        (Some(command), Some(pred_bits)) => Ok(Some(Order::Run { command, pred_bits })),
+        _ => Ok(None),
+    }
 }
 
 fn program<'a>(alloc: Global) -> Result<Command<'a>, AllocError> {

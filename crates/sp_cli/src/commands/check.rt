@@ -77,11 +77,11 @@ kinds are those of `spt tree --help`. In a tree file
             .arg(file(alloc, "TREE", "The tree file"))
     }
 
-    fn read(given: &ArgMatches<'a>) -> Option<Self> {
-        Some(Check {
-            graph: given.get_str("GR")?,
-            tree: given.get_str("TREE")?,
-        })
+    fn read(_alloc: Global, given: &ArgMatches<'a>) -> Result<Option<Self>, AllocError> {
+        let (Some(graph), Some(tree)) = (given.get_str("GR"), given.get_str("TREE")) else {
+            return Ok(None);
+        };
+        Ok(Some(Check { graph, tree }))
     }
 }
 

@@ -75,10 +75,8 @@ A fault is told with its line, as in `spt: offers: line 2: 5 OutOfRange A`:
         clap::Command::new(alloc, Self::NAME).arg(file(alloc, "FILE", "The offers file"))
     }
 
-    fn read(given: &ArgMatches<'a>) -> Option<Self> {
-        Some(Offers {
-            file: given.get_str("FILE")?,
-        })
+    fn read(_alloc: Global, given: &ArgMatches<'a>) -> Result<Option<Self>, AllocError> {
+        Ok(given.get_str("FILE").map(|file| Offers { file }))
     }
 }
 

@@ -8,7 +8,7 @@ use crate::layout::Run;
 use clap::ArgMatches;
 use sp_batch::run_pairs;
 use sp_device::Write;
-use std::alloc::Global;
+use std::alloc::{AllocError, Global};
 use std::sync::Wait;
 use std::thread::Threads;
 
@@ -94,12 +94,18 @@ Others are
         Running::add_to(command, alloc, WORKERS_LONG)
     }
 
-    fn read(given: &ArgMatches<'a>) -> Option<Self> {
-        Some(Pairs {
-            graph: given.get_str("GR")?,
-            pairs: given.get_str("PAIRS")?,
-            running: Running::read(given)?,
-        })
+    fn read(_alloc: Global, given: &ArgMatches<'a>) -> Result<Option<Self>, AllocError> {
+        let (Some(graph), Some(pairs)) = (given.get_str("GR"), given.get_str("PAIRS")) else {
+            return Ok(None);
+        };
+        let Some(running) = Running::read(given) else {
+            return Ok(None);
+        };
+        Ok(Some(Pairs {
+            graph,
+            pairs,
+            running,
+        }))
     }
 }
 

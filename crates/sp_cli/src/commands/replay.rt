@@ -11,7 +11,7 @@ use crate::layout::Run;
 use clap::ArgMatches;
 use sp_device::Write;
 use sp_replay::{read_replay, write_report};
-use std::alloc::Global;
+use std::alloc::{AllocError, Global};
 use std::sync::Wait;
 use std::thread::Threads;
 
@@ -90,10 +90,8 @@ A fault is told with its line, as in `spt: replay: line 2: 5 OutOfRange V`:
         clap::Command::new(alloc, Self::NAME).arg(file(alloc, "FILE", "The replay file"))
     }
 
-    fn read(given: &ArgMatches<'a>) -> Option<Self> {
-        Some(Replay {
-            file: given.get_str("FILE")?,
-        })
+    fn read(_alloc: Global, given: &ArgMatches<'a>) -> Result<Option<Self>, AllocError> {
+        Ok(given.get_str("FILE").map(|file| Replay { file }))
     }
 }
 

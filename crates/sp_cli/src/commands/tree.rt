@@ -1,5 +1,6 @@
 //! `spt tree`: for each source of a list its shortest-path tree.
 use super::running::Running;
+use super::sources::Sources;
 use super::{Command, Words, file};
 use crate::faults::{Fault, FileKind, Status};
 use crate::help::{GRAPH_FILE, after_help};
@@ -7,8 +8,8 @@ use crate::inputs::Inputs;
 use crate::layout::Run;
 use clap::ArgMatches;
 use sp_batch::run_batch;
-use sp_device::Write;
-use std::alloc::Global;
+use sp_device::{OfRead, Write};
+use std::alloc::{AllocError, Global};
 use std::sync::Wait;
 use std::thread::Threads;
 
@@ -22,7 +23,7 @@ Any number gives the same bytes";
 #[derive(Drop)]
 pub struct Tree<'a> {
     graph: &'a str,
-    sources: &'a str,
+    sources: Sources<'a>,
     running: Running,
 }
 
@@ -50,7 +51,7 @@ The sources are a .ss file:
   s V           a source; there are K of these lines
   c ...         a comment; so is a line without a field
 Both are read, the graph first, and all sources are tested, before anything is written. One of them
-may be `-` for standard input.
+may be `-` for standard input. Sources of the command line are taken as a .ss file of them.
 
 For each source, in the order of its file, a block is written:
   p spt N S     the tree of source S, of N vertices
@@ -89,6 +90,7 @@ Others are
   spt: FILE: cannot open             (exit status 6)
   spt: delta out of range            a word of this layout has no such distance (exit status 1)
   spt: standard input twice          both files are `-` (exit status 1)
+  spt: sources are not A-B           two numbers, the first at least 1 (exit status 1)
   spt: source V: no such vertex      the first source above N; nothing is written (exit status 2)
   spt: memory                        a beginning of the output may stand (exit status 5)
   spt: write failed                  a beginning of the output may stand (exit status 6)
@@ -102,18 +104,22 @@ Others are
     );
 
     fn words(alloc: Global) -> Words<'a> {
-        let command = clap::Command::new(alloc, Self::NAME)
-            .arg(file(alloc, "GR", GRAPH_FILE))?
-            .arg(file(alloc, "SS", "The sources, a .ss file"))?;
-        Running::add_to(command, alloc, WORKERS_LONG)
+        let command = clap::Command::new(alloc, Self::NAME).arg(file(alloc, "GR", GRAPH_FILE))?;
+        Running::add_to(Sources::add_to(command, alloc)?, alloc, WORKERS_LONG)
     }
 
-    fn read(given: &ArgMatches<'a>) -> Option<Self> {
-        Some(Tree {
-            graph: given.get_str("GR")?,
-            sources: given.get_str("SS")?,
-            running: Running::read(given)?,
-        })
+    fn read(alloc: Global, given: &ArgMatches<'a>) -> Result<Option<Self>, AllocError> {
+        let (Some(graph), Some(running)) = (given.get_str("GR"), Running::read(given)) else {
+            return Ok(None);
+        };
+        let Some(sources) = Sources::read(alloc, given)? else {
+            return Ok(None);
+        };
+        Ok(Some(Tree {
+            graph,
+            sources,
+            running,
+        }))
     }
 }
 
@@ -127,9 +133,14 @@ impl<const P: u32> Run<P> for Tree<'_> {
         out: &mut W,
     ) -> Result<Status, Fault> {
         let (delta, workers) = self.running.team::<P>()?;
-        let (mut gr, mut ss) = FileKind::Sources.open_with_graph(files, self.graph, self.sources)?;
-        self.running.end_of(run_batch::<P, R, _, _, W>(
-            rt, alloc, &mut gr, &mut ss, out, delta, workers,
-        ))
+        let answer = if let Sources::File(path, None) = &self.sources {
+            let (mut gr, mut ss) = FileKind::Sources.open_with_graph(files, self.graph, path)?;
+            run_batch::<P, R, _, _, W>(rt, alloc, &mut gr, &mut ss, out, delta, workers)
+        } else {
+            let (mut gr, text) = self.sources.open::<P, F>(alloc, files, self.graph)?;
+            let mut ss = OfRead::new(text.as_bytes());
+            run_batch::<P, R, _, _, W>(rt, alloc, &mut gr, &mut ss, out, delta, workers)
+        };
+        self.running.end_of(answer)
     }
 }

@@ -161,6 +161,62 @@ fn options(rt: HostRuntime) -> Result<(), Fail> {
     Ok(())
 }
 
+// The graph has a vertex 4 that ends its walks, and three sources stand in the file.
+#[test]
+fn sources_by_hand_and_by_place(rt: HostRuntime) -> Result<(), Fail> {
+    let files = [
+        ("g.gr", whole(DIAMOND)),
+        ("g.ss", whole("p aux sp ss 3\ns 4\nc\ns 1\ns 4\n")),
+        ("none.ss", whole("p aux sp ss 0\n")),
+    ];
+    let last = "p spt 4 4\nv 4 0 0\ne 1\n";
+    let first_two = "p spt 4 4\nv 4 0 0\ne 1\np spt 4 1\nv 1 0 0\nv 2 3 1\nv 3 3 1\nv 4 5 2\ne 4\n";
+    for (line, text) in [
+        ("spt tree g.gr --source 1", DIAMOND_TREE),
+        ("spt tree --source 4 g.gr --source=1", first_two),
+        ("spt tree g.gr g.ss --sources 2-2", DIAMOND_TREE),
+        ("spt tree g.gr g.ss --sources 1-2", first_two),
+        ("spt tree g.gr g.ss --sources 3-9", last),
+        ("spt tree g.gr g.ss --sources 3-4294967295", last),
+        ("spt tree g.gr g.ss --sources 4-9", ""),
+        ("spt tree g.gr g.ss --sources 3-2", ""),
+        ("spt tree g.gr none.ss --sources 1-1", ""),
+    ] {
+        tells_by_teams(&rt, rt.alloc(), line, line, &files, 0, text)?;
+    }
+    Ok(())
+}
+
+#[test]
+fn sources_that_are_refused(rt: HostRuntime) -> Result<(), Fail> {
+    let files = [
+        ("g.gr", whole(DIAMOND)),
+        ("bad.gr", whole("a 1 2 3\n")),
+        ("g.ss", whole("p aux sp ss 3\ns 4\ns 1\ns 5\n")),
+        ("bad.ss", whole("p aux sp ss 3\ns 4\ns 1\n")),
+    ];
+    for (line, status, fault) in [
+        ("g.gr --source 4 --source 5", 2, "source 5: no such vertex"),
+        ("g.gr --source 268435455", 2, "ss: line 2: 5 OutOfRange V"),
+        ("no.gr --source 1", 6, "gr: cannot open"),
+        ("bad.gr --source 1", 2, "gr: line 1: 3 NoProblem"),
+        ("g.gr g.ss --sources 2-3", 2, "source 5: no such vertex"),
+        ("g.gr bad.ss --sources 1-1", 2, "ss: line 4: 7 TooFew"),
+        ("bad.gr bad.ss --sources 1-1", 2, "gr: line 1: 3 NoProblem"),
+        ("no.gr no.ss --sources 1-1", 6, "gr: cannot open"),
+        ("g.gr no.ss --sources 1-1", 6, "ss: cannot open"),
+        ("- - --sources 1-1", 1, "standard input twice"),
+        ("no.gr no.ss --sources 0-1", 1, "sources are not A-B"),
+        ("no.gr no.ss --sources 1", 1, "sources are not A-B"),
+        ("no.gr no.ss --sources 1-", 1, "sources are not A-B"),
+        ("no.gr no.ss --sources 1-2-3", 1, "sources are not A-B"),
+    ] {
+        let line = format!(in rt.alloc(); "spt tree --delta 1 {line}")?;
+        refuses(&rt, rt.alloc(), line.as_str(), &files, status, fault)?;
+    }
+    Ok(())
+}
+
 // The status alone is another.
 #[test]
 fn far_vertices_that_are_fine(rt: HostRuntime) -> Result<(), Fail> {
