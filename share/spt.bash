@@ -8,6 +8,7 @@ _spt() {
     case ${COMP_WORDS[COMP_CWORD - 1]} in
         --delta) words='' ;;
         --pred-bits) words='20 24 28 32' ;;
+        --source) words='' ;;
         --workers) words='' ;;
         *) words=none ;;
     esac
@@ -16,7 +17,7 @@ _spt() {
         return
     fi
     case ${COMP_WORDS[1]} in
-        tree) words='--delta --workers --far-ok --pred-bits --help' ;;
+        tree) words='--source --delta --workers --far-ok --pred-bits --help' ;;
         pairs) words='--delta --workers --far-ok --pred-bits --help' ;;
         check) words='--pred-bits --help' ;;
         replay) words='--pred-bits --help' ;;

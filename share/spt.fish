@@ -4,6 +4,7 @@ complete -c spt -n __fish_use_subcommand -f -a pairs -d 'Write the distance of e
 complete -c spt -n __fish_use_subcommand -f -a check -d 'Check a tree against its graph'
 complete -c spt -n __fish_use_subcommand -f -a replay -d 'Run the steps of several actors on one table in a given order, and report each call'
 complete -c spt -n __fish_use_subcommand -f -a offers -d 'Make the offers of several actors at once, and write the words that are left'
+complete -c spt -n '__fish_seen_subcommand_from tree' -l source -x -a '' -d 'A source'
 complete -c spt -n '__fish_seen_subcommand_from tree' -l delta -x -a '' -d 'The width of a bucket of tentative distances'
 complete -c spt -n '__fish_seen_subcommand_from tree' -l workers -x -a '' -d 'Threads that may work at once'
 complete -c spt -n '__fish_seen_subcommand_from tree' -l far-ok -d 'End with exit status 0 where a vertex is too far'

@@ -52,6 +52,8 @@ The graph is a .gr file, as `spt tree --help` tells. The tree file has one block
 it for a source, with one space between fields and an LF at the end of each line:
   p spt N S, then v V D P by rising V, then e R
 
+It takes as much memory as `spt tree` does for one source, and 16 bytes a vertex more.
+
 Example: for the graph and the tree of the example there, `spt check diamond.gr diamond.tree` writes
 `yes`. With `v 4 5 3` for `v 4 5 2` it writes `no 4 3`, since vertex 2 offers the same distance.
 

@@ -54,6 +54,8 @@ For each pair, in the order of its file, one line is written:
                 that with an arc from one within it (exit status 4 at the end)
   n S T         T has no distance, and there is no such V: no walk leads from S to T
 
+It takes as much memory as `spt tree` does for one source, and 28 bytes a pair.
+
 Example: where diamond.gr is the graph of the example there, and diamond.pairs has the lines
   p pairs 3
   q 1 4
