@@ -5,7 +5,7 @@ On a road-like graph: the solve of a whole tree from one source; a pair whose ta
 pairs of that source, drawn at random; a hundred pairs of a hundred sources. The programs run in turn, several times; the median of
 each solve counts (reading and rows are left out). The lines that `spt pairs` writes are compared with those of the plain program.
 
-Usage: python3 bench/pairs.py [--vertices N] [--runs K] [--keep FOLDER] [--built-spt PROGRAM] [--built PROGRAM]
+Usage: python3 bench/pairs.py [--vertices N] [--runs K] [--only NAME..] [--keep FOLDER] [--built-spt PROGRAM] [--built PROGRAM]
 """
 
 import argparse
@@ -81,30 +81,30 @@ def same_lines(programs, gr, pairs, delta, folder):
         sys.exit(f"pairs: other lines for {pairs}")
 
 
-def time_all(programs, gr, ss, delta, folder, runs):
+def time_all(programs, gr, ss, delta, folder, runs, jobs):
     """The times of each program, by job and workers; those of the plain program by job and 0."""
     found = collections.defaultdict(list)
     for _ in range(runs):
         for workers in WORKERS:
             trees = os.path.join(folder, "trees")
             found["whole", workers].append(solve(programs.bench, "whole", gr, ss, delta, workers, trees))
-            for job in JOBS:
+            for job in jobs:
                 pairs = os.path.join(folder, f"{job.name}.pairs")
                 found[job.name, workers].append(solve(programs.bench, "pairs", gr, pairs, delta, workers))
-        for job in JOBS:
+        for job in jobs:
             if job.name != "many":
                 pairs, lines = os.path.join(folder, f"{job.name}.pairs"), os.path.join(folder, "lines")
                 found[job.name, 0].append(solve(programs.plain, "pairs", gr, pairs, lines))
     return {key: statistics.median(times) for key, times in found.items()}
 
 
-def print_rows(found):
+def print_rows(found, jobs):
     """A row for each job and number of workers, and whether each aim was met."""
     met = []
     print("| asked | workers | solve, ms | of a whole tree's | aim, at most | C++, ms | of C++ |\n|---|---|---|---|---|---|---|")
     for workers in WORKERS:
         print(f"| a whole tree | {workers} | {found['whole', workers]:.1f} | 1.00 |  |  |  |")
-    for job in JOBS:
+    for job in jobs:
         for workers in WORKERS:
             taken = found[job.name, workers]
             share = taken / found["whole", workers]
@@ -121,6 +121,7 @@ def main():
     options = argparse.ArgumentParser(description=__doc__, formatter_class=argparse.RawDescriptionHelpFormatter)
     options.add_argument("--vertices", type=int, default=1_000_000)
     options.add_argument("--runs", type=int, default=5, help="how often each program runs")
+    options.add_argument("--only", nargs="+", choices=[job.name for job in JOBS], help="these jobs alone, beside the whole tree")
     options.add_argument("--keep", metavar="FOLDER", type=os.path.abspath, help="where graphs stay")
     options.add_argument("--built-spt", metavar="PROGRAM", type=os.path.abspath, help="this spt, as it is, in place of a build")
     options.add_argument("--built", metavar="PROGRAM", type=os.path.abspath, help="this spt_bench, as it is, in place of a build")
@@ -133,10 +134,11 @@ def main():
         place = chosen.keep or folder
         gr, ss, mean = make_files(chosen, place, programs.plain)
         delta = 3 * mean
-        for job in JOBS:
+        jobs = [job for job in JOBS if job.name in (chosen.only or [job.name])]
+        for job in jobs:
             same_lines(programs, gr, os.path.join(place, f"{job.name}.pairs"), delta, folder)
         print(f"{chosen.vertices:,} vertices, road-like, delta of 3 mean lengths; medians of {chosen.runs} runs in turn\n")
-        print_rows(time_all(programs, gr, ss, delta, place, chosen.runs))
+        print_rows(time_all(programs, gr, ss, delta, place, chosen.runs, jobs), jobs)
 
 
 if __name__ == "__main__":
