@@ -14,8 +14,9 @@ import sys
 HERE = os.path.dirname(os.path.realpath(__file__))
 HELP = os.path.join(os.path.dirname(HERE), "tests", "help")
 
-# An option: its word, whether a value follows, the values that it may have (none: any), and what it is.
-Option = collections.namedtuple("Option", "word takes_value values about")
+# An option: its word, whether a value follows, whether that is a file, the values that it may have, or that are words (none: any),
+# and what it is.
+Option = collections.namedtuple("Option", "word takes_value is_file values about")
 # A command: its name, what it does, and its options.
 Command = collections.namedtuple("Command", "name about options")
 
@@ -34,9 +35,10 @@ def options_of(text):
     for entry in re.split(r"\n\n(?=  (?:-\w, |    )--)", listed):
         found = re.match(r" +(?:-\w, |    )?--([\w-]+)( <\w+>)?(?:\.\.\.)?\n +([^\n]*)", entry)
         if found:
-            values = re.search(r"\[possible values: ([^\]]*)\]", entry.split("\n\n\n")[0])
+            values = re.search(r"\[possible values: ([^\]]*)\]|, or `(mean)`", entry.split("\n\n\n")[0])
             word, value, about = found.groups()
-            yield Option(word, value is not None, values[1].split(", ") if values else [], re.split(r"[,;.]| \(", about)[0])
+            listed_values = (values[1] or values[2]).split(", ") if values else []
+            yield Option(word, value is not None, value == " <OUT>", listed_values, re.split(r"[,;.]| \(", about)[0])
 
 
 def commands():
@@ -82,7 +84,7 @@ def bash(of_all):
         words = " ".join(f"--{option.word}" for option in command.options)
         cases += f"        {command.name}) words='{words}' ;;\n"
     values = ""
-    for word, listed in sorted({(it.word, " ".join(it.values)) for command in of_all for it in command.options if it.takes_value}):
+    for word, listed in sorted({(it.word, " ".join(it.values)) for command in of_all for it in command.options if it.takes_value and not it.is_file}):
         values += f"        --{word}) words='{listed}' ;;\n"
     names = " ".join(command.name for command in of_all)
     return f"""# Made by share/make.py from what spt --help prints.
@@ -144,6 +146,8 @@ _spt "$@"
 def zsh_value(option):
     if not option.takes_value:
         return ""
+    if option.is_file:
+        return ":file:_files"
     return f":value:({' '.join(option.values)})" if option.values else ":value: "
 
 
@@ -155,7 +159,7 @@ def fish(of_all):
     for command in of_all:
         for option in command.options:
             about = option.about.replace("'", "\\'")
-            value = f" -x -a '{' '.join(option.values)}'" if option.takes_value else ""
+            value = " -r" if option.is_file else f" -x -a '{' '.join(option.values)}'" if option.takes_value else ""
             rows.append(f"complete -c spt -n '__fish_seen_subcommand_from {command.name}' -l {option.word}{value} -d '{about}'")
     return "\n".join(rows) + "\n"
 

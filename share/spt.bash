@@ -6,7 +6,7 @@ _spt() {
         return
     fi
     case ${COMP_WORDS[COMP_CWORD - 1]} in
-        --delta) words='' ;;
+        --delta) words='mean' ;;
         --pred-bits) words='20 24 28 32' ;;
         --source) words='' ;;
         --workers) words='' ;;
@@ -17,11 +17,11 @@ _spt() {
         return
     fi
     case ${COMP_WORDS[1]} in
-        tree) words='--source --delta --workers --far-ok --pred-bits --help' ;;
-        pairs) words='--delta --workers --far-ok --pred-bits --help' ;;
-        check) words='--pred-bits --help' ;;
-        replay) words='--pred-bits --help' ;;
-        offers) words='--pred-bits --help' ;;
+        tree) words='--source --delta --workers --far-ok --progress --pred-bits --output --help' ;;
+        pairs) words='--delta --workers --far-ok --progress --pred-bits --output --help' ;;
+        check) words='--all --pred-bits --output --help' ;;
+        replay) words='--svg --pred-bits --output --help' ;;
+        offers) words='--pred-bits --output --help' ;;
         *) words='' ;;
     esac
     case $word in

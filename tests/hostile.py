@@ -39,7 +39,8 @@ SHORT = 64 * 1024
 # limits of address space that are tried for each command
 LIMITS = 60
 MEMORY = re.compile(r"spt: (memory|(gr|ss|pairs|tree|replay|offers): line [1-9][0-9]*: 8 Memory)\n")
-WRITE_FAILED = (6, "spt: write failed\n")
+# where the reader of the output is gone
+UNREAD = (6, "")
 
 # A command line, the text that it writes, its status, and the files that it reads with the names that faults give them.
 Case = collections.namedtuple("Case", "name words text status files")
@@ -124,12 +125,16 @@ def into_file(program, case, folder, **settings):
 # ## Devices
 
 
+def write_failed(reason, number):
+    return 6, f"spt: write failed\nspt: standard output: {reason} (os error {number})\n"
+
+
 def close_at_once(count, program, case):
     reading, writing = os.pipe()
     os.close(reading)
     process = start(program, case.words, writing)
     os.close(writing)
-    count.of(f"{case.name}: output closed at once", ended(process) == WRITE_FAILED)
+    count.of(f"{case.name}: output closed at once", ended(process) == UNREAD)
 
 
 def close_after_a_line(count, program, case):
@@ -138,16 +143,16 @@ def close_after_a_line(count, program, case):
     process.stdout.close()
     process.stdout = None
     told = ended(process)
-    count.of(f"{case.name}: output closed after a line: {told}", case.text.startswith(line) and told == WRITE_FAILED)
+    count.of(f"{case.name}: output closed after a line: {told}", case.text.startswith(line) and told == UNREAD)
 
 
 def fill_device(count, program, case, folder):
     with open("/dev/full", "wb") as out:
-        count.of(f"{case.name}: a full device", ended(start(program, case.words, out)) == WRITE_FAILED)
+        count.of(f"{case.name}: a full device", ended(start(program, case.words, out)) == write_failed("No space left on device", 28))
     size = len(case.text)
     for room in (1, size // 2, size - 1):
         told, text = into_file(program, case, folder, kind=resource.RLIMIT_FSIZE, amount=room)
-        fits = told == WRITE_FAILED and text == case.text[:room]
+        fits = told == write_failed("File too large", 27) and text == case.text[:room]
         count.of(f"{case.name}: a device with room for {room} bytes: {told}", fits)
     told, text = into_file(program, case, folder, kind=resource.RLIMIT_FSIZE, amount=size)
     count.of(f"{case.name}: a device with room for all", told == (case.status, "") and text == case.text)
@@ -162,7 +167,7 @@ def fail_reads(count, refuser, program, case, folder):
                 line = it.read(room).count(b"\n") + 1
             known = {**os.environ, "LD_PRELOAD": refuser.library, "READS_OF": path, "READ_FAILS_AT": str(room)}
             told, text = into_file(program, case, folder, known=known)
-            wanted = (6, f"spt: {name}: line {line}: 9 Read\n")
+            wanted = (6, f"spt: {name}: line {line}: 9 Read\nspt: {path}: Input/output error (os error 5)\n")
             count.of(f"{case.name}: a read of {name} that fails after {room} bytes: {told}", told == wanted and text == "")
 
 

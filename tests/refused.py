@@ -127,8 +127,10 @@ def long_path():
     }
 
 
-def write_long_path(folder):
-    for name, text in long_path().items():
+def write_files(folder):
+    files = long_path()
+    files["two.tree"] = example("diamond.tree") + "p spt 1 1\nv 1 0 0\ne 1\n"
+    for name, text in files.items():
         with open(f"{folder}/{name}", "w") as it:
             it.write(text)
 
@@ -150,9 +152,13 @@ def commands(folder):
         (2, "", "spt: gr: line 2: 7 TooFew\n"), words_end_short)
     yield ["check", "examples/diamond.gr", "examples/diamond.tree"], ((0, "yes\n", ""), says_nothing_else)
     yield ["check", f"{folder}/long.gr", f"{folder}/long.tree"], ((3, "no 18 5\n", ""), says_nothing_else)
+    yield ["check", "--all", "examples/diamond.gr", f"{folder}/two.tree"], ((3, "yes\nno 1 0 1\n", ""), says_nothing_else)
     for name in ("diamond", "kept", "lost_exchange", "not_closed"):
         yield ["replay", f"examples/{name}.rep"], ((0, example(f"{name}.report"), ""), ends_short)
+    with open(f"{HOME}/docs/lost_exchange.svg") as it:
+        yield ["replay", "examples/lost_exchange.rep", "--svg"], ((0, it.read(), ""), says_nothing_else)
     yield ["offers", "examples/offers.off"], ((0, example("offers.words"), ""), ends_short)
+    yield ["offers", "examples/offers.off", "-o", f"{folder}/out"], ((0, "", ""), ends_short)
 
 
 def try_commands(count, refuser, program, folder):
@@ -214,7 +220,7 @@ def main():
             count.of("refusals", False)
         else:
             try_calls(count, refuser, chosen.calls or parts.build_ours("spt_refused", "read_gr", "diamond", "1"))
-            write_long_path(folder)
+            write_files(folder)
             try_commands(count, refuser, chosen.program or parts.program(), folder)
     print(f"{count.passed} passed, {count.failed} failed")
     return 1 if count.failed else 0

@@ -53,7 +53,9 @@ def complete_words(count):
     count.of("completion of all commands", {"tree", "pairs", "check", "replay", "offers"} <= set(completed("spt", "")))
     count.of("completion of an option", completed("spt", "tree", "--wo") == ["--workers"])
     count.of("completion of a value", completed("spt", "check", "--pred-bits", "2") == ["20", "24", "28"])
+    count.of("completion of a word for a value", completed("spt", "tree", "--delta", "m") == ["mean"])
     count.of("completion of a file", completed("spt", "tree", "diamond.g") == ["diamond.gr"])
+    count.of("completion of a file of output", completed("spt", "tree", "--output", "diamond.t") == ["diamond.tree"])
 
 
 def render(count):

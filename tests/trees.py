@@ -5,7 +5,7 @@ Usage: python3 tests/trees.py [--vertices N] [--sources K] [--seed S]
 
 For each kind, each width of a bucket and each number of workers the program must write the bytes that Dijkstra's
 algorithm gives. For each block that it writes, `spt check` must say yes, and no with the least vertex and rule once
-a digit is edited. On a greater graph several workers must be seen at work, for one source and for several, and one
+a digit is edited; `spt check --all` must say so of all blocks in one file. On a greater graph several workers must be seen at work, for one source and for several, and one
 alone where one is asked for. The last line is 'N passed, M failed'.
 """
 
@@ -136,6 +136,29 @@ def compare_checks(count, kind, folder, graph, arcs, n, source, words, draw):
         count.of(f"check of {kind}, source {source}, an edited digit", said(wrong) == (3, f"no {vertex} {rule}\n", ""))
 
 
+def compare_blocks(count, kind, folder, graph, arcs, n, trees, draw):
+    """`check --all` on the blocks of several sources, right and with a digit of one of them changed."""
+    file = f"{folder}/trees"
+
+    def said(blocks):
+        with open(file, "w") as it:
+            it.write("".join(block(n, source, words, None) for source, words in blocks))
+        return run("check", "--all", graph, file)
+
+    count.of(f"check --all of {kind}", said(trees) == (0, "yes\n" * len(trees), ""))
+    for _ in range(EDITS):
+        place = draw.randrange(len(trees))
+        source, words = trees[place]
+        wrong = edited(words, draw)
+        if any(distance > MAX or tail > n for distance, tail in wrong.values()):
+            continue
+        vertex, rule = fault(arcs, source, wrong)
+        answers = ["yes\n"] * len(trees)
+        answers[place] = f"no {source} {vertex} {rule}\n"
+        told = said([*trees[:place], (source, wrong), *trees[place + 1 :]])
+        count.of(f"check --all of {kind}, an edited digit in block {place + 1}", told == (3, "".join(answers), ""))
+
+
 def compare(count, kind, chosen, folder):
     graph, list_of_sources = f"{folder}/{kind}.gr", f"{folder}/{kind}.ss"
     _, mean = graphs.write_graph(graph, kind, chosen.vertices, chosen.seed)
@@ -155,6 +178,9 @@ def compare(count, kind, chosen, folder):
     for source, words, far in trees:
         if far is None:
             compare_checks(count, kind, folder, graph, arcs, chosen.vertices, source, words, draw)
+    near = [(source, words) for source, words, far in trees if far is None]
+    if near:
+        compare_blocks(count, kind, folder, graph, arcs, chosen.vertices, near, draw)
 
 
 def most_threads(*words):

@@ -16,13 +16,10 @@ use std::test::Fail;
 use std::thread::Threads;
 
 mod compare;
-mod fire;
 mod lending;
 mod meeting;
 mod pairs;
-mod random;
 mod refused;
-mod roads;
 mod settling;
 mod targets;
 mod watching;

@@ -1,4 +1,5 @@
 pub mod Batch
+pub mod Width
 pub mod Found
 pub mod Steps
 pub mod Answered

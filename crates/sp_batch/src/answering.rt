@@ -7,7 +7,8 @@ ghost use Rattle.sp_batch.specs.Found.{IsReady, AreFound};
 ghost use Rattle.sp_batch.specs.Steps.{IsGroupWritten, AreAllAnswered, MovesOn};
 
 use crate::answers::{BatchError, Summary};
-use crate::finding::{Found, Plan, find_group, find_source};
+use crate::finding::{Found, Lead, Plan, find_group, find_source};
+use crate::progress::{Listener, Nobody, Progress};
 use crate::watch::Watch;
 use crate::writing::{nothing, sum, write_group, write_one};
 use sp_dimacs::Write;
@@ -60,11 +61,11 @@ fn answer_source<const P: u32, R: Threads + Wait + Sync + Watch, W: Write>(
 }
 
 // Answers sources one after the other, each by all workers.
-fn answer_in_turn<const P: u32, R: Threads + Wait + Sync + Watch, W: Write>(
+fn answer_in_turn<const P: u32, R: Threads + Wait + Sync + Watch, W: Write, L: Listener>(
     rt: &R,
     alloc: Global,
     graph: &Graph,
-    plan: &Plan<P>,
+    lead: &Lead<P, L>,
     sources: &[u32],
     out: &mut W,
 ) -> Result<Summary, BatchError>
@@ -75,7 +76,11 @@ fn answer_in_turn<const P: u32, R: Threads + Wait + Sync + Watch, W: Write>(
 {
     let mut summary = nothing();
     for source in sources {
-        let one = answer_source::<P, R, W>(rt, alloc, graph, plan, *source, out)?;
+        lead.listener.hear(Progress::Sources {
+            written: summary,
+            count: sources.len(),
+        });
+        let one = answer_source::<P, R, W>(rt, alloc, graph, &lead.plan, *source, out)?;
         summary = sum(summary, one);
     }
     Ok(summary)
@@ -135,11 +140,11 @@ pub(crate) struct Step<const P: u32> {
 
 // Answers a group of sources, behind those whose answers wait: these are written, and those of the group wait then. Where
 // memory for the group is refused, its sources are answered one after the other.
-fn answer_group<const P: u32, R: Threads + Wait + Sync + Watch, W: Write>(
+fn answer_group<const P: u32, R: Threads + Wait + Sync + Watch, W: Write, L: Listener>(
     rt: &R,
     alloc: Global,
     graph: &Graph,
-    plan: &Plan<P>,
+    lead: &Lead<P, L>,
     sources: &[u32],
     waiting: Vec<Found<P>>,
     out: &mut W,
@@ -150,7 +155,7 @@ fn answer_group<const P: u32, R: Threads + Wait + Sync + Watch, W: Write>(
     requires vertices { All (IsVertex graph.now.n) sources.now }
     ensures { MovesOn graph.now waiting.entry.items sources.now W.Write out.old result out.new }
 {
-    let each = shared(plan, sources.len());
+    let each = shared(&lead.plan, sources.len());
     let (found, written) = find_and_write::<P, R, W>(
         rt, alloc, graph, &each, sources, &waiting, out,
     );
@@ -162,7 +167,11 @@ fn answer_group<const P: u32, R: Threads + Wait + Sync + Watch, W: Write>(
         }),
         Err(AllocError) => {
             drop(waiting);
-            let more = answer_in_turn::<P, R, W>(rt, alloc, graph, plan, sources, out)?;
+            let quiet = Lead {
+                plan: lead.plan,
+                listener: &Nobody,
+            };
+            let more = answer_in_turn::<P, R, W, Nobody>(rt, alloc, graph, &quiet, sources, out)?;
             Ok(Step {
                 summary: sum(summary, more),
                 waiting: Vec::new(alloc),
@@ -172,11 +181,16 @@ fn answer_group<const P: u32, R: Threads + Wait + Sync + Watch, W: Write>(
 }
 
 /// Answers sources by groups of as many as there are workers. While a group is found, the one before it is written.
-pub(crate) fn answer_side_by_side<const P: u32, R: Threads + Wait + Sync + Watch, W: Write>(
+pub(crate) fn answer_side_by_side<
+    const P: u32,
+    R: Threads + Wait + Sync + Watch,
+    W: Write,
+    L: Listener,
+>(
     rt: &R,
     alloc: Global,
     graph: &Graph,
-    plan: &Plan<P>,
+    lead: &Lead<P, L>,
     sources: &[u32],
     out: &mut W,
 ) -> Result<Summary, BatchError>
@@ -189,12 +203,16 @@ pub(crate) fn answer_side_by_side<const P: u32, R: Threads + Wait + Sync + Watch
     let mut waiting = Vec::new(alloc);
     let mut rest = sources;
     while !rest.is_empty() {
-        let size = rest.len().min(plan.workers.get() as usize);
+        lead.listener.hear(Progress::Sources {
+            written: summary,
+            count: sources.len(),
+        });
+        let size = rest.len().min(lead.plan.workers.get() as usize);
         let (group, later) = rest.split_at(size);
         let Step {
             summary: more,
             waiting: next,
-        } = answer_group::<P, R, W>(rt, alloc, graph, plan, group, waiting, out)?;
+        } = answer_group::<P, R, W, L>(rt, alloc, graph, lead, group, waiting, out)?;
         summary = sum(summary, more);
         waiting = next;
         rest = later;
@@ -204,12 +222,12 @@ pub(crate) fn answer_side_by_side<const P: u32, R: Threads + Wait + Sync + Watch
 }
 
 /// Answers sources in their order, several at once where the graph has at least so many vertices and arcs in all.
-pub(crate) fn answer_sources<const P: u32, R: Threads + Wait + Sync + Watch, W: Write>(
+pub(crate) fn answer_sources<const P: u32, R: Threads + Wait + Sync + Watch, W: Write, L: Listener>(
     rt: &R,
     alloc: Global,
     graph: &Graph,
     least: usize,
-    plan: &Plan<P>,
+    lead: &Lead<P, L>,
     sources: &[u32],
     out: &mut W,
 ) -> Result<Summary, BatchError>
@@ -218,13 +236,16 @@ pub(crate) fn answer_sources<const P: u32, R: Threads + Wait + Sync + Watch, W: 
     requires vertices { All (IsVertex graph.now.n) sources.now }
     ensures { AreAllAnswered P graph.now sources.now W.Write out.old result out.new }
 {
-    let workers = count_at_once(rt, graph, least, sources.len(), plan.workers);
+    let workers = count_at_once(rt, graph, least, sources.len(), lead.plan.workers);
     if workers.get() == 1 {
-        return answer_in_turn::<P, R, W>(rt, alloc, graph, plan, sources, out);
+        return answer_in_turn::<P, R, W, L>(rt, alloc, graph, lead, sources, out);
     }
-    let groups = Plan {
-        delta: plan.delta,
-        workers,
+    let groups = Lead {
+        plan: Plan {
+            delta: lead.plan.delta,
+            workers,
+        },
+        listener: lead.listener,
     };
-    answer_side_by_side::<P, R, W>(rt, alloc, graph, &groups, sources, out)
+    answer_side_by_side::<P, R, W, L>(rt, alloc, graph, &groups, sources, out)
 }

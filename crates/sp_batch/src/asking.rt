@@ -3,7 +3,8 @@ ghost use Rattle.std.specs.Prelude.{◌≡◌, ◌+◌, ◌<◌, false, length, 
 ghost use Rattle.sp_batch.specs.Found.{IsReady};
 ghost use Rattle.sp_batch.specs.Slots.{IsClosed, slot_of, IsPairOf, AreAllOpen, pair_at, AreHeld, AreFirstClosed, StayClosed, IsPlaceBehind, AreTargetsOf, IsFor, IsClosedAt};
 
-use crate::finding::Plan;
+use crate::finding::{Lead, Plan};
+use crate::progress::{Listener, Progress};
 use sp_graph::Graph;
 use sp_solve::{PairAnswer, Reach, run_targets, useful_workers};
 use sp_team::Team;
@@ -178,11 +179,11 @@ fn ask<const P: u32, R: Threads + Wait + Sync>(
 }
 
 /// The answers to pairs, in their order.
-pub(crate) fn find_answers<const P: u32, R: Threads + Wait + Sync>(
+pub(crate) fn find_answers<const P: u32, R: Threads + Wait + Sync, L: Listener>(
     rt: &R,
     alloc: Global,
     graph: &Graph,
-    plan: &Plan<P>,
+    lead: &Lead<P, L>,
     pairs: &[(u32, u32)],
 ) -> Result<Vec<Slot>, AllocError>
     requires ready { IsReady P graph.now }
@@ -193,7 +194,11 @@ pub(crate) fn find_answers<const P: u32, R: Threads + Wait + Sync>(
     let mut slots = open_slots(alloc, graph.n(), pairs)?;
     for place in 0..pairs.len() {
         if is_open(&slots[place]) {
-            ask::<P, R>(rt, alloc, graph, plan, pairs, &mut slots, place)?;
+            lead.listener.hear(Progress::Pairs {
+                found: place,
+                count: pairs.len(),
+            });
+            ask::<P, R>(rt, alloc, graph, &lead.plan, pairs, &mut slots, place)?;
         }
     }
     Ok(slots)

@@ -9,11 +9,13 @@ ghost use Rattle.sp_batch.specs.Answered.{BatchAnswered, BatchOfSome, IsBatch, i
 
 use crate::answering::answer_sources;
 use crate::answers::{BatchError, Summary};
-use crate::finding::Plan;
+use crate::finding::Lead;
+use crate::progress::{Listener, Nobody, Progress};
 use crate::watch::{Unwatched, Watch};
+use crate::width::{BucketWidth, Settings};
 use sp_dimacs::{GrFile, Read, SsFile, Write, read_gr, read_ss};
 use sp_graph::Graph;
-use sp_word::{Delta, Workers};
+use sp_word::Workers;
 use std::alloc::Global;
 use std::sync::Wait;
 use std::thread::Threads;
@@ -37,13 +39,13 @@ fn first_above(sources: &[u32], n: u32) -> Option<u32>
 /// Tests the sources, and writes the answers, several sources at once where the graph has at least so many vertices and
 /// arcs in all.
 #[tactic(auto, using(crate::proofs::OfFile::not_early))]
-pub(crate) fn answer_files<const P: u32, R: Threads + Wait + Sync + Watch, W: Write>(
+pub(crate) fn answer_files<const P: u32, R: Threads + Wait + Sync + Watch, W: Write, L: Listener>(
     rt: &R,
     alloc: Global,
     file: GrFile,
     list: &SsFile,
     least: usize,
-    plan: &Plan<P>,
+    settings: &Settings<P, L>,
     out: &mut W,
 ) -> Result<Summary, BatchError>
     requires layout { is_layout P ≡ true }
@@ -56,15 +58,23 @@ pub(crate) fn answer_files<const P: u32, R: Threads + Wait + Sync + Watch, W: Wr
         return Err(BatchError::NoSuchVertex(source));
     }
     let graph = Graph::from_arcs(alloc, file.n, file.arcs)?;
-    answer_sources::<P, R, W>(rt, alloc, &graph, least, plan, &list.sources, out)
+    settings.listener.hear(Progress::Graph {
+        vertices: graph.n(),
+        arcs: graph.m(),
+    });
+    let lead = Lead {
+        plan: settings.plan_for(&graph),
+        listener: settings.listener,
+    };
+    answer_sources::<P, R, W, L>(rt, alloc, &graph, least, &lead, &list.sources, out)
 }
 
 /// Reads a graph and a list of sources, and writes for each source, in the order of the list, its shortest-path tree,
 /// or the line of the vertex that is too far for a word of `P` bits of predecessor.
 ///
-/// The graph is read first, then the sources; then all sources are tested before anything is written. `delta` is the
-/// width of a bucket, `workers` the number of threads, the leader counted; what is written is the same for each of
-/// both. Where memory is refused or the writer fails, a beginning of the text stands.
+/// The graph is read first, then the sources; then all sources are tested before anything is written. `width` is that of
+/// a bucket, `workers` the number of threads, the leader counted; what is written is the same for each of both. Where
+/// memory is refused or the writer fails, a beginning of the text stands.
 ///
 /// Of several sources as many are answered at once as there are workers, each by one of them, and the answers for a group
 /// of sources are written by this thread while the workers find those for the next.
@@ -74,8 +84,41 @@ pub fn run_batch<const P: u32, R: Threads + Wait + Sync, G: Read, S: Read, W: Wr
     gr: &mut G,
     ss: &mut S,
     out: &mut W,
-    delta: Delta<P>,
+    width: BucketWidth<P>,
     workers: Workers,
+) -> Result<Summary, BatchError>
+    requires layout { is_layout P ≡ true }
+    ensures exact { (gr_text ss_text : List ℕ)
+        → G.left gr.old ≡ Some gr_text → S.left ss.old ≡ Some ss_text
+        → BatchAnswered P gr_text ss_text G.Read gr.new S.Read ss.new
+        W.Write out.old out.new result }
+    ensures untouched { IfErr result (λ e. is_early e ≡ true → out.new ≡ out.old) }
+    ensures found { BatchOfSome P W.Write out.old out.new result }
+{
+    let settings = Settings {
+        width,
+        workers,
+        listener: &Nobody,
+    };
+    run_batch_told::<P, R, G, S, W, Nobody>(rt, alloc, gr, ss, out, &settings)
+}
+
+/// The same as `run_batch`, and tells how far it is: when the graph stands, and before each source, or each group of those that
+/// are answered at once.
+pub fn run_batch_told<
+    const P: u32,
+    R: Threads + Wait + Sync,
+    G: Read,
+    S: Read,
+    W: Write,
+    L: Listener,
+>(
+    rt: &R,
+    alloc: Global,
+    gr: &mut G,
+    ss: &mut S,
+    out: &mut W,
+    settings: &Settings<P, L>,
 ) -> Result<Summary, BatchError>
     requires layout { is_layout P ≡ true }
     ensures exact { (gr_text ss_text : List ℕ)
@@ -93,14 +136,13 @@ pub fn run_batch<const P: u32, R: Threads + Wait + Sync, G: Read, S: Read, W: Wr
         Ok(list) => list,
         Err(error) => return Err(BatchError::Ss(error)),
     };
-    let plan = Plan { delta, workers };
-    answer_files::<P, (&R, Unwatched), W>(
+    answer_files::<P, (&R, Unwatched), W, L>(
         &(rt, Unwatched),
         alloc,
         file,
         &list,
         LEAST_ITEMS,
-        &plan,
+        settings,
         out,
     )
 }

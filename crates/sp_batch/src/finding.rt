@@ -20,6 +20,13 @@ pub(crate) struct Plan<const P: u32> {
     pub(crate) workers: Workers,
 }
 
+/// How runs are made, and who is told how far they are.
+#[derive(Drop)]
+pub(crate) struct Lead<'a, const P: u32, L> {
+    pub(crate) plan: Plan<P>,
+    pub(crate) listener: &'a L,
+}
+
 /// What is to be told of a source.
 #[derive(Drop)]
 pub(crate) enum Found<const P: u32> {

@@ -8,11 +8,13 @@ ghost use Rattle.sp_batch.specs.Pairs.{IsPairUpTo, IsFirstPairAbove, ArePairsDon
 
 use crate::answers::{BatchError, Summary};
 use crate::asking::find_answers;
-use crate::finding::Plan;
+use crate::finding::Lead;
 use crate::pair_lines::write_pairs;
+use crate::progress::{Listener, Nobody, Progress};
+use crate::width::{BucketWidth, Settings};
 use sp_dimacs::{GrFile, PairsFile, Read, Write, read_gr, read_pairs};
 use sp_graph::Graph;
-use sp_word::{Delta, Workers};
+use sp_word::Workers;
 use std::alloc::Global;
 use std::sync::Wait;
 use std::thread::Threads;
@@ -35,12 +37,12 @@ fn first_pair_above(pairs: &[(u32, u32)], n: u32) -> Option<u32>
 
 // Tests the pairs, finds all their answers, and then writes them.
 #[tactic(auto, using(crate::proofs::PairsOfFile::pairs_not_early))]
-fn answer_pairs<const P: u32, R: Threads + Wait + Sync, W: Write>(
+fn answer_pairs<const P: u32, R: Threads + Wait + Sync, W: Write, L: Listener>(
     rt: &R,
     alloc: Global,
     file: GrFile,
     list: &PairsFile,
-    plan: &Plan<P>,
+    settings: &Settings<P, L>,
     out: &mut W,
 ) -> Result<Summary, BatchError>
     requires layout { is_layout P ≡ true }
@@ -53,7 +55,15 @@ fn answer_pairs<const P: u32, R: Threads + Wait + Sync, W: Write>(
         return Err(BatchError::NoSuchVertex(vertex));
     }
     let graph = Graph::from_arcs(alloc, file.n, file.arcs)?;
-    let slots = find_answers::<P, R>(rt, alloc, &graph, plan, &list.pairs)?;
+    settings.listener.hear(Progress::Graph {
+        vertices: graph.n(),
+        arcs: graph.m(),
+    });
+    let lead = Lead {
+        plan: settings.plan_for(&graph),
+        listener: settings.listener,
+    };
+    let slots = find_answers::<P, R, L>(rt, alloc, &graph, &lead, &list.pairs)?;
     write_pairs(&list.pairs, &slots, out)
 }
 
@@ -62,7 +72,7 @@ fn answer_pairs<const P: u32, R: Threads + Wait + Sync, W: Write>(
 /// leads there.
 ///
 /// The graph is read first, then the pairs; then all their numbers are tested, and all answers are found, before anything
-/// is written. `delta` is the width of a bucket, `workers` the number of threads, the leader counted; what is written is
+/// is written. `width` is that of a bucket, `workers` the number of threads, the leader counted; what is written is
 /// the same for each of both. Where the writer fails, a beginning of the text stands.
 ///
 /// Each source is run from once, wherever its pairs stand, and no further than to the farthest of their targets.
@@ -72,8 +82,40 @@ pub fn run_pairs<const P: u32, R: Threads + Wait + Sync, G: Read, S: Read, W: Wr
     gr: &mut G,
     pairs: &mut S,
     out: &mut W,
-    delta: Delta<P>,
+    width: BucketWidth<P>,
     workers: Workers,
+) -> Result<Summary, BatchError>
+    requires layout { is_layout P ≡ true }
+    ensures exact { (gr_text list_text : List ℕ)
+        → G.left gr.old ≡ Some gr_text → S.left pairs.old ≡ Some list_text
+        → PairsAnswered P gr_text list_text G.Read gr.new S.Read pairs.new
+        W.Write out.old out.new result }
+    ensures untouched { IfErr result (λ e. is_early e ≡ true → out.new ≡ out.old) }
+    ensures found { PairsOfSome P W.Write out.old out.new result }
+{
+    let settings = Settings {
+        width,
+        workers,
+        listener: &Nobody,
+    };
+    run_pairs_told::<P, R, G, S, W, Nobody>(rt, alloc, gr, pairs, out, &settings)
+}
+
+/// The same as `run_pairs`, and tells how far it is: when the graph stands, and before each run from a source.
+pub fn run_pairs_told<
+    const P: u32,
+    R: Threads + Wait + Sync,
+    G: Read,
+    S: Read,
+    W: Write,
+    L: Listener,
+>(
+    rt: &R,
+    alloc: Global,
+    gr: &mut G,
+    pairs: &mut S,
+    out: &mut W,
+    settings: &Settings<P, L>,
 ) -> Result<Summary, BatchError>
     requires layout { is_layout P ≡ true }
     ensures exact { (gr_text list_text : List ℕ)
@@ -91,5 +133,5 @@ pub fn run_pairs<const P: u32, R: Threads + Wait + Sync, G: Read, S: Read, W: Wr
         Ok(list) => list,
         Err(error) => return Err(BatchError::Pairs(error)),
     };
-    answer_pairs::<P, R, W>(rt, alloc, file, &list, &Plan { delta, workers }, out)
+    answer_pairs::<P, R, W, L>(rt, alloc, file, &list, settings, out)
 }

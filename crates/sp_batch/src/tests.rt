@@ -11,9 +11,8 @@ mod slots;
 mod threads;
 
 use crate::batch::answer_files;
-use crate::finding::Plan;
 use crate::watch::{Unwatched, Watch};
-use crate::{BatchError, Summary, run_batch};
+use crate::{BatchError, BucketWidth, Nobody, Settings, Summary, run_batch};
 use sp_dimacs::{DimacsError, Kind, UpTo, UpToWriter, read_gr, read_ss};
 use sp_word::{Delta, Workers};
 use std::alloc::Global;
@@ -52,6 +51,25 @@ pub fn run_into<const P: u32, R: Threads + Wait + Sync + Abort>(
     requires ss { length ss.now ≤ 2 ^ 62 }
     requires room { room ≤ 2 ^ 62 }
 {
+    let delta = Delta::new(delta).expect(rt, "a width in range");
+    run_in::<P, R>(rt, alloc, gr, ss, room, BucketWidth::Of(delta), workers)
+}
+
+/// The same in buckets of any width.
+pub fn run_in<const P: u32, R: Threads + Wait + Sync + Abort>(
+    rt: &R,
+    alloc: Global,
+    gr: &[u8],
+    ss: &[u8],
+    room: usize,
+    width: BucketWidth<P>,
+    workers: u32,
+) -> Ran
+    requires layout { is_layout P ≡ true }
+    requires gr { length gr.now ≤ 2 ^ 62 }
+    requires ss { length ss.now ≤ 2 ^ 62 }
+    requires room { room ≤ 2 ^ 62 }
+{
     let mut out = UpToWriter::new(alloc, room, AMPLE);
     let answer = run_batch::<P, R, _, _, _>(
         rt,
@@ -59,7 +77,7 @@ pub fn run_into<const P: u32, R: Threads + Wait + Sync + Abort>(
         &mut UpTo::whole(gr),
         &mut UpTo::whole(ss),
         &mut out,
-        Delta::new(delta).expect(rt, "a width in range"),
+        width,
         crew(rt, workers),
     );
     Ran { answer, out }
@@ -94,11 +112,12 @@ pub fn run_watched<R: Threads + Wait + Sync + Watch>(
             return Ran { answer, out };
         }
     };
-    let plan = Plan {
-        delta: Delta::new(2).unwrap(),
+    let settings = Settings {
+        width: BucketWidth::Of(Delta::new(2).unwrap()),
         workers,
+        listener: &Nobody,
     };
-    let answer = answer_files::<28, R, _>(rt, alloc, file, &list, least, &plan, &mut out);
+    let answer = answer_files::<28, R, _, _>(rt, alloc, file, &list, least, &settings, &mut out);
     Ran { answer, out }
 }
 
@@ -119,7 +138,7 @@ pub fn run_groups<R: Threads + Wait + Sync + Abort>(
     run_watched(&watched, alloc, gr, ss, room, 0, crew(rt, workers))
 }
 
-/// Asserts what a batch answers and writes, for some deltas and numbers of workers, and by groups.
+/// Asserts what a batch answers and writes, for some widths and numbers of workers, and by groups.
 pub fn expect<R: Threads + Wait + Sync + Abort>(
     rt: &R,
     alloc: Global,
@@ -133,6 +152,11 @@ pub fn expect<R: Threads + Wait + Sync + Abort>(
 {
     for (delta, workers) in [(1, 1), (2, 2), (100, 64), (68719476734, 1)] {
         let ran = run_into::<28, R>(rt, alloc, gr, ss, AMPLE, delta, workers);
+        assert_eq!(rt; ran.answer, answer);
+        assert_eq!(rt; from_utf8(ran.out.taken()), Ok(text));
+    }
+    for workers in [1, 2] {
+        let ran = run_in::<28, R>(rt, alloc, gr, ss, AMPLE, BucketWidth::MeanLength, workers);
         assert_eq!(rt; ran.answer, answer);
         assert_eq!(rt; from_utf8(ran.out.taken()), Ok(text));
     }

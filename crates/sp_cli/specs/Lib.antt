@@ -1,3 +1,3 @@
-pub mod Faults
 pub mod Words
 pub mod Ends
+pub mod Width

@@ -1,133 +1,19 @@
 //! The commands of the program.
 //!
-//! A command is a type in a file of its own, with its words, its help and what it does. A new one is such a file, its line among
-//! these modules, and its name in `AnyCommand`.
-mod check;
-mod offers;
+//! A command is a type in a file of its own, here or in a crate below, with its words, its help and what it does. A new one is such
+//! a file, and its name in `AnyCommand`.
 mod pairs;
-mod replay;
+mod reading;
 mod running;
 mod sources;
 mod tree;
+mod width;
 
-use crate::faults::{Fault, Status};
-use crate::inputs::Inputs;
-use crate::layout::{PredBits, Run};
-use clap::{Arg, ArgMatches};
-use sp_device::Write;
-use std::alloc::{AllocError, Global};
-use std::sync::Wait;
-use std::thread::Threads;
+use sp_command::OneOf;
+use sp_tools::{Check, Offers, Replay};
 
 /// A command, with what it was given. They stand in the order of the help.
 pub type AnyCommand<'a> = OneOf<
     tree::Tree<'a>,
-    OneOf<pairs::Pairs<'a>, OneOf<check::Check<'a>, OneOf<replay::Replay<'a>, offers::Offers<'a>>>>,
+    OneOf<pairs::Pairs<'a>, OneOf<Check<'a>, OneOf<Replay<'a>, Offers<'a>>>>,
 >;
-
-/// The words of a command, or of the program.
-pub type Words<'a> = Result<clap::Command<'a>, AllocError>;
-
-/// A command that a command line can order.
-pub trait Command<'a>: Drop {
-    /// The word that orders it.
-    const NAME: &'static str;
-
-    /// What it does.
-    const ABOUT: &'static str;
-
-    /// The same, with all that there is to know of it.
-    const LONG_ABOUT: &'static str;
-
-    /// Its files, what it writes, an example, faults and exit statuses.
-    const AFTER_HELP: &'static str;
-
-    /// Its name, and the arguments that it has beside the layout.
-    fn words(alloc: Global) -> Words<'a>;
-
-    /// Reads its arguments.
-    fn read(alloc: Global, given: &ArgMatches<'a>) -> Result<Option<Self>, AllocError>;
-}
-
-/// One command or several. A value is one of them.
-pub trait Commands<'a>: Drop {
-    /// Adds the words of each to those of the program.
-    fn add_to(program: clap::Command<'a>, alloc: Global) -> Words<'a>;
-
-    /// Reads the arguments of the command that has this name.
-    fn read_named(
-        alloc: Global,
-        name: &str,
-        given: &ArgMatches<'a>,
-    ) -> Result<Option<Self>, AllocError>;
-}
-
-impl<'a, C: Command<'a>> Commands<'a> for C {
-    fn add_to(program: clap::Command<'a>, alloc: Global) -> Words<'a> {
-        let command = C::words(alloc)?
-            .about(C::ABOUT)
-            .long_about(C::LONG_ABOUT)
-            .after_long_help(C::AFTER_HELP)
-            .arg(PredBits::option(alloc))?;
-        program.subcommand(command)
-    }
-
-    fn read_named(
-        alloc: Global,
-        name: &str,
-        given: &ArgMatches<'a>,
-    ) -> Result<Option<Self>, AllocError> {
-        if name == C::NAME {
-            C::read(alloc, given)
-        } else {
-            Ok(None)
-        }
-    }
-}
-
-/// One of two commands.
-#[derive(Drop)]
-pub enum OneOf<A, B> {
-    First(A),
-    Second(B),
-}
-
-impl<'a, A: Commands<'a>, B: Commands<'a>> Commands<'a> for OneOf<A, B> {
-    fn add_to(program: clap::Command<'a>, alloc: Global) -> Words<'a> {
-        B::add_to(A::add_to(program, alloc)?, alloc)
-    }
-
-    fn read_named(
-        alloc: Global,
-        name: &str,
-        given: &ArgMatches<'a>,
-    ) -> Result<Option<Self>, AllocError> {
-        if let Some(command) = A::read_named(alloc, name, given)? {
-            return Ok(Some(OneOf::First(command)));
-        }
-        match B::read_named(alloc, name, given)? {
-            Some(command) => Ok(Some(OneOf::Second(command))),
-            None => Ok(None),
-        }
-    }
-}
-
-impl<A: Run<P>, B: Run<P>, const P: u32> Run<P> for OneOf<A, B> {
-    fn run<R: Threads + Wait + Sync, F: Inputs, W: Write>(
-        &self,
-        rt: &R,
-        alloc: Global,
-        files: &F,
-        out: &mut W,
-    ) -> Result<Status, Fault> {
-        match self {
-            OneOf::First(command) => command.run(rt, alloc, files, out),
-            OneOf::Second(command) => command.run(rt, alloc, files, out),
-        }
-    }
-}
-
-// A file that a command needs.
-fn file<'a>(alloc: Global, name: &'a str, about: &'a str) -> Arg<'a> {
-    Arg::new(alloc, name).help(about).required(true)
-}

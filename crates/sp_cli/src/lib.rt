@@ -1,21 +1,17 @@
-//! The commands of the program `spt`, over any files and any streams.
+//! The program `spt`, over any files and any streams.
 //!
-//! A command line is read into an order (`words`): a text to show, or a command (`commands`) in a layout of words (`layout`). What
-//! keeps a command from being done is a fault (`faults`), with its line on standard error and its exit status.
+//! A command line is read into an order (`words`): a text to show, or a command (`commands`) in a layout of words. `run_command` does
+//! it (`run`). What a command is stands in `sp_command`; `tree` and `pairs` stand here, the others in `sp_tools`.
 #![tactic(auto)]
 
-mod actors;
 mod commands;
-mod faults;
 mod help;
-mod inputs;
-mod layout;
+mod hints;
 mod run;
-mod text;
 mod words;
 
-pub use inputs::Inputs;
 pub use run::run_command;
+pub use sp_command::{Form, Inputs, Outputs};
 
 #[cfg(test)]
 mod tests;

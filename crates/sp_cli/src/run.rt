@@ -1,21 +1,21 @@
 //! A whole run of the program.
 ghost use Rattle.std.specs.Prelude.{◌≡◌, ◌≤◌, true, IfOk, IfErr};
-ghost use Rattle.sp_cli.specs.Faults.{code_of, is_done, status_of};
+ghost use Rattle.sp_command.specs.Faults.{code_of, is_done, status_of};
+ghost use Rattle.sp_cli.specs.Words.{names_output};
 
-use crate::faults::{Fault, Status};
-use crate::inputs::Inputs;
-use crate::layout::run_in;
-use crate::text::print;
+use crate::commands::AnyCommand;
+use crate::hints::Refusal;
 use crate::words::{Order, read_order};
+use sp_command::{Fault, Inputs, Outputs, PredBits, Status, print, run_in};
 use sp_device::Write;
 use std::alloc::Global;
 use std::sync::Wait;
 use std::thread::Threads;
 
 /// Runs the command that the words order, the program's name first among them, and answers the exit
-/// status. Its output goes to `out`, and the text of a fault to `err`; whether `err` takes that text
-/// changes no status.
-pub fn run_command<R: Threads + Wait + Sync, F: Inputs, W: Write, E: Write>(
+/// status. Its output goes to `out`, or to the file that the words name for it, and the text of a fault to `err`; whether `err`
+/// takes that text changes no status.
+pub fn run_command<R: Threads + Wait + Sync, F: Inputs + Outputs, W: Write, E: Write>(
     rt: &R,
     alloc: Global,
     words: &[&str],
@@ -31,29 +31,84 @@ pub fn run_command<R: Threads + Wait + Sync, F: Inputs, W: Write, E: Write>(
 {
     let status = match obey(rt, alloc, words, files, out) {
         Ok(status) => status,
-        Err(fault) => {
-            let _ = print(err, &fault);
-            fault.status()
+        Err(refusal) => {
+            refusal.tell(err);
+            refusal.fault.status()
         }
     };
     status.code()
 }
 
-fn obey<R: Threads + Wait + Sync, F: Inputs, W: Write>(
+fn obey<'a, R: Threads + Wait + Sync, F: Inputs + Outputs, W: Write>(
     rt: &R,
     alloc: Global,
-    words: &[&str],
+    words: &'a [&'a str],
+    files: &F,
+    out: &mut W,
+) -> Result<Status, Refusal<'a>>
+    ensures done { IfOk result (λ status. is_done status ≡ true) }
+    ensures unwritten { IfErr result
+        (λ refusal. code_of (status_of refusal.fault) ≤ 2 → out.new ≡ out.old) }
+{
+    let order = read_order(alloc, words)?;
+    match carry_out(rt, alloc, &order, files, out) {
+        Ok(status) => Ok(status),
+        Err(fault) => Err(Refusal::new(fault, &order, files)),
+    }
+}
+
+// Does what is ordered. Where that names a file for the output, nothing goes to `out`.
+fn carry_out<R: Threads + Wait + Sync, F: Inputs + Outputs, W: Write>(
+    rt: &R,
+    alloc: Global,
+    order: &Order<'_>,
     files: &F,
     out: &mut W,
 ) -> Result<Status, Fault>
     ensures done { IfOk result (λ status. is_done status ≡ true) }
     ensures unwritten { IfErr result (λ fault. code_of (status_of fault) ≤ 2 → out.new ≡ out.old) }
+    ensures elsewhere { names_output order.now ≡ true → out.new ≡ out.old }
 {
-    match read_order(alloc, words)? {
+    match order {
         Order::Show(text) => {
-            print(out, &text)?;
+            print(out, text)?;
             Ok(Status::Done)
         }
-        Order::Run { command, pred_bits } => run_in(&command, pred_bits, rt, alloc, files, out),
+        Order::Run {
+            command,
+            pred_bits,
+            output: None,
+        } => run_in(command, *pred_bits, rt, alloc, files, out),
+        Order::Run {
+            command,
+            pred_bits,
+            output: Some(path),
+        } => run_into(rt, alloc, command, *pred_bits, files, path),
+    }
+}
+
+// Runs a command into a file, which takes its name once the command is done.
+fn run_into<R: Threads + Wait + Sync, F: Inputs + Outputs>(
+    rt: &R,
+    alloc: Global,
+    command: &AnyCommand<'_>,
+    pred_bits: PredBits,
+    files: &F,
+    path: &str,
+) -> Result<Status, Fault>
+    ensures done { IfOk result (λ status. is_done status ≡ true) }
+{
+    let Some(mut output) = files.create(alloc, path)? else {
+        return Err(Fault::CannotWrite);
+    };
+    match run_in(command, pred_bits, rt, alloc, files, &mut output) {
+        Ok(status) => match files.keep(output) {
+            Ok(()) => Ok(status),
+            Err(_) => Err(Fault::CannotWrite),
+        },
+        Err(fault) => {
+            files.discard(output);
+            Err(fault)
+        }
     }
 }

@@ -1,16 +1,20 @@
 //! Runs of the program over memory.
 mod check;
 mod faults;
+mod hints;
 mod offers;
+mod outputs;
 mod pairs;
+mod progress;
 mod replay;
 mod streams;
 mod tree;
 mod usage;
 
-use crate::{Inputs, run_command};
-use sp_device::{UpTo, UpToWriter};
-use std::alloc::Global;
+use crate::{Inputs, Outputs, run_command};
+use sp_device::{UpTo, UpToWriter, WriteFault};
+use std::alloc::{AllocError, Global};
+use std::cell::RefCell;
 use std::process::Abort;
 use std::str::from_utf8;
 use std::sync::Wait;
@@ -80,10 +84,64 @@ fn whole(text: &str) -> Stored<'_> {
     Stored::Whole(text.as_bytes())
 }
 
+// What becomes of a file of output.
+#[derive(Clone, Copy, PartialEq, Eq)]
+enum Ending {
+    // It gets its name.
+    Kept,
+    // It can't be made.
+    Unmade,
+    // It can't have its name.
+    Unnamed,
+}
+
+// A file of output over memory, with room for so many bytes, that stands here once it has its name.
+#[derive(Drop)]
+struct Desk {
+    room: usize,
+    ending: Ending,
+    kept: RefCell<Option<UpToWriter>>,
+}
+
+impl Desk {
+    fn new(room: usize, ending: Ending) -> Self {
+        Desk {
+            room,
+            ending,
+            kept: RefCell::new(None),
+        }
+    }
+}
+
 // Files over memory, by name.
 #[derive(Clone, Copy)]
 struct Shelf<'a> {
     files: &'a [(&'a str, Stored<'a>)],
+    desk: &'a Desk,
+}
+
+impl Outputs for Shelf<'_> {
+    type Output = UpToWriter;
+
+    fn create(&self, alloc: Global, _path: &str) -> Result<Option<UpToWriter>, AllocError> {
+        if self.desk.ending == Ending::Unmade {
+            return Ok(None);
+        }
+        let room = self.desk.room.min(AMPLE);
+        Ok(Some(UpToWriter::new(alloc, room, AMPLE)))
+    }
+
+    fn keep(&self, output: UpToWriter) -> Result<(), WriteFault> {
+        if self.desk.ending == Ending::Unnamed {
+            return Err(WriteFault);
+        }
+        match self.desk.kept.try_replace(Some(output)) {
+            Ok(_) => Ok(()),
+            Err(_) => Err(WriteFault),
+        }
+    }
+
+    fn discard(&self, _output: UpToWriter) {}
 }
 
 impl<'a> Inputs for Shelf<'a> {
@@ -125,7 +183,8 @@ fn run_words<R: Threads + Wait + Sync>(
 ) -> Ended {
     let mut out = UpToWriter::new(alloc, rooms.0.min(AMPLE), AMPLE);
     let mut err = UpToWriter::new(alloc, rooms.1.min(AMPLE), AMPLE);
-    let status = run_command(rt, alloc, words, &Shelf { files }, &mut out, &mut err);
+    let desk = &Desk::new(0, Ending::Unmade);
+    let status = run_command(rt, alloc, words, &Shelf { files, desk }, &mut out, &mut err);
     Ended { status, out, err }
 }
 

@@ -1,16 +1,15 @@
 //! The words of a command line, and the order that they give.
-ghost use Rattle.std.specs.Prelude.{◌≡◌, ◌≢◌, true, false};
+ghost use Rattle.std.specs.Prelude.{◌≡◌, ◌≢◌, ◌↔◌, true, false, IsSome};
 ghost use Rattle.clap.specs.Words.{kind_of};
-ghost use Rattle.sp_cli.specs.Words.{is_text};
-ghost use Rattle.sp_cli.specs.declared.faults.Fault.TheVariants.{Memory, Usage};
+ghost use Rattle.sp_cli.specs.Words.{is_text, names_output};
+ghost use Rattle.sp_command.specs.declared.faults.Fault.TheVariants.{Memory, Usage};
 ghost use Rattle.sp_cli.specs.declared.words.Order.TheVariants.{Show};
 
-use crate::commands::{AnyCommand, Commands};
-use crate::faults::Fault;
+use crate::commands::AnyCommand;
 use crate::help;
-use crate::layout::PredBits;
 use clap::error::ErrorKind;
 use clap::{ArgMatches, Command, Error};
+use sp_command::{Commands, Fault, OUTPUT, PredBits};
 use std::alloc::{AllocError, Global};
 
 /// What a command line orders.
@@ -18,11 +17,25 @@ use std::alloc::{AllocError, Global};
 pub enum Order<'a> {
     /// To show a text of help, or the version.
     Show(Error),
-    /// To run a command, in words with so many bits of predecessor.
+    /// To run a command, in words with so many bits of predecessor. Its output goes to a file where one is named, else to
+    /// standard output.
     Run {
         command: AnyCommand<'a>,
         pred_bits: PredBits,
+        output: Option<&'a str>,
     },
+}
+
+impl<'a> Order<'a> {
+    /// The file that the output goes to, if to one.
+    pub fn output(&self) -> Option<&'a str>
+        ensures { IsSome result ↔ (names_output self.now ≡ true) }
+    {
+        match self {
+            Order::Show(_) => None,
+            Order::Run { output, .. } => *output,
+        }
+    }
 }
 
 /// Reads the words, of which the first is the program's name.
@@ -57,14 +70,26 @@ fn match_words<'a>(alloc: Global, words: &'a [&'a str]) -> Result<Order<'a>, Err
     }
 }
 
-fn order_of<'a>(alloc: Global, matches: &ArgMatches<'a>) -> Result<Option<Order<'a>>, AllocError> {
+fn order_of<'a>(alloc: Global, matches: &ArgMatches<'a>) -> Result<Option<Order<'a>>, Error> {
     let Some((name, given)) = matches.subcommand() else {
         return Ok(None);
     };
     let command = AnyCommand::read_named(alloc, name, given)?;
     match (command, given.get_one(PredBits::ID)) {
-        (Some(command), Some(pred_bits)) => Ok(Some(Order::Run { command, pred_bits })),
+        (Some(command), Some(pred_bits)) => Ok(Some(Order::Run {
+            command,
+            pred_bits,
+            output: output_of(given),
+        })),
         _ => Ok(None),
+    }
+}
+
+// The file that the output goes to, if it isn't standard output.
+fn output_of<'a>(given: &ArgMatches<'a>) -> Option<&'a str> {
+    match given.get_str(OUTPUT) {
+        Some("-") => None,
+        path => path,
     }
 }
 

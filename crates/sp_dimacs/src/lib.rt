@@ -15,6 +15,7 @@ pub use graphs::{GrFile, GrReader, read_gr};
 pub use laws::{spelled_graph_is_within, spelled_pairs_are_within, spelled_sources_are_within};
 pub use lines::Lines;
 pub use pairs::{PairsFile, PairsReader, read_pairs};
+pub use piece::Piece;
 pub use readers::TextReader;
 pub use sources::{SsFile, SsReader, read_ss};
 pub use sp_device::{

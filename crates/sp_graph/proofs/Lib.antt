@@ -7,3 +7,4 @@ pub mod SortedRows
 pub mod Starts
 pub mod Cuts
 pub mod LeftOut
+pub mod Means

@@ -1,5 +1,5 @@
 -- What contracts see of a graph, and what it keeps.
-use Rattle.std.specs.Prelude.{◌≤◌}
+use Rattle.std.specs.Prelude.{◌^◌, ◌<◌, ◌≤◌, length}
 use Rattle.sp_paths.specs.Paths.{Graph, IsGraph}
 use Rattle.sp_graph.specs.Order.{IsInOrder}
 use Rattle.sp_graph.specs.Longest.{IsLongest}
@@ -9,9 +9,10 @@ use Rattle.sp_graph.specs.declared.graph.Graph.TheInside.{Inside}
 abbrev pub graph_of : Inside → Graph
 graph_of g = record { n = g.n; arcs = g.arcs.items }
 
--- its arcs are in order, it knows where each row lies, and the greatest length
+-- its arcs are fewer than 2^32 and in order, it knows where each row lies, and the greatest length
 pub record IsStored (g : Inside) : Type 0 where
   pub some : 1 ≤ g.n
+  pub few : length g.arcs.items < 2 ^ 32
   pub graph : IsGraph (graph_of g)
   pub order : IsInOrder g.arcs.items
   pub index : IsIndex g.n g.arcs.items g.ends.items

@@ -5,9 +5,11 @@ ghost use Rattle.sp_paths.specs.Paths.{IsVertex, IsArc, IsGraph};
 ghost use Rattle.sp_paths.specs.Rows.{row_of};
 ghost use Rattle.sp_graph.specs.Order.{IsInOrder};
 ghost use Rattle.sp_graph.specs.Longest.{IsLongest};
+ghost use Rattle.sp_graph.specs.Mean.{mean_length};
 ghost use Rattle.sp_graph.specs.Index.{IsRowAt};
 
 use crate::index::greatest_length;
+use crate::mean::mean_length;
 use crate::ordering::put_in_order;
 use sp_paths::Arc;
 use std::alloc::{AllocError, Global};
@@ -56,6 +58,7 @@ impl Graph {
     /// order, `l log l` for one of `l` arcs. Arcs that come by rising tail stay where they are; others are copied, twice where
     /// their tails are far apart, and each list is given back as soon as its copy stands. It is refused where there is no
     /// memory for a second list and for `n + 1` places, and where there are 2^32 arcs or more.
+    #[tactic(auto, using(std::proofs::lemmas::List::Sorted::length_permutation))]
     pub fn from_arcs(alloc: Global, n: u32, arcs: Vec<Arc>) -> Result<Graph, AllocError>
         requires some { 1 ≤ n }
         requires arcs { All (IsArc n) arcs.items }
@@ -97,6 +100,15 @@ impl Graph {
         ensures { IsLongest self.now.arcs result }
     {
         self.longest
+    }
+
+    /// The mean length of an arc: the sum of all lengths divided by their number, rounded down; 1 where there is no arc. It
+    /// takes linear time.
+    pub fn mean_length(&self) -> u64
+        ensures mean { result ≡ mean_length self.now.arcs }
+        ensures some { 1 ≤ result }
+    {
+        mean_length(&self.arcs)
     }
 
     /// All arcs, in order.

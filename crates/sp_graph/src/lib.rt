@@ -4,6 +4,7 @@
 
 mod graph;
 mod index;
+mod mean;
 mod ordering;
 mod rows;
 mod words;

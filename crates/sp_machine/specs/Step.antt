@@ -179,6 +179,10 @@ item_at m actor = item_of m.rows actor (actor_of m actor).next
 abbrev pub place_of : {P : ℕ} → Machine P → ℕ → At P
 place_of m actor = at (item_at m actor) (actor_of m actor).loaded
 
+-- the vertex whose word the actor's next step looks at
+abbrev pub next_vertex : {P : ℕ} → Machine P → ℕ → ℕ
+next_vertex m actor = vertex_at (place_of m actor)
+
 -- the word that the actor's next step finds
 abbrev pub found_by : {P : ℕ} → Machine P → ℕ → Word
 found_by m actor = word_at m.words (vertex_at (place_of m actor))

@@ -4,7 +4,7 @@ ghost use Rattle.sp_word.specs.Word.{Unreached, is_layout};
 ghost use Rattle.sp_paths.specs.Paths.{word_at};
 ghost use Rattle.sp_machine.specs.Programme.{IsNumber, named_words};
 ghost use Rattle.sp_machine.specs.Run.{opening_machine};
-ghost use Rattle.sp_machine.specs.Step.{fresh_actor, vertex_at, words_after, machine_after};
+ghost use Rattle.sp_machine.specs.Step.{fresh_actor, vertex_at, next_vertex, words_after, machine_after};
 
 use crate::actor::Actor;
 use crate::effect::{Effect, Ended, effect_of};
@@ -105,6 +105,18 @@ impl<'a, const P: u32> Machine<'a, P> {
         ensures { result.items ≡ self.entry.words }
     {
         self.words
+    }
+
+    /// The vertex whose word the actor's next step looks at; 0 where it has no further item.
+    pub fn next_vertex(&self, actor: u32) -> u32
+        requires { IsNumber (length self.now.actors) actor }
+        ensures { result ≡ next_vertex self.now actor }
+    {
+        let index = (actor - 1) as usize;
+        let state = self.actors[index];
+        let item = self.programme.item(actor, state.next);
+        let item = item.as_ref();
+        place_of(item, state.loaded).vertex()
     }
 
     /// One step of an actor, by the cases of a step. An actor without a further item changes nothing but `last`.

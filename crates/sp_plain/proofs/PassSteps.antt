@@ -11,7 +11,7 @@ use Rattle.sp_word.specs.History.{Table}
 use Rattle.sp_paths.specs.declared.arc.Arc.{Arc}
 use Rattle.sp_paths.specs.Paths.{Graph, IsGraph, IsVertex, IsArc, HasArc, HasWalkBy, IsLawful, IsAtMost, IsClosed, IsTableFrom, word_at}
 use Rattle.sp_graph.specs.LeftOut.{network}
-use Rattle.sp_plain.specs.Passing.{IsLesserOffer, IsNoLesser, IsSmall, KeepsTables, rank}
+use Rattle.sp_plain.specs.Passing.{IsLesserOffer, IsNoLesser, IsSmall, KeepsTables, KeepsWalks, rank}
 use Rattle.sp_paths.proofs.Walks.{walk_by}
 use Rattle.sp_paths.proofs.Core.{pair_walk}
 use Rattle.sp_graph.proofs.LeftOut.{arc_more}
@@ -22,7 +22,7 @@ pair_of Unreached d e = absurd (cc)
 pair_of (Pair c p) d e = (p, ap (λ o. Pair (unwrap_or o 0) p) e)
 
 -- what is below a word is not above it
-not_at_most : (w : Word) (d p : ℕ) → IsBelow (Pair d p) w → IsAtMost w d p → ⊥
+pub not_at_most : (w : Word) (d p : ℕ) → IsBelow (Pair d p) w → IsAtMost w d p → ⊥
 not_at_most Unreached d p h k = k
 not_at_most (Pair e q) d p (inl h) (inl k) = omega arith
 not_at_most (Pair e q) d p (inl h) (inr k) = omega (arith, k.0)
@@ -63,7 +63,7 @@ word_same words head w h k = get_or-set_same words (head - 1) w Unreached (omega
 
 -- a word that an arc makes of a lawful one is lawful
 module _ (g : Graph) (gr : IsGraph g) (max : ℕ) (words : List Word) (size : length words ≡ g.n) (arc : Arc) (here : HasArc g arc.tail arc.head arc.len) (in' : IsArc g.n arc) (w : Word) (lesser : IsLesserOffer max (word_at words arc.tail) arc (word_at words arc.head) w) where
-  set_table : (s : ℕ) → IsVertex g.n s → IsTableFrom g s (word_at words) → IsTableFrom g s (word_at (set words (arc.head - 1) w))
+  pub set_table : (s : ℕ) → IsVertex g.n s → IsTableFrom g s (word_at words) → IsTableFrom g s (word_at (set words (arc.head - 1) w))
   set_table s at table = record { lawful = λ v h. lawful v h (cases_eq v arc.head); source = source (cases_eq s arc.head) }
     where
       by : HasWalkBy g s arc.head (lesser.0 + arc.len) arc.tail
@@ -82,6 +82,14 @@ module _ (g : Graph) (gr : IsGraph g) (max : ℕ) (words : List Word) (size : le
       source : (s ≡ arc.head) ⊎ (s ≡ arc.head → ⊥) → word_at (set words (arc.head - 1) w) s ≡ Pair 0 0
       source (inl same) = absurd (no_less (rw same at table.source))
       source (inr other) = word_other words arc.head s w in'.1.0 at.0 other ∙ table.source
+
+-- a word that an arc lowers is of a walk still
+pub walks_set : (max : ℕ) (words : List Word) (arc : Arc) → IsArc (length words) arc → (w : Word) → IsLesserOffer max (word_at words arc.tail) arc (word_at words arc.head) w → KeepsWalks max arc words (set words (arc.head - 1) w)
+walks_set max words arc in' w lesser g s fine at here t = record {
+  size = length-set words (arc.head - 1) w ∙ t.size;
+  small = subst (λ n. All (IsSmall n max) (set words (arc.head - 1) w)) (sym (length-set words (arc.head - 1) w)) (All-set (IsSmall (length words) max) words (arc.head - 1) w (rw lesser.3 (lesser.2, in'.0.1)) t.small);
+  table = set_table g fine max words t.size arc here (subst (λ n. IsArc n arc) t.size in') w lesser s at t.table;
+}
 
 -- what holds after i arcs of a pass
 pub record IsPassing (n max : ℕ) (arcs : List Arc) (i : ℕ) (initial words : List Word) (changed : Bool) : Type 0 where

@@ -2,7 +2,7 @@
 use Rattle.std.specs.Prelude.{◌≡◌, ℕ, replicate, ◌+◌, ◌-◌, ◌*◌, ◌≤◌, List, length, slice_set, All, sum_by, Option, Some, None}
 use Rattle.sp_word.specs.Word.{Word, Unreached, Pair, IsBelow, dist_of}
 use Rattle.sp_paths.specs.declared.arc.Arc.{Arc}
-use Rattle.sp_paths.specs.Paths.{Graph, IsVertex, IsTree, IsFar, IsTableFrom, IsClosed, word_at}
+use Rattle.sp_paths.specs.Paths.{Graph, IsGraph, IsVertex, HasArc, IsTree, IsFar, IsTableFrom, IsClosed, word_at}
 use Rattle.sp_graph.specs.LeftOut.{network}
 use Rattle.sp_paths.specs.Theorems.{IsFinished}
 
@@ -45,6 +45,16 @@ total_rank max words = sum_by (rank (length words) max) words
 -- (0, 0) at the source, and unreached elsewhere
 abbrev pub first_words : (n s : ℕ) → List Word
 first_words n s = slice_set (replicate n Unreached) (s - 1) (Pair 0 0)
+
+-- a table of n words within max: walks from s alone, and the source's own pair
+pub record IsTableOfWalks (g : Graph) (s max : ℕ) (words : List Word) : Type 0 where
+  pub size : length words ≡ g.n
+  pub small : IsSmallTable max words
+  pub table : IsTableFrom g s (word_at words)
+
+-- such a table stays one, in each graph that has the arc
+abbrev pub KeepsWalks : (max : ℕ) → Arc → List Word → List Word → Type 0
+KeepsWalks max arc before after = (g : Graph) (s : ℕ) → IsGraph g → IsVertex g.n s → HasArc g arc.tail arc.head arc.len → IsTableOfWalks g s max before → IsTableOfWalks g s max after
 
 -- a table of n words in which every arc is relaxed
 pub record IsFinishedTable (g : Graph) (s max : ℕ) (words : List Word) : Type 0 where

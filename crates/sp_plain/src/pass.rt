@@ -11,7 +11,7 @@ use sp_word::Word;
 use std::alloc::{AllocError, Global};
 
 // The word that an arc from a vertex with the word `from` puts in place of the head's, if there is one.
-fn offer<const P: u32>(from: Word<P>, arc: Arc, found: Word<P>) -> Option<Word<P>>
+pub fn offer<const P: u32>(from: Word<P>, arc: Arc, found: Word<P>) -> Option<Word<P>>
     requires layout { is_layout P ≡ true }
     requires tail { arc.tail ≤ max_pred P }
     ensures some { IfSome result
@@ -58,7 +58,7 @@ fn pass<const P: u32>(words: &mut Vec<Word<P>>, arcs: &[Arc]) -> bool
 }
 
 // Relaxes the arcs until no word changes.
-fn relax_all<const P: u32>(words: &mut Vec<Word<P>>, arcs: &[Arc])
+pub fn relax_all<const P: u32>(words: &mut Vec<Word<P>>, arcs: &[Arc])
     requires layout { is_layout P ≡ true }
     requires room { vec_len words.old ≤ max_pred P }
     requires arcs { All (IsArc (vec_len words.old)) arcs.now }
@@ -75,7 +75,11 @@ fn relax_all<const P: u32>(words: &mut Vec<Word<P>>, arcs: &[Arc])
 }
 
 // The table before any arc is relaxed.
-fn first_table<const P: u32>(alloc: Global, n: u32, source: u32) -> Result<Vec<Word<P>>, AllocError>
+pub fn first_table<const P: u32>(
+    alloc: Global,
+    n: u32,
+    source: u32,
+) -> Result<Vec<Word<P>>, AllocError>
     requires layout { is_layout P ≡ true }
     requires source { IsVertex n source }
     ensures { IfOk result (λ words. words.items ≡ first_words n source) }

@@ -2,11 +2,11 @@
 ghost use Rattle.std.specs.Prelude.{◌≡◌, ℕ, ◌≤◌, true, vec_len, IfOk};
 ghost use Rattle.sp_word.specs.Word.{is_layout, max_dist, max_pred};
 ghost use Rattle.sp_paths.specs.Paths.{IsVertex};
-ghost use Rattle.sp_plain.specs.Passing.{IsFinishedTable};
+ghost use Rattle.sp_plain.specs.Passing.{IsFinishedTable, IsTableOfWalks};
 ghost use Rattle.sp_plain.specs.Answer.{IsAnswer, ArePredsWithin};
 
 use crate::far::first_too_far;
-use crate::pass::finished_table;
+use crate::pass::{finished_table, relax_all};
 use sp_graph::Graph;
 use sp_word::Word;
 use std::alloc::{AllocError, Global};
@@ -36,6 +36,19 @@ pub fn plain_tree<const P: u32>(
 {
     let words = finished_table(alloc, graph, source)?;
     Ok(answer_of(graph, words))
+}
+
+/// What is to be told of the source once every arc is relaxed, in a table that whatever program has lowered before.
+pub fn finish_table<const P: u32>(graph: &Graph, source: u32, mut words: Vec<Word<P>>) -> Answer<P>
+    requires layout { is_layout P ≡ true }
+    requires source { IsVertex graph.now.n source }
+    requires room { graph.now.n ≤ max_pred P }
+    requires table { IsTableOfWalks graph.now source (max_dist P) words.items }
+    ensures answer { IsAnswer graph.now source (max_dist P) result }
+    ensures predecessors { ArePredsWithin graph.now.n result }
+{
+    relax_all(&mut words, graph.arcs());
+    answer_of(graph, words)
 }
 
 // What is told by the words of a table in which every arc is relaxed.

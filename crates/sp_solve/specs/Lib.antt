@@ -1,3 +1,4 @@
 pub mod Answer
+pub mod TreeWords
 pub mod WholeRun
 pub mod Reach

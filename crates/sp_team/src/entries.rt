@@ -1,11 +1,5 @@
 //! What waits to be relaxed.
-
-/// A vertex, and the distance at which its arcs are to be relaxed.
-#[derive(Clone, Copy, Debug)]
-pub(crate) struct Entry {
-    pub vertex: u32,
-    pub dist: u64,
-}
+use sp_bucket::Entry;
 
 /// Entries of a bucket that a worker shares.
 #[derive(Drop)]

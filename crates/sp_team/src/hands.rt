@@ -1,9 +1,9 @@
 //! What a worker has in hand, and how it finds more.
 
-use crate::bins::Bins;
 use crate::board::Board;
-use crate::entries::{Block, Entry};
+use crate::entries::Block;
 use crossbeam_deque::{Steal, Stealer, Worker};
+use sp_bucket::{Bins, Entry};
 use std::alloc::{AllocError, Global};
 use std::hint::spin_loop;
 use std::sync::Wait;

@@ -4,7 +4,6 @@
 //! all arcs are relaxed is seen afterwards, in a copy of the words.
 #![tactic(auto)]
 
-mod bins;
 mod board;
 mod entries;
 mod hands;
@@ -16,6 +15,3 @@ mod team;
 pub use scan::{Scan, is_relaxed_up_to, open_tails, scan_arcs};
 pub use search::Search;
 pub use team::{Relaxed, Team, relax_all};
-
-#[cfg(test)]
-mod tests;

@@ -7,11 +7,12 @@ ghost use Rattle.sp_team.specs.Law.{IsReady};
 ghost use Rattle.sp_team.specs.Later.{IsLater};
 
 use crate::board::Board;
-use crate::entries::{Block, Entry};
+use crate::entries::Block;
 use crate::hands::Hands;
 use crate::relax::{read_dist, relax, warm};
 use crate::search::{Horizon, Search};
 use crossbeam_deque::{Stealer, Worker};
+use sp_bucket::Entry;
 use sp_graph::Graph;
 use sp_offer::{Caller, Lawful, OfferTable};
 use sp_word::{Delta, Workers};

@@ -1,15 +1,19 @@
 //! The program `spt`: its commands, over the files and the streams of the system.
 #![tactic(auto)]
 
-use either::Either;
-use sp_cli::{Inputs, run_command};
-use sp_device::{OfRead, OfWrite, Write};
+mod disk;
+mod noted;
+
+use disk::Disk;
+use noted::{Noted, Notes};
+use sp_cli::run_command;
+use sp_device::{OfWrite, Write};
 use std::io::Stdin;
 use std::process::ExitCode;
 use std::rt::{Env, Files};
 use std::sync::Wait;
 use std::thread::Threads;
-use std::{env, fs, io};
+use std::{env, io};
 
 // More of the main thread's stack than any command takes, in bytes.
 const STACK: usize = 500_000;
@@ -23,28 +27,11 @@ fn take_stack(one: usize, other: usize) -> bool {
     room[other % STACK] == 1
 }
 
-/// The files of the system, and standard input, whose path is `-`.
-#[derive(Clone, Copy)]
-struct Disk<'a, R> {
-    rt: &'a R,
-    stdin: Stdin,
-}
-
-impl<R: Files> Inputs for Disk<'_, R> {
-    type File = OfRead<Either<R::File, Stdin>>;
-
-    fn open_input(&self, path: &str) -> Option<Self::File> {
-        Some(OfRead::new(match path {
-            "-" => Either::Right(self.stdin),
-            _ => Either::Left(fs::open(self.rt, path).ok()?),
-        }))
-    }
-}
-
 /// Runs the command that the program's arguments order, and answers the exit status.
-fn run<R: AllocGlobal + Env + Files + Threads + Wait + Sync, W: Write, E: Write>(
+fn run<R: AllocGlobal + Env + Eprint + Files + Threads + Wait + Sync, W: Write, E: Write>(
     rt: &R,
     stdin: Stdin,
+    notes: &Notes,
     out: &mut W,
     err: &mut E,
 ) -> io::Result<u8> {
@@ -54,13 +41,15 @@ fn run<R: AllocGlobal + Env + Files + Threads + Wait + Sync, W: Write, E: Write>
     if !take_stack(arguments.len(), words.len()) {
         return Err(io::ErrorKind::OutOfMemory.into());
     }
-    Ok(run_command(rt, alloc, &words, &Disk { rt, stdin }, out, err))
+    let disk = Disk { rt, stdin, notes };
+    Ok(run_command(rt, alloc, &words, &disk, out, err))
 }
 
 fn main(rt: HostRuntime) -> ExitCode {
-    let mut out = OfWrite::new(rt.stdout());
+    let notes = Notes::new();
+    let mut out = OfWrite::new(Noted::new(rt.stdout(), &notes));
     let mut err = OfWrite::new(rt.stderr());
-    match run(&rt, rt.stdin(), &mut out, &mut err) {
+    match run(&rt, rt.stdin(), &notes, &mut out, &mut err) {
         Ok(status) => ExitCode::from(status),
         Err(error) if error.kind() == io::ErrorKind::OutOfMemory => {
             let _ = eprintln!(rt; "spt: memory");

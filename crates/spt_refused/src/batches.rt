@@ -2,7 +2,7 @@
 use crate::report::Ending;
 use crate::sample::Sample;
 use samples::FROM_ONE;
-use sp_batch::{BatchError, Summary, run_batch, run_pairs};
+use sp_batch::{BatchError, BucketWidth, Summary, run_batch, run_pairs};
 use sp_dimacs::{OfRead, Write};
 use sp_text::Kind;
 use sp_word::Workers;
@@ -47,8 +47,8 @@ pub fn call_run_batch<R: AllocGlobal + Print + Threads + Wait + Sync, W: Write>(
 ) -> io::Result<Ending> {
     let mut gr = OfRead::new(sample.gr().as_bytes());
     let mut ss = OfRead::new(FROM_ONE.as_bytes());
-    let delta = sample.delta();
-    let answer = run_batch::<28, R, _, _, _>(rt, rt.alloc(), &mut gr, &mut ss, out, delta, workers);
+    let width = BucketWidth::Of(sample.delta());
+    let answer = run_batch::<28, R, _, _, _>(rt, rt.alloc(), &mut gr, &mut ss, out, width, workers);
     tell_batch(rt, answer)
 }
 
@@ -61,14 +61,14 @@ pub fn call_run_pairs<R: AllocGlobal + Print + Threads + Wait + Sync, W: Write>(
 ) -> io::Result<Ending> {
     let mut gr = OfRead::new(sample.gr().as_bytes());
     let mut pairs = OfRead::new(sample.pairs().as_bytes());
-    let delta = sample.delta();
+    let width = BucketWidth::MeanLength;
     let answer = run_pairs::<28, R, _, _, _>(
         rt,
         rt.alloc(),
         &mut gr,
         &mut pairs,
         out,
-        delta,
+        width,
         workers,
     );
     tell_batch(rt, answer)

@@ -85,6 +85,28 @@ fn a_graph_without_arcs(rt: HostRuntime) -> Result<(), Fail> {
 }
 
 #[test]
+fn mean_lengths(rt: HostRuntime) -> Result<(), Fail> {
+    let alloc = rt.alloc();
+    assert_eq!(rt; graph_of(alloc, 1, &[])?.mean_length(), 1);
+    assert_eq!(rt;
+        graph_of(alloc, 2, &[(2, 1, 7), (1, 2, 2), (1, 2, 2)])?.mean_length(),
+        3
+    );
+    assert_eq!(rt;
+        graph_of(alloc, 2, &[(1, 2, 1), (1, 2, 1), (2, 1, 3)])?.mean_length(),
+        1
+    );
+    let longest = u32::MAX;
+    let graph = graph_of(
+        alloc,
+        2,
+        &[(1, 2, longest), (2, 1, longest), (2, 2, longest - 1)],
+    )?;
+    assert_eq!(rt; graph.mean_length(), 4_294_967_294);
+    Ok(())
+}
+
+#[test]
 fn every_arc_is_heavy_or_every_one_light(rt: HostRuntime) -> Result<(), Fail> {
     let graph = graph_of(rt.alloc(), 2, &[(2, 1, 1), (2, 1, 4294967295)])?;
     let rows = Rows::split(rt.alloc(), &graph, 0)?;

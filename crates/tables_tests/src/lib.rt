@@ -2,6 +2,8 @@
 #![tactic(auto)]
 
 #[cfg(test)]
+mod bins;
+#[cfg(test)]
 mod bucket;
 #[cfg(test)]
 mod cert;
@@ -11,5 +13,7 @@ mod graph;
 mod offer;
 #[cfg(test)]
 mod plain;
+#[cfg(test)]
+mod serial;
 #[cfg(test)]
 mod word;

@@ -2,7 +2,7 @@
 ghost use Rattle.std.specs.Prelude.{◌≡◌, true};
 ghost use Rattle.sp_word.specs.Word.{is_layout};
 
-use super::compare::{mean, plain};
+use super::compare::plain;
 use super::{WIDE, WORKERS, crew, graph_of, width};
 use samples::{DIAMOND, Triple, long_path};
 use sp_graph::Graph;
@@ -157,7 +157,7 @@ fn compare(
     let mut all = true;
     for workers in [1u32, 2] {
         let target = random.up_to(n);
-        let told = pair::<28>(rt, &graph, mean(&graph), workers, (source, target));
+        let told = pair::<28>(rt, &graph, graph.mean_length(), workers, (source, target));
         all = all && told == plain_pair(&answer, target);
     }
     Ok(all)

@@ -3,7 +3,7 @@ ghost use Rattle.std.specs.Prelude.{◌≡◌, true, All, IfOk};
 ghost use Rattle.sp_word.specs.Word.{is_layout};
 ghost use Rattle.sp_paths.specs.Paths.{IsVertex};
 
-use super::compare::{mean, plain};
+use super::compare::plain;
 use super::{WORKERS, crew, graph_of, width};
 use samples::{DIAMOND, Triple, long_path};
 use sp_graph::Graph;
@@ -152,7 +152,7 @@ fn compare(
     }
     let mut all = true;
     for workers in [1u32, 4] {
-        let answers = told::<28>(rt, &graph, mean(&graph), workers, source, &targets)?;
+        let answers = told::<28>(rt, &graph, graph.mean_length(), workers, source, &targets)?;
         all = all
             && answers.len() == want.len()
             && answers

@@ -3,7 +3,7 @@ ghost use Rattle.std.specs.Prelude.{◌≤◌, length};
 
 use super::graphs::{ALONE, DIAMOND, ONE, TWO, TWO_TEXT};
 use super::{crew, gr, run_into, summary};
-use crate::{BatchError, Summary, run_batch};
+use crate::{BatchError, BucketWidth, Summary, run_batch};
 use sp_dimacs::{Kind, UpTo, UpToWriter};
 use sp_word::{Delta, Workers};
 use std::alloc::Global;
@@ -43,7 +43,7 @@ fn writer_of_a_byte_a_call(rt: HostRuntime) -> Result<(), Fail> {
         &mut UpTo::whole(DIAMOND),
         &mut UpTo::whole(TWO),
         &mut out,
-        Delta::new(1).unwrap(),
+        BucketWidth::Of(Delta::new(1).unwrap()),
         crew(&rt, 64),
     );
     assert_eq!(rt; answer, summary(2, 0, 68));
@@ -66,7 +66,7 @@ fn failing<R: Threads + Wait + Sync + Abort>(
         &mut UpTo::failing(text),
         &mut UpTo::whole(ONE),
         &mut out,
-        Delta::new(1).unwrap(),
+        BucketWidth::Of(Delta::new(1).unwrap()),
         Workers::one(),
     );
     assert_eq!(rt; out.taken().len(), 0);

@@ -1,14 +1,13 @@
 //! `spt pairs`: for each pair of a list how far its target is from its source.
+use super::reading::Watched;
 use super::running::Running;
-use super::{Command, Words, file};
-use crate::faults::{Fault, FileKind, Status};
-use crate::help::{GRAPH_FILE, after_help};
-use crate::inputs::Inputs;
-use crate::layout::Run;
-use clap::ArgMatches;
-use sp_batch::run_pairs;
+use clap::{ArgMatches, Error};
+use sp_batch::{Listener, Progress, Settings, run_pairs_told};
+use sp_command::{
+    Command, Fault, FileKind, GRAPH_FILE, Inputs, Run, Status, Words, after_help, file,
+};
 use sp_device::Write;
-use std::alloc::{AllocError, Global};
+use std::alloc::Global;
 use std::sync::Wait;
 use std::thread::Threads;
 
@@ -96,11 +95,11 @@ Others are
         Running::add_to(command, alloc, WORKERS_LONG)
     }
 
-    fn read(_alloc: Global, given: &ArgMatches<'a>) -> Result<Option<Self>, AllocError> {
+    fn read(alloc: Global, given: &ArgMatches<'a>) -> Result<Option<Self>, Error> {
         let (Some(graph), Some(pairs)) = (given.get_str("GR"), given.get_str("PAIRS")) else {
             return Ok(None);
         };
-        let Some(running) = Running::read(given) else {
+        let Some(running) = Running::read(alloc, given)? else {
             return Ok(None);
         };
         Ok(Some(Pairs {
@@ -108,6 +107,14 @@ Others are
             pairs,
             running,
         }))
+    }
+
+    fn path_of(&self, file: FileKind) -> Option<&'a str> {
+        match file {
+            FileKind::Graph => Some(self.graph),
+            FileKind::Pairs => Some(self.pairs),
+            _ => None,
+        }
     }
 }
 
@@ -120,10 +127,26 @@ impl<const P: u32> Run<P> for Pairs<'_> {
         files: &F,
         out: &mut W,
     ) -> Result<Status, Fault> {
-        let (delta, workers) = self.running.team::<P>()?;
-        let (mut gr, mut pairs) = FileKind::Pairs.open_with_graph(files, self.graph, self.pairs)?;
-        self.running.end_of(run_pairs::<P, R, _, _, W>(
-            rt, alloc, &mut gr, &mut pairs, out, delta, workers,
-        ))
+        let (width, workers) = self.running.team::<P>()?;
+        let teller = self.running.teller(files);
+        let settings = Settings {
+            width,
+            workers,
+            listener: &teller,
+        };
+        let (gr, pairs) = FileKind::Pairs.open_with_graph(files, self.graph, self.pairs)?;
+        let mut gr = Watched::new(gr, FileKind::Graph, &teller);
+        let mut pairs = Watched::new(pairs, FileKind::Pairs, &teller);
+        let answer = run_pairs_told::<P, R, _, _, W, _>(
+            rt, alloc, &mut gr, &mut pairs, out, &settings,
+        );
+        if let Ok(written) = answer {
+            let count = written.sources as usize;
+            teller.hear(Progress::Pairs {
+                found: count,
+                count,
+            });
+        }
+        self.running.end_of(answer)
     }
 }

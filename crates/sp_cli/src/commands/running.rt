@@ -3,32 +3,27 @@ ghost use Rattle.std.specs.Prelude.{◌≡◌, true, Ok, Err, IfErr, MatchResult
 ghost use Rattle.sp_word.specs.Word.{is_layout};
 ghost use Rattle.sp_word.specs.Ranges.{IsCrew};
 ghost use Rattle.sp_cli.specs.Ends.{end_of, fault_of};
-ghost use Rattle.sp_cli.specs.declared.faults.Fault.TheVariants.{DeltaOutOfRange};
+ghost use Rattle.sp_command.specs.declared.faults.Fault.TheVariants.{DeltaOutOfRange};
 
-use super::Words;
-use crate::faults::{Fault, FileKind, Status};
-use clap::{Arg, ArgAction, ArgMatches, Command, value_parser};
-use sp_batch::{BatchError, Summary};
-use sp_word::{Delta, Workers};
+use super::width::Width;
+use clap::{Arg, ArgAction, ArgMatches, Command, Error, value_parser};
+use sp_batch::{BatchError, BucketWidth, Listener, Progress, Summary};
+use sp_command::{Fault, FileKind, Inputs, Status, Words};
+use sp_word::Workers;
 use std::alloc::Global;
-
-// The greatest distance of any word.
-const MAX_DELTA: i64 = 17_592_186_044_414;
-
-const DELTA_LONG: &str = "\
-The width of a bucket of tentative distances, from 1 to the greatest distance of a word. The mean
-length of an arc is a good choice, and so are a third of it and thirty times as much. Any delta gives
-the same bytes";
+use std::fmt::Display;
 
 /// How runs are made.
 #[derive(Drop)]
 pub struct Running {
     // The width of a bucket.
-    delta: u64,
+    width: Width,
     // How many threads may work, the main thread counted.
     workers: u32,
     // Whether a run is done where a vertex is too far.
     far_ok: bool,
+    // Whether it is told how far a run is.
+    progress: bool,
     ghost crew: { IsCrew workers },
 }
 
@@ -36,19 +31,10 @@ impl Running {
     /// Adds its options to those of a command, with what there is to know of the number of threads.
     pub fn add_to<'a>(command: Command<'a>, alloc: Global, workers: &'a str) -> Words<'a> {
         command
-            .arg(Self::delta(alloc))?
+            .arg(Width::option(alloc))?
             .arg(Self::workers(alloc, workers))?
-            .arg(Self::far_ok(alloc))
-    }
-
-    fn delta<'a>(alloc: Global) -> Arg<'a> {
-        Arg::new(alloc, "delta")
-            .long("delta")
-            .value_name("D")
-            .value_parser(value_parser!(u64).range(1..=MAX_DELTA))
-            .required(true)
-            .help("The width of a bucket of tentative distances")
-            .long_help(DELTA_LONG)
+            .arg(Self::far_ok(alloc))?
+            .arg(Self::progress(alloc))
     }
 
     fn workers<'a>(alloc: Global, about: &'a str) -> Arg<'a> {
@@ -68,29 +54,50 @@ impl Running {
             .help("End with exit status 0 where a vertex is too far")
     }
 
+    fn progress<'a>(alloc: Global) -> Arg<'a> {
+        Arg::new(alloc, "progress")
+            .long("progress")
+            .action(ArgAction::SetTrue)
+            .help("Tell on standard error how far the run is")
+    }
+
     /// Reads them.
-    pub fn read(given: &ArgMatches<'_>) -> Option<Self> {
-        let workers: u32 = given.get_one("workers")?;
-        let _ = Workers::new(workers)?;
-        Some(Running {
-            delta: given.get_one("delta")?,
+    pub fn read(alloc: Global, given: &ArgMatches<'_>) -> Result<Option<Self>, Error> {
+        let (Some(delta), Some(workers)) = (given.get_str(Width::ID), given.get_one("workers"))
+        else {
+            return Ok(None);
+        };
+        if Workers::new(workers).is_none() {
+            return Ok(None);
+        }
+        Ok(Some(Running {
+            width: Width::read(alloc, delta)?,
             workers,
             far_ok: given.get_flag("far-ok"),
-        })
+            progress: given.get_flag("progress"),
+        }))
     }
 
     /// The width and the number of threads, if words with `P` bits of predecessor have such a distance.
-    pub fn team<const P: u32>(&self) -> Result<(Delta<P>, Workers), Fault>
+    pub fn team<const P: u32>(&self) -> Result<(BucketWidth<P>, Workers), Fault>
         requires { is_layout P ≡ true }
         ensures { IfErr result (λ fault. fault ≡ DeltaOutOfRange) }
     {
-        let Some(delta) = Delta::<P>::new(self.delta) else {
+        let Some(width) = self.width.bucket::<P>() else {
             return Err(Fault::DeltaOutOfRange);
         };
         let Some(workers) = Workers::new(self.workers) else {
             unreachable!()
         };
-        Ok((delta, workers))
+        Ok((width, workers))
+    }
+
+    /// Tells how far a run is, where that was asked for.
+    pub fn teller<'f, F: Inputs>(&self, files: &'f F) -> Teller<'f, F> {
+        Teller {
+            files,
+            is_asked: self.progress,
+        }
     }
 
     /// How a run ends that has answered so.
@@ -102,6 +109,36 @@ impl Running {
             Ok(summary) => Ok(status_after(summary, self.far_ok)),
             Err(error) => Err(fault_of(error)),
         }
+    }
+}
+
+/// Tells by the files of a command line how far a run is.
+pub struct Teller<'f, F> {
+    files: &'f F,
+    is_asked: bool,
+}
+
+impl<F> Drop for Teller<'_, F> {
+    fn drop(self) {
+        let Teller {
+            files: _,
+            is_asked: _,
+        } = self;
+    }
+}
+
+impl<F: Inputs> Teller<'_, F> {
+    /// Tells a line, where that was asked for.
+    pub fn tell<D: Display>(&self, line: &D) {
+        if self.is_asked {
+            self.files.tell(line);
+        }
+    }
+}
+
+impl<F: Inputs> Listener for Teller<'_, F> {
+    fn hear(&self, progress: Progress) {
+        self.tell(&progress);
     }
 }
 

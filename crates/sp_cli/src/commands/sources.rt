@@ -2,10 +2,8 @@
 ghost use Rattle.std.specs.Prelude.{◌≡◌, ◌≤◌, ◌-◌, true, take, drop, IfSome};
 ghost use Rattle.sp_word.specs.Word.{is_layout};
 
-use super::Words;
-use crate::faults::{Fault, FileKind};
-use crate::inputs::Inputs;
 use clap::{Arg, ArgAction, ArgMatches, Command, value_parser};
+use sp_command::{Fault, FileKind, Inputs, Words};
 use sp_device::Read;
 use sp_dimacs::{read_gr, read_ss};
 use sp_text::DimacsError;
@@ -68,6 +66,14 @@ impl<'a> Sources<'a> {
             sources.push(source)?;
         }
         Ok(Some(Sources::Given(sources)))
+    }
+
+    /// The path of the file.
+    pub fn path(&self) -> Option<&'a str> {
+        match self {
+            Sources::File(path, _) => Some(path),
+            Sources::Given(_) => None,
+        }
     }
 
     /// Opens the graph, and makes the text of a file of these sources.

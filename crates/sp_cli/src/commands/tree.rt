@@ -1,15 +1,14 @@
 //! `spt tree`: for each source of a list its shortest-path tree.
+use super::reading::Watched;
 use super::running::Running;
 use super::sources::Sources;
-use super::{Command, Words, file};
-use crate::faults::{Fault, FileKind, Status};
-use crate::help::{GRAPH_FILE, after_help};
-use crate::inputs::Inputs;
-use crate::layout::Run;
-use clap::ArgMatches;
-use sp_batch::run_batch;
+use clap::{ArgMatches, Error};
+use sp_batch::{Listener, Progress, Settings, run_batch_told};
+use sp_command::{
+    Command, Fault, FileKind, GRAPH_FILE, Inputs, Run, Status, Words, after_help, file,
+};
 use sp_device::{OfRead, Write};
-use std::alloc::{AllocError, Global};
+use std::alloc::Global;
 use std::sync::Wait;
 use std::thread::Threads;
 
@@ -111,8 +110,9 @@ Others are
         Running::add_to(Sources::add_to(command, alloc)?, alloc, WORKERS_LONG)
     }
 
-    fn read(alloc: Global, given: &ArgMatches<'a>) -> Result<Option<Self>, AllocError> {
-        let (Some(graph), Some(running)) = (given.get_str("GR"), Running::read(given)) else {
+    fn read(alloc: Global, given: &ArgMatches<'a>) -> Result<Option<Self>, Error> {
+        let (Some(graph), Some(running)) = (given.get_str("GR"), Running::read(alloc, given)?)
+        else {
             return Ok(None);
         };
         let Some(sources) = Sources::read(alloc, given)? else {
@@ -123,6 +123,14 @@ Others are
             sources,
             running,
         }))
+    }
+
+    fn path_of(&self, file: FileKind) -> Option<&'a str> {
+        match file {
+            FileKind::Graph => Some(self.graph),
+            FileKind::Sources => self.sources.path(),
+            _ => None,
+        }
     }
 }
 
@@ -135,15 +143,30 @@ impl<const P: u32> Run<P> for Tree<'_> {
         files: &F,
         out: &mut W,
     ) -> Result<Status, Fault> {
-        let (delta, workers) = self.running.team::<P>()?;
-        let answer = if let Sources::File(path, None) = &self.sources {
-            let (mut gr, mut ss) = FileKind::Sources.open_with_graph(files, self.graph, path)?;
-            run_batch::<P, R, _, _, W>(rt, alloc, &mut gr, &mut ss, out, delta, workers)
-        } else {
-            let (mut gr, text) = self.sources.open::<P, F>(alloc, files, self.graph)?;
-            let mut ss = OfRead::new(text.as_bytes());
-            run_batch::<P, R, _, _, W>(rt, alloc, &mut gr, &mut ss, out, delta, workers)
+        let (width, workers) = self.running.team::<P>()?;
+        let teller = self.running.teller(files);
+        let settings = Settings {
+            width,
+            workers,
+            listener: &teller,
         };
+        let answer = if let Sources::File(path, None) = &self.sources {
+            let (gr, ss) = FileKind::Sources.open_with_graph(files, self.graph, path)?;
+            let mut gr = Watched::new(gr, FileKind::Graph, &teller);
+            let mut ss = Watched::new(ss, FileKind::Sources, &teller);
+            run_batch_told::<P, R, _, _, W, _>(rt, alloc, &mut gr, &mut ss, out, &settings)
+        } else {
+            let (gr, text) = self.sources.open::<P, F>(alloc, files, self.graph)?;
+            let mut gr = Watched::new(gr, FileKind::Graph, &teller);
+            let mut ss = OfRead::new(text.as_bytes());
+            run_batch_told::<P, R, _, _, W, _>(rt, alloc, &mut gr, &mut ss, out, &settings)
+        };
+        if let Ok(written) = answer {
+            teller.hear(Progress::Sources {
+                written,
+                count: written.sources as usize,
+            });
+        }
         self.running.end_of(answer)
     }
 }

@@ -1,8 +1,7 @@
 //! The lines of faults, and their statuses.
 use super::AMPLE;
-use crate::faults::{Fault, FileKind};
-use crate::text::print;
 use crate::words::answer_to;
+use sp_command::{Fault, FileKind, print};
 use sp_device::{UpToWriter, WriteFault};
 use sp_text::{DimacsError, Kind};
 use std::alloc::{AllocError, Global};
@@ -51,6 +50,13 @@ fn others(rt: HostRuntime) {
         Fault::from(WriteFault),
         6,
         "spt: write failed\n",
+    );
+    expect(
+        &rt,
+        rt.alloc(),
+        Fault::TooManySteps,
+        2,
+        "spt: replay: more than 60 steps\n",
     );
     match answer_to(clap::Error::from(AllocError)) {
         Ok(_) => panic!(rt; "no order stands there"),

@@ -113,6 +113,11 @@ fn refused_pairs(rt: HostRuntime) -> Result<(), Fail> {
 #[test]
 fn no_option_but_delta(rt: HostRuntime) -> Result<(), Fail> {
     let files = [("g.gr", whole(DIAMOND)), ("g.pairs", whole(THREE))];
-    let line = "spt pairs g.gr g.pairs --delta=3";
-    tells(&rt, rt.alloc(), line, line, &files, 0, THREE_TEXT)
+    for line in [
+        "spt pairs g.gr g.pairs --delta=3",
+        "spt pairs g.gr g.pairs --delta mean",
+    ] {
+        tells(&rt, rt.alloc(), line, line, &files, 0, THREE_TEXT)?;
+    }
+    Ok(())
 }

@@ -1,5 +1,6 @@
 //! `spt replay` over memory.
-use super::{Stored, refuses, tells, whole};
+use super::{AMPLE, Stored, expect, refuses, run_into, tells, whole};
+use std::str::from_utf8;
 use std::test::Fail;
 
 pub const LOST_EXCHANGE: &str = "p rep 1 2\no 1 1 5 3\no 2 1 5 2\ns 1\ns 2\ns 1\ns 2\ns 2\n";
@@ -230,4 +231,60 @@ fn too_many(rt: HostRuntime) -> Result<(), Fail> {
         2,
         "replay: line 1048578: 6 TooMany",
     )
+}
+
+// `tests/picture.py` has more of pictures.
+#[test]
+fn picture(rt: HostRuntime) -> Result<(), Fail> {
+    let files = [("f.rep", whole(LOST_EXCHANGE))];
+    for line in [
+        "spt replay f.rep --svg",
+        "spt replay --svg --pred-bits 20 f.rep",
+    ] {
+        let ended = run_into(&rt, rt.alloc(), (AMPLE, AMPLE), line, &files)?;
+        assert_eq!(rt; ended.status, 0);
+        assert_eq!(rt; ended.err.taken().len(), 0);
+        let text = from_utf8(ended.out.taken())?;
+        assert!(rt; text.starts_with("<svg "));
+        assert!(rt; text.ends_with("</svg>\n"));
+        for part in [
+            "<title>steps 1 to 3: o 1 1 5 3 shorter</title>",
+            "<title>step 4: actor 2 loses its exchange at word 1</title>",
+            ">o 2 1 5 2 smaller</text>",
+        ] {
+            assert!(rt; text.contains(part), "no {part}");
+        }
+    }
+    Ok(())
+}
+
+// Where the device fails, a beginning of the picture stands.
+#[test]
+fn cut_picture(rt: HostRuntime) -> Result<(), Fail> {
+    let files = [("f.rep", whole(LOST_EXCHANGE))];
+    let ended = run_into(
+        &rt,
+        rt.alloc(),
+        (5, AMPLE),
+        "spt replay f.rep --svg",
+        &files,
+    )?;
+    expect(&rt, "five bytes", ended, 6, "<svg ", "spt: write failed\n");
+    Ok(())
+}
+
+#[test]
+fn steps_of_a_picture(rt: HostRuntime) -> Result<(), Fail> {
+    let alloc = rt.alloc();
+    let mut text = String::from_str(alloc, "p rep 1 1\n")?;
+    for _ in 0..60 {
+        text.push_str("s 1\n")?;
+    }
+    let line = "spt replay f.rep --svg";
+    let files = [("f.rep", whole(text.as_str()))];
+    let ended = run_into(&rt, alloc, (AMPLE, AMPLE), line, &files)?;
+    assert_eq!(rt; ended.status, 0);
+    text.push_str("s 1\n")?;
+    let files = [("f.rep", whole(text.as_str()))];
+    refuses(&rt, alloc, line, &files, 2, "replay: more than 60 steps")
 }

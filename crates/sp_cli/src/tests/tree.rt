@@ -155,6 +155,8 @@ fn options(rt: HostRuntime) -> Result<(), Fail> {
         "spt tree g.gr g.ss --delta 1099511627774 --pred-bits 24",
         "spt tree g.gr g.ss --delta 68719476734 --pred-bits 28",
         "spt tree g.gr g.ss --delta 4294967294 --pred-bits 32",
+        "spt tree g.gr g.ss --delta mean",
+        "spt tree g.gr g.ss --delta=mean --pred-bits 32 --workers 2",
     ] {
         tells(&rt, rt.alloc(), line, line, &files, 0, DIAMOND_TREE)?;
     }

@@ -86,6 +86,38 @@ For more information, try '--help'.
 For more information, try '--help'.
 ",
         ),
+        (
+            "delta of none",
+            "spt tree f.rep f.rep --delta 0",
+            "error: invalid value '0' for '--delta <D>': 0 is not in 1..=17592186044414
+
+For more information, try '--help'.
+",
+        ),
+        (
+            "delta that is no number",
+            "spt pairs f.rep f.rep --delta means",
+            "error: invalid value 'means' for '--delta <D>': invalid digit found in string
+
+For more information, try '--help'.
+",
+        ),
+        (
+            "delta that looks like an option",
+            "spt tree f.rep f.rep --delta=-1",
+            "error: invalid value '-1' for '--delta <D>': invalid digit found in string
+
+For more information, try '--help'.
+",
+        ),
+        (
+            "delta beyond every number",
+            "spt tree f.rep f.rep --delta 18446744073709551616",
+            "error: invalid value '18446744073709551616' for '--delta <D>': number too large to fit in target type
+
+For more information, try '--help'.
+",
+        ),
     ] {
         tells(
             &rt,
@@ -120,6 +152,8 @@ fn refused(rt: HostRuntime) -> Result<(), Fail> {
         "spt tree f.rep f.rep --delta 1.5",
         "spt tree f.rep f.rep --delta ",
         "spt tree f.rep f.rep --delta x",
+        "spt tree f.rep f.rep --delta Mean",
+        "spt tree f.rep f.rep --delta mean5",
         "spt tree f.rep f.rep --delta 18446744073709551616",
         "spt tree f.rep f.rep --delta 1 --workers 0",
         "spt tree f.rep f.rep --delta 1 --workers 65",

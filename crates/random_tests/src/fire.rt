@@ -1,0 +1,124 @@
+//! Threads under fire: teams of several sizes and the plain program tell the same of 1,000 random graphs of every kind.
+ghost use Rattle.std.specs.Prelude.{◌≡◌, true};
+ghost use Rattle.sp_word.specs.Word.{is_layout};
+
+use crate::runs::{plain, run_by_team, same};
+use sp_graph::Graph;
+use sp_plain::{Answer, GraphKind, Random, random_graph};
+use sp_word::Word;
+use std::process::Abort;
+use std::sync::Wait;
+use std::test::Fail;
+use std::thread::Threads;
+
+const TEAMS: [u32; 5] = [1, 2, 3, 8, 64];
+
+// A team larger than this answers for one graph of five: on busy processors the start of its threads takes most of the time.
+const MANY: u32 = 8;
+
+// The width of a bucket: 1, an arc, some arcs, or all in one.
+fn width_of<const P: u32>(graph: &Graph, number: u32) -> u64
+    requires { is_layout P ≡ true }
+{
+    let most = Word::<P>::max_dist();
+    match number % 4 {
+        0 => 1,
+        1 => graph.mean_length().min(most),
+        2 => graph.mean_length().saturating_mul(8).min(most),
+        _ => most,
+    }
+}
+
+// Lets each team answer.
+fn compare_teams<const P: u32>(
+    rt: &(impl Abort + AllocGlobal + Threads + Wait + Sync),
+    graph: &Graph,
+    source: u32,
+    name: (u64, u32),
+) -> Result<(), Fail>
+    requires { is_layout P ≡ true }
+{
+    let (seed, number) = name;
+    let want: Answer<P> = plain(rt, graph, source)?;
+    let delta = width_of::<P>(graph, number);
+    for workers in TEAMS {
+        if workers > MANY && number % 5 > 0 {
+            continue;
+        }
+        let told = run_by_team(rt, graph, delta, workers, source);
+        assert!(rt;
+            same(&told, &want),
+            "graph {number} of seed {seed}, a team of {workers}"
+        );
+    }
+    Ok(())
+}
+
+// The same for random graphs of a kind, from a random source each.
+fn fire<const P: u32>(
+    rt: &(impl Abort + AllocGlobal + Threads + Wait + Sync),
+    kind: GraphKind,
+    seed: u64,
+    graphs: u32,
+) -> Result<(), Fail>
+    requires { is_layout P ≡ true }
+{
+    let mut random = Random::new(seed);
+    for number in 0..graphs {
+        let n = random.up_to(2000);
+        let graph = random_graph(rt.alloc(), &mut random, kind, n)?;
+        let source = random.up_to(n);
+        compare_teams::<P>(rt, &graph, source, (seed, number))?;
+    }
+    Ok(())
+}
+
+#[test]
+fn sparse_under_fire(rt: HostRuntime) -> Result<(), Fail> {
+    fire::<28>(&rt, GraphKind::Sparse, 1, 125)
+}
+
+#[test]
+fn wide_words_under_fire(rt: HostRuntime) -> Result<(), Fail> {
+    fire::<20>(&rt, GraphKind::Sparse, 2, 100)
+}
+
+#[test]
+fn dense_under_fire(rt: HostRuntime) -> Result<(), Fail> {
+    fire::<28>(&rt, GraphKind::Dense, 3, 65)
+}
+
+#[test]
+fn more_dense_under_fire(rt: HostRuntime) -> Result<(), Fail> {
+    fire::<24>(&rt, GraphKind::Dense, 9, 60)
+}
+
+#[test]
+fn ties_under_fire(rt: HostRuntime) -> Result<(), Fail> {
+    fire::<24>(&rt, GraphKind::Ties, 4, 150)
+}
+
+#[test]
+fn parallel_arcs_under_fire(rt: HostRuntime) -> Result<(), Fail> {
+    fire::<32>(&rt, GraphKind::Parallel, 5, 125)
+}
+
+#[test]
+fn parts_under_fire(rt: HostRuntime) -> Result<(), Fail> {
+    fire::<28>(&rt, GraphKind::Parts, 6, 125)
+}
+
+#[test]
+fn long_arcs_under_fire(rt: HostRuntime) -> Result<(), Fail> {
+    fire::<28>(&rt, GraphKind::Long, 7, 65)
+}
+
+#[test]
+fn more_long_arcs_under_fire(rt: HostRuntime) -> Result<(), Fail> {
+    fire::<28>(&rt, GraphKind::Long, 10, 60)
+}
+
+#[test]
+fn short_words_under_fire(rt: HostRuntime) -> Result<(), Fail> {
+    fire::<32>(&rt, GraphKind::Long, 8, 125)
+}

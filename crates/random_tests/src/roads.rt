@@ -1,0 +1,191 @@
+//! The engine and the plain program tell the same of graphs of the size and the shape of a town's roads.
+ghost use Rattle.std.specs.Prelude.{◌≤◌};
+
+use crate::runs::{graph_of, plain, run, run_by_team, same};
+use sp_graph::Graph;
+use sp_plain::{Answer, Random};
+use sp_word::Word;
+use std::alloc::AllocError;
+use std::process::Abort;
+use std::sync::Wait;
+use std::test::Fail;
+use std::thread::Threads;
+
+// Vertices stand on a square grid, row by row.
+const SIDE: u32 = 100;
+
+const N: u32 = 10_000;
+
+// Streets lead both ways between neighbours on the grid, and roads between any two vertices.
+#[derive(Clone, Copy)]
+struct RoadMap {
+    // how many of a hundred streets there are
+    kept: u32,
+    // a street's length is from 1 more than this ..
+    base: u32,
+    // .. up to so much more
+    spread: u32,
+    // roads, each from 5,000 to 50,000 long
+    roads: u32,
+    // no street leads from one of so many parts to another
+    parts: u32,
+    ghost some: { 1 ≤ spread },
+}
+
+const TOWN: RoadMap = RoadMap {
+    kept: 64,
+    base: 49,
+    spread: 1451,
+    roads: 100,
+    parts: 1,
+};
+
+const TIES: RoadMap = RoadMap {
+    kept: 100,
+    base: 0,
+    spread: 1,
+    roads: 0,
+    parts: 1,
+};
+
+const PARTS: RoadMap = RoadMap {
+    kept: 100,
+    base: 0,
+    spread: 100,
+    roads: 0,
+    parts: 7,
+};
+
+fn push_both(
+    arcs: &mut Vec<(u32, u32, u32)>,
+    one: u32,
+    other: u32,
+    len: u32,
+) -> Result<(), AllocError> {
+    arcs.push((one, other, len))?;
+    arcs.push((other, one, len))?;
+    Ok(())
+}
+
+// In which part a vertex lies.
+fn part_of(map: RoadMap, vertex: u32) -> u64 {
+    u64::from(vertex.saturating_sub(1)) * u64::from(map.parts) / u64::from(N)
+}
+
+// Perhaps a street from a vertex to the one so many steps later.
+fn push_street(
+    map: RoadMap,
+    random: &mut Random,
+    arcs: &mut Vec<(u32, u32, u32)>,
+    tail: u32,
+    step: u32,
+) -> Result<(), AllocError> {
+    let head = tail.saturating_add(step);
+    let is_round_the_edge = step == 1 && tail % SIDE == 0;
+    let is_apart = part_of(map, tail) != part_of(map, head);
+    if head > N || is_round_the_edge || is_apart || random.below(100) >= map.kept {
+        return Ok(());
+    }
+    let len = map.base.saturating_add(random.up_to(map.spread));
+    push_both(arcs, tail, head, len)
+}
+
+fn graph_by(
+    rt: &(impl Abort + AllocGlobal),
+    map: RoadMap,
+    random: &mut Random,
+) -> Result<Graph, Fail> {
+    let mut arcs = Vec::new(rt.alloc());
+    for place in 0..N {
+        push_street(map, random, &mut arcs, place + 1, 1)?;
+        push_street(map, random, &mut arcs, place + 1, SIDE)?;
+    }
+    for _ in 0..map.roads {
+        let (tail, head) = (random.up_to(N), random.up_to(N));
+        push_both(
+            &mut arcs,
+            tail,
+            head,
+            random.up_to(45_001).saturating_add(4_999),
+        )?;
+    }
+    graph_of(rt, N, &arcs)
+}
+
+// Short rounds are the leader's alone, for several widths of a bucket.
+fn compare_widths(
+    rt: &(impl Abort + AllocGlobal + Threads + Wait + Sync),
+    graph: &Graph,
+    source: u32,
+    want: &Answer<28>,
+) {
+    let mean = graph.mean_length();
+    let deltas = [
+        (mean / 3).max(1),
+        mean,
+        mean.saturating_mul(3),
+        Word::<28>::max_dist(),
+    ];
+    for delta in deltas {
+        for workers in [1, 2, 8] {
+            let told = run_by_team(rt, graph, delta, workers, source);
+            assert!(rt; same(&told, want), "delta {delta}, {workers} workers");
+        }
+    }
+}
+
+// Every round is shared, in wide buckets, so that there are not too many. The source isn't cut off: 1,000 vertices are
+// reached.
+fn compare_shared(
+    rt: &(impl Abort + AllocGlobal + Threads + Wait + Sync),
+    graph: &Graph,
+    source: u32,
+    want: &Answer<28>,
+) {
+    let delta = graph.mean_length().saturating_mul(3);
+    for workers in [1, 2, 8] {
+        let told = run(rt, graph, delta, workers, source);
+        assert!(rt; same(&told, want), "{workers} workers, every round shared");
+        assert!(rt; matches!(&told, Ok(tree) if tree.rows().len() >= 1000));
+    }
+}
+
+// Compares both on the graph that the seed gives, from a source that it gives too.
+fn compare(
+    rt: &(impl Abort + AllocGlobal + Threads + Wait + Sync),
+    map: RoadMap,
+    seed: u64,
+) -> Result<(), Fail> {
+    let mut random = Random::new(seed);
+    let graph = graph_by(rt, map, &mut random)?;
+    let source = random.up_to(N);
+    let want = plain(rt, &graph, source)?;
+    compare_widths(rt, &graph, source, &want);
+    compare_shared(rt, &graph, source, &want);
+    Ok(())
+}
+
+#[test]
+fn town(rt: HostRuntime) -> Result<(), Fail> {
+    compare(&rt, TOWN, 1)
+}
+
+#[test]
+fn second_town(rt: HostRuntime) -> Result<(), Fail> {
+    compare(&rt, TOWN, 2)
+}
+
+#[test]
+fn third_town(rt: HostRuntime) -> Result<(), Fail> {
+    compare(&rt, TOWN, 3)
+}
+
+#[test]
+fn grid_of_ties(rt: HostRuntime) -> Result<(), Fail> {
+    compare(&rt, TIES, 4)
+}
+
+#[test]
+fn grids_apart(rt: HostRuntime) -> Result<(), Fail> {
+    compare(&rt, PARTS, 5)
+}

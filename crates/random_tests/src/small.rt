@@ -1,0 +1,132 @@
+//! The engine and the plain program tell the same of random graphs.
+ghost use Rattle.std.specs.Prelude.{◌≡◌, ◌≤◌, true};
+ghost use Rattle.sp_word.specs.Word.{is_layout};
+
+use crate::runs::{graph_of, plain, run, run_by_team, same};
+use sp_graph::Graph;
+use sp_plain::{Answer, Random};
+use sp_word::Word;
+use std::process::Abort;
+use std::sync::Wait;
+use std::test::Fail;
+use std::thread::Threads;
+
+// An arc between any two of `n` vertices.
+fn random_arc(random: &mut Random, n: u32, longest: u32) -> (u32, u32, u32)
+    requires { (1 ≤ n) × (1 ≤ longest) }
+{
+    (random.up_to(n), random.up_to(n), random.up_to(longest))
+}
+
+// A graph of 1 to 200 vertices with up to three arcs a vertex: loops, parallel arcs, ties and unreached parts come by
+// themselves.
+fn random_graph(
+    rt: &(impl Abort + AllocGlobal),
+    random: &mut Random,
+    longest: u32,
+) -> Result<Graph, Fail>
+    requires { 1 ≤ longest }
+{
+    let n = random.up_to(200);
+    let m = random.below(n * 3);
+    let mut arcs = Vec::new(rt.alloc());
+    for _ in 0..m {
+        arcs.push(random_arc(random, n, longest))?;
+    }
+    graph_of(rt, n, &arcs)
+}
+
+// Every width of a bucket with every number of workers, by rounds that are all shared and by a team.
+fn compare_runs<const P: u32>(
+    rt: &(impl Abort + AllocGlobal + Threads + Wait + Sync),
+    graph: &Graph,
+    source: u32,
+    want: &Answer<P>,
+    name: (u64, u32),
+)
+    requires { is_layout P ≡ true }
+{
+    let (seed, number) = name;
+    let most = Word::<P>::max_dist();
+    let longest = u64::from(graph.longest()).max(1);
+    for delta in [1, 2, graph.mean_length(), longest, most] {
+        for workers in [1, 2, 3, 8] {
+            let told = run(rt, graph, delta.min(most), workers, source);
+            assert!(rt;
+                same(&told, want),
+                "graph {number} of seed {seed}, delta {delta}, {workers} workers"
+            );
+            let told = run_by_team(rt, graph, delta.min(most), workers, source);
+            assert!(rt;
+                same(&told, want),
+                "graph {number} of seed {seed}, delta {delta}, a team of {workers}"
+            );
+        }
+    }
+}
+
+// Compares both on random graphs, from a random source each.
+fn compare<const P: u32>(
+    rt: &(impl Abort + AllocGlobal + Threads + Wait + Sync),
+    seed: u64,
+    graphs: u32,
+    longest: u32,
+) -> Result<(), Fail>
+    requires layout { is_layout P ≡ true }
+    requires longest { 1 ≤ longest }
+{
+    let mut random = Random::new(seed);
+    for number in 0..graphs {
+        let graph = random_graph(rt, &mut random, longest)?;
+        let source = random.up_to(graph.n());
+        let want: Answer<P> = plain(rt, &graph, source)?;
+        compare_runs(rt, &graph, source, &want, (seed, number));
+    }
+    Ok(())
+}
+
+// Short arcs make many ties, and many rounds of several tasks.
+#[test]
+fn short_arcs(rt: HostRuntime) -> Result<(), Fail> {
+    compare::<28>(&rt, 1, 65, 3)
+}
+
+#[test]
+fn more_short_arcs(rt: HostRuntime) -> Result<(), Fail> {
+    compare::<28>(&rt, 2, 65, 3)
+}
+
+#[test]
+fn arcs_up_to_5(rt: HostRuntime) -> Result<(), Fail> {
+    compare::<28>(&rt, 3, 65, 5)
+}
+
+#[test]
+fn arcs_up_to_10(rt: HostRuntime) -> Result<(), Fail> {
+    compare::<28>(&rt, 4, 65, 10)
+}
+
+#[test]
+fn middling_arcs(rt: HostRuntime) -> Result<(), Fail> {
+    compare::<28>(&rt, 5, 120, 100)
+}
+
+#[test]
+fn more_middling_arcs(rt: HostRuntime) -> Result<(), Fail> {
+    compare::<28>(&rt, 6, 120, 1000)
+}
+
+#[test]
+fn long_arcs(rt: HostRuntime) -> Result<(), Fail> {
+    compare::<28>(&rt, 7, 125, u32::MAX)
+}
+
+#[test]
+fn more_long_arcs(rt: HostRuntime) -> Result<(), Fail> {
+    compare::<28>(&rt, 8, 125, u32::MAX)
+}
+
+#[test]
+fn sums_that_overflow(rt: HostRuntime) -> Result<(), Fail> {
+    compare::<32>(&rt, 9, 250, u32::MAX)
+}

@@ -1,0 +1,18 @@
+use Rattle.std.proofs.Common.{refl}
+use Rattle.sp_batch.proofs.TextsToAnswers.{graph_spelled, sources_spelled, answered, of_some}
+use Rattle.sp_batch.proofs.batch.run_batch_told.Goals as goal
+
+pub returns-in-Err-read_ss-clause-exact : goal.returns-in-Err-read_ss-clause-exact
+returns-in-Err-read_ss-clause-exact g c = λ gr_text ss_text gr_is ss_is.
+    (c.in-Ok.file, graph_spelled g.row.P gr_text _ (g.G.Read.has_failed c.read_gr.new.reader) c.in-Ok.file (c.in-Ok.ensures.exact gr_text gr_is), c.in-Err-read_ss.ensures.exact ss_text ss_is, refl)
+
+pub returns-clause-exact : goal.returns-clause-exact
+returns-clause-exact g c = λ gr_text ss_text gr_is ss_is.
+    answered g.row.P gr_text ss_text g.G.Read c.read_gr.new.reader g.S.Read c.read_ss.new.reader g.W.Write c.args.out.now c.answer_files.new.out
+    c.in-Ok.file c.in-Ok-read_ss.list c.answer_files.result (graph_spelled g.row.P gr_text _ (g.G.Read.has_failed c.read_gr.new.reader) c.in-Ok.file (c.in-Ok.ensures.exact gr_text gr_is))
+    (sources_spelled g.row.P ss_text _ (g.S.Read.has_failed c.read_ss.new.reader) c.in-Ok-read_ss.list (c.in-Ok-read_ss.ensures.exact ss_text ss_is)) c.answer_files.ensures.batch
+
+pub returns-clause-found : goal.returns-clause-found
+returns-clause-found g c =
+    of_some g.row.P _ _ g.W.Write c.args.out.now c.answer_files.new.out c.in-Ok.file c.in-Ok-read_ss.list c.answer_files.result
+    c.in-Ok.ensures.found.1 c.in-Ok-read_ss.ensures.found.1 c.answer_files.ensures.batch

@@ -1,0 +1,102 @@
+-- How a block is fed, piece after piece.
+use Rattle.std.proofs.Common.{◌≡◌, ◌≢◌, ℕ, zero, suc, ◌+◌, ◌≤◌, ◌<◌, ◌^◌, Bool, true, List, [], ◌++◌, length, length-append, take, drop, take-append-drop, Option, Some, Ok, ap, inl, inr, arith}
+use Rattle.std.proofs.lemmas.List.{length-take-le}
+use Rattle.std.proofs.KnownBytes.{Consumes-trans}
+use Rattle.std.specs.Io.KnownBytes.{Consumes, Keeps, IsAtEnd, prepend_known}
+use Rattle.sp_text.specs.declared.faults.DimacsError.{DimacsError}
+use Rattle.sp_text.specs.First.{fault_at_failure}
+use Rattle.sp_text.specs.Feeding.{Refused}
+use Rattle.sp_tree.specs.Spelling.{tree_judge}
+use Rattle.sp_tree.specs.declared.reading.TreeReader.{TreeReader}
+use Rattle.sp_tree.specs.Reading.{IsBehindTree}
+use Rattle.sp_blocks.specs.declared.place.Place.{Place}
+use Rattle.sp_blocks.specs.declared.place.Place.TheVariants.{Fresh, Over}
+use Rattle.sp_blocks.specs.Block.{Runs}
+use Rattle.sp_blocks.specs.Stream.{Stream, left_in, IsShort, BlockFed, BlockRefused}
+use Rattle.sp_blocks.proofs.Places.{runs_both}
+use Rattle.sp_blocks.proofs.LeftBytes.{taken, refilled, kept, at_end, and_nothing}
+
+-- These bytes of a block came since `old`.
+pub record IsFed {R : Type 0} (left : R → Option (List ℕ)) (passed : R → ℕ) (old : Stream R) (front : List ℕ) (place : Place) (new : Stream R) : Type 0 where
+  pub runs : Runs Fresh front place
+  pub came : Consumes (left_in left old) (left_in left new) front
+  pub small : length front ≤ 2 ^ 62
+  pub counted : length front + length new.piece ≤ passed new.reader
+  pub short : IsShort passed new
+
+-- They were fed, and more may follow.
+abbrev pub IsFeeding : {P : ℕ} {R : Type 0} → (R → Option (List ℕ)) → (R → ℕ) → Stream R → Place → Stream R → TreeReader P → Type 0
+IsFeeding left passed old place new tree = (front : List ℕ) × IsFed left passed old front place new × (place ≢ Over) × IsBehindTree front tree
+
+small_run : (most front n all passed : ℕ) → front ≤ most → n ≤ all → front + all ≤ passed → (0 < all → passed ≤ most) → front + n ≤ most
+small_run most front n zero passed small within counted limit = omega (arith, small, within)
+small_run most front n (suc all) passed small within counted limit =
+    let bound = limit (omega arith) in
+    omega (arith, within, counted, bound)
+
+small_drop : (most n all rest passed : ℕ) → rest + n ≡ all → (0 < all → passed ≤ most) → 0 < rest → passed ≤ most
+small_drop most n all rest passed parts limit some = limit (omega (arith, parts, some))
+
+-- The first bytes that wait were taken.
+pub run_fed : {R : Type 0} (left : R → Option (List ℕ)) (passed : R → ℕ) (old now new : Stream R) (front : List ℕ) (place end : Place) (n : ℕ)
+    → IsFed left passed old front place now → n ≤ length now.piece → Runs place (take n now.piece) end
+    → new.piece ≡ drop n now.piece → new.reader ≡ now.reader
+    → IsFed left passed old (front ++ take n now.piece) end new
+run_fed left passed old now new front place end n h within runs piece reader =
+    let run = take n now.piece in
+    let n_is : length run ≡ n = length-take-le n now.piece within in
+    let parts : length (drop n now.piece) + n ≡ length now.piece = omega (arith, n_is, length-append run (drop n now.piece), ap length (take-append-drop n now.piece)) in
+    let small : length (front ++ run) ≤ 2 ^ 62 = rw (length-append front run, n_is) (small_run (2 ^ 62) (length front) n (length now.piece) (passed now.reader) h.small within h.counted h.short.limit) in
+    let came : Consumes (left_in left old) (prepend_known (drop n now.piece) (left now.reader)) (front ++ run) = Consumes-trans (left_in left old) (left_in left now) (prepend_known (drop n now.piece) (left now.reader)) front run h.came (taken (left now.reader) n now.piece) in
+    record {
+      runs = runs_both Fresh place end front run h.runs runs;
+      came = rw (piece, reader) came;
+      small = small;
+      counted = rw (piece, reader, length-append front run, n_is) (omega (arith, parts, h.counted));
+      short = record {
+        counted = rw (piece, reader) (omega (arith, parts, h.short.counted));
+        limit = rw (piece, reader) (small_drop (2 ^ 62) n (length now.piece) (length (drop n now.piece)) (passed now.reader) parts h.short.limit);
+      };
+    }
+
+-- None waited, and the next bytes of the device came.
+pub piece_fed : {R : Type 0} (left : R → Option (List ℕ)) (passed : R → ℕ) (old now new : Stream R) (front : List ℕ) (place : Place)
+    → IsFed left passed old front place now → now.piece ≡ []
+    → Consumes (left now.reader) (left new.reader) new.piece → passed new.reader ≡ passed now.reader + length new.piece → passed new.reader ≤ 2 ^ 62
+    → IsFed left passed old front place new
+piece_fed left passed old now new front place h none bytes more limit =
+    let came = refilled (left now.reader) (left new.reader) new.piece bytes in
+    let counted : length front ≤ passed now.reader = omega (arith, h.counted) in
+    record {
+      runs = h.runs;
+      came = and_nothing (left_in left old) (left_in left now) (left_in left new) front h.came (rw none came);
+      small = h.small;
+      counted = rw more (omega (arith, counted));
+      short = record { counted = rw more (omega arith); limit = λ _. limit };
+    }
+
+-- The block is over.
+pub fed_whole : {P : ℕ} {R U : Type 0} (left : R → Option (List ℕ)) (passed : R → ℕ) (has_failed : R → Bool) (old new : Stream R) (front : List ℕ) (place : Place) (u : U) (tree : TreeReader P)
+    → IsFed left passed old front place new → place ≡ Over → IsBehindTree front tree → BlockFed left passed has_failed old (Ok u) new tree
+fed_whole left passed has_failed old new front place u tree h over behind =
+    let runs = rw over at h.runs in
+    (front, (Over, runs), h.came, inl runs, h.small, h.short, behind)
+
+-- The text is over.
+pub fed_all : {P : ℕ} {R U : Type 0} (left : R → Option (List ℕ)) (passed : R → ℕ) (has_failed : R → Bool) (old new : Stream R) (front : List ℕ) (place : Place) (u : U) (tree : TreeReader P)
+    → IsFed left passed old front place new → new.piece ≡ [] → IsAtEnd (left new.reader) → IsBehindTree front tree → BlockFed left passed has_failed old (Ok u) new tree
+fed_all left passed has_failed old new front place u tree h none all behind =
+    (front, (place, h.runs), h.came, inr (rw none (at_end (left new.reader) all)), h.small, h.short, behind)
+
+-- A beginning of the block shows a fault.
+pub fed_refused : {R : Type 0} (P : ℕ) (left : R → Option (List ℕ)) (passed : R → ℕ) (has_failed : R → Bool) (old new : Stream R) (front : List ℕ) (place : Place) (e : DimacsError)
+    → IsFed left passed old front place new → Refused (tree_judge P) [] front e → BlockRefused P left has_failed old new e
+fed_refused P left passed has_failed old new front place e h refused = (front, (place, h.runs), h.came, inl refused)
+
+-- The device has failed.
+pub fed_failed : {R : Type 0} (P : ℕ) (left : R → Option (List ℕ)) (passed : R → ℕ) (has_failed : R → Bool) (old now new : Stream R) (front : List ℕ) (place : Place) (e : DimacsError)
+    → IsFed left passed old front place now → now.piece ≡ [] → new.piece ≡ [] → Keeps (left now.reader) (left new.reader) → has_failed new.reader ≡ true
+    → fault_at_failure (tree_judge P) front ≡ Some e → BlockRefused P left has_failed old new e
+fed_failed P left passed has_failed old now new front place e h none cleared keeps failed told =
+    let same = kept (left now.reader) (left new.reader) keeps in
+    (front, (place, h.runs), and_nothing (left_in left old) (left_in left now) (left_in left new) front h.came (rw (none, cleared) same), inr (inr (failed, told)))

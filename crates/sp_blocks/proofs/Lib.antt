@@ -1,0 +1,4 @@
+pub mod Places
+pub mod LeftBytes
+pub mod BlockSteps
+pub mod GivenTrees

@@ -1,0 +1,4 @@
+pub mod Block
+pub mod Stream
+pub mod Giving
+pub mod Whole

@@ -1,0 +1,55 @@
+-- The bytes of a device, block after block.
+use Rattle.std.specs.Prelude.{◌≡◌, ℕ, ◌^◌, ◌<◌, ◌≤◌, ◌⊎◌, Bool, true, List, [], length, Option, Some, Result, Ok, Err}
+use Rattle.std.specs.Io.KnownBytes.{Consumes, IsAtEnd, prepend_known}
+use Rattle.sp_text.specs.declared.faults.DimacsError.{DimacsError}
+use Rattle.sp_text.specs.First.{fault_at_failure, fault_at_end}
+use Rattle.sp_text.specs.Feeding.{Refused}
+use Rattle.sp_tree.specs.Table.{TreeTable, IsTable}
+use Rattle.sp_tree.specs.TreeText.{tree_text}
+use Rattle.sp_tree.specs.Spelling.{tree_judge}
+use Rattle.sp_tree.specs.declared.reading.TreeReader.{TreeReader}
+use Rattle.sp_tree.specs.Reading.{IsBehindTree}
+use Rattle.sp_blocks.specs.Block.{IsWithinBlock, IsBlock}
+
+-- A device, and the bytes of it that wait to be read.
+pub record Stream (R : Type 0) : Type 0 where
+  pub reader : R
+  pub piece : List ℕ
+
+abbrev pub stream : {R : Type 0} → List ℕ → R → Stream R
+stream piece reader = record { reader = reader; piece = piece }
+
+-- The bytes that are left, where they are known: those that wait, and those that the device still has.
+abbrev pub left_in : {R : Type 0} → (R → Option (List ℕ)) → Stream R → Option (List ℕ)
+left_in left stream = prepend_known stream.piece (left stream.reader)
+
+-- The bytes that wait have passed the device, which passes 2^62 bytes at most.
+pub record IsShort {R : Type 0} (passed : R → ℕ) (stream : Stream R) : Type 0 where
+  pub counted : length stream.piece ≤ passed stream.reader
+  pub limit : 0 < length stream.piece → passed stream.reader ≤ 2 ^ 62
+
+-- A beginning of the block shows this fault; or it is all of the block, or of the text, and has it; or the device has failed behind it.
+abbrev pub IsFaultOf : (P : ℕ) → (front : List ℕ) → (left : Option (List ℕ)) → (has_failed : Bool) → DimacsError → Type 0
+IsFaultOf P front left has_failed e =
+    Refused (tree_judge P) [] front e ⊎ ((IsBlock front ⊎ IsAtEnd left) × (fault_at_end (tree_judge P) front ≡ Some e)) ⊎ ((has_failed ≡ true) × (fault_at_failure (tree_judge P) front ≡ Some e))
+
+-- The next block has this fault, at this line of the block.
+abbrev pub BlockRefused : {R : Type 0} → (P : ℕ) → (R → Option (List ℕ)) → (R → Bool) → Stream R → Stream R → DimacsError → Type 0
+BlockRefused P left has_failed old new e =
+    (front : List ℕ) × IsWithinBlock front × Consumes (left_in left old) (left_in left new) front × IsFaultOf P front (left_in left new) (has_failed new.reader) e
+
+-- The bytes of one block were fed, or all that were left; or the fault of the block was met.
+abbrev pub BlockFed : {P : ℕ} {R U : Type 0} → (R → Option (List ℕ)) → (R → ℕ) → (R → Bool) → Stream R → Result U DimacsError → Stream R → TreeReader P → Type 0
+BlockFed left passed has_failed old (Ok u) new tree =
+    (front : List ℕ) × IsWithinBlock front × Consumes (left_in left old) (left_in left new) front × (IsBlock front ⊎ IsAtEnd (left_in left new)) × (length front ≤ 2 ^ 62) × IsShort passed new × IsBehindTree front tree
+BlockFed {P} left passed has_failed old (Err e) new tree = BlockRefused P left has_failed old new e
+
+-- A tree was read, or the fault of the block was met.
+abbrev pub BlockRead : {R : Type 0} → (P : ℕ) → (R → Option (List ℕ)) → (R → ℕ) → (R → Bool) → Stream R → Result TreeTable DimacsError → Stream R → Type 0
+BlockRead P left passed has_failed old (Ok tree) new = IsTable P tree × IsShort passed new × Consumes (left_in left old) (left_in left new) (tree_text tree)
+BlockRead P left passed has_failed old (Err e) new = BlockRefused P left has_failed old new e
+
+-- It was looked whether a byte is left. Where the device failed, that is left open.
+abbrev pub IsLookedAt : {R : Type 0} → (R → Option (List ℕ)) → (R → ℕ) → Stream R → (is_over : Bool) → Stream R → Type 0
+IsLookedAt left passed old is_over new =
+    IsShort passed new × Consumes (left_in left old) (left_in left new) [] × (is_over ≡ true → IsAtEnd (left_in left new))

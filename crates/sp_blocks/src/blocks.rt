@@ -1,0 +1,100 @@
+//! The trees of a file, one after the other.
+ghost use Rattle.std.specs.Prelude.{◌≡◌, ◌+◌, ◌-◌, ◌^◌, Err, Some, min, true};
+ghost use Rattle.sp_word.specs.Word.{is_layout};
+ghost use Rattle.sp_text.specs.declared.faults.DimacsError.{DimacsError};
+ghost use Rattle.sp_blocks.specs.Block.{lines_in};
+
+use crate::stream::{feed_block, is_over};
+use sp_device::Read;
+use sp_dimacs::Piece;
+use sp_text::DimacsError;
+use sp_tree::{Tree, TreeReader};
+use std::alloc::Global;
+
+/// Reads the trees of a file of one or more blocks, one after the other, from one device. It keeps no more than the
+/// tree that is being read.
+#[derive(Drop)]
+pub struct TreeBlocks<const P: u32> {
+    alloc: Global,
+    piece: Piece,
+    /// The lines of the trees that were given.
+    lines: u64,
+    spent: Option<DimacsError>,
+    ghost layout: { is_layout P ≡ true },
+}
+
+// The number of the lines up to the end of this tree's block.
+fn lines_behind<const P: u32>(before: u64, tree: &Tree<P>) -> u64
+    ensures { result ≡ min (before + lines_in tree.now) (2 ^ 64 - 1) }
+{
+    let rows = tree.rows().len() as u64;
+    before.saturating_add(rows).saturating_add(2)
+}
+
+impl<const P: u32> TreeBlocks<P> {
+    ghost use Rattle.sp_blocks.specs.Stream.{stream, IsShort, BlockRead};
+    ghost use Rattle.sp_blocks.specs.Giving.{IsFresh, IsGoing, IsSpent, Gives, in_file};
+
+    /// Before the first tree.
+    pub fn new(alloc: Global) -> Self
+        requires { is_layout P ≡ true }
+        ensures { IsFresh result }
+    {
+        TreeBlocks {
+            alloc,
+            piece: Piece::new(),
+            lines: 0,
+            spent: None,
+        }
+    }
+
+    // The tree of the next block.
+    fn read_block<R: Read>(&mut self, reader: &mut R) -> Result<Tree<P>, DimacsError>
+        ensures read { IsShort R.passed (stream self.old.piece reader.old)
+            → BlockRead P R.left R.passed R.has_failed (stream self.old.piece reader.old)
+            result (stream self.new.piece reader.new) }
+        ensures lines { self.new.lines ≡ self.old.lines }
+        ensures spent { self.new.spent ≡ self.old.spent }
+    {
+        let mut tree = TreeReader::new(self.alloc);
+        feed_block(reader, &mut self.piece, &mut tree)?;
+        tree.finish()
+    }
+
+    // The block has this fault.
+    fn refuse(&mut self, error: DimacsError) -> DimacsError
+        ensures told { result ≡ in_file self.old.lines error }
+        ensures spent { self.new.spent ≡ Some result }
+        ensures piece { self.new.piece ≡ self.old.piece }
+    {
+        let error = DimacsError {
+            line: self.lines.saturating_add(error.line),
+            kind: error.kind,
+        };
+        self.spent = Some(error);
+        error
+    }
+
+    /// The next tree; None where the text has ended behind a block. Text behind the last whole block is a block with a
+    /// fault, and so is an empty text. A fault is told at its line of the file, and from then on again.
+    pub fn next<R: Read>(&mut self, reader: &mut R) -> Result<Option<Tree<P>>, DimacsError>
+        ensures again { (e : DimacsError) → IsSpent e self.old
+            → (result ≡ Err e) × (self.new ≡ self.old) × (reader.new ≡ reader.old) }
+        ensures gives { IsGoing R.passed self.old reader.old
+            → Gives R.left R.passed R.has_failed self.old reader.old result self.new reader.new }
+    {
+        if let Some(error) = self.spent {
+            return Err(error);
+        }
+        if self.lines > 0 && is_over(reader, &mut self.piece) {
+            return Ok(None);
+        }
+        match self.read_block(reader) {
+            Ok(tree) => {
+                self.lines = lines_behind(self.lines, &tree);
+                Ok(Some(tree))
+            }
+            Err(error) => Err(self.refuse(error)),
+        }
+    }
+}

@@ -1,0 +1,55 @@
+//! The bytes of a device, block after block.
+ghost use Rattle.std.specs.Prelude.{[]};
+ghost use Rattle.sp_tree.specs.Reading.{IsBehindTree};
+ghost use Rattle.sp_blocks.specs.Stream.{stream, IsShort, IsLookedAt, BlockFed};
+
+use crate::place::{Place, run_of};
+use sp_device::Read;
+use sp_dimacs::Piece;
+use sp_text::DimacsError;
+use sp_tree::TreeReader;
+
+/// Feeds the bytes of the next block, or all that are left.
+pub fn feed_block<const P: u32, R: Read>(
+    reader: &mut R,
+    piece: &mut Piece,
+    tree: &mut TreeReader<P>,
+) -> Result<(), DimacsError>
+    ensures { IsShort R.passed (stream piece.old reader.old) → IsBehindTree [] tree.old
+        → BlockFed R.left R.passed R.has_failed (stream piece.old reader.old) result
+        (stream piece.new reader.new) tree.new }
+{
+    let mut place = Place::Fresh;
+    loop {
+        let taken = run_of(&mut place, piece.bytes());
+        let fed = tree.feed(&piece.bytes()[..taken]);
+        piece.skip(taken);
+        fed?;
+        if place == Place::Over {
+            return Ok(());
+        }
+        if piece.refill(reader).is_err() {
+            piece.clear();
+            return Err(tree.fail());
+        }
+        if piece.bytes().is_empty() {
+            return Ok(());
+        }
+    }
+}
+
+/// Whether no byte is left. A device that fails here fails again where it is read next.
+pub fn is_over<R: Read>(reader: &mut R, piece: &mut Piece) -> bool
+    ensures { IsShort R.passed (stream piece.old reader.old)
+        → IsLookedAt R.left R.passed (stream piece.old reader.old) result
+        (stream piece.new reader.new) }
+{
+    if !piece.bytes().is_empty() {
+        return false;
+    }
+    if piece.refill(reader).is_err() {
+        piece.clear();
+        return false;
+    }
+    piece.bytes().is_empty()
+}

@@ -1,0 +1,148 @@
+//! Entries by bucket, for whoever needs no promise of their order.
+ghost use Rattle.std.specs.Prelude.{◌≡◌, ◌<◌, vec_len, IfOk, IfSome};
+
+use crate::entry::Entry;
+use std::alloc::{AllocError, Global};
+use std::mem;
+
+// How many slots a wheel has, and how many wheels there are.
+const SLOTS: usize = 256;
+
+const WHEELS: usize = 8;
+
+/// Entries by bucket: wheels within wheels, as G. Varghese and T. Lauck keep timers ("Hashed and
+/// hierarchical timing wheels", 1987).
+///
+/// A slot of the first wheel has the entries of one bucket, a slot of each further wheel those of as many buckets as the
+/// wheel below has slots for. An entry lies in the lowest wheel that tells its bucket from the lowest one; when a wheel is
+/// used up, the next slot of the one above is dealt to those below. So an entry is moved at most once a wheel, however far
+/// its bucket.
+#[derive(Drop)]
+pub struct Bins {
+    alloc: Global,
+    // buckets are 2 to this power wide
+    shift: u32,
+    // the bucket that is emptied
+    lowest: u64,
+    // the slots of all wheels, the first wheel's first
+    slots: Vec<Vec<Entry>>,
+    ghost narrow: { shift < 64 },
+    ghost size: { vec_len slots ≡ 2048 },
+}
+
+fn empty_slots(alloc: Global) -> Result<Vec<Vec<Entry>>, AllocError>
+    ensures { IfOk result (λ slots. vec_len slots ≡ 2048) }
+{
+    let mut slots = Vec::with_capacity(alloc, SLOTS * WHEELS)?;
+    for place in 0..SLOTS * WHEELS {
+        let _ = place;
+        slots.push(Vec::new(alloc))?;
+    }
+    Ok(slots)
+}
+
+impl Bins {
+    /// Bins whose buckets are 2 to the power of `shift` wide.
+    pub fn new(alloc: Global, shift: u32) -> Result<Bins, AllocError> {
+        Ok(Bins {
+            alloc,
+            shift: shift.min(63),
+            lowest: 0,
+            slots: empty_slots(alloc)?,
+        })
+    }
+
+    /// The bucket of a distance.
+    pub fn bucket_of(&self, dist: u64) -> u64 {
+        dist >> self.shift
+    }
+
+    /// The bucket that is emptied.
+    pub fn lowest(&self) -> u64 {
+        self.lowest
+    }
+
+    // Where the entries of a bucket lie. Those of a bucket below the lowest lie with the lowest one's.
+    fn place_of(&self, bucket: u64) -> usize
+        ensures { result < 2048 }
+    {
+        let bucket = bucket.max(self.lowest);
+        let wheel = (bucket ^ self.lowest).max(1).ilog2() / 8;
+        let slot = (bucket >> (8 * wheel)) % SLOTS as u64;
+        wheel as usize * SLOTS + slot as usize
+    }
+
+    /// Puts an entry into its bucket.
+    pub fn put(&mut self, entry: Entry) -> Result<(), AllocError> {
+        let place = self.place_of(self.bucket_of(entry.dist));
+        self.slots[place].push(entry)?;
+        Ok(())
+    }
+
+    /// Gives the entries of the bucket that is emptied in place of a list that was worked off. Tells whether there are any.
+    pub fn refill(&mut self, list: &mut Vec<Entry>) -> bool {
+        let place = self.place_of(self.lowest);
+        if self.slots[place].is_empty() {
+            return false;
+        }
+        *list = mem::replace(&mut self.slots[place], Vec::new(self.alloc));
+        true
+    }
+
+    /// From now on this bucket is emptied, where there is no entry at all.
+    pub fn open(&mut self, bucket: u64) {
+        self.lowest = bucket;
+    }
+
+    // The first slot with an entry.
+    fn first_place(&self) -> Option<usize>
+        ensures { IfSome result (λ place. place < 2048) }
+    {
+        let first = (self.lowest % SLOTS as u64) as usize;
+        for place in first..SLOTS * WHEELS {
+            if !self.slots[place].is_empty() {
+                return Some(place);
+            }
+        }
+        None
+    }
+
+    // The lowest bucket of some entries, if there is one.
+    fn lowest_of(&self, entries: &[Entry]) -> Option<u64> {
+        let mut least = None;
+        for entry in entries {
+            least = match least {
+                Some(dist) if dist < entry.dist => least,
+                _ => Some(entry.dist),
+            };
+        }
+        Some(self.bucket_of(least?))
+    }
+
+    // Deals the entries of a slot to the wheels below. The lowest of their buckets is emptied from now on.
+    fn deal(&mut self, place: usize) -> Result<(), AllocError>
+        requires { place < 2048 }
+    {
+        let entries = mem::replace(&mut self.slots[place], Vec::new(self.alloc));
+        if let Some(bucket) = self.lowest_of(&entries) {
+            self.lowest = bucket;
+        }
+        for entry in &entries {
+            self.put(*entry)?;
+        }
+        Ok(())
+    }
+
+    /// Goes on to the lowest bucket that has an entry, and tells which it is.
+    pub fn advance(&mut self) -> Result<Option<u64>, AllocError> {
+        let Some(place) = self.first_place() else {
+            return Ok(None);
+        };
+        if place < SLOTS {
+            self.lowest = self.lowest / SLOTS as u64 * SLOTS as u64 + place as u64;
+        } else {
+            self.deal(place)?;
+        }
+        Ok(Some(self.lowest))
+    }
+}

@@ -1,0 +1,44 @@
+-- Exit statuses, and which faults have which.
+use Rattle.std.specs.Prelude.{ℕ, Bool, true, false}
+use Rattle.sp_command.specs.declared.faults.Status.{Status}
+use Rattle.sp_command.specs.declared.faults.Status.TheVariants as status
+use Rattle.sp_command.specs.declared.faults.Fault.{Fault}
+use Rattle.sp_command.specs.declared.faults.Fault.TheVariants as fault
+use Rattle.sp_text.specs.declared.faults.Kind.{Kind}
+use Rattle.sp_text.specs.declared.faults.Kind.TheVariants as kind
+
+-- the number that the process ends with
+abbrev pub code_of : Status → ℕ
+code_of status.Done = 0
+code_of status.Usage = 1
+code_of status.Refused = 2
+code_of status.CheckedNo = 3
+code_of status.TooFar = 4
+code_of status.Memory = 5
+code_of status.Failed = 6
+
+-- the command was done, and nothing stands on standard error
+abbrev pub is_done : Status → Bool
+is_done status.Done = true
+is_done status.CheckedNo = true
+is_done status.TooFar = true
+is_done _ = false
+
+-- a text is refused, but for a growth or a read that failed
+abbrev pub status_of_kind : Kind → Status
+status_of_kind kind.Memory = status.Memory
+status_of_kind kind.Read = status.Failed
+status_of_kind _ = status.Refused
+
+abbrev pub status_of : Fault → Status
+status_of (fault.Usage error) = status.Usage
+status_of fault.DeltaOutOfRange = status.Usage
+status_of fault.InputTwice = status.Usage
+status_of fault.NoPlaces = status.Usage
+status_of (fault.CannotOpen file) = status.Failed
+status_of (fault.Input file error) = status_of_kind error.kind
+status_of (fault.NoSuchVertex source) = status.Refused
+status_of fault.TooManySteps = status.Refused
+status_of fault.Memory = status.Memory
+status_of fault.WriteFailed = status.Failed
+status_of fault.CannotWrite = status.Failed

@@ -1,0 +1,145 @@
+//! What a command is, and several of them as one.
+use crate::faults::{Fault, FileKind, Status};
+use crate::inputs::Inputs;
+use crate::layout::{PredBits, Run};
+use crate::outputs;
+use clap::{Arg, ArgMatches, Error};
+use sp_device::Write;
+use std::alloc::{AllocError, Global};
+use std::sync::Wait;
+use std::thread::Threads;
+
+/// The words of a command, or of the program.
+pub type Words<'a> = Result<clap::Command<'a>, AllocError>;
+
+/// A command that a command line can order.
+pub trait Command<'a>: Drop {
+    /// The word that orders it.
+    const NAME: &'static str;
+
+    /// What it does.
+    const ABOUT: &'static str;
+
+    /// The same, with all that there is to know of it.
+    const LONG_ABOUT: &'static str;
+
+    /// Its files, what it writes, an example, faults and exit statuses.
+    const AFTER_HELP: &'static str;
+
+    /// Its name, and the arguments that it has beside the layout and the file of its output.
+    fn words(alloc: Global) -> Words<'a>;
+
+    /// Reads its arguments, or finds a fault of the words that `clap` let through.
+    fn read(alloc: Global, given: &ArgMatches<'a>) -> Result<Option<Self>, Error>;
+
+    /// The path of its file of this kind, if it has one.
+    fn path_of(&self, file: FileKind) -> Option<&'a str>;
+}
+
+/// One command or several. A value is one of them.
+pub trait Commands<'a>: Drop {
+    /// Adds the words of each to those of the program.
+    fn add_to(program: clap::Command<'a>, alloc: Global) -> Words<'a>;
+
+    /// Reads the arguments of the command that has this name.
+    fn read_named(alloc: Global, name: &str, given: &ArgMatches<'a>) -> Result<Option<Self>, Error>;
+
+    /// The word that orders it.
+    fn name(&self) -> &'a str;
+
+    /// The path of its file of this kind, if it has one.
+    fn path(&self, file: FileKind) -> Option<&'a str>;
+}
+
+impl<'a, C: Command<'a>> Commands<'a> for C {
+    fn add_to(program: clap::Command<'a>, alloc: Global) -> Words<'a> {
+        let command = C::words(alloc)?
+            .about(C::ABOUT)
+            .long_about(C::LONG_ABOUT)
+            .after_long_help(C::AFTER_HELP)
+            .arg(PredBits::option(alloc))?
+            .arg(outputs::option(alloc))?;
+        program.subcommand(command)
+    }
+
+    fn read_named(
+        alloc: Global,
+        name: &str,
+        given: &ArgMatches<'a>,
+    ) -> Result<Option<Self>, Error> {
+        if name == C::NAME {
+            C::read(alloc, given)
+        } else {
+            Ok(None)
+        }
+    }
+
+    fn name(&self) -> &'a str {
+        C::NAME
+    }
+
+    fn path(&self, file: FileKind) -> Option<&'a str> {
+        self.path_of(file)
+    }
+}
+
+/// One of two commands.
+#[derive(Drop)]
+pub enum OneOf<A, B> {
+    First(A),
+    Second(B),
+}
+
+impl<'a, A: Commands<'a>, B: Commands<'a>> Commands<'a> for OneOf<A, B> {
+    fn add_to(program: clap::Command<'a>, alloc: Global) -> Words<'a> {
+        B::add_to(A::add_to(program, alloc)?, alloc)
+    }
+
+    fn read_named(
+        alloc: Global,
+        name: &str,
+        given: &ArgMatches<'a>,
+    ) -> Result<Option<Self>, Error> {
+        if let Some(command) = A::read_named(alloc, name, given)? {
+            return Ok(Some(OneOf::First(command)));
+        }
+        match B::read_named(alloc, name, given)? {
+            Some(command) => Ok(Some(OneOf::Second(command))),
+            None => Ok(None),
+        }
+    }
+
+    fn name(&self) -> &'a str {
+        match self {
+            OneOf::First(command) => command.name(),
+            OneOf::Second(command) => command.name(),
+        }
+    }
+
+    fn path(&self, file: FileKind) -> Option<&'a str> {
+        match self {
+            OneOf::First(command) => command.path(file),
+            OneOf::Second(command) => command.path(file),
+        }
+    }
+}
+
+impl<A: Run<P>, B: Run<P>, const P: u32> Run<P> for OneOf<A, B> {
+    fn run<R: Threads + Wait + Sync, F: Inputs, W: Write>(
+        &self,
+        rt: &R,
+        alloc: Global,
+        files: &F,
+        out: &mut W,
+    ) -> Result<Status, Fault> {
+        match self {
+            OneOf::First(command) => command.run(rt, alloc, files, out),
+            OneOf::Second(command) => command.run(rt, alloc, files, out),
+        }
+    }
+}
+
+/// A file that a command needs.
+pub fn file<'a>(alloc: Global, name: &'a str, about: &'a str) -> Arg<'a> {
+    Arg::new(alloc, name).help(about).required(true)
+}

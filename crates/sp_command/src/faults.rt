@@ -1,0 +1,188 @@
+//! What keeps a command from being done: its line on standard error, and its exit status.
+ghost use Rattle.std.specs.Prelude.{◌≡◌, ◌≤◌, ◌⊎◌, false, IfErr, codes};
+ghost use Rattle.sp_command.specs.Faults.{code_of, is_done, status_of};
+ghost use Rattle.sp_command.specs.declared.faults.Fault.TheVariants.{CannotOpen, Input, InputTwice, Memory, WriteFailed};
+
+use crate::inputs::Inputs;
+use sp_device::WriteFault;
+use sp_text::{DimacsError, Kind};
+use std::alloc::AllocError;
+use std::fmt;
+use thiserror::Error;
+
+/// How a run of the program ended. Its number is the exit status.
+#[derive(Clone, Copy, Debug, PartialEq, Eq)]
+pub enum Status {
+    /// All was done.
+    Done = 0,
+    /// The words are no order.
+    Usage = 1,
+    /// An input was refused.
+    Refused = 2,
+    /// The tree is not the shortest-path tree of its source.
+    CheckedNo = 3,
+    /// For some source, or some pair, a vertex is too far.
+    TooFar = 4,
+    /// Memory was refused.
+    Memory = 5,
+    /// A file could not be opened or read, or the output could not be written.
+    Failed = 6,
+}
+
+impl Status {
+    /// The exit status.
+    pub fn code(self) -> u8
+        ensures exact { result ≡ code_of self }
+        ensures range { result ≤ 6 }
+    {
+        self as u8
+    }
+}
+
+/// What a file is to a command.
+#[derive(Clone, Copy, Debug, PartialEq, Eq)]
+pub enum FileKind {
+    Graph,
+    Sources,
+    Pairs,
+    Tree,
+    Replay,
+    Offers,
+}
+
+impl FileKind {
+    /// Opens the file at its beginning.
+    pub fn open<F: Inputs>(self, files: &F, path: &str) -> Result<F::File, Fault>
+        ensures { IfErr result (λ fault. fault ≡ CannotOpen self) }
+    {
+        match files.open_input(path) {
+            Some(file) => Ok(file),
+            None => Err(Fault::CannotOpen(self)),
+        }
+    }
+
+    /// Opens a graph and then a file of this kind, each at its beginning. Standard input can be one of them.
+    pub fn open_with_graph<F: Inputs>(
+        self,
+        files: &F,
+        graph: &str,
+        path: &str,
+    ) -> Result<(F::File, F::File), Fault>
+        ensures twice { graph.now ≡ codes "-" → path.now ≡ codes "-" → result ≡ Err InputTwice }
+        ensures once { IfErr result
+            (λ fault. fault ≡ InputTwice → (graph.now ≡ codes "-") × (path.now ≡ codes "-")) }
+        ensures untold { IfErr result (λ fault. (fault ≡ InputTwice)
+            ⊎ ((fault ≡ CannotOpen FileKind.Graph) ⊎ (fault ≡ CannotOpen self))) }
+    {
+        if graph == "-" && path == "-" {
+            return Err(Fault::InputTwice);
+        }
+        let gr = FileKind::Graph.open(files, graph)?;
+        Ok((gr, self.open(files, path)?))
+    }
+
+    /// Where standard input stands in a command's words if it is this file.
+    pub fn place(self) -> &'static str {
+        match self {
+            FileKind::Graph => "- ..",
+            FileKind::Sources | FileKind::Pairs | FileKind::Tree => ".. -",
+            FileKind::Replay | FileKind::Offers => "-",
+        }
+    }
+
+    /// The fault of a command whose file has this one.
+    pub fn fault(self, error: DimacsError) -> Fault
+        ensures { result ≡ Input self error }
+    {
+        Fault::Input { file: self, error }
+    }
+}
+
+impl fmt::Display for FileKind {
+    fn fmt<W: fmt::Write>(&self, f: &mut fmt::Formatter<W>) -> fmt::Result {
+        f.write_str(match self {
+            FileKind::Graph => "gr",
+            FileKind::Sources => "ss",
+            FileKind::Pairs => "pairs",
+            FileKind::Tree => "tree",
+            FileKind::Replay => "replay",
+            FileKind::Offers => "offers",
+        })
+    }
+}
+
+/// Why a command was not done. It displays as what stands on standard error, with the ends of lines.
+#[derive(Debug, Drop, Error)]
+pub enum Fault {
+    /// The words are no order.
+    #[error(transparent)]
+    Usage(clap::Error),
+    /// The delta is greater than the distances of the words.
+    #[error("spt: delta out of range\n")]
+    DeltaOutOfRange,
+    /// Standard input was named for both files.
+    #[error("spt: standard input twice\n")]
+    InputTwice,
+    /// The places of sources are not spelled as two numbers.
+    #[error("spt: sources are not A-B\n")]
+    NoPlaces,
+    /// A file could not be opened.
+    #[error("spt: {0}: cannot open\n")]
+    CannotOpen(FileKind),
+    /// A file's text has a fault, its device failed, or its values found no memory.
+    #[error("spt: {file}: {error}\n")]
+    Input { file: FileKind, error: DimacsError },
+    /// A source, or a target, is no vertex of the graph.
+    #[error("spt: source {0}: no such vertex\n")]
+    NoSuchVertex(u32),
+    /// A run has more steps than a picture shows.
+    #[error("spt: replay: more than 60 steps\n")]
+    TooManySteps,
+    /// Memory was refused.
+    #[error("spt: memory\n")]
+    Memory,
+    /// The output failed.
+    #[error("spt: write failed\n")]
+    WriteFailed,
+    /// The file of the output can't be made, or can't have its name.
+    #[error("spt: output: cannot write\n")]
+    CannotWrite,
+}
+
+impl Fault {
+    /// The exit status.
+    pub fn status(&self) -> Status
+        ensures exact { result ≡ status_of self.now }
+        ensures fails { is_done result ≡ false }
+    {
+        match self {
+            Fault::Usage(_) => Status::Usage,
+            Fault::DeltaOutOfRange | Fault::InputTwice | Fault::NoPlaces => Status::Usage,
+            Fault::CannotOpen(_) | Fault::WriteFailed | Fault::CannotWrite => Status::Failed,
+            Fault::Input { error, .. } => match error.kind {
+                Kind::Memory => Status::Memory,
+                Kind::Read => Status::Failed,
+                _ => Status::Refused,
+            },
+            Fault::NoSuchVertex(_) => Status::Refused,
+            Fault::TooManySteps => Status::Refused,
+            Fault::Memory => Status::Memory,
+        }
+    }
+}
+
+impl From<AllocError> for Fault {
+    ghost from_gives = { λ _ fault. fault ≡ Memory };
+
+    fn from(_error: AllocError) -> Fault {
+        Fault::Memory
+    }
+}
+
+impl From<WriteFault> for Fault {
+    ghost from_gives = { λ _ fault. fault ≡ WriteFailed };
+
+    fn from(_error: WriteFault) -> Fault {
+        Fault::WriteFailed
+    }
+}

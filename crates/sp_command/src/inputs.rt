@@ -1,0 +1,33 @@
+//! Where the files of a command line come from, and where it tells how far it is.
+use crate::hints::Form;
+use sp_device::Read;
+use std::fmt::Display;
+use std::io;
+
+/// The files that a command line names.
+pub trait Inputs {
+    /// An opened file.
+    type File: Read + Drop;
+
+    /// Opens a file at its beginning, or answers `None` where it cannot be opened. The path `-` is standard input, which
+    /// begins where it stands.
+    fn open_input(&self, path: &str) -> Option<Self::File>;
+
+    /// Tells the user how far a command is, in a line. Where it can't be told nothing else changes.
+    fn tell<D: Display>(&self, _progress: &D) {}
+
+    /// Opens a file once more, or answers `None` where it can't be read twice, as standard input or a pipe.
+    fn open_again(&self, _path: &str) -> Option<Self::File> {
+        None
+    }
+
+    /// What the system said last of a file or a stream that failed, if it is known.
+    fn reason(&self) -> Option<io::Error> {
+        None
+    }
+
+    /// What the file is whose reading began last, if that is known and no plain text.
+    fn form(&self) -> Option<Form> {
+        None
+    }
+}

@@ -1,0 +1,139 @@
+//! The layouts of a word, and the option that picks one. All that lists them stands here.
+ghost use denote.Param.Send.{IsSync};
+ghost use Rattle.std.specs.Prelude.{◌≡◌, ◌<◌, ◌≤◌, true, IfNone, IfOk, IfErr, IfSome};
+ghost use Rattle.sp_word.specs.Word.{is_layout, max_pred};
+ghost use Rattle.sp_command.specs.Faults.{code_of, is_done, status_of};
+ghost use Rattle.sp_command.specs.Words.{ReadsSpelling, bits_in};
+
+use crate::faults::{Fault, Status};
+use crate::inputs::Inputs;
+use clap::Arg;
+use sp_device::Write;
+use sp_word::Word;
+use std::alloc::Global;
+use std::fmt;
+use std::str::FromStr;
+use std::sync::Wait;
+use std::thread::Threads;
+
+const HELP: &str = "\
+Bits of a word that hold the predecessor; the others of its 64 hold the distance. So distances D
+and predecessors P range
+  with 20 from 0 to 17592186044414 and from 0 to 1048574
+  with 24 from 0 to 1099511627774 and from 0 to 16777214
+  with 28 from 0 to 68719476734 and from 0 to 268435454
+  with 32 from 0 to 4294967294 and from 0 to 4294967294";
+
+static SPELLINGS: [&str; 4] = ["20", "24", "28", "32"];
+
+/// How many bits of a word hold the predecessor.
+#[derive(Clone, Copy, Debug, PartialEq, Eq)]
+pub enum PredBits {
+    Bits20,
+    Bits24,
+    Bits28,
+    Bits32,
+}
+
+/// The text is no number of bits that a word may have for its predecessor.
+#[derive(Clone, Copy, Debug, PartialEq, Eq)]
+pub struct NoPredBits;
+
+impl FromStr for PredBits {
+    type Err = NoPredBits;
+
+    ghost from_str_gives = { ReadsSpelling };
+
+    fn from_str(text: &str) -> Result<PredBits, NoPredBits> {
+        match text {
+            "20" => Ok(PredBits::Bits20),
+            "24" => Ok(PredBits::Bits24),
+            "28" => Ok(PredBits::Bits28),
+            "32" => Ok(PredBits::Bits32),
+            _ => Err(NoPredBits),
+        }
+    }
+}
+
+impl PredBits {
+    /// What `clap` knows the option by.
+    pub const ID: &'static str = "pred-bits";
+
+    /// The option that says how many.
+    pub fn option<'a>(alloc: Global) -> Arg<'a> {
+        Arg::new(alloc, Self::ID)
+            .long(Self::ID)
+            .value_name("P")
+            .value_parser(SPELLINGS.as_slice())
+            .default_value("28")
+            .help("Bits of a word that hold the predecessor")
+            .long_help(HELP)
+    }
+
+    /// The fewest bits that hold every vertex of a graph of so many, if some do.
+    pub fn least_for(vertices: u64) -> Option<PredBits>
+        ensures holds { IfSome result (λ bits. vertices ≤ max_pred (bits_in bits)) }
+        ensures none { IfNone result (max_pred 32 < vertices) }
+    {
+        if vertices <= u64::from(Word::<20>::max_pred()) {
+            Some(PredBits::Bits20)
+        } else if vertices <= u64::from(Word::<24>::max_pred()) {
+            Some(PredBits::Bits24)
+        } else if vertices <= u64::from(Word::<28>::max_pred()) {
+            Some(PredBits::Bits28)
+        } else if vertices <= u64::from(Word::<32>::max_pred()) {
+            Some(PredBits::Bits32)
+        } else {
+            None
+        }
+    }
+}
+
+impl fmt::Display for PredBits {
+    fn fmt<W: fmt::Write>(&self, f: &mut fmt::Formatter<W>) -> fmt::Result {
+        f.write_str(match self {
+            PredBits::Bits20 => "20",
+            PredBits::Bits24 => "24",
+            PredBits::Bits28 => "28",
+            PredBits::Bits32 => "32",
+        })
+    }
+}
+
+/// What runs in words with `P` bits of predecessor.
+pub trait Run<const P: u32> {
+    /// Runs it. Its output goes to `out`.
+    fn run<R: Threads + Wait + Sync, F: Inputs, W: Write>(
+        &self,
+        rt: &R,
+        alloc: Global,
+        files: &F,
+        out: &mut W,
+    ) -> Result<Status, Fault>
+        requires { (is_layout P ≡ true) × IsSync R.row }
+        ensures done { IfOk result (λ status. is_done status ≡ true) }
+        ensures unwritten { IfErr result
+            (λ fault. code_of (status_of fault) ≤ 2 → out.new ≡ out.old) };
+}
+
+/// Runs it in the layout that has so many bits of predecessor.
+pub fn run_in<C, R: Threads + Wait + Sync, F: Inputs, W: Write>(
+    command: &C,
+    pred_bits: PredBits,
+    rt: &R,
+    alloc: Global,
+    files: &F,
+    out: &mut W,
+) -> Result<Status, Fault>
+where
+    C: Run<20> + Run<24> + Run<28> + Run<32>,
+    ensures done { IfOk result (λ status. is_done status ≡ true) }
+    ensures unwritten { IfErr result (λ fault. code_of (status_of fault) ≤ 2 → out.new ≡ out.old) }
+{
+    match pred_bits {
+        PredBits::Bits20 => <C as Run<20>>::run(command, rt, alloc, files, out),
+        PredBits::Bits24 => <C as Run<24>>::run(command, rt, alloc, files, out),
+        PredBits::Bits28 => <C as Run<28>>::run(command, rt, alloc, files, out),
+        PredBits::Bits32 => <C as Run<32>>::run(command, rt, alloc, files, out),
+    }
+}

@@ -1,0 +1,37 @@
+//! A file that the output of a command goes to, in place of standard output.
+use clap::Arg;
+use sp_device::{Write, WriteFault};
+use std::alloc::{AllocError, Global};
+
+/// What `clap` knows the option by.
+pub const OUTPUT: &str = "output";
+
+const HELP: &str = "\
+Write the output to the file OUT, in place of standard output. It stands in OUT.part until the
+command has ended with exit status 0, 3 or 4, and then takes the name OUT; else it is removed, and
+what OUT held stays. What is no regular file, as a device or a pipe, is written to straight";
+
+/// Where files of output stand.
+pub trait Outputs {
+    /// A file that is being written.
+    type Output: Write + Drop;
+
+    /// Begins a file that is to have this path, or answers `None` where it can't be made. What the path held stays.
+    fn create(&self, alloc: Global, path: &str) -> Result<Option<Self::Output>, AllocError>;
+
+    /// Gives a file its path. Where it can't have that, it is removed, and what the path held stays.
+    fn keep(&self, output: Self::Output) -> Result<(), WriteFault>;
+
+    /// Removes a file. What its path held stays.
+    fn discard(&self, output: Self::Output);
+}
+
+/// The option that names the file.
+pub fn option<'a>(alloc: Global) -> Arg<'a> {
+    Arg::new(alloc, OUTPUT)
+        .short('o')
+        .long(OUTPUT)
+        .value_name("OUT")
+        .help("Write the output to a file, in place of standard output")
+        .long_help(HELP)
+}

@@ -1,0 +1,30 @@
+-- The marks of a run: what each of its steps was.
+use Rattle.std.specs.Prelude.{◌≡◌, ℕ, List, [], ◌∷◌, nat_eq, if◌then◌else◌, Option, Some, None}
+use Rattle.sp_machine.specs.declared.effect.Exchange.{Exchange}
+use Rattle.sp_machine.specs.declared.effect.Exchange.TheVariants.{Won as IsWon, Lost as IsLost}
+use Rattle.sp_machine.specs.Step.{Machine, next_vertex, machine_after}
+use Rattle.sp_picture.specs.declared.marks.Mark.{Mark}
+use Rattle.sp_picture.specs.declared.marks.Deed.{Deed}
+use Rattle.sp_picture.specs.declared.marks.Deed.TheVariants.{Rest, Load, Won, Lost}
+
+-- the mark of an actor's next step
+abbrev pub mark_of : {P : ℕ} → Machine P → (actor : ℕ) → Mark P
+mark_of m actor = record { actor = actor; vertex = next_vertex m actor; effect = (machine_after m actor).last }
+
+-- the marks of the steps of these actors, one after the other
+abbrev pub marks_from : {P : ℕ} → Machine P → (actors : List ℕ) → List (Mark P)
+marks_from m [] = []
+marks_from m (actor ∷ more) = mark_of m actor ∷ marks_from (machine_after m actor) more
+
+abbrev pub deed_by : (exchange : Option Exchange) → (vertex : ℕ) → Deed
+deed_by None vertex = if nat_eq vertex 0 then Rest else Load
+deed_by (Some IsWon) vertex = Won
+deed_by (Some IsLost) vertex = Lost
+
+-- what a step was
+abbrev pub deed_of : {P : ℕ} → Mark P → Deed
+deed_of mark = deed_by mark.effect.exchange mark.vertex
+
+-- it stored to the word of the vertex
+abbrev pub IsStoreTo : {P : ℕ} → (vertex : ℕ) → Mark P → Type 0
+IsStoreTo vertex mark = (mark.vertex ≡ vertex) × (deed_of mark ≡ Won)

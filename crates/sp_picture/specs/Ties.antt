@@ -1,0 +1,36 @@
+-- What lost exchanges are tied to.
+use Rattle.std.specs.Prelude.{◌≡◌, ◌<◌, ℕ, ◌+◌, List, [], ◌∷◌, take, slice_get, Option, Some, None}
+use Rattle.sp_picture.specs.declared.marks.Mark.{Mark}
+use Rattle.sp_picture.specs.declared.marks.Deed.{Deed}
+use Rattle.sp_picture.specs.declared.marks.Deed.TheVariants.{Rest, Load, Won, Lost}
+use Rattle.sp_picture.specs.declared.ties.Tie.{Tie}
+use Rattle.sp_picture.specs.Marks.{deed_of, IsStoreTo}
+
+abbrev pub lost_by : Deed → (place : ℕ) → List ℕ → List ℕ
+lost_by Rest place more = more
+lost_by Load place more = more
+lost_by Won place more = more
+lost_by Lost place more = place ∷ more
+
+-- the places of the lost exchanges among these marks, of which the first is at `place`
+abbrev pub lost_from : {P : ℕ} → (place : ℕ) → List (Mark P) → List ℕ
+lost_from place [] = []
+lost_from place (mark ∷ more) = lost_by (deed_of mark) place (lost_from (place + 1) more)
+
+-- a mark stands at this place, and it is such a one
+pub record StandsAt {P : ℕ} (IsSuch : Mark P → Type 0) (marks : List (Mark P)) (place : ℕ) : Type 0 where
+  pub mark : Mark P
+  pub there : slice_get marks place ≡ Some mark
+  pub such : IsSuch mark
+
+-- the place of the last such mark, if there is one
+abbrev pub IsLast : {P : ℕ} → (IsSuch : Mark P → Type 0) → List (Mark P) → Option ℕ → Type 0
+IsLast IsSuch marks None = (k : ℕ) → StandsAt IsSuch marks k → ⊥
+IsLast IsSuch marks (Some place) = StandsAt IsSuch marks place × ((k : ℕ) → place < k → StandsAt IsSuch marks k → ⊥)
+
+-- The load is its actor's last step before it, and the store the last one to its word before it.
+pub record IsTie {P : ℕ} (marks : List (Mark P)) (tie : Tie) : Type 0 where
+  pub mark : Mark P
+  pub there : slice_get marks tie.lost ≡ Some mark
+  pub load : IsLast (λ m. m.actor ≡ mark.actor) (take tie.lost marks) tie.load
+  pub store : IsLast (IsStoreTo mark.vertex) (take tie.lost marks) tie.store

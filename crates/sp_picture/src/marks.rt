@@ -1,0 +1,105 @@
+//! The steps of a run, as a picture shows them.
+ghost use Rattle.std.specs.Prelude.{◌≡◌, All, IfOk, IsTrue, ◌↔◌};
+ghost use Rattle.sp_machine.specs.Programme.{IsNumber};
+ghost use Rattle.sp_machine.specs.Run.{opening_machine};
+ghost use Rattle.sp_picture.specs.Marks.{marks_from};
+
+use sp_machine::{Call, Effect, Ended, Exchange, Programme};
+use sp_word::Word;
+use std::alloc::{AllocError, Global};
+
+/// A step of a run.
+#[derive(Clone, Copy, Debug, PartialEq, Eq)]
+pub struct Mark<const P: u32> {
+    /// Whose step it was.
+    pub actor: u32,
+    /// The vertex whose word it looked at; 0 where the actor had no call left.
+    pub vertex: u32,
+    /// What it did.
+    pub effect: Effect<P>,
+}
+
+/// What a step was.
+#[derive(Clone, Copy, Debug, PartialEq, Eq)]
+pub enum Deed {
+    /// The actor had no call left.
+    Rest,
+    /// A load of a word.
+    Load,
+    /// An exchange that was won: its offer was stored.
+    Won,
+    /// An exchange that was lost.
+    Lost,
+}
+
+impl<const P: u32> Mark<P> {
+    ghost use Rattle.sp_picture.specs.Marks.{deed_of, IsStoreTo};
+
+    /// What the step was.
+    pub fn deed(&self) -> Deed
+        ensures { result ≡ deed_of self.now }
+    {
+        match self.effect.exchange {
+            Some(Exchange::Won) => Deed::Won,
+            Some(Exchange::Lost) => Deed::Lost,
+            None if self.vertex == 0 => Deed::Rest,
+            None => Deed::Load,
+        }
+    }
+
+    /// Whether a call acted at the step, and so ended with it.
+    pub fn acts(&self) -> bool {
+        self.effect.ended.is_some()
+    }
+
+    /// Whether it stored to the word of the vertex.
+    pub fn is_store_to(&self, vertex: u32) -> bool
+        ensures { IsTrue result ↔ IsStoreTo vertex self.now }
+    {
+        self.vertex == vertex && self.deed() == Deed::Won
+    }
+
+    /// The word that it stored, if it won an exchange.
+    pub fn stored(&self) -> Option<Word<P>> {
+        if self.deed() != Deed::Won {
+            return None;
+        }
+        match &self.effect.ended {
+            Some(ended) => offered(ended),
+            None => None,
+        }
+    }
+}
+
+// The word that the call offered, if it is an offer.
+fn offered<const P: u32>(ended: &Ended<P>) -> Option<Word<P>> {
+    match ended.call {
+        Call::Offer { word, .. } => Some(word),
+        Call::Read { .. } => None,
+    }
+}
+
+// The steps of a run, one of each of these actors after the other.
+pub(crate) fn marks_of<const P: u32>(
+    alloc: Global,
+    programme: &Programme<P>,
+    steps: &[u32],
+) -> Result<Vec<Mark<P>>, AllocError>
+    requires { All (IsNumber programme.now.actors) steps.now }
+    ensures { IfOk result
+        (λ marks. marks.items ≡ marks_from (opening_machine programme.now) steps.now) }
+{
+    let mut machine = programme.machine(alloc)?;
+    let mut marks = Vec::new(alloc);
+    for actor in steps {
+        let actor = *actor;
+        let vertex = machine.next_vertex(actor);
+        machine.step(actor);
+        marks.push(Mark {
+            actor,
+            vertex,
+            effect: machine.last(),
+        })?;
+    }
+    Ok(marks)
+}

@@ -1,0 +1,126 @@
+//! Pictures, and how they are written.
+ghost use Rattle.std.specs.Prelude.{◌≡◌, ◌<◌, ◌↔◌, length, map, All, IfOk, IsErrOf};
+ghost use Rattle.std.specs.String.{string_bytes};
+ghost use Rattle.sp_device.specs.Printing.{Finished as Written};
+ghost use Rattle.sp_machine.specs.Programme.{IsNumber};
+ghost use Rattle.sp_machine.specs.Run.{opening_machine, run_of};
+ghost use Rattle.sp_picture.specs.declared.faults.NoPicture.TheVariants.{TooManySteps};
+ghost use Rattle.sp_picture.specs.Marks.{marks_from};
+ghost use Rattle.sp_picture.specs.Ties.{IsTie, lost_from};
+
+use crate::bars::{draw_bars, draw_texts};
+use crate::drawing::{Drawing, MOST_STEPS, draw_run};
+use crate::faults::NoPicture;
+use crate::lanes::{Lane, draw_actors, draw_axis, draw_words, lanes_of};
+use crate::layout::{LEGEND_HEIGHT, LEGEND_WIDTH, Layout, step_width};
+use crate::shapes::{draw_marks, draw_stores, draw_ties};
+use crate::styles::{LEGEND, STYLE};
+use sp_device::{Write, WriteFault, write_all};
+use sp_machine::Programme;
+use std::alloc::{AllocError, Global};
+
+/// A picture of a run.
+#[derive(Drop)]
+pub struct Picture<const P: u32> {
+    /// What it shows.
+    pub drawing: Drawing<P>,
+    /// Its text, as SVG.
+    pub text: String,
+}
+
+// The beginning of a picture, and its ground.
+fn draw_ground(text: &mut String, layout: &Layout) -> Result<(), AllocError> {
+    let width = (layout.end() + 16).max(LEGEND_WIDTH);
+    let height = layout.bottom() + LEGEND_HEIGHT;
+    write!(
+        text,
+        "<svg xmlns='http://www.w3.org/2000/svg' viewBox='0 0 {width} {height}' "
+    )?;
+    writeln!(text, "width='{width}' height='{height}' role='img'>")?;
+    text.push_str(STYLE)?;
+    text.push_str("<rect width='100%' height='100%' fill='#fff'/>\n")
+}
+
+// What the marks and lines mean, and the end of a picture.
+fn draw_legend(text: &mut String, layout: &Layout) -> Result<(), AllocError> {
+    let (x, y) = (layout.across(0), layout.bottom() + 26);
+    writeln!(text, "<g transform='translate({x} {y})'>")?;
+    text.push_str(LEGEND)?;
+    text.push_str("</g>\n</svg>\n")
+}
+
+// Where the things of a drawing stand.
+fn layout_of<const P: u32>(
+    alloc: Global,
+    programme: &Programme<P>,
+    drawing: &Drawing<P>,
+    lanes: &[Lane<P>],
+) -> Result<Layout, AllocError> {
+    Ok(Layout {
+        step: step_width(alloc, &drawing.bars)?,
+        steps: drawing.marks.len() as u64,
+        words: lanes.len() as u64,
+        actors: u64::from(programme.actors()),
+    })
+}
+
+// The text of a picture: what stands below is drawn first.
+fn text_of<const P: u32>(
+    alloc: Global,
+    programme: &Programme<P>,
+    drawing: &Drawing<P>,
+) -> Result<String, AllocError> {
+    let marks = drawing.marks.as_slice();
+    let lanes = lanes_of(alloc, programme, marks)?;
+    let layout = layout_of(alloc, programme, drawing, &lanes)?;
+    let mut text = String::new(alloc);
+    draw_ground(&mut text, &layout)?;
+    draw_axis(&mut text, &layout)?;
+    draw_stores(&mut text, &layout, &lanes, marks)?;
+    draw_words(&mut text, alloc, &layout, &lanes, marks)?;
+    draw_actors(&mut text, &layout, programme.actors())?;
+    draw_bars(&mut text, &layout, &drawing.bars)?;
+    draw_ties(&mut text, &layout, marks, &drawing.ties)?;
+    draw_texts(&mut text, &layout, &drawing.bars)?;
+    draw_marks(&mut text, &layout, marks)?;
+    draw_legend(&mut text, &layout)?;
+    Ok(text)
+}
+
+/// The picture of the programme's run with one step of each of these actors after the other. It is refused where there are
+/// more steps than it shows, and where memory was.
+pub fn picture_of<const P: u32>(
+    alloc: Global,
+    programme: &Programme<P>,
+    steps: &[u32],
+) -> Result<Picture<P>, NoPicture>
+    requires { All (IsNumber programme.now.actors) steps.now }
+    ensures bars { IfOk result
+        (λ picture. picture.drawing.bars.items ≡ (run_of programme.now steps.now).log.calls) }
+    ensures marks { IfOk result (λ picture. picture.drawing.marks.items
+        ≡ marks_from (opening_machine programme.now) steps.now) }
+    ensures lost { IfOk result (λ picture. map (λ tie. tie.lost) picture.drawing.ties.items
+        ≡ lost_from 0 picture.drawing.marks.items) }
+    ensures tied { IfOk result
+        (λ picture. All (IsTie picture.drawing.marks.items) picture.drawing.ties.items) }
+    ensures many { IsErrOf result TooManySteps ↔ (MOST_STEPS < length steps.now) }
+{
+    let drawing = draw_run(alloc, programme, steps)?;
+    let text = text_of(alloc, programme, &drawing)?;
+    Ok(Picture { drawing, text })
+}
+
+/// Writes the text of a picture, and tells its number of bytes.
+///
+/// It takes no memory. Where the writer fails, a beginning of the text stands.
+pub fn write_picture<const P: u32, W: Write>(
+    picture: &Picture<P>,
+    out: &mut W,
+) -> Result<u64, WriteFault>
+    ensures { Written W.written W.has_failed
+        (string_bytes picture.now.text) out.old result out.new }
+{
+    let bytes = picture.text.as_bytes();
+    write_all(out, bytes)?;
+    Ok(bytes.len() as u64)
+}

@@ -1,0 +1,50 @@
+//! The parts of a picture that are the same in each.
+
+/// How things look. All colours are given, so that a dark page around the picture changes none.
+pub(crate) const STYLE: &str = "\
+<style>
+text { font: 12px sans-serif; fill: #222 }
+.number, .note { fill: #555 }
+.number { text-anchor: middle }
+.name { font-weight: bold; text-anchor: end }
+.text { font: 11px monospace; text-anchor: middle; paint-order: stroke; stroke: #fff; stroke-width: 3px }
+.grid { stroke: #eee }
+.lane { stroke: #ccc }
+.word { fill: #dcebdc; stroke: #999 }
+.unreached { fill: #f6f6f6; stroke: #999 }
+.bar { stroke: #888 }
+.shorter { fill: #cfe8cf }
+.smaller { fill: #fde9b8 }
+.kept { fill: #e3e3e3 }
+.read { fill: #d5e3f5 }
+.dot { fill: #222 }
+.cross { fill: none; stroke: #c33; stroke-width: 3 }
+.dash { stroke: #888; stroke-width: 3 }
+.ring { fill: none; stroke: #222; stroke-width: 1.5 }
+.stores { stroke: #2a7; stroke-width: 1.5 }
+.beaten { stroke: #c33; stroke-width: 1.5 }
+.expected { fill: none; stroke: #777; stroke-width: 1.2; stroke-dasharray: 4 3 }
+</style>
+";
+
+/// What the marks and lines mean.
+pub(crate) const LEGEND: &str = "\
+<circle class='dot' cx='8' cy='0' r='4'/>
+<text class='note' x='34' y='4'>a load</text>
+<circle class='dot' cx='8' cy='22' r='7'/>
+<text class='note' x='34' y='26'>an exchange that was won</text>
+<path class='cross' d='M2 38 l12 12 m0 -12 l-12 12'/>
+<text class='note' x='34' y='48'>an exchange that was lost</text>
+<circle class='ring' cx='8' cy='66' r='10'/>
+<text class='note' x='34' y='70'>at this step the call acts, and ends</text>
+<line class='stores' x1='300' y1='0' x2='324' y2='0'/>
+<text class='note' x='334' y='4'>the exchange stores to the word</text>
+<line class='beaten' x1='300' y1='22' x2='324' y2='22'/>
+<text class='note' x='334' y='26'>it was lost by this store</text>
+<line class='expected' x1='300' y1='44' x2='324' y2='44'/>
+<text class='note' x='334' y='48'>it expected the word of this load</text>
+<line class='dash' x1='304' y1='66' x2='320' y2='66'/>
+<text class='note' x='334' y='70'>the actor has no call left</text>
+<text class='note' x='0' y='100'>5 by 3: distance 5, predecessor 3</text>
+<text class='note' x='230' y='100'>o ACTOR WORD DISTANCE PREDECESSOR REPLY: an offer; r: a read</text>
+";

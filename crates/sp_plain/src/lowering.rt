@@ -1,0 +1,45 @@
+//! One arc relaxed, in a table of words that some other program lowers.
+ghost use Rattle.std.specs.Prelude.{◌≡◌, ◌≤◌, true, vec_len, IfOk};
+ghost use Rattle.sp_word.specs.Word.{is_layout, max_dist, max_pred};
+ghost use Rattle.sp_paths.specs.Paths.{IsArc, IsVertex};
+ghost use Rattle.sp_plain.specs.Passing.{IsTableOfWalks, KeepsWalks};
+
+use crate::pass::{first_table, offer};
+use sp_graph::{Graph, look_up};
+use sp_paths::Arc;
+use sp_word::Word;
+use std::alloc::{AllocError, Global};
+
+/// The words of a run before any arc is relaxed: (0, 0) at the source, the others unreached.
+pub fn open_table<const P: u32>(
+    alloc: Global,
+    graph: &Graph,
+    source: u32,
+) -> Result<Vec<Word<P>>, AllocError>
+    requires layout { is_layout P ≡ true }
+    requires source { IsVertex graph.now.n source }
+    ensures { IfOk result
+        (λ words. IsTableOfWalks graph.now source (max_dist P) words.items) }
+{
+    first_table(alloc, graph.n(), source)
+}
+
+// The distance of a word, where it isn't that of the word found.
+fn distance_below<const P: u32>(found: Word<P>, word: Word<P>) -> Option<u64> {
+    word.dist().filter(|dist| found.dist() != Some(*dist))
+}
+
+/// Relaxes an arc: where what it makes of its tail's word is within the greatest distance and less than its head's word, it
+/// becomes that. The head's new distance, where it became shorter.
+pub fn relax<const P: u32>(words: &mut Vec<Word<P>>, arc: Arc) -> Option<u64>
+    requires layout { is_layout P ≡ true }
+    requires room { vec_len words.old ≤ max_pred P }
+    requires arc { IsArc (vec_len words.old) arc }
+    ensures size { vec_len words.new ≡ vec_len words.old }
+    ensures kept { KeepsWalks (max_dist P) arc words.old.items words.new.items }
+{
+    let found = look_up(words, arc.head);
+    let word = offer(look_up(words, arc.tail), arc, found)?;
+    words[(arc.head - 1) as usize] = word;
+    distance_below(found, word)
+}

@@ -1,0 +1,32 @@
+//! A whole run.
+ghost use Rattle.std.specs.Prelude.{◌≡◌, ◌≤◌, true, IfOk};
+ghost use Rattle.sp_word.specs.Word.{is_layout, max_dist, max_pred};
+ghost use Rattle.sp_paths.specs.Paths.{IsVertex};
+ghost use Rattle.sp_plain.specs.Answer.{IsAnswer, ArePredsWithin};
+
+use crate::search::search;
+use sp_graph::Graph;
+use sp_plain::{Answer, finish_table, open_table};
+use sp_word::Delta;
+use std::alloc::{AllocError, Global};
+
+/// The shortest-path tree from `source`, or the smallest vertex that is too far, found by this thread alone.
+///
+/// `delta` is the width of a bucket, rounded down to a power of two; the answer is the same for each. It takes 8 bytes a
+/// vertex for the words, and 16 for each vertex that waits in a bucket, and is refused where there is no memory for them.
+pub fn solve_alone<const P: u32>(
+    alloc: Global,
+    graph: &Graph,
+    delta: Delta<P>,
+    source: u32,
+) -> Result<Answer<P>, AllocError>
+    requires layout { is_layout P ≡ true }
+    requires source { IsVertex graph.now.n source }
+    requires room { graph.now.n ≤ max_pred P }
+    ensures answer { IfOk result (IsAnswer graph.now source (max_dist P)) }
+    ensures predecessors { IfOk result (ArePredsWithin graph.now.n) }
+{
+    let mut words = open_table(alloc, graph, source)?;
+    search(alloc, graph, delta, source, &mut words)?;
+    Ok(finish_table(graph, source, words))
+}

@@ -1,0 +1,91 @@
+//! Words lowered bucket by bucket.
+ghost use Rattle.std.specs.Prelude.{◌≡◌, ℕ, ◌≤◌, true, vec_len};
+ghost use Rattle.sp_word.specs.Word.{is_layout, max_dist, max_pred};
+ghost use Rattle.sp_paths.specs.Paths.{IsVertex};
+ghost use Rattle.sp_plain.specs.Passing.{IsTableOfWalks};
+
+use sp_bucket::{Bins, Entry};
+use sp_graph::{Graph, look_up};
+use sp_plain::relax;
+use sp_word::{Delta, Word};
+use std::alloc::{AllocError, Global};
+
+// Relaxes the arcs of an entry's vertex, if it has the entry's distance still. Heads that came nearer are put into buckets.
+fn relax_row<const P: u32>(
+    graph: &Graph,
+    source: u32,
+    entry: Entry,
+    words: &mut Vec<Word<P>>,
+    bins: &mut Bins,
+) -> Result<(), AllocError>
+    requires layout { is_layout P ≡ true }
+    requires source { IsVertex graph.now.n source }
+    requires room { graph.now.n ≤ max_pred P }
+    requires walks { IsTableOfWalks graph.now source (max_dist P) words.old.items }
+    ensures walks { IsTableOfWalks graph.now source (max_dist P) words.new.items }
+{
+    let vertex = entry.vertex;
+    if vertex < 1 || vertex > graph.n() || look_up(words, vertex).dist() != Some(entry.dist) {
+        return Ok(());
+    }
+    for arc in graph.row(vertex) {
+        if let Some(dist) = relax(words, *arc) {
+            bins.put(Entry {
+                vertex: arc.head,
+                dist,
+            })?;
+        }
+    }
+    Ok(())
+}
+
+// Relaxes the arcs of each entry's vertex.
+fn relax_rows<const P: u32>(
+    graph: &Graph,
+    source: u32,
+    entries: &[Entry],
+    words: &mut Vec<Word<P>>,
+    bins: &mut Bins,
+) -> Result<(), AllocError>
+    requires layout { is_layout P ≡ true }
+    requires source { IsVertex graph.now.n source }
+    requires room { graph.now.n ≤ max_pred P }
+    requires walks { IsTableOfWalks graph.now source (max_dist P) words.old.items }
+    ensures walks { IsTableOfWalks graph.now source (max_dist P) words.new.items }
+{
+    for entry in entries {
+        relax_row(graph, source, *entry, words, bins)?;
+    }
+    Ok(())
+}
+
+/// Lowers words from the source on, until no entry waits.
+pub(crate) fn search<const P: u32>(
+    alloc: Global,
+    graph: &Graph,
+    delta: Delta<P>,
+    source: u32,
+    words: &mut Vec<Word<P>>,
+) -> Result<(), AllocError>
+    requires layout { is_layout P ≡ true }
+    requires source { IsVertex graph.now.n source }
+    requires room { graph.now.n ≤ max_pred P }
+    requires walks { IsTableOfWalks graph.now source (max_dist P) words.old.items }
+    ensures walks { IsTableOfWalks graph.now source (max_dist P) words.new.items }
+{
+    let mut bins = Bins::new(alloc, delta.get().ilog2())?;
+    bins.put(Entry {
+        vertex: source,
+        dist: 0,
+    })?;
+    let mut entries = Vec::new(alloc);
+    // What were left after so many buckets would be found by the passes.
+    for _ in 0..u64::MAX {
+        if bins.refill(&mut entries) {
+            relax_rows(graph, source, &entries, words, &mut bins)?;
+        } else if bins.advance()?.is_none() {
+            break;
+        }
+    }
+    Ok(())
+}

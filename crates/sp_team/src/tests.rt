@@ -1,3 +1,0 @@
-//! A worker's bins.
-
-mod bins;

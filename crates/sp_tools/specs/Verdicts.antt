@@ -1,0 +1,50 @@
+-- What `check --all` says of the blocks of a tree file, and how it ends.
+use Rattle.std.specs.Prelude.{◌≡◌, ℕ, Bool, true, false, List, [], ◌∷◌, ◌++◌, codes, decimal, if◌then◌else◌, Result, Ok, Err}
+use Rattle.std.specs.List.{flat_map, list_all}
+use Rattle.sp_paths.specs.Paths.{Graph}
+use Rattle.sp_tree.specs.Table.{TreeTable}
+use Rattle.sp_cert.specs.Rules.{number_of}
+use Rattle.sp_blocks.specs.Whole.{IsFile, IsFileFault}
+use Rattle.sp_command.specs.declared.faults.Status.{Status}
+use Rattle.sp_command.specs.declared.faults.Status.TheVariants as status
+use Rattle.sp_command.specs.declared.faults.Fault.{Fault}
+use Rattle.sp_command.specs.declared.faults.Fault.TheVariants as fault
+use Rattle.sp_command.specs.declared.faults.FileKind.TheVariants as file
+use Rattle.sp_tools.specs.declared.check.Verdict.{Verdict}
+use Rattle.sp_tools.specs.declared.check.Verdict.TheVariants.{Yes, No}
+use Rattle.sp_tools.specs.declared.check_all.Judged.{Judged}
+use Rattle.sp_tools.specs.Verdict.{IsVerdict}
+
+-- Each of these trees is judged, in their order, beside its source.
+abbrev pub AreJudged : (P : ℕ) → Graph → List TreeTable → List Judged → Type 0
+AreJudged P g [] [] = Unit {0}
+AreJudged P g [] (judged ∷ more) = ⊥
+AreJudged P g (tree ∷ trees) [] = ⊥
+AreJudged P g (tree ∷ trees) (judged ∷ more) = (judged.source ≡ tree.source) × IsVerdict P g tree judged.verdict × AreJudged P g trees more
+
+-- The first fault of the file is told; or memory was refused.
+abbrev pub TellsFault : (P : ℕ) → (text : List ℕ) → (failed : Bool) → Fault → Type 0
+TellsFault P text failed (fault.Input file.Tree e) = IsFileFault P text failed e
+TellsFault P text failed fault.Memory = Unit {0}
+TellsFault P text failed _ = ⊥
+
+-- The text is that of one tree or more, and each is judged.
+abbrev pub FileJudged : (P : ℕ) → Graph → (text : List ℕ) → List Judged → Type 0
+FileJudged P g text all = (trees : List TreeTable) × IsFile P text trees × AreJudged P g trees all
+
+-- `yes`, or `no S V R`
+abbrev pub text_of : (source : ℕ) → Verdict → List ℕ
+text_of source Yes = codes "yes\n"
+text_of source (No v rule) = codes "no " ++ decimal source ++ codes " " ++ decimal v ++ codes " " ++ decimal (number_of rule) ++ codes "\n"
+
+abbrev pub judged_text : Judged → List ℕ
+judged_text judged = text_of judged.source judged.verdict
+
+abbrev pub is_yes : Verdict → Bool
+is_yes Yes = true
+is_yes (No v rule) = false
+
+-- done where each answer is yes
+abbrev pub end_of : List Judged → Status
+end_of [] = status.Done
+end_of (judged ∷ more) = if is_yes judged.verdict then end_of more else status.CheckedNo

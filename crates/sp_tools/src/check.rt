@@ -1,0 +1,218 @@
+//! `spt check`: whether a tree file holds the shortest-path tree of its source.
+ghost use Rattle.std.specs.Prelude.{◌≡◌, ◌≢◌, ℕ, List, ◌++◌, true, IfOk, IfErr};
+ghost use Rattle.sp_word.specs.Word.{is_layout};
+ghost use Rattle.sp_device.specs.Printing.{IsSending, Finished};
+ghost use Rattle.sp_command.specs.Faults.{is_done};
+ghost use Rattle.sp_tools.specs.Verdict.{IsVerdict, verdict_text, verdict_end};
+
+use crate::check_all::check_all_files;
+use clap::{Arg, ArgAction, ArgMatches, Error};
+use sp_cert::{CheckError, Rule};
+use sp_command::{
+    Command, Fault, FileKind, GRAPH_FILE, Inputs, Run, Status, Words, after_help, file,
+};
+use sp_device::{Printer, Write, WriteFault, finish, print_number, print_text};
+use sp_dimacs::read_gr;
+use sp_graph::Graph;
+use sp_tree::{Tree, read_tree};
+use std::alloc::{AllocError, Global};
+use std::sync::Wait;
+use std::thread::Threads;
+
+/// What `check` is given, with the names of its files.
+#[derive(Drop)]
+pub struct Check<'a> {
+    graph: &'a str,
+    tree: &'a str,
+    /// Whether the file has one block or more, each of which is checked.
+    all: bool,
+}
+
+impl<'a> Command<'a> for Check<'a> {
+    const NAME: &'static str = "check";
+
+    const ABOUT: &'static str = "Check a tree against its graph";
+
+    const LONG_ABOUT: &'static str = "\
+Check a tree against its graph
+
+The answer is `yes` where the file holds the shortest-path tree of its source and no vertex is too
+far for a word, whoever made the file. Else it is `no V R`, with the lowest vertex V at which a rule
+fails and the number R of its lowest such rule:
+  1  the tree's number of vertices is not the graph's (V is 0, and nothing else is looked at)
+  2  the source's line has another distance or predecessor than 0
+  3  an arc from a vertex of the tree offers V a shorter distance, or the same one with a smaller
+     predecessor, within the greatest distance of a word
+  4  V is not the source, and its predecessor is not a vertex of the tree with an arc to V of
+     exactly the difference of the two distances
+  5  V has no line, and an arc leads to it from a vertex of the tree, beyond the greatest distance
+
+With --all the file has one block or more, as `spt tree` writes for several sources. Each is checked,
+and has a line of its own: `yes`, or `no S V R` with its source S.";
+
+    const AFTER_HELP: &'static str = after_help!(
+        "\
+The graph is a .gr file, as `spt tree --help` tells. The tree file has one block as `spt tree` writes
+it for a source, with one space between fields and an LF at the end of each line:
+  p spt N S, then v V D P by rising V, then e R
+
+It takes as much memory as `spt tree` does for one source, and 16 bytes a vertex more; with --all 32
+bytes a block besides.
+
+Example: for the graph and the tree of the example there, `spt check diamond.gr diamond.tree` writes
+`yes`. With `v 4 5 3` for `v 4 5 2` it writes `no 4 3`, since vertex 2 offers the same distance.
+
+A fault is told with its line, as in `spt: tree: line 3: 5 OutOfRange V`, FILE being gr or tree; the
+kinds are those of `spt tree --help`. In a tree file
+  2 BadLine        a line is none of these, or is spelled in another way; so is an x line
+  5 OutOfRange     also a V that is not greater than the one before, and an R that is not the number
+                   of v lines
+  6 TooMany        something stands after the e line; with --all a further block may, and anything
+                   else is told as what is wrong with that
+  7 TooFew         the file ends before the e line
+",
+        statuses:
+            0 "yes; with --all of each block"
+            1 "the command line is wrong"
+            2 "a file is refused"
+            3 "no; with --all of some block";
+            "a file" "the answer"
+    );
+
+    fn words(alloc: Global) -> Words<'a> {
+        clap::Command::new(alloc, Self::NAME)
+            .arg(file(alloc, "GR", GRAPH_FILE))?
+            .arg(file(alloc, "TREE", "The tree file"))?
+            .arg(
+                Arg::new(alloc, "all")
+                    .long("all")
+                    .help("Check each block of a file that has one or more")
+                    .action(ArgAction::SetTrue),
+            )
+    }
+
+    fn read(_alloc: Global, given: &ArgMatches<'a>) -> Result<Option<Self>, Error> {
+        let (Some(graph), Some(tree)) = (given.get_str("GR"), given.get_str("TREE")) else {
+            return Ok(None);
+        };
+        Ok(Some(Check {
+            graph,
+            tree,
+            all: given.get_flag("all"),
+        }))
+    }
+
+    fn path_of(&self, file: FileKind) -> Option<&'a str> {
+        match file {
+            FileKind::Graph => Some(self.graph),
+            FileKind::Tree => Some(self.tree),
+            _ => None,
+        }
+    }
+}
+
+impl<const P: u32> Run<P> for Check<'_> {
+    fn run<R: Threads + Wait + Sync, F: Inputs, W: Write>(
+        &self,
+        rt: &R,
+        alloc: Global,
+        files: &F,
+        out: &mut W,
+    ) -> Result<Status, Fault> {
+        if self.all {
+            check_all_files::<P, R, F, W>(rt, alloc, self.graph, self.tree, files, out)
+        } else {
+            check_files::<P, R, F, W>(rt, alloc, self, files, out)
+        }
+    }
+}
+
+// Checks the tree against the graph, and writes the verdict.
+fn check_files<const P: u32, R: Threads + Sync, F: Inputs, W: Write>(
+    rt: &R,
+    alloc: Global,
+    given: &Check<'_>,
+    files: &F,
+    out: &mut W,
+) -> Result<Status, Fault>
+    requires layout { is_layout P ≡ true }
+    ensures done { IfOk result (λ status. is_done status ≡ true) }
+    ensures unwritten { IfErr result (λ fault. fault ≢ Fault.WriteFailed → out.new ≡ out.old) }
+{
+    let (mut gr, mut tree) = FileKind::Tree.open_with_graph(files, given.graph, given.tree)?;
+    let file = match read_gr::<P, _>(alloc, &mut gr) {
+        Ok(file) => file,
+        Err(error) => return Err(FileKind::Graph.fault(error)),
+    };
+    let tree = match read_tree::<P, _>(alloc, &mut tree) {
+        Ok(tree) => tree,
+        Err(error) => return Err(FileKind::Tree.fault(error)),
+    };
+    let graph = Graph::from_arcs(alloc, file.n, file.arcs)?;
+    let verdict = judge(rt, alloc, &graph, &tree)?;
+    write_verdict(verdict, out)?;
+    Ok(verdict.status())
+}
+
+/// What the checker says.
+#[derive(Clone, Copy, Debug, PartialEq, Eq)]
+pub enum Verdict {
+    /// It is the tree.
+    Yes,
+    /// This rule fails first, at this vertex.
+    No { vertex: u32, rule: Rule },
+}
+
+impl Verdict {
+    /// How the run ends.
+    fn status(self) -> Status
+        ensures exact { result ≡ verdict_end self }
+    {
+        match self {
+            Verdict::Yes => Status::Done,
+            Verdict::No { .. } => Status::CheckedNo,
+        }
+    }
+}
+
+/// What the checker says of a tree.
+pub fn judge<const P: u32, R: Threads + Sync>(
+    rt: &R,
+    alloc: Global,
+    graph: &Graph,
+    tree: &Tree<P>,
+) -> Result<Verdict, AllocError>
+    ensures { IfOk result (IsVerdict P graph.now tree.now) }
+{
+    match sp_cert::check::<P, R>(rt, alloc, graph, tree) {
+        Ok(()) => Ok(Verdict::Yes),
+        Err(CheckError::Fault { vertex, rule }) => Ok(Verdict::No { vertex, rule }),
+        Err(CheckError::Memory) => Err(AllocError),
+    }
+}
+
+fn print_verdict<W: Write>(verdict: Verdict, out: &mut W) -> Printer
+    ensures { IsSending W.written W.passed W.has_failed
+        (verdict_text verdict) out.old out.new result }
+{
+    let mut printer = Printer::new();
+    match verdict {
+        Verdict::Yes => print_text(out, &mut printer, b"yes\n"),
+        Verdict::No { vertex, rule } => {
+            print_text(out, &mut printer, b"no ");
+            print_number(out, &mut printer, vertex as u64);
+            print_text(out, &mut printer, b" ");
+            print_number(out, &mut printer, rule.number() as u64);
+            print_text(out, &mut printer, b"\n");
+        }
+    }
+    printer
+}
+
+// Writes the verdict as a line.
+fn write_verdict<W: Write>(verdict: Verdict, out: &mut W) -> Result<u64, WriteFault>
+    ensures { Finished W.written W.has_failed (verdict_text verdict) out.old result out.new }
+{
+    let printer = print_verdict(verdict, out);
+    finish(out, printer)
+}

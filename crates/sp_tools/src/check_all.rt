@@ -1,0 +1,130 @@
+//! `spt check --all`: whether each block of a tree file holds the shortest-path tree of its source.
+ghost use Rattle.std.specs.Prelude.{◌≡◌, ◌≢◌, ℕ, List, Some, true, IfOk, IfErr};
+ghost use Rattle.std.specs.List.{flat_map};
+ghost use Rattle.sp_word.specs.Word.{is_layout};
+ghost use Rattle.sp_device.specs.Printing.{Sends, Finished};
+ghost use Rattle.sp_command.specs.Faults.{is_done};
+ghost use Rattle.sp_tools.specs.Verdicts.{FileJudged, TellsFault, judged_text, end_of};
+
+use crate::check::{Verdict, judge};
+use sp_blocks::TreeBlocks;
+use sp_command::{Fault, FileKind, Inputs, Status};
+use sp_device::{Printer, Read, Write, WriteFault, finish, print_number, print_text};
+use sp_dimacs::read_gr;
+use sp_graph::Graph;
+use std::alloc::Global;
+use std::thread::Threads;
+
+/// What the checker says of a block.
+#[derive(Clone, Copy, Debug, PartialEq, Eq)]
+pub struct Judged {
+    pub source: u32,
+    pub verdict: Verdict,
+}
+
+/// Checks each block of the tree file against the graph, and writes the verdicts.
+pub fn check_all_files<const P: u32, R: Threads + Sync, F: Inputs, W: Write>(
+    rt: &R,
+    alloc: Global,
+    graph: &str,
+    trees: &str,
+    files: &F,
+    out: &mut W,
+) -> Result<Status, Fault>
+    requires layout { is_layout P ≡ true }
+    ensures done { IfOk result (λ status. is_done status ≡ true) }
+    ensures unwritten { IfErr result (λ fault. fault ≢ Fault.WriteFailed → out.new ≡ out.old) }
+{
+    let (mut gr, mut trees) = FileKind::Tree.open_with_graph(files, graph, trees)?;
+    let file = match read_gr::<P, _>(alloc, &mut gr) {
+        Ok(file) => file,
+        Err(error) => return Err(FileKind::Graph.fault(error)),
+    };
+    let graph = Graph::from_arcs(alloc, file.n, file.arcs)?;
+    let all = judge_blocks::<P, R, _>(rt, alloc, &graph, &mut trees)?;
+    write_verdicts(&all, out)?;
+    Ok(status_of(&all))
+}
+
+// What the checker says of each block of a tree file.
+fn judge_blocks<const P: u32, R: Threads + Sync, D: Read>(
+    rt: &R,
+    alloc: Global,
+    graph: &Graph,
+    trees: &mut D,
+) -> Result<Vec<Judged>, Fault>
+    requires { is_layout P ≡ true }
+    ensures judged { (text : List ℕ) → D.left trees.old ≡ Some text
+        → IfOk result (λ all. FileJudged P graph.now text all.items) }
+    ensures refused { (text : List ℕ) → D.left trees.old ≡ Some text
+        → IfErr result (TellsFault P text (D.has_failed trees.new)) }
+    ensures unwritten { IfErr result (λ fault. fault ≢ Fault.WriteFailed) }
+{
+    let mut blocks = TreeBlocks::<P>::new(alloc);
+    let mut all = Vec::new(alloc);
+    loop {
+        match blocks.next(trees) {
+            Ok(Some(tree)) => {
+                let verdict = judge(rt, alloc, graph, &tree)?;
+                let source = tree.source();
+                if all.push(Judged { source, verdict }).is_err() {
+                    return Err(Fault::Memory);
+                }
+            }
+            Ok(None) => return Ok(all),
+            Err(error) => return Err(FileKind::Tree.fault(error)),
+        }
+    }
+}
+
+// How the run ends.
+fn status_of(all: &[Judged]) -> Status
+    ensures exact { result ≡ end_of all.now }
+    ensures done { is_done result ≡ true }
+{
+    for judged in all {
+        if judged.verdict != Verdict::Yes {
+            return Status::CheckedNo;
+        }
+    }
+    Status::Done
+}
+
+// Sends the line of a block.
+fn print_judged<W: Write>(judged: Judged, out: &mut W, printer: &mut Printer)
+    ensures { Sends W.written W.passed W.has_failed
+        (judged_text judged) out.old printer.old out.new printer.new }
+{
+    match judged.verdict {
+        Verdict::Yes => print_text(out, printer, b"yes\n"),
+        Verdict::No { vertex, rule } => {
+            print_text(out, printer, b"no ");
+            print_number(out, printer, judged.source as u64);
+            print_text(out, printer, b" ");
+            print_number(out, printer, vertex as u64);
+            print_text(out, printer, b" ");
+            print_number(out, printer, rule.number() as u64);
+            print_text(out, printer, b"\n");
+        }
+    }
+}
+
+// Sends the lines of all blocks.
+fn print_verdicts<W: Write>(all: &[Judged], out: &mut W, printer: &mut Printer)
+    ensures { Sends W.written W.passed W.has_failed
+        (flat_map judged_text all.now) out.old printer.old out.new printer.new }
+{
+    for judged in all {
+        print_judged(*judged, out, printer);
+    }
+}
+
+// Writes a line for each block.
+fn write_verdicts<W: Write>(all: &[Judged], out: &mut W) -> Result<u64, WriteFault>
+    ensures { Finished W.written W.has_failed
+        (flat_map judged_text all.now) out.old result out.new }
+{
+    let mut printer = Printer::new();
+    print_verdicts(all, out, &mut printer);
+    finish(out, printer)
+}

@@ -1,0 +1,12 @@
+//! The commands of the program `spt` beside those that run from sources: `check`, `replay` and `offers`.
+#![tactic(auto)]
+
+mod actors;
+mod check;
+mod check_all;
+mod offers;
+mod replay;
+
+pub use check::Check;
+pub use offers::Offers;
+pub use replay::Replay;

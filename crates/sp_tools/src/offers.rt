@@ -1,0 +1,134 @@
+//! `spt offers`: the offers of several actors, made on threads.
+ghost use Rattle.std.specs.Prelude.{◌≡◌, ◌≢◌, true, IfOk, IfErr};
+ghost use Rattle.sp_word.specs.Word.{is_layout};
+ghost use Rattle.sp_command.specs.declared.faults.Status.TheVariants.{Done};
+
+use crate::actors::offer_all;
+use clap::{ArgMatches, Error};
+use sp_command::{Command, Fault, FileKind, Inputs, Run, Status, Words, after_help, file};
+use sp_device::Write;
+use sp_machine::Programme;
+use sp_offer::{AnyWord, OfferTable};
+use sp_replay::{read_offers, write_words};
+use sp_word::Word;
+use std::alloc::{AllocError, Global};
+use std::sync::Wait;
+use std::thread::Threads;
+
+/// What `offers` is given, with the name of its file.
+#[derive(Drop)]
+pub struct Offers<'a> {
+    file: &'a str,
+}
+
+impl<'a> Command<'a> for Offers<'a> {
+    const NAME: &'static str = "offers";
+
+    const ABOUT: &'static str =
+        "Make the offers of several actors at once, and write the words that are left";
+
+    const LONG_ABOUT: &'static str = "\
+Make the offers of several actors at once, and write the words that are left
+
+A word of the table is unreached, or holds a distance and a predecessor. An offer of a pair leaves
+the lesser of the two, by distance, then by predecessor. Each actor has a thread of its own, and no
+thread waits for another's offers. Whatever their order, the words that are left are the same.";
+
+    const AFTER_HELP: &'static str = after_help!(
+        "\
+The file has a line for each of these, its fields parted by blanks:
+  p off N K    there are N words, 1 to 65536, and K actors, 1 to 64; it stands first, and once
+  o A V D P    actor A, 1 to K, offers distance D and predecessor P to word V, 1 to N
+  c ...        a comment; so is a line without a field
+An actor makes its offers in the order of the file. There are at most 1048576 offers. All words are
+unreached before.
+
+The output has a line for each word that is reached, by rising V, and then their number:
+  w V D P      word V holds distance D and predecessor P
+  e R          there are R lines of this kind
+
+Example: where the file offers.off has the lines
+  p off 1 2
+  o 1 1 9 1
+  o 1 1 7 4
+  o 2 1 7 2
+  o 2 1 8 3
+the output of `spt offers offers.off` is
+  w 1 7 2
+  e 1
+
+A fault is told with its line, as in `spt: offers: line 2: 5 OutOfRange A`:
+",
+        faults: "  6 TooMany        an offer is one too many\n",
+        statuses:
+            0 "done"
+            1 "the command line is wrong"
+            2 "the file is refused";
+            "the file" "the output"
+    );
+
+    fn words(alloc: Global) -> Words<'a> {
+        clap::Command::new(alloc, Self::NAME).arg(file(alloc, "FILE", "The offers file"))
+    }
+
+    fn read(_alloc: Global, given: &ArgMatches<'a>) -> Result<Option<Self>, Error> {
+        Ok(given.get_str("FILE").map(|file| Offers { file }))
+    }
+
+    fn path_of(&self, file: FileKind) -> Option<&'a str> {
+        match file {
+            FileKind::Offers => Some(self.file),
+            _ => None,
+        }
+    }
+}
+
+impl<const P: u32> Run<P> for Offers<'_> {
+    fn run<R: Threads + Wait + Sync, F: Inputs, W: Write>(
+        &self,
+        rt: &R,
+        alloc: Global,
+        files: &F,
+        out: &mut W,
+    ) -> Result<Status, Fault> {
+        offer_file::<P, R, F, W>(rt, alloc, self.file, files, out)
+    }
+}
+
+// Makes the offers of the file, and writes the words that are left.
+fn offer_file<const P: u32, R: Threads + Wait + Sync, F: Inputs, W: Write>(
+    rt: &R,
+    alloc: Global,
+    path: &str,
+    files: &F,
+    out: &mut W,
+) -> Result<Status, Fault>
+    requires layout { is_layout P ≡ true }
+    ensures done { IfOk result (λ status. status ≡ Done) }
+    ensures unwritten { IfErr result (λ fault. fault ≢ Fault.WriteFailed → out.new ≡ out.old) }
+{
+    let mut reader = FileKind::Offers.open(files, path)?;
+    let programme = match read_offers::<P, _>(alloc, &mut reader) {
+        Ok(programme) => programme,
+        Err(error) => return Err(FileKind::Offers.fault(error)),
+    };
+    let words = final_words::<P, R>(rt, alloc, &programme)?;
+    write_words::<P, W>(&words, out)?;
+    Ok(Status::Done)
+}
+
+// The words of a table once all offers were made.
+fn final_words<const P: u32, R: Threads + Wait + Sync>(
+    rt: &R,
+    alloc: Global,
+    programme: &Programme<P>,
+) -> Result<Vec<Word<P>>, AllocError>
+    requires layout { is_layout P ≡ true }
+{
+    let count = programme.words();
+    let (table, caller) = OfferTable::<AnyWord, P>::new(alloc, count, AnyWord)?;
+    let mut caller = offer_all::<P, R>(rt, alloc, &table, caller, programme)?;
+    let mut words = vec![in alloc; Word::<P>::unreached(); count as usize]?;
+    table.copy_words(&mut caller, &mut words);
+    Ok(words)
+}

@@ -1,0 +1,201 @@
+//! `spt replay`: the run of a replay file, and its report or its picture.
+ghost use Rattle.std.specs.Prelude.{◌≡◌, ◌≢◌, ◌<◌, ◌↔◌, true, length, All, IfOk, IfErr, IsErrOf};
+ghost use Rattle.sp_word.specs.Word.{is_layout};
+ghost use Rattle.sp_command.specs.declared.faults.Fault.TheVariants.{TooManySteps, WriteFailed};
+ghost use Rattle.sp_command.specs.declared.faults.Status.TheVariants.{Done};
+ghost use Rattle.sp_machine.specs.Programme.{IsNumber};
+
+use clap::{Arg, ArgAction, ArgMatches, Error};
+use sp_command::{Command, Fault, FileKind, Inputs, Run, Status, Words, after_help, file};
+use sp_device::Write;
+use sp_picture::{NoPicture, picture_of, write_picture};
+use sp_replay::{ReplayFile, read_replay, write_report};
+use std::alloc::Global;
+use std::sync::Wait;
+use std::thread::Threads;
+
+/// What `replay` is given: the name of its file, and whether a picture is to be written in place of the report.
+#[derive(Drop)]
+pub struct Replay<'a> {
+    file: &'a str,
+    svg: bool,
+}
+
+impl<'a> Command<'a> for Replay<'a> {
+    const NAME: &'static str = "replay";
+
+    const ABOUT: &'static str =
+        "Run the steps of several actors on one table in a given order, and report each call";
+
+    const LONG_ABOUT: &'static str = "\
+Run the steps of several actors on one table in a given order, and report each call
+
+A word of the table is unreached, or holds a distance and a predecessor. A call of an actor reads a
+word, or offers a pair to a word, which keeps the lesser of the two, or relaxes an arc: it reads the
+tail's word, and offers the sum to the head. One step is one load of a word, or one exchange. An
+exchange is lost where another actor has changed the word since it was loaded.";
+
+    const AFTER_HELP: &'static str = after_help!(
+        "\
+The file has a line for each of these, its fields parted by blanks:
+  p rep N K    there are N words, 1 to 65536, and K actors, 1 to 64; it stands first, and once
+  i V D P      word V, 1 to N, begins as distance D and predecessor P; the others begin unreached
+  o A V D P    a call: actor A, 1 to K, offers distance D and predecessor P to word V
+  r A V        a call: actor A reads word V
+  a A U V L    a call: actor A relaxes an arc from U to V of length L, 1 to 4294967295
+  s A          a step of actor A
+  c ...        a comment; so is a line without a field
+An actor makes its calls in the order of the file. The steps are made in the order of the s lines,
+whatever stands between them. There are at most 1048576 calls and 16777216 steps.
+
+The report has a line for each call that ended, F and L being the numbers of its first and last
+step, and then the words at the end. The read and the offer of a relaxation have a line each.
+  o A V D P REPLY F L    shorter: the distance became less; smaller: the predecessor alone did;
+                         kept: the word was no greater than the offer
+  r A V D P F L          the read found distance D and predecessor P
+  r A V none F L         the read found unreached
+  w V D P                word V at the end, unless it is unreached
+  t WINS LOSSES          how many exchanges were won and how many were lost
+  closed yes             each arc of an a line whose tail is reached was relaxed from the tail's
+                         last distance; else closed no
+
+Example: where the file lost_exchange.rep has the lines
+  p rep 1 2
+  o 1 1 5 3
+  o 2 1 5 2
+  s 1
+  s 2
+  s 1
+  s 2
+  s 2
+both actors load the word, actor 1 wins its exchange, actor 2 loses one and then wins one. The
+report of `spt replay lost_exchange.rep` is
+  o 1 1 5 3 shorter 1 3
+  o 2 1 5 2 smaller 2 5
+  w 1 5 2
+  t 2 1
+  closed yes
+
+With --svg a picture of the run, in SVG, is written in place of the report: a lane for each word that
+a step looks at and for each actor, a bar for each call that ended, and a mark for each step. A lost
+exchange is tied to the store that beat it, and to the load whose word it expected. A picture shows
+60 steps at most.
+
+A fault is told with its line, as in `spt: replay: line 2: 5 OutOfRange V`:
+",
+        faults: "  6 TooMany        a call or a step is one too many\n",
+        others: "\
+Others are
+  spt: replay: cannot open           (exit status 6)
+  spt: replay: more than 60 steps    with --svg; nothing is written (exit status 2)
+",
+        statuses:
+            0 "done"
+            1 "the command line is wrong"
+            2 "the file is refused";
+            "the file" "the output"
+    );
+
+    fn words(alloc: Global) -> Words<'a> {
+        clap::Command::new(alloc, Self::NAME)
+            .arg(file(alloc, "FILE", "The replay file"))?
+            .arg(svg(alloc))
+    }
+
+    fn read(_alloc: Global, given: &ArgMatches<'a>) -> Result<Option<Self>, Error> {
+        let svg = given.get_flag("svg");
+        Ok(given.get_str("FILE").map(|file| Replay { file, svg }))
+    }
+
+    fn path_of(&self, file: FileKind) -> Option<&'a str> {
+        match file {
+            FileKind::Replay => Some(self.file),
+            _ => None,
+        }
+    }
+}
+
+fn svg<'a>(alloc: Global) -> Arg<'a> {
+    Arg::new(alloc, "svg")
+        .long("svg")
+        .action(ArgAction::SetTrue)
+        .help("Write a picture of the run in place of the report, as SVG")
+}
+
+impl<const P: u32> Run<P> for Replay<'_> {
+    fn run<R: Threads + Wait + Sync, F: Inputs, W: Write>(
+        &self,
+        _rt: &R,
+        alloc: Global,
+        files: &F,
+        out: &mut W,
+    ) -> Result<Status, Fault> {
+        let file = read_file::<P, F>(alloc, self.file, files)?;
+        if self.svg {
+            draw(alloc, &file, out)?;
+        } else {
+            report(alloc, &file, out)?;
+        }
+        Ok(Status::Done)
+    }
+}
+
+// Reads the file.
+fn read_file<const P: u32, F: Inputs>(
+    alloc: Global,
+    path: &str,
+    files: &F,
+) -> Result<ReplayFile<P>, Fault>
+    requires { is_layout P ≡ true }
+    ensures steps { IfOk result (λ file. All (IsNumber file.programme.actors) file.steps.items) }
+    ensures unwritten { IfErr result (λ fault. fault ≢ WriteFailed) }
+{
+    let mut reader = FileKind::Replay.open(files, path)?;
+    match read_replay::<P, _>(alloc, &mut reader) {
+        Ok(file) => Ok(file),
+        Err(error) => Err(FileKind::Replay.fault(error)),
+    }
+}
+
+// Runs the steps of the file, and writes the report.
+fn report<const P: u32, W: Write>(
+    alloc: Global,
+    file: &ReplayFile<P>,
+    out: &mut W,
+) -> Result<(), Fault>
+    requires { All (IsNumber file.now.programme.actors) file.now.steps.items }
+    ensures { IfErr result (λ fault. fault ≢ WriteFailed → out.new ≡ out.old) }
+{
+    let report = sp_machine::replay::<P>(alloc, &file.programme, &file.steps)?;
+    write_report::<P, W>(&report, out)?;
+    Ok(())
+}
+
+// The fault of a command that has no picture of its run.
+fn fault_of(error: NoPicture) -> Fault
+    ensures steps { (result ≡ TooManySteps) ↔ (error ≡ NoPicture.TooManySteps) }
+    ensures unwritten { result ≢ WriteFailed }
+{
+    match error {
+        NoPicture::TooManySteps => Fault::TooManySteps,
+        NoPicture::Memory => Fault::Memory,
+    }
+}
+
+// Runs the steps of the file, and writes the picture.
+fn draw<const P: u32, W: Write>(
+    alloc: Global,
+    file: &ReplayFile<P>,
+    out: &mut W,
+) -> Result<(), Fault>
+    requires { All (IsNumber file.now.programme.actors) file.now.steps.items }
+    ensures many { IsErrOf result TooManySteps ↔ (60 < length file.now.steps.items) }
+    ensures unwritten { IfErr result (λ fault. fault ≢ WriteFailed → out.new ≡ out.old) }
+{
+    let picture = match picture_of::<P>(alloc, &file.programme, &file.steps) {
+        Ok(picture) => picture,
+        Err(error) => return Err(fault_of(error)),
+    };
+    write_picture::<P, W>(&picture, out)?;
+    Ok(())
+}
