@@ -144,7 +144,7 @@ class Graph:
         if hasattr(file, "read"):
             return cls._parsed(file.read(), getattr(file, "name", "gr"))
         path = os.fspath(file)
-        with (gzip.open if path.endswith(".gz") else open)(path, "rb") as opened:
+        with gzip.open(path) if path.endswith(".gz") else open(path, "rb") as opened:
             return cls._parsed(opened.read(), path)
 
     @classmethod

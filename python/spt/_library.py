@@ -69,4 +69,4 @@ def reach(n: int) -> int:
     >>> reach(4)
     17592186044414
     """
-    return library.spt_reach(n) if 1 <= n <= MOST_VERTICES else 0
+    return int(library.spt_reach(n)) if 1 <= n <= MOST_VERTICES else 0
