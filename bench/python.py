@@ -3,9 +3,9 @@
 
 Usage: python3 bench/python.py [--vertices N] [--arcs M] [--runs K] [--library LIBRARY]
 
-The graph has arcs between vertices drawn by lot, of lengths from 1 to 1000. Each side has its graph in its own form before the time
-begins (ours the list of arcs, SciPy's a sparse array of rows); ours makes its rows anew in each call. Both answer distances and
-predecessors, in turn, several times. Distances are compared each time. A Python with SciPy is needed (Debian: python3-scipy).
+The graph has arcs between vertices drawn by lot, of lengths from 1 to 1000. Each side has its graph in its own form before the
+time begins (ours the list of arcs, SciPy's a sparse array of rows); ours makes its rows anew in each call. Both answer distances
+and predecessors, in turn, several times. Distances are compared each time. A Python with SciPy is needed (Debian: python3-scipy).
 """
 
 import argparse
@@ -26,8 +26,8 @@ def graphs(spt, n, m):
     import numpy
 
     draw = numpy.random.default_rng(SEED)
-    arcs = numpy.column_stack([draw.integers(1, n + 1, m), draw.integers(1, n + 1, m), draw.integers(1, 1001, m)]).astype(numpy.uint32)
-    graph = spt.Graph(n, arcs)
+    arcs = numpy.column_stack([draw.integers(1, most, m, endpoint=True) for most in (n, n, 1000)])
+    graph = spt.Graph(n, arcs.astype(numpy.uint32))
     return graph, graph.to_scipy()
 
 
@@ -51,9 +51,10 @@ def compare(spt, name, graph, matrix, sources, workers, runs):
     from scipy.sparse.csgraph import dijkstra
 
     ours, theirs = [], []
+    indices = [source - 1 for source in sources]
     for _ in range(runs):
         mine, trees = timed(lambda: list(graph.trees(sources, workers=workers)))
-        other, (distances, _) = timed(lambda: dijkstra(matrix, indices=[source - 1 for source in sources], return_predecessors=True))
+        other, (distances, _) = timed(lambda: dijkstra(matrix, indices=indices, return_predecessors=True))
         same(spt, trees, distances)
         ours.append(mine)
         theirs.append(other)

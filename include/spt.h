@@ -86,9 +86,9 @@ typedef struct spt_text {
     uint64_t line;   /* from 1 */
 } spt_text;
 
-/* Reads the text of a .gr file (p sp N M, then lines a TAIL HEAD LENGTH) and puts its arcs, in the order of their lines, at arcs[0]
- * and on. Where there are fewer than m places the status is SPT_BAD_SIZE, and n and m tell what is needed: so a first call with 0
- * places tells the sizes. Where the status isn't SPT_OK, arcs is as it was. */
+/* Reads the text of a .gr file (p sp N M, then lines a TAIL HEAD LENGTH) and puts its arcs, in the order of their lines, at
+ * arcs[0] and on. Where there are fewer than m places the status is SPT_BAD_SIZE, and n and m tell what is needed: so a first
+ * call with 0 places tells the sizes. Where the status isn't SPT_OK, arcs is as it was. */
 spt_text spt_gr(const uint8_t *text, size_t bytes, spt_arc *arcs, size_t places);
 
 #ifdef __cplusplus

@@ -110,7 +110,7 @@ def try_compiler(count, compiler, prefix, folder, great, wanted):
 
 def symbols(words, path):
     status, out, _ = told(["nm", *words, path])
-    return {line.split()[-1].split("@")[0] for line in out.decode().splitlines() if len(line.split()) > 1} if status == 0 else None
+    return set(re.findall(r" [A-Za-z] (\w+)", out.decode())) if status == 0 else None
 
 
 def inspect(count, prefix):
@@ -125,10 +125,9 @@ def inspect(count, prefix):
         taken = symbols(words, path)
         count.of(f"{path} takes memory alone: {taken}", taken is not None and taken <= TAKEN)
     status, out, _ = told(["size", "-A", archive])
-    sections = dict(re.findall(r"^(\.\S+) +(\d+)", out.decode(), re.M))
+    written = re.findall(r"^\.(?:data(?!\.rel\.ro)|bss|tdata|tbss|init_array|ctors)\S* +(\d+)", out.decode(), re.M)
     # one byte of .bss is the address of blocks of no bytes, and is never written
-    written = {name: int(size) for name, size in sections.items() if re.match(r"\.(data(?!\.rel\.ro)|bss|tdata|tbss|init_array|ctors)", name)}
-    count.of(f"no data that is written: {written}", status == 0 and sum(written.values()) <= 1)
+    count.of(f"no data that is written: {written}", status == 0 and sum(map(int, written)) <= 1)
 
 
 def try_page(count, compiler, prefix, folder):

@@ -31,10 +31,10 @@ print(sum(one.attempted - one.failed for one in told), "passed,", sum(one.failed
 
 def run(python, prefix, *words):
     """What a Python with the package prints, and errors."""
-    known = {**os.environ, "PYTHONPATH": f"{HOME}/python", "PYTHONDONTWRITEBYTECODE": "1", "SPT_LIBRARY": f"{prefix}/lib/libspt.so"}
-    words = [python, *words]
-    done = subprocess.run(words, cwd=f"{HOME}/tests/python", env=known, stdout=subprocess.PIPE, stderr=subprocess.STDOUT, text=True, timeout=SECONDS)
-    return done.stdout
+    known = {**os.environ, "PYTHONPATH": f"{HOME}/python", "PYTHONDONTWRITEBYTECODE": "1"}
+    known["SPT_LIBRARY"] = f"{prefix}/lib/libspt.so"
+    told = {"stdout": subprocess.PIPE, "stderr": subprocess.STDOUT, "text": True}
+    return subprocess.run([python, *words], cwd=f"{HOME}/tests/python", env=known, timeout=SECONDS, **told).stdout
 
 
 def add_tests(count, python, prefix):

@@ -72,7 +72,8 @@ def install(count):
         done = subprocess.run([f"{HOME}/install", f"{folder}/a prefix"], check=True, stdout=subprocess.PIPE, text=True)
         count.of("installed files", all(os.path.isfile(f"{folder}/a prefix/{name}") for name in INSTALLED))
         made = shutil.which("rt") is not None and os.path.isfile(f"{HOME}/crates/spt_c/out/libspt_c.a")
-        count.of("the installed library", [os.path.isfile(f"{folder}/a prefix/{name}") for name in LIBRARY] == [made] * len(LIBRARY))
+        found = [os.path.isfile(f"{folder}/a prefix/{name}") for name in LIBRARY]
+        count.of("the installed library", found == [made] * len(LIBRARY))
         count.of("whether it is installed is told", ("not installed: the library for C" in done.stdout) != made)
         words = [f"{folder}/a prefix/bin/spt", "check", f"{HOME}/examples/diamond.gr", f"{HOME}/examples/diamond.tree"]
         count.of("the installed program", subprocess.run(words, capture_output=True, text=True).stdout == "yes\n")

@@ -8,8 +8,9 @@
     >>> graph.path(1, 4)
     [1, 2, 4]
 
-Vertices are numbered from 1; vertex v stands at place v - 1 of a list. Lengths are 1 to 4294967295, in any unit. Where several walks
-are shortest, the predecessor is the smallest-numbered vertex before the last on one of them, so each answer is the only right one.
+Vertices are numbered from 1; vertex v stands at place v - 1 of a list. Lengths are 1 to 4294967295, in any unit. Where several
+walks are shortest, the predecessor is the smallest-numbered vertex before the last on one of them, so each answer is the only
+right one.
 
 The library is taken from $SPT_LIBRARY, beside this package's files, or where the system's loader looks.
 """

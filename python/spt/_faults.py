@@ -14,7 +14,8 @@ class SptError(Exception):
 class Fault(SptError, ValueError):
     """The first fault of a text: its line, from 1, its kind, and the field that is out of range, if one is.
 
-    The kinds are those that the program `spt` tells, and the fields 'U' and 'V' (vertices), 'W' (a length), 'N' and 'M' (how many).
+    The kinds are those that the program `spt` tells, and the fields 'U' and 'V' (vertices), 'W' (a length), 'N' and 'M' (how
+    many vertices and arcs).
     """
 
     def __init__(self, name: str, line: int, number: int, field: Optional[str]) -> None:

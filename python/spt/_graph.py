@@ -37,8 +37,8 @@ class Pair(NamedTuple):
 class Tree:
     """The shortest-path tree from a source.
 
-    `distances` and `predecessors` are lists of unsigned numbers of 64 and of 32 bits, vertex v at place v - 1: UNREACHED and 0 where no
-    walk leads to it, 0 and 0 for the source. `numpy.asarray` takes them without a copy.
+    `distances` and `predecessors` are lists of unsigned numbers of 64 and of 32 bits, vertex v at place v - 1: UNREACHED and 0
+    where no walk leads to it, 0 and 0 for the source. `numpy.asarray` takes them without a copy.
     """
 
     source: int
@@ -86,8 +86,10 @@ def _each(solved: _Solved) -> Iterator[Tree]:
 class Graph:
     """A graph of the vertices 1 to n.
 
-    `arcs` are triples of tail, head and length, or all their numbers in one list: an array('I'), a memoryview, a NumPy array of shape (m, 3).
-    A list of unsigned numbers of 32 bits without gaps isn't copied; it must not change while a call runs. Several threads may use one graph.
+    `arcs` are triples of tail, head and length, or all their numbers in one list: an array('I'), a memoryview, a NumPy array of
+    shape (m, 3). A list of unsigned numbers of 32 bits without gaps isn't copied; it must not change while a call runs. Several
+    threads may use one graph. BadArc: an arc is none. ValueError: there are no or too many vertices, or a number isn't one of 32
+    bits. TypeError: what is given are no whole numbers.
 
     >>> graph = Graph(3, [(1, 2, 7), (2, 3, 1), (1, 3, 9)])
     >>> graph.n, graph.m
@@ -131,8 +133,8 @@ class Graph:
     def read(cls, file: Union[str, "os.PathLike[str]", BinaryIO]) -> Graph:
         """The graph of a .gr file (DIMACS: `p sp N M`, then `a TAIL HEAD LENGTH`), by the proved reader.
 
-        `file` is a path, also of a file that gzip made where it ends in .gz, or a file that is open for reading bytes. Fault tells the
-        first fault of the text.
+        `file` is a path, also of a file that gzip made where it ends in .gz, or a file that is open for reading bytes. Fault tells
+        the first fault of the text.
 
         >>> import io
         >>> Graph.read(io.BytesIO(b"p sp 2 1\\na 1 2 3\\n"))
@@ -171,7 +173,8 @@ class Graph:
     def from_networkx(cls, graph: Any, weight: str = "weight") -> tuple[Graph, list[Any]]:
         """The graph of one of NetworkX, and its nodes, that of vertex v at place v - 1.
 
-        The attribute `weight` of an edge is its length, a whole number from 1, and 1 where it has none. An edge of an undirected graph is two arcs.
+        The attribute `weight` of an edge is its length, a whole number from 1, and 1 where it has none. An edge of an undirected
+        graph is two arcs.
         """
         nodes, arcs = _convert.arcs_of_networkx(graph, weight)
         return cls(len(nodes), arcs), nodes
@@ -184,7 +187,8 @@ class Graph:
         """The tree from a source.
 
         `delta`, the width of a bucket, changes how long it takes and never the tree; None is the mean length of an arc.
-        NoSuchVertex, BadDelta: what is asked for is refused. TooFar: a distance is above `reach(n)`. MemoryError: memory is wanting.
+        NoSuchVertex, BadDelta: what is asked for is refused. TooFar: a distance is above `reach(n)`. MemoryError: memory is
+        wanting.
 
         >>> list(Graph(3, [(1, 2, 7), (2, 3, 1), (1, 3, 9)]).tree(1).distances)
         [0, 7, 8]
@@ -197,7 +201,8 @@ class Graph:
     def trees(self, sources: Iterable[int], *, workers: int = 1, delta: Optional[int] = None) -> Iterator[Tree]:
         """The trees from several sources, in their order, by so many threads.
 
-        Each is answered as by `tree`, and an exception comes in its place. Trees that are kept may share their memory with some beside them.
+        Each is answered as by `tree`, and an exception comes in its place. Trees that are kept may share their memory with some
+        beside them. Nothing is begun before the first is asked for.
 
         >>> [tree.distances[2] for tree in Graph(3, [(1, 2, 7), (2, 3, 1)]).trees([1, 2], workers=2)]
         [8, 1]
@@ -263,10 +268,13 @@ class Graph:
             raise BadDelta(n, delta)
         distances, predecessors = zeros("Q", k * n), zeros("I", k * n)
         done, refused = self._call(sources, delta or 0, distances, predecessors)
-        found = [(at * n, at * n + n) for at in range(done)]
-        return [Tree(source, distances[low:high], predecessors[low:high]) for source, (low, high) in zip(sources, found)], refused
+        found = zip(sources, range(0, done * n, n))
+        return [Tree(source, distances[low : low + n], predecessors[low : low + n]) for source, low in found], refused
 
-    def _call(self, sources: Iterable[int], delta: int, distances: memoryview, predecessors: memoryview) -> tuple[int, Optional[Exception]]:
+    def _call(
+        self, sources: Iterable[int], delta: int, distances: memoryview, predecessors: memoryview
+    ) -> tuple[int, Optional[Exception]]:
+        """How many sources have their trees, and why the next one has none."""
         asked = words(sources)
         told = library.spt_trees(
             address(self._arcs), self.m, self.n, address(asked), len(asked), delta,

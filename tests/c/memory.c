@@ -52,7 +52,8 @@ static void make_graph(void) {
     bytes = (size_t)sprintf(text, "p sp %d %d\n", N, M);
     for (uint32_t i = 0; i < M; i++) {
         arcs[i] = (spt_arc){1 + i * 7919 % N, 1 + i * 104729 % N, 1 + i % 97};
-        bytes += (size_t)sprintf(text + bytes, "a %u %u %u\n", (unsigned)arcs[i].tail, (unsigned)arcs[i].head, (unsigned)arcs[i].len);
+        unsigned tail = arcs[i].tail, head = arcs[i].head, len = arcs[i].len;
+        bytes += (size_t)sprintf(text + bytes, "a %u %u %u\n", tail, head, len);
     }
     memset(no_dist, 7, sizeof no_dist);
     memset(no_pred, 7, sizeof no_pred);

@@ -26,8 +26,8 @@ static int unchanged(void) {
 }
 
 /* spt_tree, and spt_trees of this source alone, refuse with this answer and leave the lists. */
-static void refuses(const char *name, const spt_arc *arcs, size_t m, uint32_t n, uint32_t source, uint64_t delta, size_t dist_places,
-                    size_t pred_places, spt_answer wanted) {
+static void refuses(const char *name, const spt_arc *arcs, size_t m, uint32_t n, uint32_t source, uint64_t delta,
+                    size_t dist_places, size_t pred_places, spt_answer wanted) {
     spt_answer tree = spt_tree(arcs, m, n, source, delta, dist, dist_places, pred, pred_places);
     count(name, tree.status == wanted.status && tree.vertex == wanted.vertex && tree.index == wanted.index && unchanged());
     spt_batch trees = spt_trees(arcs, m, n, &source, 1, delta, dist, dist_places, pred, pred_places);
@@ -98,9 +98,22 @@ static void far_vertices(void) {
 }
 
 static void reaches(void) {
-    const uint32_t n[] = {0, 1, 1048574, 1048575, 16777214, 16777215, 268435454, 268435455, 4294967294, 4294967295};
-    const uint64_t reach[] = {0, 17592186044414, 17592186044414, 1099511627774, 1099511627774, 68719476734, 68719476734, 4294967294, 4294967294, 0};
-    for (size_t i = 0; i < sizeof n / sizeof *n; i++) count("spt_reach", spt_reach(n[i]) == reach[i]);
+    const struct {
+        uint32_t n;
+        uint64_t reach;
+    } wanted[] = {
+        {0, 0},
+        {1, 17592186044414},
+        {1048574, 17592186044414},
+        {1048575, 1099511627774},
+        {16777214, 1099511627774},
+        {16777215, 68719476734},
+        {268435454, 68719476734},
+        {268435455, 4294967294},
+        {4294967294, 4294967294},
+        {4294967295, 0},
+    };
+    for (size_t i = 0; i < sizeof wanted / sizeof *wanted; i++) count("spt_reach", spt_reach(wanted[i].n) == wanted[i].reach);
 }
 
 static spt_text read_text(const char *text, spt_arc *into, size_t places) {
@@ -126,13 +139,17 @@ static void texts(void) {
     spt_arc room[2] = {{7, 7, 7}, {7, 7, 7}}, before[2] = {{7, 7, 7}, {7, 7, 7}};
     for (size_t i = 0; i < sizeof faults / sizeof *faults; i++) {
         spt_text got = read_text(faults[i].text, room, 2);
-        int holds = got.status == SPT_BAD_TEXT && got.kind == faults[i].kind && got.letter == faults[i].letter && got.line == faults[i].line;
-        count(faults[i].text, holds && got.n == 0 && got.m == 0 && !memcmp(room, before, sizeof room));
+        int fault = got.kind == faults[i].kind && got.letter == faults[i].letter && got.line == faults[i].line;
+        count(faults[i].text, got.status == SPT_BAD_TEXT && fault && got.n == 0 && got.m == 0);
+        count(faults[i].text, !memcmp(room, before, sizeof room));
     }
-    spt_text small = read_text("p sp 3 2\na 1 2 3\na 2 3 4\n", room, 1);
-    count("too few places for arcs", small.status == SPT_BAD_SIZE && small.n == 3 && small.m == 2 && !memcmp(room, before, sizeof room));
-    spt_text whole = read_text("p sp 3 2\na 1 2 3\na 2 3 4\n", room, 2);
-    count("a text", whole.status == SPT_OK && whole.n == 3 && whole.m == 2 && room[1].tail == 2 && room[1].head == 3 && room[1].len == 4);
+    const char *text = "p sp 3 2\na 1 2 3\na 2 3 4\n";
+    spt_text small = read_text(text, room, 1);
+    count("too few places for arcs", small.status == SPT_BAD_SIZE && small.n == 3 && small.m == 2);
+    count("too few places: unchanged", !memcmp(room, before, sizeof room));
+    spt_text whole = read_text(text, room, 2);
+    count("a text", whole.status == SPT_OK && whole.n == 3 && whole.m == 2);
+    count("its arcs", room[0].len == 3 && room[1].tail == 2 && room[1].head == 3 && room[1].len == 4);
 }
 
 int main(void) {

@@ -67,8 +67,9 @@ static void read_sources(const char *path) {
 
 static void *work(void *unused) {
     for (size_t i; (i = atomic_fetch_add(&job.next, 1)) < job.k;) {
-        size_t low = i * job.n;
-        spt_answer told = spt_tree(job.arcs, job.m, job.n, job.sources[i], job.delta, job.dist + low, job.n, job.pred + low, job.n);
+        uint64_t *dist = job.dist + i * job.n;
+        uint32_t *pred = job.pred + i * job.n;
+        spt_answer told = spt_tree(job.arcs, job.m, job.n, job.sources[i], job.delta, dist, job.n, pred, job.n);
         if (told.status != SPT_OK) give_up("spt_tree");
     }
     return unused;

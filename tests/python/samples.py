@@ -12,7 +12,7 @@ LONGEST = 2**32 - 1
 def by_lot(n, m, seed, longest=1000):
     """The numbers of m arcs between n vertices, three for each."""
     draw = random.Random(seed)
-    return array.array("I", (number for _ in range(m) for number in (draw.randint(1, n), draw.randint(1, n), draw.randint(1, longest))))
+    return array.array("I", (draw.randint(1, most) for _ in range(m) for most in (n, n, longest)))
 
 
 def triples(numbers):

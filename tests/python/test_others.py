@@ -1,4 +1,4 @@
-"""Beside SciPy and NetworkX, where they are installed: the same distances on graphs drawn by lot, and the smallest predecessors."""
+"""Beside SciPy and NetworkX, where they are installed: the same distances on graphs drawn by lot, the smallest predecessors."""
 
 import unittest
 
