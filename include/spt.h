@@ -35,13 +35,15 @@ enum {
     SPT_TOO_FAR = 5,        /* some least length is above spt_reach(n): vertex is the smallest vertex of such */
     SPT_MEMORY = 6,         /* malloc or realloc gave none; what the call had taken is given back */
     SPT_BAD_TEXT = 7,       /* the text spells no graph; kind, letter and line are of its first fault */
-    SPT_LONG_TEXT = 8       /* the text has more than 2^62 bytes */
+    SPT_LONG_TEXT = 8,      /* the text has more than 2^62 bytes */
+    SPT_WRONG = 9           /* the lists hold another tree: vertex is the smallest vertex at which they do */
 };
 
 /* The distance of a vertex that no walk leads to; its predecessor is 0. */
 #define SPT_UNREACHED UINT64_MAX
 
-/* What a call tells. vertex speaks with SPT_TOO_FAR, index (from 0) with SPT_BAD_ARC and SPT_NO_SUCH_VERTEX; else they are 0. */
+/* What a call tells. vertex speaks with SPT_TOO_FAR and SPT_WRONG, index (from 0) with SPT_BAD_ARC and SPT_NO_SUCH_VERTEX; else
+ * they are 0. */
 typedef struct spt_answer {
     uint32_t status, vertex;
     uint64_t index;
@@ -75,6 +77,22 @@ spt_answer spt_tree(const spt_arc *arcs, size_t m, uint32_t n, uint32_t source, 
  * stand are as they were. */
 spt_batch spt_trees(const spt_arc *arcs, size_t m, uint32_t n, const uint32_t *sources, size_t k, uint64_t delta,
                     uint64_t *dist, size_t dist_places, uint32_t *pred, size_t pred_places);
+
+/* What is told of a target: with SPT_OK its distance and predecessor, as spt_tree has them. With SPT_TOO_FAR pred is the vertex
+ * that is too far; index speaks with SPT_BAD_ARC, and with SPT_NO_SUCH_VERTEX it is 0 for source and 1 for target. Else they
+ * are 0. */
+typedef struct spt_found {
+    uint32_t status, pred;
+    uint64_t dist, index;
+} spt_found;
+
+/* One target of source. It takes as long as the tree, and 12 bytes a vertex for it. */
+spt_found spt_pair(const spt_arc *arcs, size_t m, uint32_t n, uint32_t source, uint32_t target, uint64_t delta);
+
+/* Whether the first n places of dist and pred hold the tree from source: SPT_OK, or SPT_WRONG, or what spt_tree would tell. The
+ * tree is found anew. */
+spt_answer spt_check(const spt_arc *arcs, size_t m, uint32_t n, uint32_t source,
+                     const uint64_t *dist, size_t dist_places, const uint32_t *pred, size_t pred_places);
 
 /* What a text is: with SPT_OK and SPT_BAD_SIZE the n vertices and m arcs of its graph, with SPT_BAD_TEXT its first fault. What a
  * status doesn't speak of is 0. */

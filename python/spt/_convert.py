@@ -63,10 +63,10 @@ def matrix_of_arcs(n: int, numbers: memoryview) -> Any:
 def dijkstra(csgraph: Any, indices: Any = None, return_predecessors: bool = False, *, workers: int = 1) -> Any:
     """Distances, and where asked for predecessors, in the form of `scipy.sparse.csgraph.dijkstra`.
 
-    Vertices are numbered from 0, as SciPy's are; a distance is `inf` where no walk leads, a predecessor -9999 where there is none.
-    `csgraph` is a sparse matrix of whole numbers from 1, or a Graph, whose vertex v is v - 1 here. `indices` are all vertices where
-    it is None. Distances are SciPy's, up to 2^53, above which a float isn't exact; of predecessors SciPy takes any, and this the
-    smallest.
+    Vertices are numbered from 0, as SciPy's are; a distance is `inf` where no walk leads, a predecessor -9999 where there is
+    none. `csgraph` is a sparse matrix of whole numbers from 1, or a Graph, whose vertex v is v - 1 here. `indices` are all
+    vertices where it is None. Distances are SciPy's, up to 2^53, above which a float isn't exact; of predecessors SciPy takes
+    any, and this the smallest.
     """
     import numpy
     from ._graph import UNREACHED, Graph

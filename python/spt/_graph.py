@@ -14,9 +14,9 @@ from typing import Any, BinaryIO, Iterable, Iterator, List, NamedTuple, Optional
 
 from . import _convert
 from ._buffers import address, is_buffer, words, zeros
-from ._faults import BadArc, BadDelta, Fault, NoSuchVertex, TooFar
+from ._faults import BadArc, BadDelta, Fault, NoSuchVertex, SptError, TooFar
 from ._library import (
-    BAD_ARC, BAD_DELTA, BAD_SIZE, BAD_TEXT, MOST_VERTICES, NO_SUCH_VERTEX, OK, TOO_FAR, Batch, library, reach,
+    BAD_ARC, BAD_TEXT, MEMORY, MOST_VERTICES, OK, TOO_FAR, WRONG, library, reach,
 )
 
 UNREACHED = 2**64 - 1
@@ -133,8 +133,8 @@ class Graph:
     def read(cls, file: Union[str, "os.PathLike[str]", BinaryIO]) -> Graph:
         """The graph of a .gr file (DIMACS: `p sp N M`, then `a TAIL HEAD LENGTH`), by the proved reader.
 
-        `file` is a path, also of a file that gzip made where it ends in .gz, or a file that is open for reading bytes. Fault tells
-        the first fault of the text.
+        `file` is a path, also of a file that gzip made where it ends in .gz, or a file that is open for reading bytes. Fault
+        tells the first fault of the text.
 
         >>> import io
         >>> Graph.read(io.BytesIO(b"p sp 2 1\\na 1 2 3\\n"))
@@ -219,8 +219,11 @@ class Graph:
         >>> Graph(3, [(1, 2, 7), (2, 3, 1)]).pair(1, 3)
         Pair(distance=8, predecessor=2)
         """
-        self._vertex(target)
-        return self.tree(source).pair(target)
+        ends = [self._vertex(source), self._vertex(target)]
+        told = library.spt_pair(address(self._arcs), self.m, self.n, *ends, 0)
+        if told.status != OK:
+            raise self._refused(told.status, told.pred, told.index, ends[0])
+        return None if told.dist == UNREACHED else Pair(told.dist, told.pred)
 
     def path(self, source: int, target: int) -> Optional[list[int]]:
         """The vertices of a shortest walk, its predecessors the smallest-numbered; None where no walk leads to the target.
@@ -238,11 +241,18 @@ class Graph:
         >>> graph.check(graph.tree(1)) is None
         True
         """
-        right = self.tree(tree.source)
-        if len(tree.distances) != self.n or len(tree.predecessors) != self.n:
+        source, distances, predecessors = self._vertex(tree.source), memoryview(tree.distances), memoryview(tree.predecessors)
+        if len(distances) != self.n or len(predecessors) != self.n:
             raise ValueError(f"a tree of {self.n} vertices has as many distances and predecessors")
-        both = zip(right.distances, tree.distances, right.predecessors, tree.predecessors)
-        return next((vertex for vertex, (d, e, p, q) in enumerate(both, 1) if d != e or p != q), None)
+        formats = (distances.format, predecessors.format)
+        if formats != ("Q", "I") or not (distances.contiguous and predecessors.contiguous):
+            raise TypeError(f"distances have the format 'Q' and predecessors 'I', without gaps, not {formats}")
+        told = library.spt_check(
+            address(self._arcs), self.m, self.n, source, address(distances), self.n, address(predecessors), self.n
+        )
+        if told.status not in (OK, WRONG):
+            raise self._refused(told.status, told.vertex, told.index, source)
+        return told.vertex if told.status == WRONG else None
 
     def _vertex(self, number: int) -> int:
         vertex = operator.index(number)
@@ -280,19 +290,17 @@ class Graph:
             address(self._arcs), self.m, self.n, address(asked), len(asked), delta,
             address(distances), len(distances), address(predecessors), len(predecessors),
         )
-        return told.done, self._refused(asked, delta, told)
-
-    def _refused(self, asked: memoryview, delta: int, told: Batch) -> Optional[Exception]:
         if told.status == OK:
-            return None
-        if told.status == BAD_ARC:
-            return BadArc(self.n, told.index, tuple(self._arcs[3 * told.index : 3 * told.index + 3]))
-        if told.status == NO_SUCH_VERTEX:
-            return NoSuchVertex(self.n, asked[told.index])
-        if told.status == BAD_DELTA:
-            return BadDelta(self.n, delta)
-        if told.status == TOO_FAR:
-            return TooFar(asked[told.done], told.vertex)
-        if told.status == BAD_SIZE:
-            return ValueError(f"{self.n} vertices are too many")
-        return MemoryError("spt")
+            return told.done, None
+        source = asked[told.done] if told.done < len(asked) else 0
+        return told.done, self._refused(told.status, told.vertex, told.index, source)
+
+    def _refused(self, status: int, vertex: int, index: int, source: int) -> Exception:
+        """What is raised for a refusal. Sources and delta were tested before the call."""
+        if status == BAD_ARC:
+            return BadArc(self.n, index, tuple(self._arcs[3 * index : 3 * index + 3]))
+        if status == TOO_FAR:
+            return TooFar(source, vertex)
+        if status == MEMORY:
+            return MemoryError("spt: no memory for a tree")
+        return SptError(f"the library tells status {status}")

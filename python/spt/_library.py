@@ -7,13 +7,25 @@ import os
 
 from ctypes import c_size_t, c_uint32, c_uint64, c_void_p
 
-OK, BAD_SIZE, BAD_DELTA, BAD_ARC, NO_SUCH_VERTEX, TOO_FAR, MEMORY, BAD_TEXT, LONG_TEXT = range(9)
+OK, BAD_SIZE, BAD_DELTA, BAD_ARC, NO_SUCH_VERTEX, TOO_FAR, MEMORY, BAD_TEXT, LONG_TEXT, WRONG = range(10)
 MOST_VERTICES = 2**32 - 2
 NAME = "libspt.so.1"
 
 
 class LibraryNotFound(ImportError):
     """There is no libspt.so where it is looked for."""
+
+
+class Answer(ctypes.Structure):
+    """spt_answer"""
+
+    _fields_ = [("status", c_uint32), ("vertex", c_uint32), ("index", c_uint64)]
+
+
+class Found(ctypes.Structure):
+    """spt_found"""
+
+    _fields_ = [("status", c_uint32), ("pred", c_uint32), ("dist", c_uint64), ("index", c_uint64)]
 
 
 class Batch(ctypes.Structure):
@@ -39,6 +51,8 @@ _SLICE = [c_void_p, c_size_t]
 _FUNCTIONS = {
     "spt_reach": ([c_uint32], c_uint64),
     "spt_trees": ([*_SLICE, c_uint32, *_SLICE, c_uint64, *_SLICE, *_SLICE], Batch),
+    "spt_pair": ([*_SLICE, c_uint32, c_uint32, c_uint32, c_uint64], Found),
+    "spt_check": ([*_SLICE, c_uint32, c_uint32, *_SLICE, *_SLICE], Answer),
     "spt_gr": ([*_SLICE, *_SLICE], Text),
 }
 

@@ -78,6 +78,19 @@ static uint32_t several_trees(int *right) {
     return told.status;
 }
 
+static uint32_t one_pair(int *right) {
+    spt_found told = spt_pair(arcs, M, N, sources[1], N, 50);
+    int found = told.dist == right_dist[2 * N - 1] && told.pred == right_pred[2 * N - 1];
+    *right = told.status == SPT_OK ? found : told.dist == 0 && told.pred == 0;
+    return told.status;
+}
+
+static uint32_t a_check(int *right) {
+    spt_answer told = spt_check(arcs, M, N, sources[0], right_dist, N, right_pred, N);
+    *right = told.vertex == 0;
+    return told.status;
+}
+
 static uint32_t a_text(int *right) {
     spt_text told = spt_gr((const uint8_t *)text, bytes, read_arcs, M);
     *right = !memcmp(read_arcs, told.status == SPT_OK ? arcs : no_arcs, sizeof arcs);
@@ -108,6 +121,8 @@ int main(void) {
     count("with ample memory", told.status == SPT_OK && told.done == K);
     refuse_each("spt_tree", one_tree);
     refuse_each("spt_trees", several_trees);
+    refuse_each("spt_pair", one_pair);
+    refuse_each("spt_check", a_check);
     refuse_each("spt_gr", a_text);
     return finish();
 }

@@ -33,6 +33,12 @@ static void refuses(const char *name, const spt_arc *arcs, size_t m, uint32_t n,
     spt_batch trees = spt_trees(arcs, m, n, &source, 1, delta, dist, dist_places, pred, pred_places);
     count(name, trees.status == wanted.status && trees.vertex == wanted.vertex && trees.index == wanted.index && trees.done == 0);
     count(name, unchanged());
+    spt_answer check = spt_check(arcs, m, n, source, dist, dist_places, pred, pred_places);
+    int of_delta = wanted.status == SPT_BAD_DELTA || delta > spt_reach(n);
+    count(name, of_delta || (check.status == wanted.status && check.vertex == 0 && check.index == wanted.index));
+    spt_found pair = spt_pair(arcs, m, n, source, 1, delta);
+    int of_places = wanted.status == SPT_BAD_SIZE && n != 0 && n != UINT32_MAX;
+    count(name, of_places || (pair.status == wanted.status && pair.pred == 0 && pair.dist == 0 && pair.index == wanted.index));
 }
 
 static spt_answer told(uint32_t status, uint32_t vertex, uint64_t index) {
@@ -58,6 +64,11 @@ static void vertices(void) {
     uint32_t second[2] = {1, N + 1};
     spt_batch trees = spt_trees(diamond, M, N, second, 2, 3, dist, 2 * N, pred, 2 * N);
     count("the second source", trees.status == SPT_NO_SUCH_VERTEX && trees.index == 1 && trees.done == 0 && unchanged());
+    const uint32_t targets[] = {0, N + 1, UINT32_MAX};
+    for (size_t i = 0; i < sizeof targets / sizeof *targets; i++) {
+        spt_found pair = spt_pair(diamond, M, N, 1, targets[i], 3);
+        count("no target", pair.status == SPT_NO_SUCH_VERTEX && pair.index == 1 && pair.dist == 0 && pair.pred == 0);
+    }
 }
 
 static void deltas(void) {
@@ -91,10 +102,37 @@ static void far_vertices(void) {
     spt_answer tree = spt_tree(path, LENGTH, n, 1, 0, far_dist, n, far_pred, n);
     count("too far", tree.status == SPT_TOO_FAR && tree.vertex == vertex && tree.index == 0);
     count("too far: unchanged", far_dist[0] == 0x0707070707070707 && far_pred[0] == 0 && far_dist[n - 1] == far_dist[0]);
+    spt_answer check = spt_check(path, LENGTH, n, 1, far_dist, n, far_pred, n);
+    count("too far to check", check.status == SPT_TOO_FAR && check.vertex == vertex && check.index == 0);
+    spt_found pair = spt_pair(path, LENGTH, n, 1, 2, 0);
+    count("a pair too far", pair.status == SPT_TOO_FAR && pair.pred == vertex && pair.dist == 0 && pair.index == 0);
     spt_batch trees = spt_trees(path, LENGTH, n, sources, 2, 0, far_dist, 2 * n, far_pred, 2 * n);
     count("the second too far", trees.status == SPT_TOO_FAR && trees.vertex == vertex && trees.done == 1);
     count("the first tree stands", far_dist[n - 1] == 0 && far_dist[0] == SPT_UNREACHED && far_pred[n - 2] == 0);
     count("the second block is as it was", far_dist[n] == 0x0707070707070707 && far_dist[2 * n - 1] == far_dist[n]);
+}
+
+/* Pairs are the tree's, and a tree with another distance or predecessor at one place is wrong there. */
+static void pairs_and_checks(void) {
+    const uint64_t right_dist[N] = {0, 3, 3, 5};
+    const uint32_t right_pred[N] = {0, 1, 1, 2};
+    count("the right tree", spt_check(diamond, M, N, 1, right_dist, N, right_pred, N).status == SPT_OK);
+    for (uint32_t v = 1; v <= N; v++) {
+        spt_found pair = spt_pair(diamond, M, N, 1, v, 3);
+        count("a pair", pair.status == SPT_OK && pair.dist == right_dist[v - 1] && pair.pred == right_pred[v - 1] && !pair.index);
+        uint64_t wrong_dist[N];
+        uint32_t wrong_pred[N];
+        memcpy(wrong_dist, right_dist, sizeof wrong_dist);
+        memcpy(wrong_pred, right_pred, sizeof wrong_pred);
+        wrong_pred[v - 1]++;
+        spt_answer check = spt_check(diamond, M, N, 1, right_dist, N, wrong_pred, N);
+        count("a wrong predecessor", check.status == SPT_WRONG && check.vertex == v && check.index == 0);
+        wrong_dist[v - 1]--;
+        check = spt_check(diamond, M, N, 1, wrong_dist, N, right_pred, N);
+        count("a wrong distance", check.status == SPT_WRONG && check.vertex == v && check.index == 0);
+    }
+    spt_found none = spt_pair(diamond, M, N, 4, 1, 0);
+    count("no walk", none.status == SPT_OK && none.dist == SPT_UNREACHED && none.pred == 0);
 }
 
 static void reaches(void) {
@@ -159,6 +197,7 @@ int main(void) {
     deltas();
     arcs();
     far_vertices();
+    pairs_and_checks();
     reaches();
     texts();
     return finish();

@@ -81,6 +81,9 @@ class Trees(unittest.TestCase):
             self.assertEqual(self.graph.check(spt.Tree(1, memoryview(distances), right.predecessors)), place + 1)
         with self.assertRaises(ValueError):
             self.graph.check(spt.Graph(5).tree(1))
+        with self.assertRaises(TypeError):
+            self.graph.check(spt.Tree(1, memoryview(array.array("q", [0] * 4)), right.predecessors))
+        self.assertIsNone(self.graph.check(spt.Tree(1, array.array("Q", right.distances), array.array("I", right.predecessors))))
 
 
 class Arcs(unittest.TestCase):
@@ -150,7 +153,9 @@ class Refusals(unittest.TestCase):
         n = 4201
         graph = spt.Graph(n, [(tail, tail + 1, samples.LONGEST) for tail in range(1, n)])
         vertex = spt.reach(n) // samples.LONGEST + 2
-        self.refused(spt.TooFar, lambda: graph.tree(1), source=1, vertex=vertex)
+        near = graph.tree(n).distances, graph.tree(n).predecessors
+        for call in (graph.tree, lambda it: graph.pair(it, 2), lambda it: graph.check(spt.Tree(it, *near))):
+            self.refused(spt.TooFar, lambda: call(1), source=1, vertex=vertex)
         for workers in (1, 2):
             trees = graph.trees([n, n - 1, 1, n], workers=workers)
             self.assertEqual([next(trees).source, next(trees).source], [n, n - 1])

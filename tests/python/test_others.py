@@ -55,6 +55,8 @@ class SciPy(unittest.TestCase):
                 ours = numpy.asarray(tree.distances)
                 self.assertTrue((numpy.where(ours == spt.UNREACHED, numpy.inf, ours) == theirs).all())
                 self.assertEqual(list(tree.predecessors), samples.smallest_predecessors(arcs, tree.source, tree.distances))
+                self.assertIsNone(graph.check(tree))
+                self.assertEqual(graph.pair(tree.source, N // 2), tree.pair(N // 2))
 
     def test_in_their_form(self):
         graph = spt.Graph(500, samples.by_lot(500, 2000, 4))
