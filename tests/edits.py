@@ -5,8 +5,8 @@ An edit is refused where the prover finds an error. A function's proof stands on
 edits in the bodies of several functions don't touch each other, and a check with an edit in each of many functions tells of all
 at once; an error of another function, or none in an edited one, fails. So one check of a crate takes the place of some twenty. Each
 edit is to a function of the crate's code, and keeps lines and contracts; others, the wrong bodies of the theory, and one for each
-public function stand in crates/CRATE/must-fail, where `rt ci` tries each alone. Run this when edits or their crate change: the gate
-leaves it out.
+function that a crate exists for stand in crates/CRATE/must-fail, where `rt ci` tries each alone. Run this when edits or their crate
+change: the gate leaves it out.
 
 Usage: python3 tests/edits.py [CRATE..]
 
