@@ -3,7 +3,8 @@
 
 An edit is refused where the prover finds an error. A function's proof stands on its own body and on the contracts of others, so
 edits in the bodies of several functions don't touch each other, and a check with an edit in each of many functions tells of all
-at once; an error of another function, or none in an edited one, fails. So one check of a crate takes the place of some twenty. Each
+at once. Some proofs look into small functions without a contract of their own: where a function has an error that wasn't edited, the
+edits are parted in halves, down to one alone. So one check of a crate takes the place of some twenty. Each
 edit is to a function of the crate's code, and keeps lines and contracts; others, the wrong bodies of the theory, and one for each
 function that a crate exists for stand in crates/CRATE/must-fail, where `rt ci` tries each alone. Run this when edits or their crate
 change: the gate leaves it out.
@@ -96,18 +97,27 @@ def told(folder, part):
     return found, others
 
 
+def refused(folder, part):
+    """The names of the edits of a part that the prover refuses; halves are tried where another function is refused too."""
+    found, others = told(folder, part)
+    if len(part) == 1:
+        return [part[0][0]] if found or others else []
+    if others:
+        middle = len(part) // 2
+        return refused(folder, part[:middle]) + refused(folder, part[middle:])
+    return [name for name, _, touched in part if touched & found]
+
+
 def tried(folder, crate):
-    """The outcome of each edit of a crate: whether it was refused at its function, and nothing elsewhere."""
+    """Whether each edit of a crate was refused."""
     parts, unfit = batches(folder)
-    outcomes = [(name, "failed: an old text doesn't stand once in the body of a function") for name in unfit]
+    outcomes = {name: False for name in unfit}
     for part in parts:
-        found, others = told(folder, part)
-        for name, _, touched in part:
-            word = f"failed: refused elsewhere: {others}" if others else "refused" if touched & found else "failed: not refused"
-            outcomes.append((name, word))
-    for name, word in outcomes:
-        print(f"{word}: {crate}/{name}", flush=True)
-    return [word == "refused" for _, word in outcomes]
+        names = refused(folder, part)
+        outcomes.update((name, name in names) for name, _, _ in part)
+    for name, is_refused in outcomes.items():
+        print(f"{'refused' if is_refused else 'failed'}: {crate}/{name}", flush=True)
+    return list(outcomes.values())
 
 
 def main():
