@@ -3,7 +3,7 @@
 made=$home/.spt
 release=$home/dist
 
-# what the program is made from, as one line; tests, edits and the benchmark play no part
+# what the program is made from, as one line; tests, edits, the benchmark and the library for C play no part
 sources() {
     (
         cd "$home"
