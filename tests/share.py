@@ -71,7 +71,9 @@ def install(count):
     with tempfile.TemporaryDirectory() as folder:
         done = subprocess.run([f"{HOME}/install", f"{folder}/a prefix"], check=True, stdout=subprocess.PIPE, text=True)
         count.of("installed files", all(os.path.isfile(f"{folder}/a prefix/{name}") for name in INSTALLED))
-        made = shutil.which("rt") is not None and os.path.isfile(f"{HOME}/crates/spt_c/out/libspt_c.a")
+        words = ["sh", "-c", 'home=$0; . "$home/.ci/program.sh"; library', HOME]
+        built = subprocess.run(words, check=True, stdout=subprocess.PIPE, text=True).stdout.strip()
+        made = shutil.which("rt") is not None and bool(built)
         found = [os.path.isfile(f"{folder}/a prefix/{name}") for name in LIBRARY]
         count.of("the installed library", found == [made] * len(LIBRARY))
         count.of("whether it is installed is told", ("not installed: the library for C" in done.stdout) != made)
