@@ -1,0 +1,6 @@
+pub mod Arcs
+pub mod Limits
+pub mod Asked
+pub mod Blocks
+pub mod Told
+pub mod Texts

@@ -1,0 +1,18 @@
+//! The engine as a static library for C, by the calling thread alone. Every input is tested when a call runs.
+#![tactic(auto)]
+
+mod answers;
+mod arcs;
+mod calls;
+mod cells;
+mod exports;
+mod limits;
+mod refusals;
+mod solving;
+#[cfg(test)]
+mod tests;
+mod texts;
+
+pub use answers::{SptAnswer, SptBatch};
+pub use arcs::SptArc;
+pub use texts::SptText;
