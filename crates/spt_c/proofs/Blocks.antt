@@ -5,8 +5,8 @@ use Rattle.std.proofs.Math.Nat.{suc-mul, mul-le-mul_right}
 use Rattle.std.proofs.lemmas.Option.{get_or_from_slice_get, slice_get-get_or}
 use Rattle.sp_paths.specs.Paths.{Graph, IsVertex}
 use Rattle.spt_c.specs.declared.answers.Told.{Told}
-use Rattle.spt_c.specs.declared.answers.Told.TheVariants.{Tree, BadSize, BadDelta, BadArc, NoSuchVertex, TooFar, Memory}
-use Rattle.spt_c.specs.Blocks.{Slices, IsCell, IsKept, HasTreeAt, KeepsOthers, IsSolvedAt, AreDone, AreSolved}
+use Rattle.spt_c.specs.declared.answers.Told.TheVariants.{Tree, BadSize, BadDelta, BadArc, NoSuchVertex, TooFar, Memory, Wrong}
+use Rattle.spt_c.specs.Blocks.{Slices, IsCell, HasSameAt, HasTreeAt, KeepsOthers, IsSolvedAt, AreDone, AreSolved}
 
 pub next_block : (i n : ℕ) → (i + 1) * n ≡ i * n + n
 next_block i n = ap (λ k. k * n) (add-one i) ∙ suc-mul i n
@@ -32,7 +32,7 @@ stays max g s low at old new behind same is = record {
   far = is.far;
   cells = λ v vertex.
       let k = low + (v - 1) in
-      let both : IsKept old new k = same.below k (cell_below at g.n low v behind vertex) in
+      let both : HasSameAt old new k = same.below k (cell_below at g.n low v behind vertex) in
       let D : ℕ → Type 0 = λ x. IsCell (is.words v) x (slice_index new.pred k) in
       let E : ℕ → Type 0 = λ x. IsCell (is.words v) (slice_index old.dist k) x in
       subst D (sym both.0) (subst E (sym both.1) (is.cells v vertex));
@@ -53,7 +53,7 @@ next_tree max g sources place low old mid new at done tree same i s h there =
           subst L (at ∙ ap (λ k. k * g.n) (sym e)) (subst T source tree)
     ]
 
-kept_twice : (old mid new : Slices) (k : ℕ) → IsKept old mid k → IsKept mid new k → IsKept old new k
+kept_twice : (old mid new : Slices) (k : ℕ) → HasSameAt old mid k → HasSameAt mid new k → HasSameAt old new k
 kept_twice old mid new k first then = (then.0 ∙ first.0, then.1 ∙ first.1)
 
 -- One source more is done.
@@ -84,3 +84,4 @@ stopped max g sources place low old mid new BadSize within not done is = absurd 
 stopped max g sources place low old mid new BadDelta within not done is = absurd is
 stopped max g sources place low old mid new (BadArc p) within not done is = absurd is
 stopped max g sources place low old mid new (NoSuchVertex p) within not done is = absurd is
+stopped max g sources place low old mid new (Wrong v) within not done is = absurd is

@@ -35,16 +35,16 @@ pub record HasTreeAt (max : ℕ) (g : Graph) (s low : ℕ) (there : Slices) : Ty
 
 -- ## What isn't written
 
--- the place k holds what it held
-abbrev pub IsKept : (old new : Slices) → (k : ℕ) → Type 0
-IsKept old new k = (slice_index new.dist k ≡ slice_index old.dist k) × (slice_index new.pred k ≡ slice_index old.pred k)
+-- both hold the same at the place k
+abbrev pub HasSameAt : (old new : Slices) → (k : ℕ) → Type 0
+HasSameAt old new k = (slice_index new.dist k ≡ slice_index old.dist k) × (slice_index new.pred k ≡ slice_index old.pred k)
 
 abbrev pub KeepsFrom : (low : ℕ) → (old new : Slices) → Type 0
-KeepsFrom low old new = (k : ℕ) → low ≤ k → IsKept old new k
+KeepsFrom low old new = (k : ℕ) → low ≤ k → HasSameAt old new k
 
 -- only the n places from `low` on are written
 pub record KeepsOthers (low n : ℕ) (old new : Slices) : Type 0 where
-  pub below : (k : ℕ) → k < low → IsKept old new k
+  pub below : (k : ℕ) → k < low → HasSameAt old new k
   pub beyond : KeepsFrom (low + n) old new
 
 -- ## One source
@@ -55,6 +55,12 @@ IsSolvedAt max g s low old new Tree = HasTreeAt max g s low new × KeepsOthers l
 IsSolvedAt max g s low old new (TooFar v) = IsFar g s max (Some v) × (new ≡ old)
 IsSolvedAt max g s low old new Memory = new ≡ old
 IsSolvedAt max g s low old new told = ⊥
+
+-- why it has no tree
+abbrev pub HasNone : (max : ℕ) → Graph → (s : ℕ) → Told → Type 0
+HasNone max g s (TooFar v) = IsFar g s max (Some v)
+HasNone max g s Memory = Unit {0}
+HasNone max g s told = ⊥
 
 -- ## Several sources
 

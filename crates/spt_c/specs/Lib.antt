@@ -3,4 +3,6 @@ pub mod Limits
 pub mod Asked
 pub mod Blocks
 pub mod Told
+pub mod Checked
+pub mod Found
 pub mod Texts

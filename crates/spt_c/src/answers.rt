@@ -40,6 +40,8 @@ pub(crate) enum Told {
     TooFar(u32),
     /// Memory was refused.
     Memory,
+    /// The slices that were passed hold another tree, from this vertex on.
+    Wrong(u32),
 }
 
 /// How many sources have their trees, and why there are no more.
@@ -72,6 +74,7 @@ impl Told {
             Told::NoSuchVertex(place) => reply(4, 0, place),
             Told::TooFar(vertex) => reply(5, vertex, 0),
             Told::Memory => reply(6, 0, 0),
+            Told::Wrong(vertex) => reply(9, vertex, 0),
         }
     }
 }

@@ -4,13 +4,19 @@ ghost use Rattle.spt_c.specs.Limits.{IsCount, reach};
 ghost use Rattle.spt_c.specs.Asked.{asked};
 ghost use Rattle.spt_c.specs.Blocks.{slices};
 ghost use Rattle.spt_c.specs.Told.{IsTold, answer_of, batch_of};
+ghost use Rattle.spt_c.specs.Checked.{IsChecked};
+ghost use Rattle.spt_c.specs.Found.{IsFound, found_of};
 ghost use Rattle.spt_c.specs.Texts.{IsRead, text_of};
 ghost use Rattle.spt_c.specs.declared.answers.Batch.{Batch};
+ghost use Rattle.spt_c.specs.declared.answers.Told.{Told};
+ghost use Rattle.spt_c.specs.declared.found.Found.{Found};
 ghost use Rattle.spt_c.specs.declared.texts.Read.{Read};
 
 use crate::answers::{SptAnswer, SptBatch};
 use crate::arcs::SptArc;
 use crate::calls::solve;
+use crate::checking::check;
+use crate::found::{SptFound, find};
 use crate::limits::{is_count, reach};
 use crate::texts::{SptText, read_graph};
 use std::alloc::Global;
@@ -72,4 +78,39 @@ pub extern "C" fn spt_gr(alloc: Global, text: &[u8], arcs: &mut [SptArc]) -> Spt
 {
     let read = read_graph(alloc, text, arcs);
     read.told()
+}
+
+/// The distance and the predecessor of a target in the shortest-path tree from a source, or why there are none. A delta
+/// of 0 stands for the mean length of an arc.
+#[unsafe(no_mangle)]
+pub extern "C" fn spt_pair(
+    alloc: Global,
+    arcs: &[SptArc],
+    n: u32,
+    source: u32,
+    target: u32,
+    delta: u64,
+) -> SptFound
+    ensures { (found : Found) × (result ≡ found_of found)
+        × IsFound n arcs.now source target delta found }
+{
+    let found = find(alloc, arcs, n, source, target, delta);
+    found.told()
+}
+
+/// Whether the slices hold the shortest-path tree from a source, and if not, the first vertex at which they don't.
+#[unsafe(no_mangle)]
+pub extern "C" fn spt_check(
+    alloc: Global,
+    arcs: &[SptArc],
+    n: u32,
+    source: u32,
+    dist: &[u64],
+    pred: &[u32],
+) -> SptAnswer
+    ensures { (told : Told) × (result ≡ answer_of told)
+        × IsChecked n arcs.now source (slices dist.now pred.now) told }
+{
+    let told = check(alloc, arcs, n, source, dist, pred);
+    told.answer()
 }

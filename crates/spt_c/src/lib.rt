@@ -5,8 +5,11 @@ mod answers;
 mod arcs;
 mod calls;
 mod cells;
+mod checking;
 mod exports;
+mod found;
 mod limits;
+mod own;
 mod refusals;
 mod solving;
 #[cfg(test)]
@@ -15,4 +18,5 @@ mod texts;
 
 pub use answers::{SptAnswer, SptBatch};
 pub use arcs::SptArc;
+pub use found::SptFound;
 pub use texts::SptText;

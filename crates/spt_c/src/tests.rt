@@ -2,7 +2,8 @@
 
 use crate::answers::{SptAnswer, SptBatch};
 use crate::arcs::SptArc;
-use crate::exports::{spt_gr, spt_reach, spt_tree, spt_trees};
+use crate::exports::{spt_check, spt_gr, spt_pair, spt_reach, spt_tree, spt_trees};
+use crate::found::SptFound;
 use std::test::Fail;
 
 const UNREACHED: u64 = 0xffff_ffff_ffff_ffff;
@@ -93,5 +94,40 @@ fn text(rt: HostRuntime) -> Result<(), Fail> {
     assert_eq!(rt; arcs[5], arc(0, 0, 0));
     let short = spt_gr(rt.alloc(), DIAMOND_GR, &mut arcs[..4]);
     assert_eq!(rt; (short.status, short.n, short.m), (1, 4, 5));
+    Ok(())
+}
+
+#[test]
+fn one_target(rt: HostRuntime) -> Result<(), Fail> {
+    let arcs = diamond_arcs();
+    let last = SptFound {
+        status: 0,
+        pred: 2,
+        dist: 5,
+        index: 0,
+    };
+    assert_eq!(rt; spt_pair(rt.alloc(), &arcs, 4, 1, 4, 0), last);
+    let no_walk = SptFound {
+        status: 0,
+        pred: 0,
+        dist: UNREACHED,
+        index: 0,
+    };
+    assert_eq!(rt; spt_pair(rt.alloc(), &arcs, 4, 4, 1, 0), no_walk);
+    let no_target = spt_pair(rt.alloc(), &arcs, 4, 1, 5, 0);
+    assert_eq!(rt; (no_target.status, no_target.index), (4, 1));
+    Ok(())
+}
+
+#[test]
+fn checked(rt: HostRuntime) -> Result<(), Fail> {
+    let alloc = rt.alloc();
+    let arcs = diamond_arcs();
+    let good = spt_check(alloc, &arcs, 4, 1, &[0, 3, 3, 5], &[0, 1, 1, 2]);
+    assert_eq!(rt; good, answer(0, 0, 0));
+    let greater_pred = spt_check(alloc, &arcs, 4, 1, &[0, 3, 3, 5], &[0, 1, 1, 3]);
+    assert_eq!(rt; greater_pred, answer(9, 4, 0));
+    let two_wrong = spt_check(alloc, &arcs, 4, 1, &[0, 4, 3, 6], &[0, 1, 1, 2]);
+    assert_eq!(rt; two_wrong, answer(9, 2, 0));
     Ok(())
 }
