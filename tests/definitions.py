@@ -15,7 +15,7 @@ import re
 import sys
 
 HOME = os.path.dirname(os.path.dirname(os.path.realpath(__file__)))
-IMPORT = re.compile(r"ghost use Rattle\.(sp_\w+)\.specs\.([\w.]+)\.\{([^}]*)\}")
+IMPORT = re.compile(r"ghost use Rattle\.(spt?_\w+)\.specs\.([\w.]+)\.\{([^}]*)\}")
 WORD = re.compile(r"[A-Za-z_]\w*")
 
 
@@ -95,10 +95,10 @@ def listed():
     with open(f"{HOME}/docs/DEFINITIONS.md") as file:
         for line in file:
             if line.startswith("## "):
-                crates = re.findall(r"(sp_\w+)/specs", line)
+                crates = re.findall(r"(spt?_\w+)/specs", line)
             elif line.startswith("|"):
                 first = line.split("|")[1]
-                homes = re.findall(r"(sp_\w+)/specs", line) or crates
+                homes = re.findall(r"(spt?_\w+)/specs", line) or crates
                 if homes:
                     yield homes, WORD.findall(" ".join(re.findall(r"`([^`]*)`", first)))
 

@@ -1,0 +1,58 @@
+-- What a call asks for, and what is wrong with it.
+use Rattle.std.specs.Prelude.{◌≡◌, ◌<◌, ◌≤◌, ◌*◌, ℕ, List, length, slice_get, All, Some}
+use Rattle.sp_paths.specs.Paths.{IsVertex, IsArc}
+use Rattle.spt_c.specs.declared.arcs.SptArc.{SptArc}
+use Rattle.spt_c.specs.declared.answers.Told.{Told}
+use Rattle.spt_c.specs.declared.answers.Told.TheVariants.{BadSize, BadDelta, BadArc, NoSuchVertex}
+use Rattle.spt_c.specs.Arcs.{arc_of}
+use Rattle.spt_c.specs.Limits.{IsCount, reach}
+
+-- the trees from these sources in the graph of n vertices with these arcs, by buckets of width delta
+pub record Asked : Type 0 where
+  pub arcs : List SptArc
+  pub n : ℕ
+  pub sources : List ℕ
+  pub delta : ℕ
+
+abbrev pub asked : List SptArc → (n : ℕ) → (sources : List ℕ) → (delta : ℕ) → Asked
+asked arcs n sources delta = record { arcs = arcs; n = n; sources = sources; delta = delta }
+
+-- ## What is tested
+
+-- there may be n vertices, and there are as many places for each block
+abbrev pub HasRoom : (n blocks places : ℕ) → Type 0
+HasRoom n blocks places = IsCount n × (blocks * n ≤ places)
+
+-- it leads from a vertex to a vertex, and has a length
+abbrev pub IsArcOf : (n : ℕ) → SptArc → Type 0
+IsArcOf n a = IsArc n (arc_of a)
+
+-- what stands at the place lacks the property, and all before has it
+pub record IsFirstWithout {A : Type 0} (P : A → Type 0) (items : List A) (place : ℕ) : Type 0 where
+  pub item : A
+  pub there : slice_get items place ≡ Some item
+  pub lacks : P item → ⊥
+  pub before : (k : ℕ) (other : A) → k < place → slice_get items k ≡ Some other → P other
+
+-- nothing is wrong, where both slices have so many places
+pub record IsGood (q : Asked) (places : ℕ) : Type 0 where
+  pub room : HasRoom q.n (length q.sources) places
+  pub delta : q.delta ≤ reach q.n
+  pub sources : All (IsVertex q.n) q.sources
+  pub arcs : All (IsArcOf q.n) q.arcs
+
+-- ## What is wrong
+
+abbrev pub IsBadSize : Asked → (places : ℕ) → Type 0
+IsBadSize q places = HasRoom q.n (length q.sources) places → ⊥
+
+abbrev pub IsBadDelta : Asked → Type 0
+IsBadDelta q = reach q.n < q.delta
+
+-- the first that is wrong, of the size, the delta, the sources and the arcs in turn
+abbrev pub IsRefused : Asked → (places : ℕ) → Told → Type 0
+IsRefused q places BadSize = IsBadSize q places
+IsRefused q places BadDelta = HasRoom q.n (length q.sources) places × IsBadDelta q
+IsRefused q places (NoSuchVertex place) = HasRoom q.n (length q.sources) places × (q.delta ≤ reach q.n) × IsFirstWithout (IsVertex q.n) q.sources place
+IsRefused q places (BadArc place) = HasRoom q.n (length q.sources) places × (q.delta ≤ reach q.n) × All (IsVertex q.n) q.sources × IsFirstWithout (IsArcOf q.n) q.arcs place
+IsRefused q places told = ⊥

@@ -1,0 +1,43 @@
+-- What a call tells C, and what then stands in the caller's slices.
+use Rattle.std.specs.Prelude.{◌≡◌, ◌⊎◌, ℕ, length, min}
+use Rattle.spt_c.specs.declared.answers.SptAnswer.{SptAnswer}
+use Rattle.spt_c.specs.declared.answers.SptBatch.{SptBatch}
+use Rattle.spt_c.specs.declared.answers.Batch.{Batch}
+use Rattle.spt_c.specs.declared.answers.Told.{Told}
+use Rattle.spt_c.specs.declared.answers.Told.TheVariants.{Tree, BadSize, BadDelta, BadArc, NoSuchVertex, TooFar, Memory, Wrong}
+use Rattle.spt_c.specs.Arcs.{graph_of}
+use Rattle.spt_c.specs.Limits.{reach}
+use Rattle.spt_c.specs.Asked.{Asked, IsGood, IsRefused}
+use Rattle.spt_c.specs.Blocks.{Slices, AreSolved}
+
+-- the numbers of the header
+abbrev pub answer_of : Told → SptAnswer
+answer_of Tree = record { status = 0; vertex = 0; index = 0 }
+answer_of BadSize = record { status = 1; vertex = 0; index = 0 }
+answer_of BadDelta = record { status = 2; vertex = 0; index = 0 }
+answer_of (BadArc place) = record { status = 3; vertex = 0; index = place }
+answer_of (NoSuchVertex place) = record { status = 4; vertex = 0; index = place }
+answer_of (TooFar v) = record { status = 5; vertex = v; index = 0 }
+answer_of Memory = record { status = 6; vertex = 0; index = 0 }
+answer_of (Wrong v) = record { status = 9; vertex = v; index = 0 }
+
+abbrev pub batch_of : Batch → SptBatch
+batch_of b = record { status = (answer_of b.told).status; vertex = (answer_of b.told).vertex; index = (answer_of b.told).index; done = b.done }
+
+-- how many places both slices have
+abbrev pub places : Slices → ℕ
+places s = min (length s.dist) (length s.pred)
+
+-- something is wrong with the call, and nothing is written
+pub record IsRefusal (q : Asked) (old new : Slices) (b : Batch) : Type 0 where
+  pub why : IsRefused q (places old) b.told
+  pub none : b.done ≡ 0
+  pub same : new ≡ old
+
+-- nothing is wrong, and the trees of the sources stand, up to the first that has none
+pub record IsAnswer (q : Asked) (old new : Slices) (b : Batch) : Type 0 where
+  pub good : IsGood q (places old)
+  pub solved : AreSolved (reach q.n) (graph_of q.n q.arcs) q.sources old new b
+
+abbrev pub IsTold : Asked → (old new : Slices) → Batch → Type 0
+IsTold q old new b = IsRefusal q old new b ⊎ IsAnswer q old new b

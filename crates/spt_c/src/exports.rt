@@ -1,0 +1,116 @@
+//! The functions that C calls.
+ghost use Rattle.std.specs.Prelude.{◌≡◌, ◌∷◌, []};
+ghost use Rattle.spt_c.specs.Limits.{IsCount, reach};
+ghost use Rattle.spt_c.specs.Asked.{asked};
+ghost use Rattle.spt_c.specs.Blocks.{slices};
+ghost use Rattle.spt_c.specs.Told.{IsTold, answer_of, batch_of};
+ghost use Rattle.spt_c.specs.Checked.{IsChecked};
+ghost use Rattle.spt_c.specs.Found.{IsFound, found_of};
+ghost use Rattle.spt_c.specs.Texts.{IsRead, text_of};
+ghost use Rattle.spt_c.specs.declared.answers.Batch.{Batch};
+ghost use Rattle.spt_c.specs.declared.answers.Told.{Told};
+ghost use Rattle.spt_c.specs.declared.found.Found.{Found};
+ghost use Rattle.spt_c.specs.declared.texts.Read.{Read};
+
+use crate::answers::{SptAnswer, SptBatch};
+use crate::arcs::SptArc;
+use crate::calls::solve;
+use crate::checking::check;
+use crate::found::{SptFound, find};
+use crate::limits::{is_count, reach};
+use crate::texts::{SptText, read_graph};
+use std::alloc::Global;
+
+/// The greatest distance in a graph of n vertices, 0 where no graph has so many.
+#[unsafe(no_mangle)]
+pub extern "C" fn spt_reach(n: u32) -> u64
+    ensures some { IsCount n → result ≡ reach n }
+    ensures none { (IsCount n → ⊥) → result ≡ 0 }
+{
+    if is_count(n) { reach(n) } else { 0 }
+}
+
+/// The shortest-path tree from a source, or why there is none. The slices have a place for each vertex. A delta of
+/// 0 stands for the mean length of an arc.
+#[unsafe(no_mangle)]
+pub extern "C" fn spt_tree(
+    alloc: Global,
+    arcs: &[SptArc],
+    n: u32,
+    source: u32,
+    delta: u64,
+    dist: &mut [u64],
+    pred: &mut [u32],
+) -> SptAnswer
+    ensures { (batch : Batch) × (result ≡ answer_of batch.told)
+        × IsTold (asked arcs.now n (source ∷ []) delta)
+        (slices dist.old pred.old) (slices dist.new pred.new) batch }
+{
+    let sources = [source];
+    let batch = solve(alloc, arcs, n, &sources, delta, dist, pred);
+    batch.told.answer()
+}
+
+/// The shortest-path trees from several sources, up to the first that has none. The slices have a block of as many
+/// places as there are vertices for each source.
+#[unsafe(no_mangle)]
+pub extern "C" fn spt_trees(
+    alloc: Global,
+    arcs: &[SptArc],
+    n: u32,
+    sources: &[u32],
+    delta: u64,
+    dist: &mut [u64],
+    pred: &mut [u32],
+) -> SptBatch
+    ensures { (batch : Batch) × (result ≡ batch_of batch)
+        × IsTold (asked arcs.now n sources.now delta)
+        (slices dist.old pred.old) (slices dist.new pred.new) batch }
+{
+    let batch = solve(alloc, arcs, n, sources, delta, dist, pred);
+    batch.answer()
+}
+
+/// The graph that the text of a `.gr` file spells, its arcs in the slice, or the text's first fault.
+#[unsafe(no_mangle)]
+pub extern "C" fn spt_gr(alloc: Global, text: &[u8], arcs: &mut [SptArc]) -> SptText
+    ensures { (read : Read) × (result ≡ text_of read) × IsRead text.now arcs.old arcs.new read }
+{
+    let read = read_graph(alloc, text, arcs);
+    read.told()
+}
+
+/// The distance and the predecessor of a target in the shortest-path tree from a source, or why there are none. A delta
+/// of 0 stands for the mean length of an arc.
+#[unsafe(no_mangle)]
+pub extern "C" fn spt_pair(
+    alloc: Global,
+    arcs: &[SptArc],
+    n: u32,
+    source: u32,
+    target: u32,
+    delta: u64,
+) -> SptFound
+    ensures { (found : Found) × (result ≡ found_of found)
+        × IsFound n arcs.now source target delta found }
+{
+    let found = find(alloc, arcs, n, source, target, delta);
+    found.told()
+}
+
+/// Whether the slices hold the shortest-path tree from a source, and if not, the first vertex at which they don't.
+#[unsafe(no_mangle)]
+pub extern "C" fn spt_check(
+    alloc: Global,
+    arcs: &[SptArc],
+    n: u32,
+    source: u32,
+    dist: &[u64],
+    pred: &[u32],
+) -> SptAnswer
+    ensures { (told : Told) × (result ≡ answer_of told)
+        × IsChecked n arcs.now source (slices dist.now pred.now) told }
+{
+    let told = check(alloc, arcs, n, source, dist, pred);
+    told.answer()
+}

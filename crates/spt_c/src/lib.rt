@@ -1,0 +1,22 @@
+//! The engine as a static library for C, by the calling thread alone. Every input is tested when a call runs.
+#![tactic(auto)]
+
+mod answers;
+mod arcs;
+mod calls;
+mod cells;
+mod checking;
+mod exports;
+mod found;
+mod limits;
+mod own;
+mod refusals;
+mod solving;
+#[cfg(test)]
+mod tests;
+mod texts;
+
+pub use answers::{SptAnswer, SptBatch};
+pub use arcs::SptArc;
+pub use found::SptFound;
+pub use texts::SptText;

@@ -1,0 +1,42 @@
+//! How many vertices there may be, and how far they may lie.
+ghost use Rattle.std.specs.Prelude.{◌≡◌, ◌≤◌, ◌*◌, ◌↔◌, IsTrue};
+ghost use Rattle.spt_c.specs.Limits.{IsCount, reach};
+ghost use Rattle.spt_c.specs.Asked.{HasRoom};
+
+const MOST_VERTICES: u32 = 4_294_967_294;
+
+/// Whether a graph may have so many vertices.
+pub(crate) fn is_count(n: u32) -> bool
+    ensures { IsTrue result ↔ IsCount n }
+{
+    1 <= n && n <= MOST_VERTICES
+}
+
+/// Whether there are so many vertices, and so many blocks of as many places each.
+pub(crate) fn has_room(n: u32, blocks: usize, places: usize) -> bool
+    ensures { IsTrue result ↔ HasRoom n blocks places }
+{
+    if !is_count(n) {
+        return false;
+    }
+    match blocks.checked_mul(n as usize) {
+        Some(needed) => needed <= places,
+        None => false,
+    }
+}
+
+/// The greatest distance in a graph of n vertices, by the layout with the fewest bits for a predecessor.
+pub(crate) fn reach(n: u32) -> u64
+    requires { IsCount n }
+    ensures { result ≡ reach n }
+{
+    if n <= 1_048_574 {
+        17_592_186_044_414
+    } else if n <= 16_777_214 {
+        1_099_511_627_774
+    } else if n <= 268_435_454 {
+        68_719_476_734
+    } else {
+        4_294_967_294
+    }
+}

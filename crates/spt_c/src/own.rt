@@ -1,0 +1,62 @@
+//! A tree in lists of the call's own.
+ghost use Rattle.std.specs.Prelude.{◌≡◌, ◌≤◌, IfOk, IfErr, All, length};
+ghost use Rattle.sp_paths.specs.Paths.{IsVertex};
+ghost use Rattle.spt_c.specs.Arcs.{graph_of};
+ghost use Rattle.spt_c.specs.Limits.{IsCount, reach};
+ghost use Rattle.spt_c.specs.Asked.{IsArcOf};
+ghost use Rattle.spt_c.specs.Blocks.{slices, HasTreeAt, HasNone};
+
+use crate::answers::Told;
+use crate::arcs::{SptArc, graph_of};
+use crate::solving::solve_graph;
+use std::alloc::{AllocError, Global};
+
+/// The distances and the predecessors, by vertex.
+#[derive(Drop)]
+pub(crate) struct OwnTree {
+    pub dist: Vec<u64>,
+    pub pred: Vec<u32>,
+}
+
+// As many places as there are vertices.
+fn bare(alloc: Global, n: u32) -> Result<OwnTree, AllocError>
+    ensures dist { IfOk result (λ own. length own.dist.items ≡ n) }
+    ensures pred { IfOk result (λ own. length own.pred.items ≡ n) }
+{
+    let dist = vec![in alloc; 0u64; n as usize]?;
+    let pred = vec![in alloc; 0u32; n as usize]?;
+    Ok(OwnTree { dist, pred })
+}
+
+/// The tree of a source, or why it has none. A delta of 0 stands for the mean length of an arc.
+pub(crate) fn own_tree(
+    alloc: Global,
+    arcs: &[SptArc],
+    n: u32,
+    source: u32,
+    delta: u64,
+) -> Result<OwnTree, Told>
+    requires n { IsCount n }
+    requires source { IsVertex n source }
+    requires delta { delta ≤ reach n }
+    requires arcs { All (IsArcOf n) arcs.now }
+    ensures dist { IfOk result (λ own. length own.dist.items ≡ n) }
+    ensures pred { IfOk result (λ own. length own.pred.items ≡ n) }
+    ensures tree { IfOk result (λ own. HasTreeAt (reach n) (graph_of n arcs.now) source 0
+        (slices own.dist.items own.pred.items)) }
+    ensures none { IfErr result (HasNone (reach n) (graph_of n arcs.now) source) }
+{
+    let Ok(mut own) = bare(alloc, n) else {
+        return Err(Told::Memory);
+    };
+    let Ok(graph) = graph_of(alloc, n, arcs) else {
+        return Err(Told::Memory);
+    };
+    let sources = [source];
+    let dist = own.dist.as_mut_slice();
+    let pred = own.pred.as_mut_slice();
+    match solve_graph(alloc, &graph, &sources, delta, dist, pred).told {
+        Told::Tree => Ok(own),
+        told => Err(told),
+    }
+}

@@ -1,0 +1,119 @@
+//! The trees of some sources of a graph.
+ghost use Rattle.std.specs.Prelude.{◌≡◌, ◌≤◌, ◌+◌, ◌*◌, true, length, All};
+ghost use Rattle.sp_word.specs.Word.{is_layout, max_dist, max_pred};
+ghost use Rattle.sp_paths.specs.Paths.{IsVertex};
+ghost use Rattle.spt_c.specs.Limits.{IsCount, reach};
+ghost use Rattle.spt_c.specs.Blocks.{slices, IsSolvedAt, AreSolved};
+
+use crate::answers::{Batch, Told};
+use crate::cells::put_cells;
+use sp_graph::Graph;
+use sp_solve::{RunError, run_source_alone};
+use sp_word::{Delta, Word};
+use std::alloc::Global;
+
+// The width that is asked for; for 0 the mean length of an arc, but no more than the greatest distance.
+fn width_for<const P: u32>(graph: &Graph, delta: u64) -> Delta<P>
+    requires layout { is_layout P ≡ true }
+    requires most { delta ≤ max_dist P }
+{
+    let width = if delta == 0 {
+        graph.mean_length().min(Word::<P>::max_dist())
+    } else {
+        delta
+    };
+    let Some(width) = Delta::new(width) else {
+        unreachable!()
+    };
+    width
+}
+
+// Puts the tree of a source from `low` on.
+fn solve_at<const P: u32>(
+    alloc: Global,
+    graph: &Graph,
+    source: u32,
+    width: Delta<P>,
+    low: usize,
+    dist: &mut [u64],
+    pred: &mut [u32],
+) -> Told
+    requires layout { is_layout P ≡ true }
+    requires n { graph.now.n ≤ max_pred P }
+    requires vertex { IsVertex graph.now.n source }
+    requires dist { low + graph.now.n ≤ length dist.old }
+    requires pred { low + graph.now.n ≤ length pred.old }
+    ensures { IsSolvedAt (max_dist P) graph.now source low
+        (slices dist.old pred.old) (slices dist.new pred.new) result }
+{
+    match run_source_alone(alloc, graph, width, source) {
+        Ok(tree) => {
+            put_cells(&tree, low, dist, pred);
+            Told::Tree
+        }
+        Err(RunError::TooFar(vertex)) => Told::TooFar(vertex),
+        Err(RunError::NoSuchVertex) => unreachable!(),
+        Err(RunError::Memory) => Told::Memory,
+    }
+}
+
+// Puts one tree behind the other, up to the first source that has none.
+fn solve_each<const P: u32>(
+    alloc: Global,
+    graph: &Graph,
+    sources: &[u32],
+    width: Delta<P>,
+    dist: &mut [u64],
+    pred: &mut [u32],
+) -> Batch
+    requires layout { is_layout P ≡ true }
+    requires n { graph.now.n ≤ max_pred P }
+    requires vertices { All (IsVertex graph.now.n) sources.now }
+    requires dist { length sources.now * graph.now.n ≤ length dist.old }
+    requires pred { length sources.now * graph.now.n ≤ length pred.old }
+    ensures { AreSolved (max_dist P) graph.now sources.now
+        (slices dist.old pred.old) (slices dist.new pred.new) result }
+{
+    let n = graph.n() as usize;
+    let mut low: usize = 0;
+    for place in 0..sources.len() {
+        match solve_at(alloc, graph, sources[place], width, low, dist, pred) {
+            Told::Tree => {}
+            told => return Batch { done: place, told },
+        }
+        low += n;
+    }
+    Batch {
+        done: sources.len(),
+        told: Told::Tree,
+    }
+}
+
+/// Puts the trees of the sources, by the layout with the greatest distances that holds the vertices.
+pub(crate) fn solve_graph(
+    alloc: Global,
+    graph: &Graph,
+    sources: &[u32],
+    delta: u64,
+    dist: &mut [u64],
+    pred: &mut [u32],
+) -> Batch
+    requires n { IsCount graph.now.n }
+    requires vertices { All (IsVertex graph.now.n) sources.now }
+    requires delta { delta ≤ reach graph.now.n }
+    requires dist { length sources.now * graph.now.n ≤ length dist.old }
+    requires pred { length sources.now * graph.now.n ≤ length pred.old }
+    ensures { AreSolved (reach graph.now.n) graph.now sources.now
+        (slices dist.old pred.old) (slices dist.new pred.new) result }
+{
+    let n = graph.n();
+    if n <= 1_048_574 {
+        solve_each::<20>(alloc, graph, sources, width_for(graph, delta), dist, pred)
+    } else if n <= 16_777_214 {
+        solve_each::<24>(alloc, graph, sources, width_for(graph, delta), dist, pred)
+    } else if n <= 268_435_454 {
+        solve_each::<28>(alloc, graph, sources, width_for(graph, delta), dist, pred)
+    } else {
+        solve_each::<32>(alloc, graph, sources, width_for(graph, delta), dist, pred)
+    }
+}
