@@ -7,7 +7,7 @@ release=$home/dist
 sources() {
     (
         cd "$home"
-        find crates.txt HANDLES crates \( -name out -o -path '*/src/tests*' -o -path '*/proofs/tests*' -o -path crates/spt_bench -o -path crates/spt_refused -o -path 'crates/*_tests' -o -path crates/samples -o -path crates/round_samples \) -prune -o -type f \( -name '*.rt' -o -name '*.antt' -o -name '*.txt' -o -name HANDLES \) -print0 | LC_ALL=C sort -z | xargs -0 sha256sum | sha256sum
+        find crates.txt HANDLES crates \( -name out -o -path '*/src/tests*' -o -path '*/proofs/tests*' -o -path crates/spt_bench -o -path crates/spt_refused -o -path crates/spt_example -o -path 'crates/*_tests' -o -path crates/samples -o -path crates/round_samples \) -prune -o -type f \( -name '*.rt' -o -name '*.antt' -o -name '*.txt' -o -name HANDLES \) -print0 | LC_ALL=C sort -z | xargs -0 sha256sum | sha256sum
     )
 }
 
