@@ -15,7 +15,10 @@ import time
 HOME = os.path.dirname(os.path.dirname(os.path.realpath(__file__)))
 LOGS = os.path.join(HOME, ".spt", "logs")
 PROGRAM = "spt"
+FOLDER = os.path.join(HOME, "crates", PROGRAM)
 SECONDS = 5
+# what proving a crate takes at most, in bytes
+MEMORY = 3 << 30
 
 
 def crates():
@@ -37,62 +40,54 @@ def below(uses, name):
     return found
 
 
-def chain(uses, crate):
-    """How many crates wait for one another from this one on."""
-    return 1 + max((chain(uses, other) for other in uses if crate in uses[other]), default=0)
+def lanes():
+    """How many crates are proved at once: as many as there are processors and memory for."""
+    memory = os.sysconf("SC_PAGE_SIZE") * os.sysconf("SC_PHYS_PAGES")
+    return max(1, min(os.cpu_count() or 1, memory // MEMORY))
 
 
-def start(crate):
-    words = ["rt", "run", "--", "--version"] if crate == PROGRAM else ["rt", "lib"]
-    with open(os.path.join(LOGS, crate), "wb") as log:
-        return subprocess.Popen(words, cwd=os.path.join(HOME, "crates", crate), stdout=log, stderr=log)
-
-
-def told(done, needed, at_work, begun):
-    names = ", ".join(sorted(at_work)) or "none"
+def told(uses, needed, done, begun):
+    """Tells how many crates are done, and which others have all that they use."""
+    ready = sorted(it for it in needed - done if done.issuperset(uses[it]))
+    names = ", ".join(ready[: lanes()]) or "none"
     print(f"spt: {len(done)} of {len(needed)} crates proved, at work: {names}; {time.time() - begun:.0f} s", file=sys.stderr, flush=True)
 
 
-def ended(at_work):
-    """Takes the crates that have ended from those at work, with their statuses."""
-    found = {crate: run.poll() for crate, run in at_work.items() if run.poll() is not None}
-    for crate in found:
-        del at_work[crate]
-    return found
+def prove(uses, needed, begun):
+    """Proves what the program uses and the program, crates that don't wait for one another side by side; whether all are proved."""
+    path, done = os.path.join(LOGS, "crates"), set()
+    with open(path, "wb") as log:
+        # (several runs of rt would wait for one another, as each keeps others out of all crates that it uses)
+        run = subprocess.Popen(["rt", "all", "check", "--jobs", str(lanes())], cwd=FOLDER, stdout=log, stderr=log)
+    while run.poll() is None:
+        told(uses, needed, done, begun)
+        try:
+            run.wait(SECONDS)
+        except subprocess.TimeoutExpired:
+            pass
+        with open(path) as log:
+            done = needed.intersection(re.findall(r"^== (\w+)$", log.read(), re.M))
+    return run.returncode == 0
 
 
-def build(uses, most):
-    """Builds all that the program needs, the longest chains first; answers the crate that failed, if one did."""
-    needed = below(uses, PROGRAM)
-    chains = {crate: chain({it: uses[it] for it in needed}, crate) for crate in needed}
-    done, at_work, begun, last = set(), {}, time.time(), 0
-    while len(done) < len(needed):
-        ready = [it for it in needed - done - set(at_work) if done.issuperset(uses[it])]
-        for crate in sorted(ready, key=chains.get, reverse=True)[: most - len(at_work)]:
-            at_work[crate] = start(crate)
-        for crate, status in ended(at_work).items():
-            if status != 0:
-                for run in at_work.values():
-                    run.terminate()
-                return crate
-            done.add(crate)
-        if time.time() - last >= SECONDS:
-            last = time.time()
-            told(done, needed, at_work, begun)
-        time.sleep(0.1)
-    told(done, needed, at_work, begun)
-    return None
+def link(begun):
+    """Builds the program, once all is proved; whether it is there."""
+    print(f"spt: all proved, building the program; {time.time() - begun:.0f} s", file=sys.stderr, flush=True)
+    with open(os.path.join(LOGS, "program"), "wb") as log:
+        return subprocess.run(["rt", "run", "--", "--version"], cwd=FOLDER, stdout=log, stderr=log).returncode == 0
 
 
 def main():
     os.makedirs(LOGS, exist_ok=True)
-    failed = build(crates(), os.cpu_count() or 1)
-    if failed is None:
-        return 0
-    with open(os.path.join(LOGS, failed)) as log:
-        print(log.read(), file=sys.stderr)
-    print(f"spt: {failed} isn't proved", file=sys.stderr)
-    return 1
+    uses, begun = crates(), time.time()
+    for part, is_done in (("crates", lambda: prove(uses, below(uses, PROGRAM), begun)), ("program", lambda: link(begun))):
+        if not is_done():
+            with open(os.path.join(LOGS, part)) as log:
+                print(log.read(), file=sys.stderr)
+            print("spt: not proved", file=sys.stderr)
+            return 1
+    print(f"spt: proved and built; {time.time() - begun:.0f} s", file=sys.stderr)
+    return 0
 
 
 if __name__ == "__main__":

@@ -1,14 +1,38 @@
 # Which program ./spt runs, for ./spt and ./test, which read this file; $home is the folder of the repository. One that was
-# proved and built here is kept in .spt/, one that was built for a release in dist/, each beside the digest of its sources.
+# proved and built here is kept in .spt/, one that was built for a release in dist/, each beside the digest of its sources. So is
+# the static library for C in .spt/.
 made=$home/.spt
 release=$home/dist
 
-# what the program is made from, as one line; tests, edits and the benchmark play no part
+# what the program is made from, as one line; tests, edits, the benchmark and the library for C play no part
 sources() {
     (
         cd "$home"
-        find crates.txt HANDLES crates \( -name out -o -path '*/src/tests*' -o -path '*/proofs/tests*' -o -path crates/spt_bench -o -path crates/spt_refused -o -path crates/spt_example -o -path 'crates/*_tests' -o -path crates/samples -o -path crates/round_samples \) -prune -o -type f \( -name '*.rt' -o -name '*.antt' -o -name '*.txt' -o -name HANDLES \) -print0 | LC_ALL=C sort -z | xargs -0 sha256sum | sha256sum
+        find crates.txt HANDLES crates \( -name out -o -path '*/src/tests*' -o -path '*/proofs/tests*' -o -path crates/spt_bench -o -path crates/spt_refused -o -path crates/spt_c -o -path crates/spt_example -o -path crates/sp_kept -o -path 'crates/*_tests' -o -path crates/samples -o -path crates/round_samples \) -prune -o -type f \( -name '*.rt' -o -name '*.antt' -o -name '*.txt' -o -name HANDLES \) -print0 | LC_ALL=C sort -z | xargs -0 sha256sum | sha256sum
     )
+}
+
+# what the library for C is made from, as one line
+library_sources() {
+    (
+        cd "$home"
+        find crates.txt HANDLES crates \( -name out -o -path '*/src/tests*' -o -path '*/proofs/tests*' -o -path 'crates/*_tests' \) -prune -o -type f \( -name '*.rt' -o -name '*.antt' -o -name '*.txt' -o -name HANDLES \) -print0 | LC_ALL=C sort -z | xargs -0 sha256sum | sha256sum
+    )
+}
+
+# Keeps the static library that was just built in crates/spt_c, from the sources that the argument names.
+keep_library() {
+    mkdir -p "$made"
+    cp "$home/crates/spt_c/out/libspt_c.a" "$made/libspt_c.a.new"
+    mv "$made/libspt_c.a.new" "$made/libspt_c.a"
+    echo "$1" > "$made/libspt_c.sources"
+}
+
+# The static library that was built from these sources, nothing where there is none.
+library() {
+    if [ -f "$made/libspt_c.a" ] && [ "$(library_sources)" = "$(cat "$made/libspt_c.sources" 2> /dev/null)" ]; then
+        echo "$made/libspt_c.a"
+    fi
 }
 
 # program SOURCES: the program that was built from these sources, nothing where there is none

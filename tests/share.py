@@ -26,6 +26,8 @@ INSTALLED = [
     "share/zsh/site-functions/_spt",
     "share/fish/vendor_completions.d/spt.fish",
 ]
+# where `rt lib` has made it
+LIBRARY = ["include/spt.h", "lib/libspt.a", "lib/libspt.so", "lib/libspt.so.1", "lib/pkgconfig/spt.pc"]
 
 # what bash offers behind these words
 COMPLETE = """
@@ -67,8 +69,12 @@ def render(count):
 
 def install(count):
     with tempfile.TemporaryDirectory() as folder:
-        subprocess.run([f"{HOME}/install", f"{folder}/a prefix"], check=True, stdout=subprocess.DEVNULL)
+        done = subprocess.run([f"{HOME}/install", f"{folder}/a prefix"], check=True, stdout=subprocess.PIPE, text=True)
         count.of("installed files", all(os.path.isfile(f"{folder}/a prefix/{name}") for name in INSTALLED))
+        words = ["sh", "-c", 'home=$0; . "$home/.ci/program.sh"; library', HOME]
+        made = shutil.which("rt") is not None and bool(subprocess.run(words, check=True, stdout=subprocess.PIPE, text=True).stdout.strip())
+        count.of("the installed library", [os.path.isfile(f"{folder}/a prefix/{name}") for name in LIBRARY] == [made] * len(LIBRARY))
+        count.of("whether it is installed is told", ("not installed: the library for C" in done.stdout) != made)
         words = [f"{folder}/a prefix/bin/spt", "check", f"{HOME}/examples/diamond.gr", f"{HOME}/examples/diamond.tree"]
         count.of("the installed program", subprocess.run(words, capture_output=True, text=True).stdout == "yes\n")
 

@@ -92,7 +92,7 @@ def main():
         copy = f"{folder}/copy"
         shutil.copytree(HOME, copy, symlinks=True, ignore=shutil.ignore_patterns(".git", ".spt"))
         for crate, name in twins(sys.argv[1:]):
-            if not os.path.exists(f"{HOME}/crates/{crate}/must-fail/{name}.edit"):
+            if not any(os.path.exists(f"{HOME}/crates/{crate}/{kind}/{name}.edit") for kind in ("must-fail", "edits")):
                 proved = False
                 print(f"{crate}/{name}: there is no such edit")
             else:

@@ -8,8 +8,9 @@ pub const PROGRAM: &str = "A shortest-path tree engine";
 pub const PROGRAM_MORE: &str = after_help!(
     "\
 A command reads its files, one of which may be `-` for standard input, and writes its result to
-standard output. What keeps it from being done is told on standard error. `spt COMMAND --help` tells
-all of a command.
+standard output. What keeps it from being done is told on standard error, in a line that scripts may
+read; where more can be said, as the system's reason or what makes plain text of a file, a second line
+says it. `spt COMMAND --help` tells all of a command.
 ",
     statuses:
         0 "done"

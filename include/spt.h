@@ -1,0 +1,97 @@
+/* spt: shortest-path trees for C, by the engine that the repository proves.
+ *
+ * Link with libspt.a or libspt.so (pkg-config spt). The library takes malloc, realloc, free, memcpy, memmove and memset from
+ * the C library, and nothing else. It has no global data, starts no thread, opens no file and writes no text.
+ *
+ * Vertices are numbered from 1 to n, and vertex v stands at place v - 1 of a list. Every call tests all that it is given, and
+ * tells in a status what it refuses. What no call can test, its caller sees to:
+ *   - a pointer is aligned and not null, also where it goes with 0 places, and there are as many places as is said;
+ *   - lists that a call writes overlap no other list of the call;
+ *   - no other thread writes these lists during the call, or reads those that the call writes.
+ * Several threads may call at once, also with the same arcs: calls share nothing. */
+#ifndef SPT_H
+#define SPT_H
+
+#include <stddef.h>
+#include <stdint.h>
+
+#define SPT_VERSION "1.0.0"
+
+#ifdef __cplusplus
+extern "C" {
+#endif
+
+/* An arc from tail to head. Its length is 1 to 4294967295, in any unit. */
+typedef struct spt_arc {
+    uint32_t tail, head, len;
+} spt_arc;
+
+enum {
+    SPT_OK = 0,             /* all that was asked for stands in the lists */
+    SPT_BAD_SIZE = 1,       /* n is 0 or above 4294967294, or a list that is to be written has too few places */
+    SPT_BAD_DELTA = 2,      /* delta is above spt_reach(n) */
+    SPT_BAD_ARC = 3,        /* arcs[index] leads from or to no vertex, or has length 0; those before it are arcs */
+    SPT_NO_SUCH_VERTEX = 4, /* sources[index] is 0 or above n; those before it are vertices */
+    SPT_TOO_FAR = 5,        /* some least length is above spt_reach(n): vertex is the smallest vertex of such */
+    SPT_MEMORY = 6,         /* malloc or realloc gave none; what the call had taken is given back */
+    SPT_BAD_TEXT = 7,       /* the text spells no graph; kind, letter and line are of its first fault */
+    SPT_LONG_TEXT = 8       /* the text has more than 2^62 bytes */
+};
+
+/* The distance of a vertex that no walk leads to; its predecessor is 0. */
+#define SPT_UNREACHED UINT64_MAX
+
+/* What a call tells. vertex speaks with SPT_TOO_FAR, index (from 0) with SPT_BAD_ARC and SPT_NO_SUCH_VERTEX; else they are 0. */
+typedef struct spt_answer {
+    uint32_t status, vertex;
+    uint64_t index;
+} spt_answer;
+
+/* The same of several sources: the first `done` of them have their trees. Where that isn't all of them, status, vertex and
+ * index tell why the next one has none, or what of the call is refused. */
+typedef struct spt_batch {
+    uint32_t status, vertex;
+    uint64_t index, done;
+} spt_batch;
+
+/* The greatest distance in a graph of n vertices: 17592186044414 up to 1048574 of them, 1099511627774 up to 16777214,
+ * 68719476734 up to 268435454, 4294967294 up to 4294967294; and 0 where n is 0 or 4294967295. */
+uint64_t spt_reach(uint32_t n);
+
+/* The shortest-path tree from source in the graph of n vertices with these m arcs, which stand in any order; parallel arcs and
+ * loops are arcs too. dist[v - 1] is the least length of a walk from source to v, and pred[v - 1] the vertex before v on such a
+ * walk, the smallest-numbered where there are several; both are 0 for source.
+ *
+ * delta is the width of a bucket: it changes how long the call takes, and never the tree. 0 takes the mean length of an arc.
+ *
+ * Each of dist and pred has n places or more. Where the status isn't SPT_OK they are as they were, and index is 0 with
+ * SPT_NO_SUCH_VERTEX. Where several things are wrong, size, delta, source and arcs are told of in this order. */
+spt_answer spt_tree(const spt_arc *arcs, size_t m, uint32_t n, uint32_t source, uint64_t delta,
+                    uint64_t *dist, size_t dist_places, uint32_t *pred, size_t pred_places);
+
+/* The trees from k sources, up to the first that has none. The graph is made ready once, so this takes less time than k calls.
+ * That of sources[i] stands at dist[i * n] and pred[i * n] and on; each of dist and pred has k * n places or more. After
+ * SPT_TOO_FAR and SPT_MEMORY the first `done` trees stand; after any other refusal done is 0. Places beyond the trees that
+ * stand are as they were. */
+spt_batch spt_trees(const spt_arc *arcs, size_t m, uint32_t n, const uint32_t *sources, size_t k, uint64_t delta,
+                    uint64_t *dist, size_t dist_places, uint32_t *pred, size_t pred_places);
+
+/* What a text is: with SPT_OK and SPT_BAD_SIZE the n vertices and m arcs of its graph, with SPT_BAD_TEXT its first fault. What a
+ * status doesn't speak of is 0. */
+typedef struct spt_text {
+    uint32_t status, n;
+    uint64_t m;
+    uint32_t kind;   /* 1 LongLine, 2 BadLine, 3 NoProblem, 4 SecondProblem, 5 OutOfRange, 6 TooMany, 7 TooFew, 8 Memory */
+    uint32_t letter; /* the field that is out of range: 'U' or 'V' a vertex, 'W' a length, 'N' or 'M' a number of them; else 0 */
+    uint64_t line;   /* from 1 */
+} spt_text;
+
+/* Reads the text of a .gr file (p sp N M, then lines a TAIL HEAD LENGTH) and puts its arcs, in the order of their lines, at arcs[0]
+ * and on. Where there are fewer than m places the status is SPT_BAD_SIZE, and n and m tell what is needed: so a first call with 0
+ * places tells the sizes. Where the status isn't SPT_OK, arcs is as it was. */
+spt_text spt_gr(const uint8_t *text, size_t bytes, spt_arc *arcs, size_t places);
+
+#ifdef __cplusplus
+}
+#endif
+#endif

@@ -1,0 +1,37 @@
+"""Shortest-path trees by the proved engine spt, over its C library.
+
+    >>> import spt
+    >>> graph = spt.Graph(4, [(1, 2, 3), (1, 3, 3), (2, 4, 2), (3, 4, 2), (1, 4, 6)])
+    >>> tree = graph.tree(1)
+    >>> list(tree.distances), list(tree.predecessors)
+    ([0, 3, 3, 5], [0, 1, 1, 2])
+    >>> graph.path(1, 4)
+    [1, 2, 4]
+
+Vertices are numbered from 1; vertex v stands at place v - 1 of a list. Lengths are 1 to 4294967295, in any unit. Where several walks
+are shortest, the predecessor is the smallest-numbered vertex before the last on one of them, so each answer is the only right one.
+
+The library is taken from $SPT_LIBRARY, beside this package's files, or where the system's loader looks.
+"""
+
+from ._convert import dijkstra
+from ._faults import BadArc, BadDelta, Fault, NoSuchVertex, SptError, TooFar
+from ._graph import UNREACHED, Graph, Pair, Tree
+from ._library import LibraryNotFound, reach
+
+__version__ = "1.0.0"
+__all__ = [
+    "UNREACHED",
+    "BadArc",
+    "BadDelta",
+    "Fault",
+    "Graph",
+    "LibraryNotFound",
+    "NoSuchVertex",
+    "Pair",
+    "SptError",
+    "TooFar",
+    "Tree",
+    "dijkstra",
+    "reach",
+]

@@ -1,0 +1,290 @@
+"""Graphs, and the trees that the library answers."""
+
+from __future__ import annotations
+
+import gzip
+import itertools
+import operator
+import os
+
+from collections import deque
+from concurrent.futures import Future, ThreadPoolExecutor
+from dataclasses import dataclass
+from typing import Any, BinaryIO, Iterable, Iterator, List, NamedTuple, Optional, Tuple, Union
+
+from . import _convert
+from ._buffers import address, is_buffer, words, zeros
+from ._faults import BadArc, BadDelta, Fault, NoSuchVertex, TooFar
+from ._library import (
+    BAD_ARC, BAD_DELTA, BAD_SIZE, BAD_TEXT, MOST_VERTICES, NO_SUCH_VERTEX, OK, TOO_FAR, Batch, library, reach,
+)
+
+UNREACHED = 2**64 - 1
+"""The distance of a vertex that no walk leads to."""
+
+# places of the trees that one call of the library answers, unless one tree has more
+_MOST_PLACES = 1 << 22
+
+
+class Pair(NamedTuple):
+    """What is told of a target: its distance, and the vertex before it."""
+
+    distance: int
+    predecessor: int
+
+
+@dataclass(frozen=True)
+class Tree:
+    """The shortest-path tree from a source.
+
+    `distances` and `predecessors` are lists of unsigned numbers of 64 and of 32 bits, vertex v at place v - 1: UNREACHED and 0 where no
+    walk leads to it, 0 and 0 for the source. `numpy.asarray` takes them without a copy.
+    """
+
+    source: int
+    distances: memoryview
+    predecessors: memoryview
+
+    def _place(self, vertex: int) -> int:
+        if not 1 <= vertex <= len(self.distances):
+            raise NoSuchVertex(len(self.distances), vertex)
+        return vertex - 1
+
+    def pair(self, target: int) -> Optional[Pair]:
+        """Distance and predecessor of a target, None where no walk leads to it."""
+        place = self._place(target)
+        distance = self.distances[place]
+        return None if distance == UNREACHED else Pair(distance, self.predecessors[place])
+
+    def path(self, target: int) -> Optional[list[int]]:
+        """The vertices of the tree's walk from the source to a target, None where no walk leads to it.
+
+        >>> Graph(3, [(1, 2, 5), (2, 3, 5)]).tree(1).path(3)
+        [1, 2, 3]
+        """
+        if self.distances[self._place(target)] == UNREACHED:
+            return None
+        path = [target]
+        while path[-1] != self.source:
+            if len(path) == len(self.distances):
+                raise ValueError("the predecessors are no tree's")
+            path.append(self.predecessors[self._place(path[-1])])
+        return path[::-1]
+
+
+# the trees of a block of sources, up to the first that has none, and why that has none
+_Solved = Tuple[List[Tree], Optional[Exception]]
+
+
+def _each(solved: _Solved) -> Iterator[Tree]:
+    trees, refused = solved
+    yield from trees
+    if refused:
+        raise refused
+
+
+class Graph:
+    """A graph of the vertices 1 to n.
+
+    `arcs` are triples of tail, head and length, or all their numbers in one list: an array('I'), a memoryview, a NumPy array of shape (m, 3).
+    A list of unsigned numbers of 32 bits without gaps isn't copied; it must not change while a call runs. Several threads may use one graph.
+
+    >>> graph = Graph(3, [(1, 2, 7), (2, 3, 1), (1, 3, 9)])
+    >>> graph.n, graph.m
+    (3, 3)
+    >>> Graph(3, [(1, 2, 7), (2, 4, 1)])
+    Traceback (most recent call last):
+    spt._faults.BadArc: arc 1: (2, 4, 1) is no arc of a graph of 3 vertices
+    """
+
+    def __init__(self, n: int, arcs: Any = ()) -> None:
+        n = operator.index(n)
+        if not 1 <= n <= MOST_VERTICES:
+            raise ValueError(f"a graph has 1 to {MOST_VERTICES} vertices, not {n}")
+        numbers = words(arcs if is_buffer(arcs) else itertools.chain.from_iterable(arcs))
+        if len(numbers) % 3:
+            raise ValueError("an arc has three numbers: tail, head, length")
+        self._n, self._arcs = n, numbers
+        _, refused = self._call((), 0, zeros("Q", 0), zeros("I", 0))
+        if refused:
+            raise refused
+
+    @property
+    def n(self) -> int:
+        """The number of vertices."""
+        return self._n
+
+    @property
+    def m(self) -> int:
+        """The number of arcs."""
+        return len(self._arcs) // 3
+
+    @property
+    def arcs(self) -> memoryview:
+        """The numbers of the arcs, three for each: tail, head, length."""
+        return self._arcs
+
+    def __repr__(self) -> str:
+        return f"Graph of {self.n} vertices and {self.m} arcs"
+
+    @classmethod
+    def read(cls, file: Union[str, "os.PathLike[str]", BinaryIO]) -> Graph:
+        """The graph of a .gr file (DIMACS: `p sp N M`, then `a TAIL HEAD LENGTH`), by the proved reader.
+
+        `file` is a path, also of a file that gzip made where it ends in .gz, or a file that is open for reading bytes. Fault tells the
+        first fault of the text.
+
+        >>> import io
+        >>> Graph.read(io.BytesIO(b"p sp 2 1\\na 1 2 3\\n"))
+        Graph of 2 vertices and 1 arcs
+        >>> Graph.read(io.BytesIO(b"p sp 2 1\\na 1 2 0\\n"))
+        Traceback (most recent call last):
+        spt._faults.Fault: gr: line 2: 5 OutOfRange W
+        """
+        if hasattr(file, "read"):
+            return cls._parsed(file.read(), getattr(file, "name", "gr"))
+        path = os.fspath(file)
+        with gzip.open(path) if path.endswith(".gz") else open(path, "rb") as opened:
+            return cls._parsed(opened.read(), path)
+
+    @classmethod
+    def _parsed(cls, text: bytes, name: str) -> Graph:
+        view = memoryview(text)
+        # no line of an arc has fewer than 8 bytes, but that the last may lack its end
+        places = (len(view) + 1) // 8
+        numbers = zeros("I", 3 * places)
+        told = library.spt_gr(address(view), len(view), address(numbers), places)
+        if told.status == BAD_TEXT and told.kind != 8:
+            raise Fault(str(name), told.line, told.kind, chr(told.letter) if told.letter else None)
+        if told.status != OK:
+            raise MemoryError("spt: no memory for a text")
+        graph = cls.__new__(cls)
+        graph._n, graph._arcs = told.n, numbers[: 3 * told.m]
+        return graph
+
+    @classmethod
+    def from_scipy(cls, matrix: Any) -> Graph:
+        """The graph of a sparse matrix of SciPy, whose row i is vertex i + 1; its entries are whole numbers from 1."""
+        return cls(*_convert.arcs_of_matrix(matrix))
+
+    @classmethod
+    def from_networkx(cls, graph: Any, weight: str = "weight") -> tuple[Graph, list[Any]]:
+        """The graph of one of NetworkX, and its nodes, that of vertex v at place v - 1.
+
+        The attribute `weight` of an edge is its length, a whole number from 1, and 1 where it has none. An edge of an undirected graph is two arcs.
+        """
+        nodes, arcs = _convert.arcs_of_networkx(graph, weight)
+        return cls(len(nodes), arcs), nodes
+
+    def to_scipy(self) -> Any:
+        """A sparse array of SciPy (csr, float64), whose row i is vertex i + 1. Of parallel arcs it has the shortest."""
+        return _convert.matrix_of_arcs(self.n, self._arcs)
+
+    def tree(self, source: int, *, delta: Optional[int] = None) -> Tree:
+        """The tree from a source.
+
+        `delta`, the width of a bucket, changes how long it takes and never the tree; None is the mean length of an arc.
+        NoSuchVertex, BadDelta: what is asked for is refused. TooFar: a distance is above `reach(n)`. MemoryError: memory is wanting.
+
+        >>> list(Graph(3, [(1, 2, 7), (2, 3, 1), (1, 3, 9)]).tree(1).distances)
+        [0, 7, 8]
+        """
+        trees, refused = self._solve([self._vertex(source)], delta)
+        if refused:
+            raise refused
+        return trees[0]
+
+    def trees(self, sources: Iterable[int], *, workers: int = 1, delta: Optional[int] = None) -> Iterator[Tree]:
+        """The trees from several sources, in their order, by so many threads.
+
+        Each is answered as by `tree`, and an exception comes in its place. Trees that are kept may share their memory with some beside them.
+
+        >>> [tree.distances[2] for tree in Graph(3, [(1, 2, 7), (2, 3, 1)]).trees([1, 2], workers=2)]
+        [8, 1]
+        """
+        if workers < 1:
+            raise ValueError(f"{workers} workers")
+        asked = [self._vertex(source) for source in sources]
+        size = max(1, min(-(-len(asked) // workers), _MOST_PLACES // self.n))
+        return self._in_order([asked[at : at + size] for at in range(0, len(asked), size)], workers, delta)
+
+    def pair(self, source: int, target: int) -> Optional[Pair]:
+        """Distance and predecessor of a target, None where no walk leads to it.
+
+        >>> Graph(3, [(1, 2, 7), (2, 3, 1)]).pair(1, 3)
+        Pair(distance=8, predecessor=2)
+        """
+        self._vertex(target)
+        return self.tree(source).pair(target)
+
+    def path(self, source: int, target: int) -> Optional[list[int]]:
+        """The vertices of a shortest walk, its predecessors the smallest-numbered; None where no walk leads to the target.
+
+        >>> Graph(3, [(1, 2, 7), (2, 3, 1)]).path(1, 3)
+        [1, 2, 3]
+        """
+        self._vertex(target)
+        return self.tree(source).path(target)
+
+    def check(self, tree: Tree) -> Optional[int]:
+        """None where this is the tree from its source, else the lowest vertex whose distance or predecessor is another.
+
+        >>> graph = Graph(2, [(1, 2, 7)])
+        >>> graph.check(graph.tree(1)) is None
+        True
+        """
+        right = self.tree(tree.source)
+        if len(tree.distances) != self.n or len(tree.predecessors) != self.n:
+            raise ValueError(f"a tree of {self.n} vertices has as many distances and predecessors")
+        both = zip(right.distances, tree.distances, right.predecessors, tree.predecessors)
+        return next((vertex for vertex, (d, e, p, q) in enumerate(both, 1) if d != e or p != q), None)
+
+    def _vertex(self, number: int) -> int:
+        vertex = operator.index(number)
+        if not 1 <= vertex <= self.n:
+            raise NoSuchVertex(self.n, vertex)
+        return vertex
+
+    def _in_order(self, blocks: list[list[int]], workers: int, delta: Optional[int]) -> Iterator[Tree]:
+        """The trees of each block of sources. No more than `workers` blocks are ahead of who takes them."""
+        with ThreadPoolExecutor(workers) as pool:
+            waiting: deque[Future[_Solved]] = deque()
+            for block in blocks:
+                waiting.append(pool.submit(self._solve, block, delta))
+                if len(waiting) > workers:
+                    yield from _each(waiting.popleft().result())
+            while waiting:
+                yield from _each(waiting.popleft().result())
+
+    def _solve(self, sources: list[int], delta: Optional[int]) -> _Solved:
+        """The trees of sources, up to the first that has none, and why."""
+        n, k = self.n, len(sources)
+        if delta is not None and not 1 <= delta <= reach(n):
+            raise BadDelta(n, delta)
+        distances, predecessors = zeros("Q", k * n), zeros("I", k * n)
+        done, refused = self._call(sources, delta or 0, distances, predecessors)
+        found = [(at * n, at * n + n) for at in range(done)]
+        return [Tree(source, distances[low:high], predecessors[low:high]) for source, (low, high) in zip(sources, found)], refused
+
+    def _call(self, sources: Iterable[int], delta: int, distances: memoryview, predecessors: memoryview) -> tuple[int, Optional[Exception]]:
+        asked = words(sources)
+        told = library.spt_trees(
+            address(self._arcs), self.m, self.n, address(asked), len(asked), delta,
+            address(distances), len(distances), address(predecessors), len(predecessors),
+        )
+        return told.done, self._refused(asked, delta, told)
+
+    def _refused(self, asked: memoryview, delta: int, told: Batch) -> Optional[Exception]:
+        if told.status == OK:
+            return None
+        if told.status == BAD_ARC:
+            return BadArc(self.n, told.index, tuple(self._arcs[3 * told.index : 3 * told.index + 3]))
+        if told.status == NO_SUCH_VERTEX:
+            return NoSuchVertex(self.n, asked[told.index])
+        if told.status == BAD_DELTA:
+            return BadDelta(self.n, delta)
+        if told.status == TOO_FAR:
+            return TooFar(asked[told.done], told.vertex)
+        if told.status == BAD_SIZE:
+            return ValueError(f"{self.n} vertices are too many")
+        return MemoryError("spt")

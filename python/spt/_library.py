@@ -1,0 +1,72 @@
+"""The functions of spt.h, by ctypes. A call releases the interpreter's lock."""
+
+from __future__ import annotations
+
+import ctypes
+import os
+
+from ctypes import c_size_t, c_uint32, c_uint64, c_void_p
+
+OK, BAD_SIZE, BAD_DELTA, BAD_ARC, NO_SUCH_VERTEX, TOO_FAR, MEMORY, BAD_TEXT, LONG_TEXT = range(9)
+MOST_VERTICES = 2**32 - 2
+NAME = "libspt.so.1"
+
+
+class LibraryNotFound(ImportError):
+    """There is no libspt.so where it is looked for."""
+
+
+class Batch(ctypes.Structure):
+    """spt_batch"""
+
+    _fields_ = [("status", c_uint32), ("vertex", c_uint32), ("index", c_uint64), ("done", c_uint64)]
+
+
+class Text(ctypes.Structure):
+    """spt_text"""
+
+    _fields_ = [
+        ("status", c_uint32),
+        ("n", c_uint32),
+        ("m", c_uint64),
+        ("kind", c_uint32),
+        ("letter", c_uint32),
+        ("line", c_uint64),
+    ]
+
+
+_SLICE = [c_void_p, c_size_t]
+_FUNCTIONS = {
+    "spt_reach": ([c_uint32], c_uint64),
+    "spt_trees": ([*_SLICE, c_uint32, *_SLICE, c_uint64, *_SLICE, *_SLICE], Batch),
+    "spt_gr": ([*_SLICE, *_SLICE], Text),
+}
+
+
+def _path() -> str:
+    beside = os.path.join(os.path.dirname(os.path.abspath(__file__)), "libspt.so")
+    return os.environ.get("SPT_LIBRARY") or (beside if os.path.exists(beside) else NAME)
+
+
+def _load() -> ctypes.CDLL:
+    path = _path()
+    try:
+        library = ctypes.CDLL(path)
+        for name, (given, told) in _FUNCTIONS.items():
+            function = getattr(library, name)
+            function.argtypes, function.restype = given, told
+    except (OSError, AttributeError) as error:
+        raise LibraryNotFound(f"spt: {error}; set SPT_LIBRARY to the path of libspt.so (docs/EMBEDDING.md)") from error
+    return library
+
+
+library = _load()
+
+
+def reach(n: int) -> int:
+    """The greatest distance that a tree of n vertices can tell, 0 where there is no such graph.
+
+    >>> reach(4)
+    17592186044414
+    """
+    return int(library.spt_reach(n)) if 1 <= n <= MOST_VERTICES else 0

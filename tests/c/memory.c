@@ -1,0 +1,112 @@
+/* Each allocation of each call refused in turn: the call tells SPT_MEMORY and leaves what isn't done, or went on without and is
+ * right; and no block is left. Link with -Wl,--wrap=malloc,--wrap=realloc,--wrap=free. */
+#include "count.h"
+#include "spt.h"
+
+#include <stdlib.h>
+#include <string.h>
+
+#define N 2001
+#define M 4000
+#define K 3
+
+void *__real_malloc(size_t bytes);
+void *__real_realloc(void *at, size_t bytes);
+void __real_free(void *at);
+void *__wrap_malloc(size_t bytes);
+void *__wrap_realloc(void *at, size_t bytes);
+void __wrap_free(void *at);
+
+/* How many allocations come before the one that is refused, below 0 for none; blocks taken and not given back. */
+static long before_refusal = -1, blocks;
+
+static int refused(void) {
+    return before_refusal >= 0 && before_refusal-- == 0;
+}
+
+void *__wrap_malloc(size_t bytes) {
+    if (refused()) return NULL;
+    blocks++;
+    return __real_malloc(bytes);
+}
+
+void *__wrap_realloc(void *at, size_t bytes) {
+    if (refused()) return NULL;
+    blocks += at == NULL;
+    return __real_realloc(at, bytes);
+}
+
+void __wrap_free(void *at) {
+    blocks -= at != NULL;
+    __real_free(at);
+}
+
+static spt_arc arcs[M], read_arcs[M], no_arcs[M];
+static uint64_t dist[K * N], right_dist[K * N], no_dist[K * N];
+static uint32_t pred[K * N], right_pred[K * N], no_pred[K * N];
+static const uint32_t sources[K] = {1, 7, N};
+static char text[M * 24 + 32];
+static size_t bytes;
+
+static void make_graph(void) {
+    bytes = (size_t)sprintf(text, "p sp %d %d\n", N, M);
+    for (uint32_t i = 0; i < M; i++) {
+        arcs[i] = (spt_arc){1 + i * 7919 % N, 1 + i * 104729 % N, 1 + i % 97};
+        bytes += (size_t)sprintf(text + bytes, "a %u %u %u\n", (unsigned)arcs[i].tail, (unsigned)arcs[i].head, (unsigned)arcs[i].len);
+    }
+    memset(no_dist, 7, sizeof no_dist);
+    memset(no_pred, 7, sizeof no_pred);
+}
+
+/* Whether the first `done` trees stand, and the places beyond are as they were. */
+static int stand(size_t done) {
+    size_t held = done * N, left = (K - done) * N;
+    return !memcmp(dist, right_dist, held * sizeof *dist) && !memcmp(pred, right_pred, held * sizeof *pred)
+        && !memcmp(dist + held, no_dist + held, left * sizeof *dist) && !memcmp(pred + held, no_pred + held, left * sizeof *pred);
+}
+
+static uint32_t one_tree(int *right) {
+    spt_answer told = spt_tree(arcs, M, N, sources[0], 50, dist, N, pred, N);
+    *right = stand(told.status == SPT_OK);
+    return told.status;
+}
+
+static uint32_t several_trees(int *right) {
+    spt_batch told = spt_trees(arcs, M, N, sources, K, 50, dist, K * N, pred, K * N);
+    *right = stand(told.done) && (told.status != SPT_OK || told.done == K);
+    return told.status;
+}
+
+static uint32_t a_text(int *right) {
+    spt_text told = spt_gr((const uint8_t *)text, bytes, read_arcs, M);
+    *right = !memcmp(read_arcs, told.status == SPT_OK ? arcs : no_arcs, sizeof arcs);
+    return told.status == SPT_BAD_TEXT && told.kind == 8 ? SPT_MEMORY : told.status;
+}
+
+static void refuse_each(const char *name, uint32_t (*call)(int *right)) {
+    long number = 0, start = blocks;
+    uint32_t status = SPT_MEMORY;
+    for (int met = 1; met; number++) {
+        int right;
+        memcpy(dist, no_dist, sizeof dist);
+        memcpy(pred, no_pred, sizeof pred);
+        memset(read_arcs, 0, sizeof read_arcs);
+        before_refusal = number;
+        status = call(&right);
+        met = before_refusal < 0;
+        before_refusal = -1;
+        count(name, right && blocks == start && (status == SPT_OK || (met && status == SPT_MEMORY)));
+    }
+    count(name, status == SPT_OK && number > 1);
+    printf("%s: %ld refusals\n", name, number - 1);
+}
+
+int main(void) {
+    make_graph();
+    spt_batch told = spt_trees(arcs, M, N, sources, K, 50, right_dist, K * N, right_pred, K * N);
+    count("with ample memory", told.status == SPT_OK && told.done == K);
+    refuse_each("spt_tree", one_tree);
+    refuse_each("spt_trees", several_trees);
+    refuse_each("spt_gr", a_text);
+    return finish();
+}

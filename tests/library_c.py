@@ -1,0 +1,181 @@
+#!/usr/bin/env python3
+"""Builds the programs of tests/c with the library for C, by each C compiler that is there, and runs them.
+
+Usage: python3 tests/library_c.py [--archive ARCHIVE] [--program PROGRAM]
+
+The library is installed below a folder by .ci/libraries, and found there by pkg-config where that is there. The programs try
+every refusal, memory refused at each request, and the trees of the example and of a graph of 100,000 vertices, which must be the
+bytes of `spt tree`, by one thread and by four at once. They run under the sanitizers of addresses and of undefined behaviour. The
+library must show `spt_*` alone, take nothing but memory from outside, and have no data that is written. The examples of
+docs/EMBEDDING.md must print what stands below them there. The last line is 'N passed, M failed'.
+"""
+
+import argparse
+import os
+import re
+import shlex
+import shutil
+import subprocess
+import sys
+import tempfile
+
+sys.dont_write_bytecode = True
+from trees import HOME, Count  # noqa: E402
+import graphs  # noqa: E402
+import parts  # noqa: E402
+
+COMPILERS = ("gcc", "clang")
+STRICT = ["-std=c11", "-D_GNU_SOURCE", "-O1", "-g", "-pthread", "-Wall", "-Wextra", "-Werror"]
+SANITIZED = ["-fsanitize=address,undefined", "-fno-sanitize-recover=all"]
+WRAPPED = ["-Wl,--wrap=malloc,--wrap=realloc,--wrap=free"]
+# what the library takes from the C library
+TAKEN = {"malloc", "realloc", "free", "memcpy", "memmove", "memset"}
+VERTICES, SOURCES, SEED = 100_000, 4, 1
+SECONDS = 300
+
+
+def told(words, **more):
+    """Status, output and errors of a command."""
+    done = subprocess.run(words, capture_output=True, timeout=SECONDS, **more)
+    return done.returncode, done.stdout, done.stderr
+
+
+def flags(prefix, static):
+    """What a compiler is given so that it finds the library below this folder, and a program at its start."""
+    if static:
+        return [f"-I{prefix}/include", f"{prefix}/lib/libspt.a"]
+    if shutil.which("pkg-config") is None:
+        print("left out: pkg-config isn't installed")
+        return [f"-I{prefix}/include", f"-L{prefix}/lib", "-lspt", f"-Wl,-rpath,{prefix}/lib"]
+    known = dict(os.environ, PKG_CONFIG_PATH=f"{prefix}/lib/pkgconfig")
+    found = subprocess.run(["pkg-config", "--cflags", "--libs", "spt"], check=True, capture_output=True, text=True, env=known)
+    return [*shlex.split(found.stdout), f"-Wl,-rpath,{prefix}/lib"]
+
+
+def build(count, compiler, folder, name, link, *more):
+    """The program of a file of tests/c, or None where the compiler refuses it."""
+    program = f"{folder}/{name}.{compiler}"
+    words = [compiler, *STRICT, *more, "-o", program, f"{HOME}/tests/c/{name}.c", *link]
+    status, out, err = told(words)
+    count.of(f"{compiler} {name}.c: {(out + err).decode()}", status == 0)
+    return program if status == 0 else None
+
+
+def add_counts(count, name, words):
+    """Runs a program that counts what holds."""
+    status, out, err = told(words)
+    last = re.search(rb"^(\d+) passed, (\d+) failed\n\Z", out, re.M)
+    if status == 0 and last and not err:
+        count.passed += int(last[1])
+        return
+    print((out + err).decode(errors="replace"))
+    count.of(name, False)
+
+
+def same_trees(count, name, program, files, wanted):
+    """The trees by one thread, by four at once, and by one call for all sources."""
+    gr, ss, delta = files
+    for way in (["1"], ["4"], ["1", "together"]):
+        status, out, err = told([program, gr, ss, str(delta), *way])
+        count.of(f"{name}, {' '.join(way)}: {err.decode()}", status == 0 and out == wanted)
+
+
+def great_graph(folder, program):
+    """The files of a graph of 100,000 vertices, the mean length of its arcs, and its trees by the program."""
+    gr, ss = f"{folder}/great.gr", f"{folder}/great.ss"
+    _, mean = graphs.write_graph(gr, "roads", VERTICES, SEED)
+    graphs.write_sources(ss, VERTICES, SOURCES, SEED)
+    done = subprocess.run([program, "tree", gr, ss, "--delta", str(mean)], check=True, stdout=subprocess.PIPE)
+    return (gr, ss, mean), done.stdout
+
+
+def try_compiler(count, compiler, prefix, folder, great, wanted):
+    static, shared = flags(prefix, True), flags(prefix, False)
+    for name, more in (("refusals", []), ("memory", WRAPPED)):
+        program = build(count, compiler, folder, name, static, *SANITIZED, *more)
+        if program:
+            add_counts(count, f"{compiler} {name}", [program])
+    for kind, link in (("static", static), ("shared", shared)):
+        program = build(count, compiler, folder, "tree", link, *SANITIZED)
+        if program:
+            with open(f"{HOME}/examples/diamond.tree", "rb") as it:
+                diamond = [f"{HOME}/examples/diamond.{ending}" for ending in ("gr", "ss")] + [3]
+                same_trees(count, f"{compiler}, {kind}, the diamond", program, diamond, it.read())
+            same_trees(count, f"{compiler}, {kind}, {VERTICES} vertices", program, great, wanted)
+    header = ["-Wall", "-Wextra", "-Werror", "-pedantic", "-fsyntax-only", f"{prefix}/include/spt.h"]
+    for words in (["-x", "c", "-std=c99"], ["-x", "c++", "-std=c++11"]):
+        status, _, err = told([compiler, *words, *header])
+        count.of(f"{compiler} {' '.join(words)} spt.h: {err.decode()}", status == 0)
+
+
+def symbols(words, path):
+    status, out, _ = told(["nm", *words, path])
+    return {line.split()[-1].split("@")[0] for line in out.decode().splitlines() if len(line.split()) > 1} if status == 0 else None
+
+
+def inspect(count, prefix):
+    """What the library shows and takes, and that it has no data that is written."""
+    with open(f"{prefix}/include/spt.h") as it:
+        declared = set(re.findall(r"^\w+ (spt_\w+)\(", it.read(), re.M))
+    archive, shared = f"{prefix}/lib/libspt.a", f"{prefix}/lib/libspt.so"
+    for words, path in ((["-g", "--defined-only"], archive), (["-D", "--defined-only"], shared)):
+        shown = symbols(words, path)
+        count.of(f"{path} shows what the header declares: {shown}", shown == declared)
+    for words, path in ((["-g", "-u"], archive), (["-D", "-u"], shared)):
+        taken = symbols(words, path)
+        count.of(f"{path} takes memory alone: {taken}", taken is not None and taken <= TAKEN)
+    status, out, _ = told(["size", "-A", archive])
+    sections = dict(re.findall(r"^(\.\S+) +(\d+)", out.decode(), re.M))
+    # one byte of .bss is the address of blocks of no bytes, and is never written
+    written = {name: int(size) for name, size in sections.items() if re.match(r"\.(data(?!\.rel\.ro)|bss|tdata|tbss|init_array|ctors)", name)}
+    count.of(f"no data that is written: {written}", status == 0 and sum(written.values()) <= 1)
+
+
+def try_page(count, compiler, prefix, folder):
+    """Each C example of docs/EMBEDDING.md prints what stands in the next block."""
+    with open(f"{HOME}/docs/EMBEDDING.md") as it:
+        examples = re.findall(r"^```c\n(.*?)^```\n.*?^```text\n(.*?)^```\n", it.read(), re.M | re.S)
+    count.of("examples of docs/EMBEDDING.md", bool(examples))
+    for number, (source, wanted) in enumerate(examples, 1):
+        path = f"{folder}/example{number}"
+        with open(f"{path}.c", "w") as it:
+            it.write(source)
+        status, _, err = told([compiler, *STRICT, "-o", path, f"{path}.c", *flags(prefix, False)])
+        count.of(f"example {number} of docs/EMBEDDING.md: {err.decode()}", status == 0)
+        if status == 0:
+            count.of(f"example {number} of docs/EMBEDDING.md", told([path]) == (0, wanted.encode(), b""))
+
+
+def try_all(count, chosen, folder):
+    prefix = f"{folder}/a prefix"
+    words = [f"{HOME}/.ci/libraries", prefix] + ([chosen.archive] if chosen.archive else [])
+    status, _, err = told(words)
+    count.of(f"the library: {err.decode()}", status == 0)
+    if status != 0:
+        return
+    inspect(count, prefix)
+    great, wanted = great_graph(folder, chosen.program or parts.program())
+    present = [it for it in COMPILERS if shutil.which(it)]
+    for compiler in COMPILERS:
+        if compiler not in present:
+            print(f"left out: {compiler} isn't installed")
+            continue
+        try_compiler(count, compiler, prefix, folder, great, wanted)
+        try_page(count, compiler, prefix, folder)
+    count.of("a C compiler", bool(present))
+
+
+def main():
+    options = argparse.ArgumentParser(description=__doc__, formatter_class=argparse.RawDescriptionHelpFormatter)
+    options.add_argument("--archive", type=os.path.abspath, help="this static library in place of the one of crates/spt_c")
+    options.add_argument("--program", type=os.path.abspath, help="this spt, as it is, in place of a build")
+    chosen = options.parse_args()
+    count = Count()
+    with tempfile.TemporaryDirectory() as folder:
+        try_all(count, chosen, folder)
+    print(f"{count.passed} passed, {count.failed} failed")
+    return 1 if count.failed or not count.passed else 0
+
+
+if __name__ == "__main__":
+    sys.exit(main())

@@ -1,0 +1,81 @@
+#!/usr/bin/env python3
+"""Runs tests/python and the examples of the package and of docs/EMBEDDING.md, by this Python and by the system's.
+
+Usage: python3 tests/library_python.py [--archive ARCHIVE]
+
+The library is made by .ci/libraries. Tests that need SciPy or NetworkX are left out where these aren't installed (Debian:
+python3-scipy, python3-networkx), and said so. The last line is 'N passed, M failed'.
+"""
+
+import argparse
+import os
+import re
+import subprocess
+import sys
+import tempfile
+
+sys.dont_write_bytecode = True
+from trees import HOME, Count  # noqa: E402
+
+SYSTEM = "/usr/bin/python3"
+SECONDS = 600
+
+EXAMPLES = """
+import doctest, sys
+import spt, spt._graph, spt._library
+told = [doctest.testmod(module) for module in (spt, spt._graph, spt._library)]
+told += [doctest.testfile(page, module_relative=False) for page in sys.argv[1:]]
+print(sum(one.attempted - one.failed for one in told), "passed,", sum(one.failed for one in told), "failed")
+"""
+
+
+def run(python, prefix, *words):
+    """What a Python with the package prints, and errors."""
+    known = {**os.environ, "PYTHONPATH": f"{HOME}/python", "PYTHONDONTWRITEBYTECODE": "1", "SPT_LIBRARY": f"{prefix}/lib/libspt.so"}
+    words = [python, *words]
+    done = subprocess.run(words, cwd=f"{HOME}/tests/python", env=known, stdout=subprocess.PIPE, stderr=subprocess.STDOUT, text=True, timeout=SECONDS)
+    return done.stdout
+
+
+def add_tests(count, python, prefix):
+    text = run(python, prefix, "-m", "unittest", "discover", "-v")
+    outcomes = re.findall(r"^(\w+) \(.*\) \.\.\. (.*)$", text, re.M)
+    for name, outcome in outcomes:
+        if outcome.startswith("skipped"):
+            print(f"left out by {python}: {name}: {outcome}")
+        else:
+            count.of(f"{name}, by {python}", outcome == "ok")
+    whole = re.search(r"^Ran (\d+) tests", text, re.M)
+    if not whole or int(whole[1]) != len(outcomes) or not re.search(r"^OK\b", text, re.M):
+        count.of(f"tests/python by {python}:\n{text}", False)
+
+
+def add_examples(count, python, prefix):
+    text = run(python, prefix, "-c", EXAMPLES, f"{HOME}/python/README.md", f"{HOME}/docs/EMBEDDING.md")
+    last = re.search(r"^(\d+) passed, (\d+) failed\n\Z", text, re.M)
+    if last:
+        count.passed, count.failed = count.passed + int(last[1]), count.failed + int(last[2])
+    if not last or int(last[2]):
+        print(text)
+    count.of(f"examples by {python}", bool(last) and int(last[1]) > 0)
+
+
+def main():
+    options = argparse.ArgumentParser(description=__doc__, formatter_class=argparse.RawDescriptionHelpFormatter)
+    options.add_argument("--archive", type=os.path.abspath, help="this static library in place of the one of crates/spt_c")
+    chosen = options.parse_args()
+    count = Count()
+    with tempfile.TemporaryDirectory() as prefix:
+        words = [f"{HOME}/.ci/libraries", prefix] + ([chosen.archive] if chosen.archive else [])
+        made = subprocess.run(words, capture_output=True, text=True)
+        count.of(f"the library: {made.stderr}", made.returncode == 0)
+        pythons = {os.path.realpath(it): it for it in (sys.executable, SYSTEM) if os.path.exists(it)}
+        for python in pythons.values() if made.returncode == 0 else ():
+            add_tests(count, python, prefix)
+            add_examples(count, python, prefix)
+    print(f"{count.passed} passed, {count.failed} failed")
+    return 1 if count.failed or not count.passed else 0
+
+
+if __name__ == "__main__":
+    sys.exit(main())
