@@ -3,11 +3,11 @@
 made=$home/.spt
 release=$home/dist
 
-# what the program is made from, as one line; tests, edits and the benchmark play no part
+# what the program is made from, as one line; tests, edits, the benchmark and the library for C play no part
 sources() {
     (
         cd "$home"
-        find crates.txt HANDLES crates \( -name out -o -path '*/src/tests*' -o -path '*/proofs/tests*' -o -path crates/spt_bench -o -path crates/spt_refused -o -path 'crates/*_tests' -o -path crates/samples -o -path crates/round_samples \) -prune -o -type f \( -name '*.rt' -o -name '*.antt' -o -name '*.txt' -o -name HANDLES \) -print0 | LC_ALL=C sort -z | xargs -0 sha256sum | sha256sum
+        find crates.txt HANDLES crates \( -name out -o -path '*/src/tests*' -o -path '*/proofs/tests*' -o -path crates/spt_bench -o -path crates/spt_c -o -path crates/spt_refused -o -path 'crates/*_tests' -o -path crates/samples -o -path crates/round_samples \) -prune -o -type f \( -name '*.rt' -o -name '*.antt' -o -name '*.txt' -o -name HANDLES \) -print0 | LC_ALL=C sort -z | xargs -0 sha256sum | sha256sum
     )
 }
 
