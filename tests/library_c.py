@@ -7,7 +7,8 @@ The library is installed below a folder by .ci/libraries, and found there by pkg
 every refusal, memory refused at each request, and the trees of the example and of a graph of 100,000 vertices, which must be the
 bytes of `spt tree`, by one thread and by four at once. They run under the sanitizers of addresses and of undefined behaviour. The
 library must show `spt_*` alone, take nothing but memory from outside, and have no data that is written. The examples of
-docs/EMBEDDING.md must print what stands below them there. The last line is 'N passed, M failed'.
+docs/EMBEDDING.md must print what stands below them there. A tool that isn't there is left out, and said so; with SPT_ALL=1 it
+counts as failed, and so does it where there is no compiler at all. The last line is 'N passed, M failed'.
 """
 
 import argparse
@@ -45,7 +46,6 @@ def flags(prefix, static):
     if static:
         return [f"-I{prefix}/include", f"{prefix}/lib/libspt.a"]
     if shutil.which("pkg-config") is None:
-        print("left out: pkg-config isn't installed")
         return [f"-I{prefix}/include", f"-L{prefix}/lib", "-lspt", f"-Wl,-rpath,{prefix}/lib"]
     known = dict(os.environ, PKG_CONFIG_PATH=f"{prefix}/lib/pkgconfig")
     found = subprocess.run(["pkg-config", "--cflags", "--libs", "spt"], check=True, capture_output=True, text=True, env=known)
@@ -154,14 +154,15 @@ def try_all(count, chosen, folder):
         return
     inspect(count, prefix)
     great, wanted = great_graph(folder, chosen.program or parts.program())
-    present = [it for it in COMPILERS if shutil.which(it)]
+    missing = [it for it in (*COMPILERS, "pkg-config") if shutil.which(it) is None]
+    for tool in missing:
+        print(f"left out: {tool} isn't installed")
+        count.failed += os.environ.get("SPT_ALL") == "1"
     for compiler in COMPILERS:
-        if compiler not in present:
-            print(f"left out: {compiler} isn't installed")
-            continue
-        try_compiler(count, compiler, prefix, folder, great, wanted)
-        try_page(count, compiler, prefix, folder)
-    count.of("a C compiler", bool(present))
+        if compiler not in missing:
+            try_compiler(count, compiler, prefix, folder, great, wanted)
+            try_page(count, compiler, prefix, folder)
+    count.of("a C compiler", not set(COMPILERS) <= set(missing))
 
 
 def main():

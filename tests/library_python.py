@@ -4,7 +4,8 @@
 Usage: python3 tests/library_python.py [--archive ARCHIVE]
 
 The library is made by .ci/libraries. Tests that need SciPy or NetworkX are left out where these aren't installed (Debian:
-python3-scipy, python3-networkx), and said so. The last line is 'N passed, M failed'.
+python3-scipy, python3-networkx), and said so; with SPT_ALL=1 what no Python ran counts as failed. The last line is 'N passed,
+M failed'.
 """
 
 import argparse
@@ -38,16 +39,19 @@ def run(python, prefix, *words):
 
 
 def add_tests(count, python, prefix):
+    """Counts the tests, and answers which were left out and which weren't."""
     text = run(python, prefix, "-m", "unittest", "discover", "-v")
     outcomes = re.findall(r"^(\w+) \(.*\) \.\.\. (.*)$", text, re.M)
     for name, outcome in outcomes:
-        if outcome.startswith("skipped"):
-            print(f"left out by {python}: {name}: {outcome}")
-        else:
+        if not outcome.startswith("skipped"):
             count.of(f"{name}, by {python}", outcome == "ok")
+    left_out = {name: outcome for name, outcome in outcomes if outcome.startswith("skipped")}
+    for outcome in sorted(set(left_out.values())):
+        print(f"left out by {python}: {outcome}: {', '.join(name for name in left_out if left_out[name] == outcome)}")
     whole = re.search(r"^Ran (\d+) tests", text, re.M)
     if not whole or int(whole[1]) != len(outcomes) or not re.search(r"^OK\b", text, re.M):
         count.of(f"tests/python by {python}:\n{text}", False)
+    return set(left_out), {name for name, _ in outcomes} - set(left_out)
 
 
 def add_examples(count, python, prefix):
@@ -70,9 +74,13 @@ def main():
         made = subprocess.run(words, capture_output=True, text=True)
         count.of(f"the library: {made.stderr}", made.returncode == 0)
         pythons = {os.path.realpath(it): it for it in (sys.executable, SYSTEM) if os.path.exists(it)}
+        missing, ran = set(), set()
         for python in pythons.values() if made.returncode == 0 else ():
-            add_tests(count, python, prefix)
+            skipped, done = add_tests(count, python, prefix)
+            missing, ran = missing | skipped, ran | done
             add_examples(count, python, prefix)
+        if os.environ.get("SPT_ALL") == "1":
+            count.of(f"run by no Python: {', '.join(missing - ran)}", missing <= ran)
     print(f"{count.passed} passed, {count.failed} failed")
     return 1 if count.failed or not count.passed else 0
 
