@@ -4,11 +4,23 @@
 made=$home/.spt
 release=$home/dist
 
-# what the program is made from, as one line; tests, edits, the benchmark and the library for C play no part
+# crates of the repository that play no part in the program
+beside='spt_bench spt_refused spt_c spt_example sp_kept samples round_samples tables_tests texts_tests runs_tests random_tests'
+
+# what the program is made from, as one line; tests and edits play no part
 sources() {
     (
         cd "$home"
-        find crates.txt HANDLES crates \( -name out -o -path '*/src/tests*' -o -path '*/proofs/tests*' -o -path crates/spt_bench -o -path crates/spt_refused -o -path crates/spt_c -o -path crates/spt_example -o -path crates/sp_kept -o -path 'crates/*_tests' -o -path crates/samples -o -path crates/round_samples \) -prune -o -type f \( -name '*.rt' -o -name '*.antt' -o -name '*.txt' -o -name HANDLES \) -print0 | LC_ALL=C sort -z | xargs -0 sha256sum | sha256sum
+        set -- -name out -o -path '*/src/tests*' -o -path '*/proofs/tests*'
+        lines=
+        for crate in $beside; do
+            set -- "$@" -o -path "crates/$crate"
+            lines="$lines${lines:+|}$crate"
+        done
+        {
+            grep -vE "^($lines)[ :]|^#|^\$" crates.txt
+            find HANDLES crates \( "$@" \) -prune -o -type f \( -name '*.rt' -o -name '*.antt' -o -name '*.txt' -o -name HANDLES \) -print0 | LC_ALL=C sort -z | xargs -0 sha256sum
+        } | sha256sum
     )
 }
 
