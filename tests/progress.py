@@ -33,11 +33,11 @@ def small(count, program, folder):
     words = ("tree", GRAPH, SOURCES, "--delta", "3")
     told, plain = run(program, *words, "--progress"), run(program, *words)
     lines = [
-        f"gr: {os.path.getsize(GRAPH)} bytes read",
-        f"ss: {os.path.getsize(SOURCES)} bytes read",
-        "graph of 4 vertices and 5 arcs",
-        "0 of 1 sources, 0 bytes written",
-        f"1 of 1 sources, {len(plain[1])} bytes written",
+        f"spt: gr: {os.path.getsize(GRAPH)} bytes read",
+        f"spt: ss: {os.path.getsize(SOURCES)} bytes read",
+        "spt: graph of 4 vertices and 5 arcs",
+        "spt: 0 of 1 sources, 0 bytes written",
+        f"spt: 1 of 1 sources, {len(plain[1])} bytes written",
     ]
     count.of(f"a tree: {told}", told[:2] == plain[:2] and told[2].splitlines() == lines)
     count.of(f"nothing without it: {plain}", plain[0] == 0 and plain[2] == "")
@@ -46,9 +46,9 @@ def small(count, program, folder):
 def sources_in_turn(count, program, folder):
     """How many sources are done of all, and the bytes written for them, which rise up to all that were written."""
     told = run(program, "tree", GRAPH, "--source", "1", "--source", "4", "--source", "2", "--delta", "mean", "--progress")
-    written = [int(number) for number in re.findall(r"^\d of 3 sources, (\d+) bytes written$", told[2], re.M)]
+    written = [int(number) for number in re.findall(r"^spt: \d of 3 sources, (\d+) bytes written$", told[2], re.M)]
     rises = written == sorted(set(written)) and written[:1] == [0] and written[-1:] == [len(told[1])]
-    count.of(f"three sources: {told[2]!r}", told[0] == 0 and rises and "\n3 of 3 sources" in told[2])
+    count.of(f"three sources: {told[2]!r}", told[0] == 0 and rises and "\nspt: 3 of 3 sources" in told[2])
 
 
 def long_file(count, program, folder):
@@ -58,7 +58,7 @@ def long_file(count, program, folder):
         it.write("p sp 4 1\na 1 2 3\n")
         it.write(("c " + "x" * 997 + "\n") * (2 * STRETCH // 1000 + 10))
     told = run(program, "tree", path, "--source", "1", "--delta", "1", "--progress")
-    read = [int(number) for number in re.findall(r"^gr: (\d+) bytes read$", told[2], re.M)]
+    read = [int(number) for number in re.findall(r"^spt: gr: (\d+) bytes read$", told[2], re.M)]
     rises = len(read) == 3 and STRETCH <= read[0] < read[1] and read[2] == os.path.getsize(path)
     count.of(f"a long file: {read}", told[0] == 0 and rises)
 
