@@ -1,5 +1,5 @@
 -- What a call tells C, and which graphs its places keep before and after it.
-use Rattle.std.specs.Prelude.{◌≡◌, ◌<◌, ℕ, zero, suc, List, map, length, IsPermutation}
+use Rattle.std.specs.Prelude.{◌≡◌, ◌<◌, ◌⊎◌, ℕ, List, map, length, IsPermutation}
 use Rattle.std.specs.declared.option.Option.{Option}
 use Rattle.std.specs.declared.option.Option.TheVariants.{None, Some}
 use Rattle.sp_paths.specs.Paths.{Graph}
@@ -34,7 +34,6 @@ abbrev pub count_of : Option Graph → ℕ
 count_of None = 0
 count_of (Some graph) = length graph.arcs
 
--- the first place keeps what it kept; the second the same at 0, and else what it kept
+-- the first place keeps what it kept; the second the same at 0, and what it kept at 3, where memory was refused
 abbrev pub IsShared : (old new old' new' : Option Graph) → ℕ → Type 0
-IsShared old new old' new' zero = (new ≡ old) × (new' ≡ old)
-IsShared old new old' new' (suc _) = (new ≡ old) × (new' ≡ old')
+IsShared old new old' new' status = (new ≡ old) × (((status ≡ 0) × (new' ≡ old)) ⊎ ((status ≡ 3) × (new' ≡ old')))
