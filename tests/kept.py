@@ -1,6 +1,7 @@
 #!/usr/bin/env python3
 """Tries crates/spt_kept_c from C, by tests/kept/kept.c: under the address sanitizer, which also tells what is left on the
-heap, under the one for threads, and optimized with neither. The library has to be built: `rt lib` in crates/spt_kept_c.
+heap, under the one for threads, and optimized with neither. The sanitizers see the C program and the heap, and not the
+library's own loads and stores. The library has to be built: `rt lib` in crates/spt_kept_c.
 
 The last line is 'N passed, M failed'.
 """

@@ -1,14 +1,14 @@
 -- The machine value of a `Slot`, and the slot taken apart and put together.
 use Rattle.std.proofs.Common.{◌≡◌, List, [], ◌∷◌, ◌++◌, refl, subst}
-use mathlib.Core.Bool.{Bool, true, not, ◌&&◌}
+use mathlib.Core.Bool.{Bool, true, not}
 use lib.Dec.{T}
-use mir.Syntax.{impl, tnil, dnil, ty_ptr}
-use mir.Val.{Val, vstruct, vcons, vnil, of_list, has_ty, WT}
+use mir.Syntax.{impl, tnil, dnil}
+use mir.Val.{Val, vstruct, vcons, vnil, of_list}
 use types.Logic.{Logic}
 use types.Kit.{Item, Goal, Seq, Step, step, ‵, ◌$◌, drop, fsplit, fjoin, fpick, fpack, feq_i, feq_l}
 use seplogic.Ra.Ura.{Ura}
 use denote.RattleType.{Valss}
-use denote.RawPtr.{Ptr, RawPtr, ptr_val, block_ptr, null_ptr}
+use denote.RawPtr.{Ptr, RawPtr, ptr_val}
 use denote.Signature.{Slot, plain}
 use denote.Steps.{nothing}
 use denote.Struct.Struct.{within}

@@ -1,4 +1,5 @@
 -- `into_box` hands what the parts own to `from_raw`.
+-- After the walks of `Parts` and `Sealed` in `futures`, a crate of the kit.
 use mathlib.Core.Path.{◌≡◌, refl, sym, subst, ap}
 use mathlib.Core.List.{List, [], ◌∷◌, ◌++◌}
 use lib.Dec.{T}

@@ -1,4 +1,5 @@
 -- `of` takes the box apart, and the parts own what it owned.
+-- After the walks of `Parts` and `Sealed` in `futures`, a crate of the kit.
 use mathlib.Core.Path.{◌≡◌, refl, sym, subst, ap, ◌∙◌}
 use mathlib.Core.List.{List, [], ◌∷◌, ◌++◌}
 use seplogic.Ra.Ura.{Ura}

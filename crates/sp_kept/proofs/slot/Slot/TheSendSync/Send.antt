@@ -1,6 +1,5 @@
 -- A slot may go to another thread, since what is behind it may.
 use mir.Raw.{raw}
-use base.Fml.{Fml}
 use base.Shift.{Keyless}
 use denote.Memory.{lone}
 use base.Fraction.{full_share}

@@ -1,9 +1,10 @@
 -- `into_parts` hands on the pointer, and what it owns goes with it.
+-- After the walks of `Parts` and `Sealed` in `futures`, a crate of the kit.
 use Rattle.std.proofs.Common.{◌≡◌, List, [], ◌∷◌, ◌++◌, refl, sym, ap, ◌∙◌, subst}
 use seplogic.Ra.Ura.{Ura}
-use mathlib.Core.Bool.{Bool, true}
+use mathlib.Core.Bool.{true}
 use mir.Raw.{raw as bare}
-use mir.Val.{Val, vptr}
+use mir.Val.{Val}
 use base.Logic.{SProp, ent, id⊢, never, fst∗}
 use base.Fml.{ftrue, fsep}
 use prog.Memory.{Memory}
@@ -19,7 +20,7 @@ use types.Run.{stop, fld, no_more, and_then, of_opd, returns, enter}
 use types.ByLocal.{alloc_all, pass_all, free_all, look_at, get, get_in, sets}
 use denote.Exit.{yes}
 use denote.RawPtr.{Ptr, block_ptr, null_ptr, in_a_block}
-use denote.Signature.{type_at, plain}
+use denote.Signature.{type_at}
 use denote.Steps.{nothing, heard}
 use denote.Triple.Spec.{triple_of}
 use denote.Triple.Table.{entered}

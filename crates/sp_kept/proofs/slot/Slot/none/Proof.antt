@@ -1,5 +1,5 @@
 -- `none` makes a pointer with nothing behind it.
-use Rattle.std.proofs.Common.{List, [], ◌∷◌, refl, lit<}
+use Rattle.std.proofs.Common.{[], ◌∷◌, refl, lit<}
 use Rattle.std.proofs.raw_atomic.Walks.{proved}
 use base.Fml.{ftrue}
 use contract.Running.{tables}

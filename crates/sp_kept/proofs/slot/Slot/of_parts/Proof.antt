@@ -1,4 +1,5 @@
 -- `of_parts` keeps the pointer, and what it owns goes with it.
+-- After the walks of `Parts` and `Sealed` in `futures`, a crate of the kit.
 use mathlib.Core.Path.{refl, sym, subst}
 use mathlib.Core.List.{List, [], ◌∷◌, ◌++◌}
 use seplogic.Ra.Ura.{Ura}
