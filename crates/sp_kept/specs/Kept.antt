@@ -1,0 +1,14 @@
+-- The graph that a place keeps, where it keeps one.
+use Rattle.sp_paths.specs.Paths.{Graph}
+use Rattle.std.specs.declared.option.Option.{Option}
+use Rattle.std.specs.declared.option.Option.TheVariants.{None, Some}
+use Rattle.sp_kept.specs.declared.shared.graph.SharedGraph.{SharedGraph}
+use Rattle.sp_kept.specs.declared.kept.KeptGraph.{KeptGraph}
+use Rattle.sp_kept.specs.Owners.{owned}
+
+abbrev pub owned_by : Option SharedGraph → Option Graph
+owned_by None = None
+owned_by (Some shared) = Some (owned shared)
+
+abbrev pub kept : KeptGraph → Option Graph
+kept place = owned_by place.slot.shared

@@ -1,0 +1,112 @@
+//! What is done with a place for a graph.
+ghost use Rattle.std.specs.Prelude.{◌≡◌, IfOk, IfErr, IfSome, IfNone, MatchResult};
+ghost use Rattle.std.specs.declared.option.Option.TheVariants.{None, Some};
+ghost use Rattle.sp_kept.specs.Owners.{held};
+ghost use Rattle.sp_kept.specs.Kept.{kept};
+
+use super::KeptGraph;
+use crate::shared::{HeldGraph, SharedGraph};
+use crate::slot::Slot;
+use sp_graph::Graph;
+use std::alloc::{AllocError, Global};
+use std::mem::replace;
+
+impl KeptGraph {
+    /// A place that keeps none.
+    pub fn none() -> KeptGraph
+        ensures { kept result ≡ None }
+    {
+        KeptGraph {
+            slot: Slot::none(),
+            full: false,
+        }
+    }
+
+    // A place that keeps what was held.
+    fn of(graph: HeldGraph) -> KeptGraph
+        ensures { kept result ≡ Some (held graph) }
+    {
+        let HeldGraph { shared } = graph;
+        KeptGraph {
+            slot: Slot::of(shared),
+            full: true,
+        }
+    }
+
+    // What is kept, and the place is gone.
+    fn into_held(self, alloc: Global) -> Option<HeldGraph>
+        ensures some { IfSome result (λ out. kept self ≡ Some (held out)) }
+        ensures none { IfNone result (kept self ≡ None) }
+    {
+        let KeptGraph { slot, full } = self;
+        if full {
+            Some(HeldGraph {
+                shared: slot.into_box(alloc),
+            })
+        } else {
+            slot.end();
+            None
+        }
+    }
+
+    /// Takes out what is kept, where something is.
+    pub fn take(&mut self, alloc: Global) -> Option<HeldGraph>
+        ensures rest { kept self.new ≡ None }
+        ensures some { IfSome result (λ out. kept self.old ≡ Some (held out)) }
+        ensures none { IfNone result (kept self.old ≡ None) }
+    {
+        replace(self, KeptGraph::none()).into_held(alloc)
+    }
+
+    /// Keeps what was taken out, here or elsewhere; what was kept before loses this owner.
+    pub fn put(&mut self, alloc: Global, graph: HeldGraph)
+        ensures { kept self.new ≡ Some (held graph) }
+    {
+        drop(replace(self, KeptGraph::of(graph)).into_held(alloc));
+    }
+
+    /// Keeps nothing; a graph is freed where this was its last owner.
+    pub fn clear(&mut self, alloc: Global)
+        ensures { kept self.new ≡ None }
+    {
+        drop(self.take(alloc));
+    }
+
+    /// Keeps `graph` in place of what was kept. Where memory is refused, all is as it was.
+    pub fn keep(&mut self, alloc: Global, graph: Graph) -> Result<(), AllocError>
+        ensures { MatchResult result (λ _. kept self.new ≡ Some graph) (λ _. self.new ≡ self.old) }
+    {
+        let shared = Box::new(alloc, SharedGraph::new(alloc, graph)?)?;
+        self.put(alloc, HeldGraph { shared });
+        Ok(())
+    }
+
+    /// Keeps the same graph in a second place too, in place of what that kept. Where memory is refused, both keep what they
+    /// kept.
+    pub fn share(&mut self, alloc: Global, other: &mut KeptGraph) -> Result<(), AllocError>
+        ensures same { kept self.new ≡ kept self.old }
+        ensures other { IfOk result (λ _. kept other.new ≡ kept self.old) }
+        ensures rest { IfErr result (λ _. kept other.new ≡ kept other.old) }
+    {
+        match self.take(alloc) {
+            Some(held) => {
+                let another = held.another(alloc);
+                self.put(alloc, held);
+                other.put(alloc, another?);
+            }
+            None => other.clear(alloc),
+        }
+        Ok(())
+    }
+}
+
+impl HeldGraph {
+    /// One more owner of the same graph. It is refused where there is no memory.
+    pub fn another(&self, alloc: Global) -> Result<HeldGraph, AllocError>
+        ensures { IfOk result (λ other. held other ≡ held self.now) }
+    {
+        Ok(HeldGraph {
+            shared: Box::new(alloc, self.shared.another()?)?,
+        })
+    }
+}

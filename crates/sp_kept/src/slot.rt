@@ -1,0 +1,76 @@
+// A pointer that owns what it leads to, without the type in sight: C takes no pointer to a `Vec`.
+ghost use Rattle.std.specs.Prelude.{◌≡◌, IsSome, IsNone};
+ghost use Rattle.std.specs.declared.option.Option.{Option};
+ghost use Rattle.std.specs.declared.option.Option.TheVariants.{None, Some};
+ghost use Rattle.std.specs.Coded.{coded_option};
+ghost use Rattle.sp_kept.specs.declared.shared.graph.SharedGraph.{SharedGraph};
+ghost use Rattle.sp_kept.specs.Owned.{slot_owns, shared_coded};
+
+use crate::parts::Parts;
+use crate::shared::SharedGraph;
+use std::alloc::Global;
+use std::marker::Model;
+use std::ptr::null_mut;
+
+/// A pointer with a box of the heap behind it, or with nothing.
+#[repr(C)]
+pub struct Slot {
+    at: *mut u8,
+    pub ghost shared: { Option SharedGraph } by { coded_option shared_coded },
+}
+
+impl Model for Slot {
+    ghost also_owns = { λ s. slot_owns s.at s.shared };
+}
+
+impl Slot {
+    /// With nothing.
+    pub fn none() -> Slot
+        ensures { result.shared ≡ None }
+    {
+        Slot { at: null_mut() }
+    }
+
+    /// With this box.
+    pub fn of(shared: Box<SharedGraph>) -> Slot
+        ensures { result.shared ≡ Some shared.value }
+    {
+        Slot::of_parts(Parts::of(shared))
+    }
+
+    fn of_parts(parts: Parts<SharedGraph, Global>) -> Slot
+        ensures { result.shared ≡ Some parts.value }
+    {
+        let Parts { ptr, alloc: _ } = parts;
+        Slot { at: ptr as *mut u8 }
+    }
+
+    /// The box again.
+    pub fn into_box(self, alloc: Global) -> Box<SharedGraph>
+        requires { IsSome self.shared }
+        ensures { self.shared ≡ Some result.value }
+    {
+        self.into_parts(alloc).into_box()
+    }
+
+    fn into_parts(self, alloc: Global) -> Parts<SharedGraph, Global>
+        requires { IsSome self.shared }
+        ensures { self.shared ≡ Some result.value }
+    {
+        let Slot { at } = self;
+        Parts {
+            ptr: at as *mut SharedGraph,
+            alloc,
+        }
+    }
+
+    /// Lets go of nothing.
+    pub fn end(self)
+        requires { IsNone self.shared }
+    {
+        let Slot { at: _ } = self;
+    }
+}
+
+// What it leads to may be used and freed by any thread.
+unsafe impl Send for Slot {}

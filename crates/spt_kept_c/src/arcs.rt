@@ -1,0 +1,61 @@
+//! Arcs as C has them, and the graph that they make.
+ghost use Rattle.std.specs.Prelude.{◌≡◌, ◌≤◌, ◌↔◌, IsTrue, IfSome, IfNone, IfOk, All, map, IsPermutation};
+ghost use Rattle.sp_paths.specs.Paths.{IsArc};
+ghost use Rattle.spt_kept_c.specs.Arcs.{arc_of, IsFirstBad};
+
+use sp_graph::Graph;
+use sp_paths::Arc;
+use std::alloc::{AllocError, Global};
+
+/// An arc. That it leads from a vertex to a vertex and has a length is tested.
+#[repr(C)]
+#[derive(Clone, Copy, Debug, PartialEq, Eq)]
+pub struct SptArc {
+    pub tail: u32,
+    pub head: u32,
+    pub len: u32,
+}
+
+// Whether it is an arc of a graph of n vertices.
+fn is_arc(n: u32, arc: SptArc) -> bool
+    ensures { IsTrue result ↔ IsArc n (arc_of arc) }
+{
+    1 <= arc.tail && arc.tail <= n && 1 <= arc.head && arc.head <= n && 1 <= arc.len
+}
+
+/// The place of the first that is no arc of a graph of n vertices.
+pub(crate) fn first_bad(n: u32, arcs: &[SptArc]) -> Option<usize>
+    ensures first { IfSome result (IsFirstBad n arcs.now) }
+    ensures none { IfNone result (All (λ a. IsArc n (arc_of a)) arcs.now) }
+{
+    for (index, arc) in arcs.iter().enumerate() {
+        if !is_arc(n, *arc) {
+            return Some(index);
+        }
+    }
+    None
+}
+
+// The same arcs as the engine has them.
+fn converted(alloc: Global, arcs: &[SptArc]) -> Result<Vec<Arc>, AllocError>
+    ensures { IfOk result (λ v. v.items ≡ map arc_of arcs.now) }
+{
+    arcs.iter()
+        .map(|arc| Arc {
+            tail: arc.tail,
+            head: arc.head,
+            len: arc.len,
+        })
+        .collect(alloc)
+}
+
+/// The graph of n vertices with these arcs.
+pub(crate) fn graph_of(alloc: Global, n: u32, arcs: &[SptArc]) -> Result<Graph, AllocError>
+    requires some { 1 ≤ n }
+    requires arcs { All (λ a. IsArc n (arc_of a)) arcs.now }
+    ensures n { IfOk result (λ graph. graph.n ≡ n) }
+    ensures arcs { IfOk result (λ graph. IsPermutation (map arc_of arcs.now) graph.arcs) }
+{
+    let own = converted(alloc, arcs)?;
+    Ok(Graph::from_arcs(alloc, n, own)?)
+}
