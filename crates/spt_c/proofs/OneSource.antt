@@ -7,7 +7,7 @@ use Rattle.std.specs.Prelude.{slice_get, slice_index}
 use Rattle.sp_paths.specs.Paths.{Graph, IsFar}
 use Rattle.sp_paths.specs.Bags.{AreSame}
 use Rattle.spt_c.specs.declared.answers.Told.{Told}
-use Rattle.spt_c.specs.declared.answers.Told.TheVariants.{Tree, BadSize, BadDelta, BadArc, NoSuchVertex, TooFar, Memory, Wrong}
+use Rattle.spt_c.specs.declared.answers.Told.TheVariants.{Tree, BadSize, BadDelta, BadArc, NoSuchVertex, TooFar, Memory, Wrong, NoGraph}
 use Rattle.spt_c.specs.declared.answers.Batch.{Batch}
 use Rattle.spt_c.specs.Blocks.{Slices, IsCell, HasSameAt, HasTreeAt, HasNone, EndsBy, AreSolved}
 use Rattle.spt_c.proofs.Same.{same_solved}
@@ -29,6 +29,7 @@ none_of max g s done BadDelta not is = absurd is
 none_of max g s done (BadArc place) not is = absurd is
 none_of max g s done (NoSuchVertex place) not is = absurd is
 none_of max g s done (Wrong v) not is = absurd is
+none_of max g s done NoGraph not is = absurd is
 
 -- Why one source isn't done is why it has no tree.
 pub no_tree : (max : ℕ) (g h : Graph) (s : ℕ) (old new : Slices) (b : Batch) → AreSame g h → AreSolved max g (s ∷ []) old new b → (b.told ≡ Tree → ⊥) → HasNone max h s b.told

@@ -6,3 +6,4 @@ pub mod Told
 pub mod Checked
 pub mod Found
 pub mod Texts
+pub mod Kept

@@ -42,6 +42,8 @@ pub(crate) enum Told {
     Memory,
     /// The slices that were passed hold another tree, from this vertex on.
     Wrong(u32),
+    /// The place keeps no graph.
+    NoGraph,
 }
 
 /// How many sources have their trees, and why there are no more.
@@ -75,6 +77,7 @@ impl Told {
             Told::TooFar(vertex) => reply(5, vertex, 0),
             Told::Memory => reply(6, 0, 0),
             Told::Wrong(vertex) => reply(9, vertex, 0),
+            Told::NoGraph => reply(10, 0, 0),
         }
     }
 }

@@ -1,5 +1,7 @@
 //! The functions that C calls.
 ghost use Rattle.std.specs.Prelude.{◌≡◌, ◌∷◌, []};
+ghost use Rattle.std.specs.declared.option.Option.TheVariants.{None};
+ghost use Rattle.sp_kept.specs.Kept.{kept};
 ghost use Rattle.spt_c.specs.Limits.{IsCount, reach};
 ghost use Rattle.spt_c.specs.Asked.{asked};
 ghost use Rattle.spt_c.specs.Blocks.{slices};
@@ -7,9 +9,11 @@ ghost use Rattle.spt_c.specs.Told.{IsTold, answer_of, batch_of};
 ghost use Rattle.spt_c.specs.Checked.{IsChecked};
 ghost use Rattle.spt_c.specs.Found.{IsFound, found_of};
 ghost use Rattle.spt_c.specs.Texts.{IsRead, text_of};
+ghost use Rattle.spt_c.specs.Kept.{made_of, IsMade, IsShared, IsToldOfKept};
 ghost use Rattle.spt_c.specs.declared.answers.Batch.{Batch};
 ghost use Rattle.spt_c.specs.declared.answers.Told.{Told};
 ghost use Rattle.spt_c.specs.declared.found.Found.{Found};
+ghost use Rattle.spt_c.specs.declared.making.Made.{Made};
 ghost use Rattle.spt_c.specs.declared.texts.Read.{Read};
 
 use crate::answers::{SptAnswer, SptBatch};
@@ -17,8 +21,11 @@ use crate::arcs::SptArc;
 use crate::calls::solve;
 use crate::checking::check;
 use crate::found::{SptFound, find};
+use crate::kept_trees::solve_kept;
 use crate::limits::{is_count, reach};
+use crate::making::{make, share};
 use crate::texts::{SptText, read_graph};
+use sp_kept::KeptGraph;
 use std::alloc::Global;
 
 /// The greatest distance in a graph of n vertices, 0 where no graph has so many.
@@ -113,4 +120,64 @@ pub extern "C" fn spt_check(
 {
     let told = check(alloc, arcs, n, source, dist, pred);
     told.answer()
+}
+
+/// Keeps the graph of n vertices with these arcs, in place of what was kept; or tells why there is none, and the place keeps
+/// what it kept.
+#[unsafe(no_mangle)]
+pub extern "C" fn spt_graph_new(
+    alloc: Global,
+    arcs: &[SptArc],
+    n: u32,
+    graph: &mut KeptGraph,
+) -> SptAnswer
+    ensures { (made : Made) × (result ≡ made_of made)
+        × IsMade n arcs.now (kept graph.old) (kept graph.new) made }
+{
+    let made = make(alloc, arcs, n, graph);
+    made.answer()
+}
+
+/// Keeps the same graph in a second place too, in place of what that kept. Each place may be used by a thread of its own.
+/// Where memory is refused, both keep what they kept.
+#[unsafe(no_mangle)]
+pub extern "C" fn spt_graph_share(
+    alloc: Global,
+    from: &mut KeptGraph,
+    to: &mut KeptGraph,
+) -> SptAnswer
+    ensures same { kept from.new ≡ kept from.old }
+    ensures to { (made : Made) × (result ≡ made_of made)
+        × IsShared (kept from.old) (kept to.old) (kept to.new) made }
+{
+    let made = share(alloc, from, to);
+    made.answer()
+}
+
+/// Keeps nothing any more. The memory is given back with the last place that keeps the graph.
+#[unsafe(no_mangle)]
+pub extern "C" fn spt_graph_free(alloc: Global, graph: &mut KeptGraph)
+    ensures { kept graph.new ≡ None }
+{
+    graph.clear(alloc);
+}
+
+/// The shortest-path trees of the graph that is kept from several sources, up to the first that has none. The slices have a
+/// block of as many places as there are vertices for each source. A delta of 0 stands for the mean length of an arc.
+#[unsafe(no_mangle)]
+pub extern "C" fn spt_graph_trees(
+    alloc: Global,
+    graph: &mut KeptGraph,
+    sources: &[u32],
+    delta: u64,
+    dist: &mut [u64],
+    pred: &mut [u32],
+) -> SptBatch
+    ensures told { (batch : Batch) × (result ≡ batch_of batch)
+        × IsToldOfKept (kept graph.old) sources.now delta
+        (slices dist.old pred.old) (slices dist.new pred.new) batch }
+    ensures same { kept graph.new ≡ kept graph.old }
+{
+    let batch = solve_kept(alloc, graph, sources, delta, dist, pred);
+    batch.answer()
 }

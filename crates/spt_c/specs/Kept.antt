@@ -1,0 +1,72 @@
+-- What a call tells C of a graph that is kept between calls.
+use Rattle.std.specs.Prelude.{◌≡◌, ◌⊎◌, ℕ, List, [], All}
+use Rattle.std.specs.declared.option.Option.{Option}
+use Rattle.std.specs.declared.option.Option.TheVariants.{None, Some}
+use Rattle.sp_paths.specs.Paths.{Graph}
+use Rattle.sp_paths.specs.Bags.{AreSame}
+use Rattle.spt_c.specs.declared.arcs.SptArc.{SptArc}
+use Rattle.spt_c.specs.declared.answers.SptAnswer.{SptAnswer}
+use Rattle.spt_c.specs.declared.answers.Batch.{Batch}
+use Rattle.spt_c.specs.declared.answers.Told.TheVariants.{NoGraph}
+use Rattle.spt_c.specs.declared.making.Made.{Made}
+use Rattle.spt_c.specs.declared.making.Made.TheVariants.{Kept, BadSize, BadArc, Memory}
+use Rattle.spt_c.specs.Arcs.{graph_of}
+use Rattle.spt_c.specs.Limits.{IsCount, reach}
+use Rattle.spt_c.specs.Asked.{Asked, asked, IsArcOf, IsFirstWithout, IsGood}
+use Rattle.spt_c.specs.Blocks.{Slices, AreSolved}
+use Rattle.spt_c.specs.Told.{places, IsRefusal}
+
+-- ## A graph is made
+
+-- the numbers of the header
+abbrev pub made_of : Made → SptAnswer
+made_of Kept = record { status = 0; vertex = 0; index = 0 }
+made_of BadSize = record { status = 1; vertex = 0; index = 0 }
+made_of (BadArc place) = record { status = 3; vertex = 0; index = place }
+made_of Memory = record { status = 6; vertex = 0; index = 0 }
+
+-- the graph of n vertices with these arcs is kept
+abbrev pub Keeps : (n : ℕ) → List SptArc → Option Graph → Type 0
+Keeps n arcs None = ⊥
+Keeps n arcs (Some graph) = AreSame graph (graph_of n arcs)
+
+-- there may be n vertices, and all are arcs
+abbrev pub HasGraph : (n : ℕ) → List SptArc → Type 0
+HasGraph n arcs = IsCount n × All (IsArcOf n) arcs
+
+-- the graph is kept, or what was kept before
+abbrev pub IsMade : (n : ℕ) → List SptArc → (old new : Option Graph) → Made → Type 0
+IsMade n arcs old new Kept = HasGraph n arcs × Keeps n arcs new
+IsMade n arcs old new BadSize = (IsCount n → ⊥) × (new ≡ old)
+IsMade n arcs old new (BadArc place) = IsCount n × IsFirstWithout (IsArcOf n) arcs place × (new ≡ old)
+IsMade n arcs old new Memory = HasGraph n arcs × (new ≡ old)
+
+-- the second place keeps what the first does, or what it kept
+abbrev pub IsShared : (first old new : Option Graph) → Made → Type 0
+IsShared first old new Kept = new ≡ first
+IsShared first old new Memory = new ≡ old
+IsShared first old new made = ⊥
+
+-- ## Its trees
+
+-- a call for the trees of a graph that is there passes no arcs
+abbrev pub asked_of : Graph → (sources : List ℕ) → (delta : ℕ) → Asked
+asked_of g sources delta = asked [] g.n sources delta
+
+-- nothing is wrong, and the trees of the sources stand, up to the first that has none
+pub record IsAnswerOf (g : Graph) (sources : List ℕ) (delta : ℕ) (old new : Slices) (b : Batch) : Type 0 where
+  pub good : IsGood (asked_of g sources delta) (places old)
+  pub solved : AreSolved (reach g.n) g sources old new b
+
+abbrev pub IsToldOf : Graph → (sources : List ℕ) → (delta : ℕ) → (old new : Slices) → Batch → Type 0
+IsToldOf g sources delta old new b = IsRefusal (asked_of g sources delta) old new b ⊎ IsAnswerOf g sources delta old new b
+
+-- no graph is kept, and nothing is written
+pub record IsWithoutGraph (old new : Slices) (b : Batch) : Type 0 where
+  pub why : b.told ≡ NoGraph
+  pub none : b.done ≡ 0
+  pub same : new ≡ old
+
+abbrev pub IsToldOfKept : Option Graph → (sources : List ℕ) → (delta : ℕ) → (old new : Slices) → Batch → Type 0
+IsToldOfKept None sources delta old new b = IsWithoutGraph old new b
+IsToldOfKept (Some g) sources delta old new b = IsToldOf g sources delta old new b

@@ -1,0 +1,57 @@
+//! The trees of a graph that is kept.
+ghost use Rattle.std.specs.Prelude.{◌≡◌};
+ghost use Rattle.sp_kept.specs.Kept.{kept};
+ghost use Rattle.spt_c.specs.Blocks.{slices};
+ghost use Rattle.spt_c.specs.Kept.{IsToldOf, IsToldOfKept};
+
+use crate::answers::{Batch, Told};
+use crate::refusals::refusal;
+use crate::solving::solve_graph;
+use sp_graph::Graph;
+use sp_kept::KeptGraph;
+use std::alloc::Global;
+
+// Tests all that is passed with a graph, and puts the trees of the sources.
+fn solve_known(
+    alloc: Global,
+    graph: &Graph,
+    sources: &[u32],
+    delta: u64,
+    dist: &mut [u64],
+    pred: &mut [u32],
+) -> Batch
+    ensures { IsToldOf graph.now sources.now delta
+        (slices dist.old pred.old) (slices dist.new pred.new) result }
+{
+    let places = dist.len().min(pred.len());
+    if let Some(told) = refusal(&[], graph.n(), sources, delta, places) {
+        return Batch { done: 0, told };
+    }
+    solve_graph(alloc, graph, sources, delta, dist, pred)
+}
+
+/// The same with the graph that a place keeps, and keeps on.
+pub(crate) fn solve_kept(
+    alloc: Global,
+    graph: &mut KeptGraph,
+    sources: &[u32],
+    delta: u64,
+    dist: &mut [u64],
+    pred: &mut [u32],
+) -> Batch
+    ensures told { IsToldOfKept (kept graph.old) sources.now delta
+        (slices dist.old pred.old) (slices dist.new pred.new) result }
+    ensures same { kept graph.new ≡ kept graph.old }
+{
+    match graph.take(alloc) {
+        Some(held) => {
+            let batch = solve_known(alloc, held.graph(), sources, delta, dist, pred);
+            graph.put(alloc, held);
+            batch
+        }
+        None => Batch {
+            done: 0,
+            told: Told::NoGraph,
+        },
+    }
+}

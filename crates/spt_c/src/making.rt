@@ -1,0 +1,67 @@
+//! Graphs that are kept between calls.
+ghost use Rattle.std.specs.Prelude.{◌≡◌};
+ghost use Rattle.sp_kept.specs.Kept.{kept};
+ghost use Rattle.spt_c.specs.Kept.{made_of, IsMade, IsShared};
+
+use crate::answers::{SptAnswer, Told};
+use crate::arcs::{SptArc, first_bad, graph_of};
+use crate::limits::is_count;
+use sp_kept::KeptGraph;
+use std::alloc::Global;
+
+/// What the keeping of a graph tells.
+#[derive(Clone, Copy, Debug, PartialEq, Eq)]
+pub(crate) enum Made {
+    /// The graph is kept.
+    Kept,
+    /// There is no vertex, or there are too many.
+    BadSize,
+    /// The arc at this place is none.
+    BadArc(usize),
+    /// Memory was refused.
+    Memory,
+}
+
+impl Made {
+    /// As C is told.
+    pub(crate) fn answer(self) -> SptAnswer
+        ensures { result ≡ made_of self }
+    {
+        match self {
+            Made::Kept => Told::Tree.answer(),
+            Made::BadSize => Told::BadSize.answer(),
+            Made::BadArc(place) => Told::BadArc(place).answer(),
+            Made::Memory => Told::Memory.answer(),
+        }
+    }
+}
+
+/// Tests a graph's size and its arcs, and keeps it.
+pub(crate) fn make(alloc: Global, arcs: &[SptArc], n: u32, graph: &mut KeptGraph) -> Made
+    ensures { IsMade n arcs.now (kept graph.old) (kept graph.new) result }
+{
+    if !is_count(n) {
+        return Made::BadSize;
+    }
+    if let Some(place) = first_bad(n, arcs) {
+        return Made::BadArc(place);
+    }
+    match graph_of(alloc, n, arcs) {
+        Ok(made) => match graph.keep(alloc, made) {
+            Ok(()) => Made::Kept,
+            Err(_) => Made::Memory,
+        },
+        Err(_) => Made::Memory,
+    }
+}
+
+/// Keeps the same graph in a second place too.
+pub(crate) fn share(alloc: Global, from: &mut KeptGraph, to: &mut KeptGraph) -> Made
+    ensures same { kept from.new ≡ kept from.old }
+    ensures to { IsShared (kept from.old) (kept to.old) (kept to.new) result }
+{
+    match from.share(alloc, to) {
+        Ok(()) => Made::Kept,
+        Err(_) => Made::Memory,
+    }
+}
