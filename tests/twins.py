@@ -1,10 +1,10 @@
 #!/usr/bin/env python3
-"""Tries that the innocent twins of must-fail edits are proved.
+"""Tries that the innocent twins of edits are proved.
 
-A must-fail edit shows something only if a harmless change at the same place is accepted. Such a change is
-`crates/CRATE/twins/NAME.twin` to the edit `crates/CRATE/must-fail/NAME.edit`, in the same form. For each, a copy of the
-repository is changed by it, and `rt check` must prove the crate there. It takes half a minute and more for each, so the
-gate leaves it out: run it when edits or twins change.
+An edit that the prover must refuse shows something only if a harmless change at the same place is accepted. Such a change is
+`crates/CRATE/twins/NAME.twin` to the edit `crates/CRATE/must-fail/NAME.edit` or `crates/CRATE/edits/NAME.edit`, in the same form.
+All twins of a crate that don't change the same line are put into a copy of the repository at once, and `rt check` must prove the
+crate there; where it doesn't, halves are tried, down to one alone. The gate leaves it out: run it when edits or twins change.
 
 Usage: python3 tests/twins.py [CRATE[/NAME]..]
 
@@ -69,39 +69,65 @@ def changed(texts, made):
     return after
 
 
-def is_proved(copy, crate, name):
-    folder = f"{copy}/crates/{crate}"
-    made = changes(f"{folder}/twins/{name}.twin")
+def parted(folder, names):
+    """The twins with their changes, in parts of which none has two that change the same line; and those that can't be put in."""
+    parts, unfit = [], []
+    for name in names:
+        made = changes(f"{folder}/twins/{name}.twin")
+        lines = {(file, old) for file, old, _ in made}
+        if changed(texts_of(folder, made), made) is None:
+            print(f"{name}: an old text doesn't stand in its file once")
+            unfit.append(name)
+            continue
+        for part in parts:
+            if not any(lines & others for _, _, others in part):
+                part.append((name, made, lines))
+                break
+        else:
+            parts.append([(name, made, lines)])
+    return parts, unfit
+
+
+def proved(folder, part):
+    """The names of the twins of a part that are proved."""
+    made = [change for _, changes_made, _ in part for change in changes_made]
     before = texts_of(folder, made)
-    after = changed(before, made)
-    if after is None:
-        print(f"{crate}/{name}: an old text doesn't stand in its file once")
-        return False
-    write_all(folder, after)
+    write_all(folder, changed(before, made))
     done = subprocess.run(["rt", "check"], cwd=folder, stdout=subprocess.PIPE, stderr=subprocess.STDOUT, text=True)
     write_all(folder, before)
-    proved = done.returncode == 0 and "logic=proved" in done.stdout
-    if not proved:
+    if done.returncode == 0 and "logic=proved" in done.stdout:
+        return [name for name, _, _ in part]
+    if len(part) == 1:
         print("\n".join(done.stdout.splitlines()[-15:]))
-    return proved
+        return []
+    middle = len(part) // 2
+    return proved(folder, part[:middle]) + proved(folder, part[middle:])
+
+
+def tried(copy, crate, names):
+    """Whether each twin of the crate has its edit and is proved."""
+    folder = f"{copy}/crates/{crate}"
+    parts, unfit = parted(folder, names)
+    well = {name for part in parts for name in proved(folder, part)}
+    for name in names:
+        if not any(os.path.exists(f"{HOME}/crates/{crate}/{kind}/{name}.edit") for kind in ("must-fail", "edits")):
+            well.discard(name)
+            print(f"{crate}/{name}: there is no such edit")
+        print(f"{'proved' if name in well else 'failed'}: {crate}/{name}", flush=True)
+    return [name in well for name in names]
 
 
 def main():
-    passed = failed = 0
+    chosen, outcomes = {}, []
+    for crate, name in twins(sys.argv[1:]):
+        chosen.setdefault(crate, []).append(name)
     with tempfile.TemporaryDirectory() as folder:
         copy = f"{folder}/copy"
         shutil.copytree(HOME, copy, symlinks=True, ignore=shutil.ignore_patterns(".git", ".spt"))
-        for crate, name in twins(sys.argv[1:]):
-            if not any(os.path.exists(f"{HOME}/crates/{crate}/{kind}/{name}.edit") for kind in ("must-fail", "edits")):
-                proved = False
-                print(f"{crate}/{name}: there is no such edit")
-            else:
-                proved = is_proved(copy, crate, name)
-            passed += proved
-            failed += not proved
-            print(f"{'proved' if proved else 'failed'}: {crate}/{name}", flush=True)
-    print(f"{passed} passed, {failed} failed")
-    return 1 if failed or not passed else 0
+        for crate, names in chosen.items():
+            outcomes += tried(copy, crate, names)
+    print(f"{sum(outcomes)} passed, {len(outcomes) - sum(outcomes)} failed")
+    return 0 if outcomes and all(outcomes) else 1
 
 
 if __name__ == "__main__":
