@@ -8,10 +8,12 @@
  *   - a pointer is aligned and not null, also where it goes with 0 places, and there are as many places as is said;
  *   - lists that a call writes overlap no other list of the call;
  *   - no other thread writes these lists during the call, or reads those that the call writes.
- * Several threads may call at once, also with the same arcs: calls share nothing. */
+ * Several threads may call at once, also with the same arcs: calls share nothing but the graphs that are kept, and those are
+ * only read. */
 #ifndef SPT_H
 #define SPT_H
 
+#include <stdbool.h>
 #include <stddef.h>
 #include <stdint.h>
 
@@ -36,7 +38,8 @@ enum {
     SPT_MEMORY = 6,         /* malloc or realloc gave none; what the call had taken is given back */
     SPT_BAD_TEXT = 7,       /* the text spells no graph; kind, letter and line are of its first fault */
     SPT_LONG_TEXT = 8,      /* the text has more than 2^62 bytes */
-    SPT_WRONG = 9           /* the lists hold another tree: vertex is the smallest vertex at which they do */
+    SPT_WRONG = 9,          /* the lists hold another tree: vertex is the smallest vertex at which they do */
+    SPT_NO_GRAPH = 10       /* the place keeps no graph */
 };
 
 /* The distance of a vertex that no walk leads to; its predecessor is 0. */
@@ -93,6 +96,33 @@ spt_found spt_pair(const spt_arc *arcs, size_t m, uint32_t n, uint32_t source, u
  * tree is found anew. */
 spt_answer spt_check(const spt_arc *arcs, size_t m, uint32_t n, uint32_t source,
                      const uint64_t *dist, size_t dist_places, const uint32_t *pred, size_t pred_places);
+
+/* A place that keeps a graph between calls, made ready once. All bytes 0 keep none, so it begins as `spt_graph graph = {0};`, and
+ * from then on only the functions below write it. It may be moved, as by memcpy, but the copy that is left behind isn't used
+ * again. One call at a time uses a place, and no call has one place twice: spt_graph_share gives each thread a place of its own
+ * with the same graph. */
+typedef struct spt_graph {
+    void *at;
+    bool full;
+} spt_graph;
+
+/* Keeps the graph of n vertices with these m arcs, in place of what was kept. The arcs are copied: about 12 bytes for each, and 4
+ * for each vertex. SPT_BAD_SIZE (n is 0 or above 4294967294), SPT_BAD_ARC (index is its place), SPT_MEMORY, in this order; then
+ * the place keeps what it kept. */
+spt_answer spt_graph_new(const spt_arc *arcs, size_t m, uint32_t n, spt_graph *graph);
+
+/* Keeps the graph of `from` in `to` as well, in place of what that kept; where `from` keeps none, nor does `to` any more. Takes a
+ * few bytes, and copies no arc. SPT_MEMORY: both keep what they kept. */
+spt_answer spt_graph_share(spt_graph *from, spt_graph *to);
+
+/* Keeps none any more. The graph's memory is given back with the last place that keeps it. A place that keeps none may be freed
+ * again. */
+void spt_graph_free(spt_graph *graph);
+
+/* As spt_trees, of the graph that is kept, with no need to test and sort its arcs again. The place keeps it on, whatever is
+ * told. Where it keeps none the status is SPT_NO_GRAPH, and all is as it was. */
+spt_batch spt_graph_trees(spt_graph *graph, const uint32_t *sources, size_t k, uint64_t delta,
+                          uint64_t *dist, size_t dist_places, uint32_t *pred, size_t pred_places);
 
 /* What a text is: with SPT_OK and SPT_BAD_SIZE the n vertices and m arcs of its graph, with SPT_BAD_TEXT its first fault. What a
  * status doesn't speak of is 0. */

@@ -5,7 +5,8 @@ Usage: python3 tests/library_c.py [--archive ARCHIVE] [--program PROGRAM]
 
 The library is installed below a folder by .ci/libraries, and found there by pkg-config where that is there. The programs try
 every refusal, memory refused at each request, and the trees of the example and of a graph of 100,000 vertices, which must be the
-bytes of `spt tree`, by one thread and by four at once. They run under the sanitizers of addresses and of undefined behaviour. The
+bytes of `spt tree`, by one thread and by four at once; and a graph that is kept and shared by four threads. They run under the
+sanitizers of addresses and of undefined behaviour, that of the kept graph also under the one of threads. The
 library must show `spt_*` alone, take nothing but memory from outside, and have no data that is written. The examples of
 docs/EMBEDDING.md must print what stands below them there. A tool that isn't there is left out, and said so; with SPT_ALL=1 it
 counts as failed, and so does it where there is no compiler at all. The last line is 'N passed, M failed'.
@@ -95,6 +96,11 @@ def try_compiler(count, compiler, prefix, folder, great, wanted):
         program = build(count, compiler, folder, name, static, *SANITIZED, *more)
         if program:
             add_counts(count, f"{compiler} {name}", [program])
+    # what threads do to a graph that they share, seen by two sanitizers
+    for watched in (SANITIZED, ["-fsanitize=thread"]):
+        program = build(count, compiler, folder, "graph", static, *watched)
+        if program:
+            add_counts(count, f"{compiler} graph {watched[0]}", [program])
     for kind, link in (("static", static), ("shared", shared)):
         program = build(count, compiler, folder, "tree", link, *SANITIZED)
         if program:

@@ -91,6 +91,21 @@ static uint32_t a_check(int *right) {
     return told.status;
 }
 
+static uint32_t a_kept_graph(int *right) {
+    spt_graph graph = {0}, other = {0};
+    spt_batch told = {0};
+    uint32_t status = spt_graph_new(arcs, M, N, &graph).status;
+    if (status == SPT_OK) status = spt_graph_share(&graph, &other).status;
+    if (status == SPT_OK) {
+        told = spt_graph_trees(&other, sources, K, 50, dist, K * N, pred, K * N);
+        status = told.status;
+    }
+    *right = stand(told.done) && (status != SPT_OK || told.done == K);
+    spt_graph_free(&graph);
+    spt_graph_free(&other);
+    return status;
+}
+
 static uint32_t a_text(int *right) {
     spt_text told = spt_gr((const uint8_t *)text, bytes, read_arcs, M);
     *right = !memcmp(read_arcs, told.status == SPT_OK ? arcs : no_arcs, sizeof arcs);
@@ -123,6 +138,7 @@ int main(void) {
     refuse_each("spt_trees", several_trees);
     refuse_each("spt_pair", one_pair);
     refuse_each("spt_check", a_check);
+    refuse_each("spt_graph_new, share and trees", a_kept_graph);
     refuse_each("spt_gr", a_text);
     return finish();
 }
