@@ -15,6 +15,7 @@ from typing import Any, BinaryIO, Iterable, Iterator, List, NamedTuple, Optional
 from . import _convert
 from ._buffers import address, is_buffer, words, zeros
 from ._faults import BadArc, BadDelta, Fault, NoSuchVertex, SptError, TooFar
+from ._kept import Kept
 from ._library import (
     BAD_ARC, BAD_TEXT, MEMORY, MOST_VERTICES, OK, TOO_FAR, WRONG, library, reach,
 )
@@ -87,8 +88,8 @@ class Graph:
     """A graph of the vertices 1 to n.
 
     `arcs` are triples of tail, head and length, or all their numbers in one list: an array('I'), a memoryview, a NumPy array of
-    shape (m, 3). A list of unsigned numbers of 32 bits without gaps isn't copied; it must not change while a call runs. Several
-    threads may use one graph. BadArc: an arc is none. ValueError: there are no or too many vertices, or a number isn't one of 32
+    shape (m, 3). The library keeps the graph in its own form, ready for each tree. A list of unsigned numbers of 32 bits without
+    gaps is kept beside it as it is, for `arcs` and `check`, and must not change. Several threads may use one graph. BadArc: an arc is none. ValueError: there are no or too many vertices, or a number isn't one of 32
     bits. TypeError: what is given are no whole numbers.
 
     >>> graph = Graph(3, [(1, 2, 7), (2, 3, 1), (1, 3, 9)])
@@ -106,10 +107,13 @@ class Graph:
         numbers = words(arcs if is_buffer(arcs) else itertools.chain.from_iterable(arcs))
         if len(numbers) % 3:
             raise ValueError("an arc has three numbers: tail, head, length")
-        self._n, self._arcs = n, numbers
-        _, refused = self._call((), 0, zeros("Q", 0), zeros("I", 0))
-        if refused:
-            raise refused
+        self._keep(n, numbers)
+
+    def _keep(self, n: int, numbers: memoryview) -> None:
+        self._n, self._arcs, self._kept = n, numbers, Kept(n, numbers)
+        told = self._kept.told
+        if told.status != OK:
+            raise self._refused(told.status, told.vertex, told.index, 0)
 
     @property
     def n(self) -> int:
@@ -161,7 +165,7 @@ class Graph:
         if told.status != OK:
             raise MemoryError("spt: no memory for a text")
         graph = cls.__new__(cls)
-        graph._n, graph._arcs = told.n, numbers[: 3 * told.m]
+        graph._keep(told.n, numbers[: 3 * told.m])
         return graph
 
     @classmethod
@@ -220,10 +224,7 @@ class Graph:
         Pair(distance=8, predecessor=2)
         """
         ends = [self._vertex(source), self._vertex(target)]
-        told = library.spt_pair(address(self._arcs), self.m, self.n, *ends, 0)
-        if told.status != OK:
-            raise self._refused(told.status, told.pred, told.index, ends[0])
-        return None if told.dist == UNREACHED else Pair(told.dist, told.pred)
+        return self.tree(ends[0]).pair(ends[1])
 
     def path(self, source: int, target: int) -> Optional[list[int]]:
         """The vertices of a shortest walk, its predecessors the smallest-numbered; None where no walk leads to the target.
@@ -286,10 +287,7 @@ class Graph:
     ) -> tuple[int, Optional[Exception]]:
         """How many sources have their trees, and why the next one has none."""
         asked = words(sources)
-        told = library.spt_trees(
-            address(self._arcs), self.m, self.n, address(asked), len(asked), delta,
-            address(distances), len(distances), address(predecessors), len(predecessors),
-        )
+        told = self._kept.trees(asked, delta, distances, predecessors)
         if told.status == OK:
             return told.done, None
         source = asked[told.done] if told.done < len(asked) else 0
@@ -302,5 +300,5 @@ class Graph:
         if status == TOO_FAR:
             return TooFar(source, vertex)
         if status == MEMORY:
-            return MemoryError("spt: no memory for a tree")
+            return MemoryError("spt: no memory for a graph or a tree")
         return SptError(f"the library tells status {status}")

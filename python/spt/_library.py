@@ -5,9 +5,9 @@ from __future__ import annotations
 import ctypes
 import os
 
-from ctypes import c_size_t, c_uint32, c_uint64, c_void_p
+from ctypes import POINTER, c_bool, c_size_t, c_uint32, c_uint64, c_void_p
 
-OK, BAD_SIZE, BAD_DELTA, BAD_ARC, NO_SUCH_VERTEX, TOO_FAR, MEMORY, BAD_TEXT, LONG_TEXT, WRONG = range(10)
+OK, BAD_SIZE, BAD_DELTA, BAD_ARC, NO_SUCH_VERTEX, TOO_FAR, MEMORY, BAD_TEXT, LONG_TEXT, WRONG, NO_GRAPH = range(11)
 MOST_VERTICES = 2**32 - 2
 NAME = "libspt.so.1"
 
@@ -22,16 +22,16 @@ class Answer(ctypes.Structure):
     _fields_ = [("status", c_uint32), ("vertex", c_uint32), ("index", c_uint64)]
 
 
-class Found(ctypes.Structure):
-    """spt_found"""
-
-    _fields_ = [("status", c_uint32), ("pred", c_uint32), ("dist", c_uint64), ("index", c_uint64)]
-
-
 class Batch(ctypes.Structure):
     """spt_batch"""
 
     _fields_ = [("status", c_uint32), ("vertex", c_uint32), ("index", c_uint64), ("done", c_uint64)]
+
+
+class Place(ctypes.Structure):
+    """spt_graph"""
+
+    _fields_ = [("at", c_void_p), ("full", c_bool)]
 
 
 class Text(ctypes.Structure):
@@ -50,8 +50,10 @@ class Text(ctypes.Structure):
 _SLICE = [c_void_p, c_size_t]
 _FUNCTIONS = {
     "spt_reach": ([c_uint32], c_uint64),
-    "spt_trees": ([*_SLICE, c_uint32, *_SLICE, c_uint64, *_SLICE, *_SLICE], Batch),
-    "spt_pair": ([*_SLICE, c_uint32, c_uint32, c_uint32, c_uint64], Found),
+    "spt_graph_new": ([*_SLICE, c_uint32, POINTER(Place)], Answer),
+    "spt_graph_share": ([POINTER(Place), POINTER(Place)], Answer),
+    "spt_graph_free": ([POINTER(Place)], None),
+    "spt_graph_trees": ([POINTER(Place), *_SLICE, c_uint64, *_SLICE, *_SLICE], Batch),
     "spt_check": ([*_SLICE, c_uint32, c_uint32, *_SLICE, *_SLICE], Answer),
     "spt_gr": ([*_SLICE, *_SLICE], Text),
 }

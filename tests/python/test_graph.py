@@ -1,6 +1,7 @@
 """The calls of the package, with nothing else installed."""
 
 import array
+import copy
 import gzip
 import io
 import os
@@ -55,6 +56,15 @@ class Trees(unittest.TestCase):
             self.assertEqual(list(graph.trees(iter(sources), workers=workers)), one_by_one)
         self.assertEqual(list(graph.trees([])), [])
 
+    def test_a_graph_is_kept(self):
+        arcs = array.array("I", sum(samples.DIAMOND, ()))
+        graph = spt.Graph(4, arcs)
+        tree, twin = graph.tree(1), copy.copy(graph)
+        arcs[2] = 100
+        self.assertEqual(graph.tree(1), tree)
+        del graph
+        self.assertEqual(list(twin.trees([1, 4], workers=2))[0], tree)
+
     def test_threads_share_a_graph(self):
         graph = spt.Graph(2000, samples.by_lot(2000, 8000, 2))
         wanted, found = graph.tree(5), []
@@ -104,7 +114,7 @@ class Arcs(unittest.TestCase):
         flat = array.array("I", [1, 2, 3])
         graph = spt.Graph(2, flat)
         flat[2] = 9
-        self.assertEqual(graph.tree(1).distances[1], 9)
+        self.assertEqual(graph.arcs[2], 9)
         with self.assertRaises(BufferError):
             flat.append(1)
 
