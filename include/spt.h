@@ -7,7 +7,8 @@
  * tells in a status what it refuses. What no call can test, its caller sees to:
  *   - a pointer is aligned and not null, also where it goes with 0 places, and there are as many places as is said;
  *   - lists that a call writes overlap no other list of the call;
- *   - no other thread writes these lists during the call, or reads those that the call writes.
+ *   - no other thread writes these lists during the call, or reads those that the call writes;
+ *   - a place for a graph (spt_graph) began as zeros, nobody else wrote it, and it is in one call at a time.
  * Several threads may call at once, also with the same arcs: calls share nothing but the graphs that are kept, and those are
  * only read. */
 #ifndef SPT_H
