@@ -7,30 +7,20 @@ Usage: python3 .ci/archive.py
 crate itself is proved from nothing.
 """
 
-import importlib.machinery
-import importlib.util
 import os
-import shutil
 import sys
+
+sys.dont_write_bytecode = True
+import kit  # noqa: E402
 
 HOME = os.path.dirname(os.path.dirname(os.path.realpath(__file__)))
 CRATE = "spt_c"
 
 
-def kit():
-    path = os.path.join(os.path.dirname(os.path.realpath(shutil.which("rt"))), "rtlib.py")
-    loader = importlib.machinery.SourceFileLoader("rtlib", path)
-    made = importlib.util.module_from_spec(importlib.util.spec_from_loader("rtlib", loader))
-    sys.modules["rtlib"] = made
-    loader.exec_module(made)
-    return made
-
-
 def main():
-    sys.dont_write_bytecode = True
     folder = os.path.join(HOME, "crates", CRATE)
     os.chdir(folder)
-    rtlib = kit()
+    rtlib = kit.load("rtlib")
     rtlib.guarded()
     rtlib.Crate.cuts_libraries = True
     crate = next(it for it in rtlib.crates_below(folder) if it.name == CRATE)

@@ -1,57 +1,53 @@
-# Which program ./spt runs, for ./spt and ./test, which read this file; $home is the folder of the repository. One that was
-# proved and built here is kept in .spt/, one that was built for a release in dist/, each beside the digest of its sources. So is
-# the static library for C in .spt/.
+# Which program ./spt runs, and which library for C ./install takes, for the scripts that read this file; $home is the folder of
+# the repository. What was proved and built here is kept in .spt/, what was built for a release in dist/, each beside the digest of
+# its sources.
 made=$home/.spt
 release=$home/dist
 
-# crates of the repository that play no part in the program
-beside='spt_bench spt_refused spt_c spt_example sp_kept samples round_samples tables_tests texts_tests runs_tests random_tests'
-
-# what the program is made from, as one line; tests and edits play no part
-sources() {
-    (
-        cd "$home"
-        set -- -name out -o -path '*/src/tests*' -o -path '*/proofs/tests*'
-        lines=
-        for crate in $beside; do
-            set -- "$@" -o -path "crates/$crate"
-            lines="$lines${lines:+|}$crate"
-        done
-        {
-            grep -vE "^($lines)[ :]|^#|^\$" crates.txt
-            find HANDLES crates \( "$@" \) -prune -o -type f \( -name '*.rt' -o -name '*.antt' -o -name '*.txt' -o -name HANDLES \) -print0 | LC_ALL=C sort -z | xargs -0 sha256sum
-        } | sha256sum
-    )
+# crates_of CRATE: the crate, and the crates of the repository that it uses, one a line
+crates_of() {
+    awk -v top="$1" '
+        function visit(crate, words, count, i) {
+            if (crate in seen || !(crate in uses)) return
+            seen[crate] = 1
+            print crate
+            count = split(uses[crate], words, " ")
+            for (i = 1; i <= count; i++) visit(words[i])
+        }
+        /^[^#]*:/ { name = $1; sub(/:$/, "", name); sub(/^[^:]*:/, ""); uses[name] = $0 }
+        END { visit(top) }
+    ' "$home/crates.txt" | LC_ALL=C sort
 }
 
-# what the library for C is made from, as one line
-library_sources() {
-    (
-        cd "$home"
-        find crates.txt HANDLES crates \( -name out -o -path '*/src/tests*' -o -path '*/proofs/tests*' -o -path 'crates/*_tests' \) -prune -o -type f \( -name '*.rt' -o -name '*.antt' -o -name '*.txt' -o -name HANDLES \) -print0 | LC_ALL=C sort -z | xargs -0 sha256sum | sha256sum
-    )
-}
+# digest CRATE: of all that the crate is made from, as one line; tests and edits play no part
+digest() (
+    cd "$home"
+    crates=$(crates_of "$1")
+    {
+        for crate in $crates; do grep "^$crate[ :]" crates.txt; done
+        find HANDLES $(printf 'crates/%s ' $crates) \( -name out -o -path '*/src/tests*' -o -path '*/proofs/tests*' \) -prune -o -type f \( -name '*.rt' -o -name '*.antt' -o -name '*.txt' -o -name HANDLES \) -print0 | LC_ALL=C sort -z | xargs -0 sha256sum
+    } | sha256sum
+)
 
-# Keeps the static library that was just built in crates/spt_c, from the sources that the argument names.
-keep_library() {
-    mkdir -p "$made"
-    cp "$home/crates/spt_c/out/libspt_c.a" "$made/libspt_c.a.new"
-    mv "$made/libspt_c.a.new" "$made/libspt_c.a"
-    echo "$1" > "$made/libspt_c.sources"
-}
-
-# The static library that was built from these sources, nothing where there is none.
-library() {
-    if [ -f "$made/libspt_c.a" ] && [ "$(library_sources)" = "$(cat "$made/libspt_c.sources" 2> /dev/null)" ]; then
-        echo "$made/libspt_c.a"
-    fi
-}
+# what the program is made from, and what the library for C is made from
+sources() { digest spt; }
+library_sources() { digest spt_c; }
 
 # program SOURCES: the program that was built from these sources, nothing where there is none
 program() {
     for folder in "$made" "$release"; do
         if [ -x "$folder/spt" ] && [ "$1" = "$(cat "$folder/sources" 2> /dev/null)" ]; then
             echo "$folder/spt"
+            return
+        fi
+    done
+}
+
+# library SOURCES: the folder that holds the library for C of these sources, nothing where there is none
+library() {
+    for folder in "$made/library" "$release/library"; do
+        if [ -f "$folder/libspt.so" ] && [ "$1" = "$(cat "$folder/sources" 2> /dev/null)" ]; then
+            echo "$folder"
             return
         fi
     done
@@ -66,7 +62,22 @@ keep() {
     rt version > "$made/kit"
 }
 
+# Keeps the library for C of the archive that was just built in crates/spt_c, from the sources that the argument names.
+keep_library() (
+    set -e
+    rm -rf "$made/library"
+    mkdir -p "$made/library.new"
+    "$home/.ci/link" "$home/crates/spt_c/out/libspt_c.a" "$made/library.new"
+    echo "$1" > "$made/library.new/sources"
+    mv "$made/library.new" "$made/library"
+)
+
 # Whether the program that was built here must be the released one byte for byte: its sources and the kit are the same.
 is_comparable() {
     [ -x "$made/spt" ] && cmp -s "$made/sources" "$release/sources" && cmp -s "$made/kit" "$release/kit"
+}
+
+# The same of the library for C, which other versions of the system's linker may lay out in another way.
+is_library_comparable() {
+    cmp -s "$made/library/sources" "$release/library/sources" && cmp -s "$made/library/tools" "$release/library/tools"
 }

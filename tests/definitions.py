@@ -1,9 +1,9 @@
 #!/usr/bin/env python3
 """Checks that docs/DEFINITIONS.md lists every definition that a public contract speaks in.
 
-A public contract is what stands between the head of a `pub fn`, or of a method of a public trait, and its body. The
-definitions are the names that its file takes from `specs/` of a crate of this repository. Each must stand in backquotes in a
-row of the section that names that crate's `specs`, and a row's names must exist there.
+A public contract is what stands between the head of a `pub fn`, or of a method of a public trait, and its body; a function that
+C calls is public in any module. The definitions are the names that its file takes from `specs/` of a crate of this repository.
+Each must stand in backquotes in a row of the section that names that crate's `specs`, and a row's names must exist there.
 
 Usage: python3 tests/definitions.py
 
@@ -56,14 +56,14 @@ def owner(line):
 
 
 def contracts(text, public):
-    """The contract of each public function and of each method of a public type or trait."""
+    """The contract of each public function, of each method of a public type or trait, and of each function that C calls."""
     lines = text.split("\n")
     own, in_trait = None, False
     for k, line in enumerate(lines):
-        if re.match(r"(pub )?(trait|impl|struct|enum|fn)\b", line):
+        if re.match(r'(pub )?(extern "C" )?(trait|impl|struct|enum|fn)\b', line):
             own, in_trait = owner(line), line.startswith("pub trait")
-        head = re.match(r"\s*(pub (?:const )?)?fn (\w+)", line)
-        if head and (head.group(1) or in_trait) and (own or head.group(2)) in public:
+        head = re.match(r'\s*(pub (?:const )?)?(extern "C" )?fn (\w+)', line)
+        if head and (head[2] or (head[1] or in_trait) and (own or head[3]) in public):
             clauses, depth = [], 0
             for other in lines[k:]:
                 if depth or re.match(r"\s*(requires|ensures\*?) ", other):

@@ -1,132 +1,222 @@
 #!/usr/bin/env python3
 """Tries the edits of crates/CRATE/edits, many at a time: the prover must refuse each at the function that it changes.
 
-An edit is refused where the prover finds an error. A function's proof stands on its own body and on the contracts of others, so
-edits in the bodies of several functions don't touch each other, and a check with an edit in each of many functions tells of all
-at once. Some proofs look into small functions without a contract of their own: where a function has an error that wasn't edited, the
-edits are parted in halves, down to one alone. So one check of a crate takes the place of some twenty. Each
-edit is to a function of the crate's code, and keeps lines and contracts; others, the wrong bodies of the theory, and one for each
-function that a crate exists for stand in crates/CRATE/must-fail, where `rt ci` tries each alone. Run this when edits or their crate
-change: the gate leaves it out.
+A function's proof stands on its own body and on the contracts of others. So edits in the bodies of several functions don't touch
+each other, and one check of these functions tells of all: each edit is refused where a function that it changes is not proved.
+Proofs look into functions without a contract, though; so an edit of such a one never goes with one of a function that names it.
+What isn't refused so is tried alone, in a check of the whole crate, as `rt ci` tries what stands in crates/CRATE/must-fail.
 
-Usage: python3 tests/edits.py [CRATE..]
+Usage: python3 tests/edits.py [--over-gate] [CRATE..]
 
+--over-gate takes the libraries that `rt ci` has just proved in this folder; else they are proved first where they aren't yet.
 The last line is 'N passed, M failed'.
 """
 
+import argparse
+import dataclasses
 import os
 import re
-import shutil
-import subprocess
 import sys
 import tempfile
 
+HOME = os.path.dirname(os.path.dirname(os.path.realpath(__file__)))
 sys.dont_write_bytecode = True
-from twins import HOME, changed, changes, texts_of, write_all  # noqa: E402
+sys.path.insert(0, f"{HOME}/.ci")
+import kit  # noqa: E402
 
-FUNCTION = re.compile(r"\s*(?:pub(?:\([a-z]+\))? )?(?:const )?(?:unsafe )?(?:extern \"C\" )?fn (\w+)")
-ERROR = re.compile(r"^(?:note: )?(?:\./)?(\S+?\.(?:rt|antt)):(\d+):\d+:", re.M)
+rt = kit.load("rt")
+HEAD = re.compile(r"( *)(?:pub(?:\([a-z]+\))? )?(?:const )?(?:unsafe )?(?:extern \"C\" )?fn (\w+)")
+OWNER = re.compile(r"(?:pub )?(?:unsafe )?(?:impl|trait)\b")
+OF_A_TRAIT = re.compile(r".* for \W*(?:mut )?(?:\w+::)*(\w+)")
+INHERENT = re.compile(r"(?:impl(?:<.*?>)?|(?:pub )?trait) (\w+)")
+JOBS = ["--jobs", "1"]
+
+
+@dataclasses.dataclass(frozen=True)
+class Function:
+    """A function of a crate, with its text, and whether it has clauses of its own or of its trait. A method has an owner, which is not
+    plain in an impl of a trait and in one of a type from another file."""
+
+    module: str
+    owner: str
+    is_plain: bool
+    name: str
+    text: str
+    has_clauses: bool
+
+    def asked(self):
+        """What `rattle check --only` takes: the end of the function's path, or its module where its path isn't plain."""
+        if not self.is_plain:
+            return self.module
+        return "::".join(it for it in (self.owner or self.module, self.name) if it)
+
+    def is_named(self, path):
+        """Whether a line of the verdict that speaks of this path speaks of the function, or of a closure in it."""
+        module = (f"{self.module}::" if self.module else "") + "(?:fn::)?"
+        before = rf"(?:\w+::)*{self.owner}[\w+]*::" if self.owner else module
+        return bool(re.match(rf"{before}{self.name}\b", path))
+
+
+@dataclasses.dataclass(frozen=True)
+class Edit:
+    """An edit: its name, its file, its lines and the functions that it changes, none where some line of it is in none."""
+
+    name: str
+    path: str
+    lines: str
+    functions: frozenset
 
 
 def function_at(file, text, number):
-    """The function at a line, counted from 0, by its file and its name; None where the line is in none."""
+    """The function at a line, counted from 0; None where the line is in none."""
     lines = text.split("\n")
     for first in range(number, -1, -1):
-        found = FUNCTION.match(lines[first])
-        if found:
-            return file, found[1]
-        if first < number and lines[first].startswith("}"):
-            return None
+        head = HEAD.match(lines[first])
+        if head:
+            end = next(it for it in range(first, len(lines)) if lines[it].rstrip(",;") == head[1] + "}")
+            module = re.fullmatch(r"src/(.*)\.rt", file)[1].replace("/", "::")
+            module = "" if module in ("lib", "main") else module
+            owner, is_of_a_trait = owner_of(lines, first) if head[1] else ("", False)
+            is_plain = not owner or not is_of_a_trait and bool(re.search(rf"\b(?:struct|enum) {owner}\b", text))
+            # A body whose brace stands on a line of its own stands behind clauses.
+            has_clauses = is_of_a_trait or head[1] + "{" in lines[first:end]
+            found = Function(module, owner, is_plain, head[2], "\n".join(lines[first : end + 1]), has_clauses)
+            return found if number <= end else None
     return None
 
 
-def functions_of(made, texts):
-    """The functions that an edit changes."""
-    return {function_at(file, texts[file], texts[file][: texts[file].index(old)].count("\n")) for file, old, _ in made}
+def owner_of(lines, first):
+    """The type or the trait whose method begins at this line, and whether it is a trait's."""
+    head = next(lines[it] for it in range(first, -1, -1) if OWNER.match(lines[it]))
+    of_a_trait = OF_A_TRAIT.match(head)
+    return (of_a_trait or INHERENT.match(head))[1], bool(of_a_trait) or "trait " in head
 
 
-def is_of(path, function):
-    """Whether a file of proofs is of this function: proofs/MODULES/TYPE/NAME/FILE.antt, the type only where it has one."""
-    modules = re.fullmatch(r"src/(?:lib|(.*))\.rt", function[0])[1]
-    parts = path.split("/")[1:-1]
-    above = modules.split("/") if modules else []
-    return parts[: len(above)] == above and function[1] in parts[len(above) :]
-
-
-def edits(folder):
-    """The edits of a crate, with their changes."""
-    if os.path.isdir(f"{folder}/edits"):
-        for file in sorted(os.listdir(f"{folder}/edits")):
-            yield file.removesuffix(".edit"), changes(f"{folder}/edits/{file}")
-
-
-def batches(folder):
-    """The edits parted so that no two of a part change the same function; and those that can't be tried so."""
-    parts, unfit = [], []
-    for name, made in edits(folder):
-        texts = texts_of(folder, made)
-        if changed(texts, made) is None or None in (touched := functions_of(made, texts)):
-            unfit.append(name)
+def functions_of(lines, folder):
+    """The functions that an edit changes; none where it changes something else. A helper may stand in place of a comment."""
+    found, file = set(), None
+    for line in lines.split("\n"):
+        if line.startswith("file: "):
+            file = line[len("file: ") :].strip()
+        elif re.match("old: +//", line):
             continue
-        for part in parts:
-            if not any(touched & other for _, _, other in part):
-                part.append((name, made, touched))
-                break
+        elif line.startswith("old: ") and file.startswith("src/"):
+            text = rt.rtlib.text_of(f"{folder}/{file}")
+            found.add(function_at(file, text, text[: text.find(line[len("old: ") :])].count("\n")))
+        elif line.startswith("old: "):
+            return frozenset()
+    return frozenset() if None in found else frozenset(found)
+
+
+def edits_of(crate):
+    folder = f"{crate.folder}/edits"
+    for name in sorted(os.listdir(folder)) if os.path.isdir(folder) else []:
+        path = f"{folder}/{name}"
+        lines = rt.rtlib.text_of(path)
+        yield Edit(name.removesuffix(".edit"), path, lines, functions_of(lines, crate.folder))
+
+
+def looks_into(one, other):
+    """Whether the proof of one function may look into the other."""
+    return not other.has_clauses and bool(re.search(rf"\b{other.name}\b", one.text))
+
+
+def meet(one, other):
+    """Whether one of two edits may change what is found of the other."""
+    pairs = [(mine, its) for mine in one.functions for its in other.functions]
+    return any(mine == its or looks_into(mine, its) or looks_into(its, mine) for mine, its in pairs)
+
+
+def parts_of(edits):
+    """The edits in parts in which none meets another."""
+    parts = []
+    for edit in edits:
+        part = next((it for it in parts if not any(meet(edit, other) for other in it)), None)
+        if part is None:
+            parts.append([edit])
         else:
-            parts.append([(name, made, touched)])
-    return parts, unfit
+            part.append(edit)
+    return parts
 
 
-def told(folder, part):
-    """The functions at which the prover finds an error with all edits of the part in place, and other places of errors."""
-    made = [change for _, changes_made, _ in part for change in changes_made]
-    touched = set().union(*(functions for _, _, functions in part))
-    before = texts_of(folder, made)
-    write_all(folder, changed(before, made))
-    done = subprocess.run(["rt", "check"], cwd=folder, stdout=subprocess.PIPE, stderr=subprocess.STDOUT, text=True)
-    write_all(folder, before)
-    found, others = set(), set()
-    for file, line in ERROR.findall(done.stdout) if done.returncode == 1 else []:
-        if file.startswith("src/"):
-            text = before[file] if file in before else open(f"{folder}/{file}").read()
-            functions = {function_at(file, text, int(line) - 1)}
-        else:
-            functions = {it for it in touched if is_of(file, it)}
-        found |= functions & touched
-        others |= functions - touched if functions else {file}
-    return found, others
+def together(crate, part):
+    """The texts of the files with all edits of a part in place; each changes lines of its own, and adds none. None where one doesn't fit."""
+    merged = {}
+    for edit in part:
+        texts, why = rt.edited(edit.lines, crate.folder)
+        if why:
+            return None
+        for file, text in texts.items():
+            before = rt.rtlib.text_of(f"{crate.folder}/{file}").split("\n")
+            lines = merged.setdefault(file, list(before))
+            for number, (old, new) in enumerate(zip(before, text.split("\n"))):
+                if new != old:
+                    lines[number] = new
+    return {file: "\n".join(lines) for file, lines in merged.items()}
 
 
-def refused(folder, part):
-    """The names of the edits of a part that the prover refuses; halves are tried where another function is refused too."""
-    found, others = told(folder, part)
-    if len(part) == 1:
-        return [part[0][0]] if found or others else []
-    if others:
+def not_proved(crate, part, kept):
+    """The functions that the prover refuses with all edits of a part in place; None where it doesn't get so far."""
+    texts = together(crate, part)
+    if texts is None:
+        return None
+    asked = sorted({it.asked() for edit in part for it in edit.functions})
+    said = rt.checked(crate, texts, [*JOBS, *[word for it in asked for word in ("--only", it)]], kept).stdout
+    lines = said.rstrip("\n").split("\n")
+    if not lines[-1].startswith("only=") or any(rt.unread(it, texts) for it in lines):
+        return None
+    return re.findall(rf"^fn {crate.name}::(\S+): (?:not proved|no proof)", said, re.M)
+
+
+def refused(crate, part, kept):
+    """The edits of a part of which a function isn't proved; halves are tried where the prover doesn't get so far."""
+    wrong = not_proved(crate, part, kept)
+    if wrong is None and len(part) > 1:
         middle = len(part) // 2
-        return refused(folder, part[:middle]) + refused(folder, part[middle:])
-    return [name for name, _, touched in part if touched & found]
+        return refused(crate, part[:middle], kept) + refused(crate, part[middle:], kept)
+    return [edit for edit in part if any(it.is_named(path) for it in edit.functions for path in wrong or ())]
 
 
-def tried(folder, crate):
-    """Whether each edit of a crate was refused."""
-    parts, unfit = batches(folder)
-    outcomes = {name: False for name in unfit}
-    for part in parts:
-        names = refused(folder, part)
-        outcomes.update((name, name in names) for name, _, _ in part)
-    for name, is_refused in outcomes.items():
-        print(f"{'refused' if is_refused else 'failed'}: {crate}/{name}", flush=True)
-    return list(outcomes.values())
+def tried(crate):
+    """Whether each edit of the crate is refused; what is said of it is printed."""
+    edits = list(edits_of(crate))
+    outcomes = []
+    with tempfile.TemporaryDirectory() as kept, tempfile.TemporaryDirectory() as kept_whole:
+        found = [edit for part in parts_of([it for it in edits if it.functions]) for edit in refused(crate, part, kept)]
+        for edit in edits:
+            if edit in found:
+                outcomes.append((True, f"{crate.name}/{edit.name}: refused"))
+            else:
+                holds, said = rt.must_fail(crate, edit.path, JOBS, kept_whole)
+                outcomes.append((holds, said.replace("must-fail ", "alone: ").replace(".edit", "")))
+    print("\n".join(said for _, said in outcomes), flush=True)
+    return [holds for holds, _ in outcomes]
+
+
+def lanes(crates):
+    """A lane of the kit for each crate: its work in edits, its memory, and the call."""
+
+    def task(crate):
+        return [], len(os.listdir(f"{crate.folder}/edits")), rt.need(crate), lambda given, jobs: tried(crate)
+
+    return {(it.name, "edits"): task(it) for it in crates if os.path.isdir(f"{it.folder}/edits")}
 
 
 def main():
-    outcomes = []
-    with tempfile.TemporaryDirectory() as folder:
-        copy = f"{folder}/copy"
-        shutil.copytree(HOME, copy, symlinks=True, ignore=shutil.ignore_patterns(".git", ".spt"))
-        for crate in sys.argv[1:] or sorted(os.listdir(f"{HOME}/crates")):
-            outcomes += tried(f"{copy}/crates/{crate}", crate)
+    options = argparse.ArgumentParser(description=__doc__, formatter_class=argparse.RawDescriptionHelpFormatter)
+    options.add_argument("--over-gate", action="store_true")
+    options.add_argument("crates", nargs="*")
+    chosen = options.parse_args()
+    os.chdir(HOME)
+    rt.rtlib.guarded()
+    if chosen.over_gate:
+        rt.rtlib.Crate = rt.Crate
+        rt.Crate.cuts_libraries = True
+    crates = [it for it in rt.rtlib.crates_below(HOME) if not chosen.crates or it.name in chosen.crates]
+    for crate in crates:
+        if not chosen.over_gate and any(dep.build_rlib(JOBS, anew=False) for dep in crate.below()):
+            return 1
+    outcomes = [it for found in rt.in_lanes(lanes(crates)).values() for it in found]
     print(f"{sum(outcomes)} passed, {len(outcomes) - sum(outcomes)} failed")
     return 0 if outcomes and all(outcomes) else 1
 

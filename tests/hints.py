@@ -8,7 +8,6 @@ by, which is then done where that program is there; graphs with too many vertice
 is 'N passed, M failed'.
 """
 
-import argparse
 import bz2
 import gzip
 import io
@@ -17,13 +16,10 @@ import os
 import shutil
 import subprocess
 import sys
-import tempfile
 import zipfile
 
 sys.dont_write_bytecode = True
-sys.path.insert(0, os.path.join(os.path.dirname(os.path.dirname(os.path.realpath(__file__))), "bench"))
-import parts  # noqa: E402
-from trees import HOME, Count  # noqa: E402
+from trees import HOME, try_all  # noqa: E402
 
 SECONDS = 60
 GRAPH, SOURCES, TREE = (f"{HOME}/examples/diamond.{ending}" for ending in ("gr", "ss", "tree"))
@@ -147,17 +143,5 @@ def unread(count, program, folder):
         count.of(f"{told[1]} that nobody reads: {done}", (done.returncode, done.stderr) == (6, b""))
 
 
-def main():
-    options = argparse.ArgumentParser(description=__doc__, formatter_class=argparse.RawDescriptionHelpFormatter)
-    options.add_argument("--program", help="this spt, as it is, in place of a build")
-    program = options.parse_args().program or parts.program()
-    count = Count()
-    with tempfile.TemporaryDirectory() as folder:
-        for tried in (forms, reasons, layouts, unread):
-            tried(count, program, folder)
-    print(f"{count.passed} passed, {count.failed} failed")
-    return 1 if count.failed else 0
-
-
 if __name__ == "__main__":
-    sys.exit(main())
+    sys.exit(try_all(__doc__, (forms, reasons, layouts, unread)))

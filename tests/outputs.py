@@ -9,7 +9,6 @@ keeps no later run from its work. Links lead to the file that is replaced; devic
 'N passed, M failed'.
 """
 
-import argparse
 import os
 import resource
 import signal
@@ -18,9 +17,7 @@ import sys
 import tempfile
 
 sys.dont_write_bytecode = True
-sys.path.insert(0, os.path.join(os.path.dirname(os.path.dirname(os.path.realpath(__file__))), "bench"))
-import parts  # noqa: E402
-from trees import HOME, Count  # noqa: E402
+from trees import HOME, try_all  # noqa: E402
 
 SECONDS = 60
 GRAPH, SOURCES, TREE = (f"{HOME}/examples/diamond.{ending}" for ending in ("gr", "ss", "tree"))
@@ -148,17 +145,5 @@ def killed(count, program, folder):
         count.of(f"the run after it: {told}", told == (0, "", "") and os.listdir(inner) == ["out"] and read(path) == read(TREE))
 
 
-def main():
-    options = argparse.ArgumentParser(description=__doc__, formatter_class=argparse.RawDescriptionHelpFormatter)
-    options.add_argument("--program", help="this spt, as it is, in place of a build")
-    program = options.parse_args().program or parts.program()
-    count = Count()
-    with tempfile.TemporaryDirectory() as folder:
-        for tried in (done, undone, unmade, straight, links, killed):
-            tried(count, program, folder)
-    print(f"{count.passed} passed, {count.failed} failed")
-    return 1 if count.failed else 0
-
-
 if __name__ == "__main__":
-    sys.exit(main())
+    sys.exit(try_all(__doc__, (done, undone, unmade, straight, links, killed)))

@@ -6,17 +6,13 @@ Usage: python3 tests/progress.py [--program PROGRAM]
 Files are told by their bytes: each 16 MiB, and at their end. The last line is 'N passed, M failed'.
 """
 
-import argparse
 import os
 import re
 import subprocess
 import sys
-import tempfile
 
 sys.dont_write_bytecode = True
-sys.path.insert(0, os.path.join(os.path.dirname(os.path.dirname(os.path.realpath(__file__))), "bench"))
-import parts  # noqa: E402
-from trees import HOME, Count  # noqa: E402
+from trees import HOME, try_all  # noqa: E402
 
 SECONDS = 60
 GRAPH, SOURCES = (f"{HOME}/examples/diamond.{ending}" for ending in ("gr", "ss"))
@@ -74,17 +70,5 @@ def closed(count, program, folder):
     count.of(f"standard error that is full: {done.returncode}", (done.returncode, done.stdout) == wanted[:2])
 
 
-def main():
-    options = argparse.ArgumentParser(description=__doc__, formatter_class=argparse.RawDescriptionHelpFormatter)
-    options.add_argument("--program", help="this spt, as it is, in place of a build")
-    program = options.parse_args().program or parts.program()
-    count = Count()
-    with tempfile.TemporaryDirectory() as folder:
-        for tried in (small, sources_in_turn, long_file, closed):
-            tried(count, program, folder)
-    print(f"{count.passed} passed, {count.failed} failed")
-    return 1 if count.failed else 0
-
-
 if __name__ == "__main__":
-    sys.exit(main())
+    sys.exit(try_all(__doc__, (small, sources_in_turn, long_file, closed)))

@@ -26,8 +26,11 @@ INSTALLED = [
     "share/zsh/site-functions/_spt",
     "share/fish/vendor_completions.d/spt.fish",
 ]
-# where `rt lib` has made it
+# where it was built here or released from these sources
 LIBRARY = ["include/spt.h", "lib/libspt.a", "lib/libspt.so", "lib/libspt.so.1", "lib/pkgconfig/spt.pc"]
+
+# where the system's plain commands are
+PLAIN = "/usr/bin:/bin"
 
 # what bash offers behind these words
 COMPLETE = """
@@ -71,12 +74,15 @@ def install(count):
     with tempfile.TemporaryDirectory() as folder:
         done = subprocess.run([f"{HOME}/install", f"{folder}/a prefix"], check=True, stdout=subprocess.PIPE, text=True)
         count.of("installed files", all(os.path.isfile(f"{folder}/a prefix/{name}") for name in INSTALLED))
-        words = ["sh", "-c", 'home=$0; . "$home/.ci/program.sh"; library', HOME]
-        built = subprocess.run(words, check=True, stdout=subprocess.PIPE, text=True).stdout.strip()
-        made = shutil.which("rt") is not None and bool(built)
+        words = ["sh", "-c", 'home=$0; . "$home/.ci/program.sh"; library "$(library_sources)"', HOME]
+        made = bool(subprocess.run(words, check=True, stdout=subprocess.PIPE, text=True).stdout.strip())
         found = [os.path.isfile(f"{folder}/a prefix/{name}") for name in LIBRARY]
         count.of("the installed library", found == [made] * len(LIBRARY))
         count.of("whether it is installed is told", ("not installed: the library for C" in done.stdout) != made)
+        # The kit is not needed, once program and library are there.
+        done = subprocess.run(["/bin/sh", f"{HOME}/install", f"{folder}/bare"], env={"PATH": PLAIN}, stdout=subprocess.PIPE, text=True)
+        found = [os.path.isfile(f"{folder}/bare/{name}") for name in INSTALLED + LIBRARY * made]
+        count.of("installed without the kit", done.returncode == 0 and all(found))
         words = [f"{folder}/a prefix/bin/spt", "check", f"{HOME}/examples/diamond.gr", f"{HOME}/examples/diamond.tree"]
         count.of("the installed program", subprocess.run(words, capture_output=True, text=True).stdout == "yes\n")
 

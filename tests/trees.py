@@ -22,6 +22,7 @@ HOME = os.path.dirname(os.path.dirname(os.path.realpath(__file__)))
 sys.dont_write_bytecode = True
 sys.path.insert(0, f"{HOME}/bench")
 import graphs  # noqa: E402
+import parts  # noqa: E402
 
 # the greatest distance of a word with 28 bits of predecessor, as --pred-bits is where it isn't given
 MAX = 2**36 - 2
@@ -105,6 +106,19 @@ class Count:
         self.failed += not holds
         if not holds:
             print(f"failed: {name}")
+
+
+def try_all(description, tests):
+    """Runs tests of the program, each with a count, the program and a folder. The exit status."""
+    options = argparse.ArgumentParser(description=description, formatter_class=argparse.RawDescriptionHelpFormatter)
+    options.add_argument("--program", help="this spt, as it is, in place of a build")
+    program = options.parse_args().program or parts.program()
+    count = Count()
+    with tempfile.TemporaryDirectory() as folder:
+        for tried in tests:
+            tried(count, program, folder)
+    print(f"{count.passed} passed, {count.failed} failed")
+    return 1 if count.failed else 0
 
 
 def run(*words):

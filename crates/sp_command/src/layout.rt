@@ -73,6 +73,8 @@ impl PredBits {
     /// The fewest bits that hold every vertex of a graph of so many, if some do.
     pub fn least_for(vertices: u64) -> Option<PredBits>
         ensures holds { IfSome result (λ bits. vertices ≤ max_pred (bits_in bits)) }
+        ensures fewest { IfSome result (λ bits. (other : PredBits) →
+            bits_in other < bits_in bits → max_pred (bits_in other) < vertices) }
         ensures none { IfNone result (max_pred 32 < vertices) }
     {
         if vertices <= u64::from(Word::<20>::max_pred()) {

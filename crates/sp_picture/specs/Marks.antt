@@ -2,7 +2,11 @@
 use Rattle.std.specs.Prelude.{◌≡◌, ℕ, List, [], ◌∷◌, nat_eq, if◌then◌else◌, Option, Some, None}
 use Rattle.sp_machine.specs.declared.effect.Exchange.{Exchange}
 use Rattle.sp_machine.specs.declared.effect.Exchange.TheVariants.{Won as IsWon, Lost as IsLost}
+use Rattle.sp_machine.specs.declared.effect.Call.{Call}
+use Rattle.sp_machine.specs.declared.effect.Call.TheVariants.{Offer, Read}
+use Rattle.sp_machine.specs.declared.effect.Ended.{Ended}
 use Rattle.sp_machine.specs.Step.{Machine, next_vertex, machine_after}
+use Rattle.sp_word.specs.Word.{Word}
 use Rattle.sp_picture.specs.declared.marks.Mark.{Mark}
 use Rattle.sp_picture.specs.declared.marks.Deed.{Deed}
 use Rattle.sp_picture.specs.declared.marks.Deed.TheVariants.{Rest, Load, Won, Lost}
@@ -24,6 +28,19 @@ deed_by (Some IsLost) vertex = Lost
 -- what a step was
 abbrev pub deed_of : {P : ℕ} → Mark P → Deed
 deed_of mark = deed_by mark.effect.exchange mark.vertex
+
+-- the word that a call offers, if it is an offer
+abbrev pub offered_by : {P : ℕ} → Call P → Option Word
+offered_by (Offer word found reply) = Some word
+offered_by (Read found) = None
+
+abbrev pub offered_at : {P : ℕ} → Deed → Option (Ended P) → Option Word
+offered_at Won (Some ended) = offered_by ended.call
+offered_at deed ended = None
+
+-- the word that a step stored, if it won an exchange
+abbrev pub stored_by : {P : ℕ} → Mark P → Option Word
+stored_by mark = offered_at (deed_of mark) mark.effect.ended
 
 -- it stored to the word of the vertex
 abbrev pub IsStoreTo : {P : ℕ} → (vertex : ℕ) → Mark P → Type 0

@@ -1,8 +1,8 @@
 //! The steps of a run, as a picture shows them.
-ghost use Rattle.std.specs.Prelude.{◌≡◌, All, IfOk, IsTrue, ◌↔◌};
+ghost use Rattle.std.specs.Prelude.{◌≡◌, All, IfOk, IsTrue, is_some, ◌↔◌};
 ghost use Rattle.sp_machine.specs.Programme.{IsNumber};
 ghost use Rattle.sp_machine.specs.Run.{opening_machine};
-ghost use Rattle.sp_picture.specs.Marks.{marks_from};
+ghost use Rattle.sp_picture.specs.Marks.{marks_from, offered_by};
 
 use sp_machine::{Call, Effect, Ended, Exchange, Programme};
 use sp_word::Word;
@@ -33,7 +33,7 @@ pub enum Deed {
 }
 
 impl<const P: u32> Mark<P> {
-    ghost use Rattle.sp_picture.specs.Marks.{deed_of, IsStoreTo};
+    ghost use Rattle.sp_picture.specs.Marks.{deed_of, stored_by, IsStoreTo};
 
     /// What the step was.
     pub fn deed(&self) -> Deed
@@ -48,7 +48,9 @@ impl<const P: u32> Mark<P> {
     }
 
     /// Whether a call acted at the step, and so ended with it.
-    pub fn acts(&self) -> bool {
+    pub fn acts(&self) -> bool
+        ensures { result ≡ is_some self.now.effect.ended }
+    {
         self.effect.ended.is_some()
     }
 
@@ -60,7 +62,9 @@ impl<const P: u32> Mark<P> {
     }
 
     /// The word that it stored, if it won an exchange.
-    pub fn stored(&self) -> Option<Word<P>> {
+    pub fn stored(&self) -> Option<Word<P>>
+        ensures { result ≡ stored_by self.now }
+    {
         if self.deed() != Deed::Won {
             return None;
         }
@@ -72,7 +76,9 @@ impl<const P: u32> Mark<P> {
 }
 
 // The word that the call offered, if it is an offer.
-fn offered<const P: u32>(ended: &Ended<P>) -> Option<Word<P>> {
+fn offered<const P: u32>(ended: &Ended<P>) -> Option<Word<P>>
+    ensures { result ≡ offered_by ended.now.call }
+{
     match ended.call {
         Call::Offer { word, .. } => Some(word),
         Call::Read { .. } => None,
