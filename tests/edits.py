@@ -92,19 +92,24 @@ def owner_of(lines, first):
     return (of_a_trait or INHERENT.match(head))[1], bool(of_a_trait) or "trait " in head
 
 
+def changes(lines, folder):
+    """The file, the number and the new text of each line that an edit changes; None where it doesn't fit. No line is added."""
+    texts, why = rt.edited(lines, folder)
+    if why:
+        return None
+    both = {file: (rt.rtlib.text_of(f"{folder}/{file}").split("\n"), text.split("\n")) for file, text in texts.items()}
+    return [(file, number, new) for file, (before, after) in both.items() for number, new in enumerate(after) if new != before[number]]
+
+
 def functions_of(lines, folder):
     """The functions that an edit changes; none where it changes something else. A helper may stand in place of a comment."""
-    found, file = set(), None
-    for line in lines.split("\n"):
-        if line.startswith("file: "):
-            file = line[len("file: ") :].strip()
-        elif re.match("old: +//", line):
-            continue
-        elif line.startswith("old: ") and file.startswith("src/"):
-            text = rt.rtlib.text_of(f"{folder}/{file}")
-            found.add(function_at(file, text, text[: text.find(line[len("old: ") :])].count("\n")))
-        elif line.startswith("old: "):
+    found = set()
+    for file, number, _ in changes(lines, folder) or ():
+        text = rt.rtlib.text_of(f"{folder}/{file}")
+        if not file.startswith("src/"):
             return frozenset()
+        if not text.split("\n")[number].lstrip().startswith("//"):
+            found.add(function_at(file, text, number))
     return frozenset() if None in found else frozenset(found)
 
 
@@ -140,26 +145,17 @@ def parts_of(edits):
 
 
 def together(crate, part):
-    """The texts of the files with all edits of a part in place; each changes lines of its own, and adds none. None where one doesn't fit."""
+    """The texts of the files with all edits of a part in place."""
     merged = {}
     for edit in part:
-        texts, why = rt.edited(edit.lines, crate.folder)
-        if why:
-            return None
-        for file, text in texts.items():
-            before = rt.rtlib.text_of(f"{crate.folder}/{file}").split("\n")
-            lines = merged.setdefault(file, list(before))
-            for number, (old, new) in enumerate(zip(before, text.split("\n"))):
-                if new != old:
-                    lines[number] = new
+        for file, number, new in changes(edit.lines, crate.folder):
+            merged.setdefault(file, rt.rtlib.text_of(f"{crate.folder}/{file}").split("\n"))[number] = new
     return {file: "\n".join(lines) for file, lines in merged.items()}
 
 
 def not_proved(crate, part, kept):
     """The functions that the prover refuses with all edits of a part in place; None where it doesn't get so far."""
     texts = together(crate, part)
-    if texts is None:
-        return None
     asked = sorted({it.asked() for edit in part for it in edit.functions})
     said = rt.checked(crate, texts, [*JOBS, *[word for it in asked for word in ("--only", it)]], kept).stdout
     lines = said.rstrip("\n").split("\n")
