@@ -128,5 +128,10 @@ fn more_long_arcs(rt: HostRuntime) -> Result<(), Fail> {
 
 #[test]
 fn sums_that_overflow(rt: HostRuntime) -> Result<(), Fail> {
-    compare::<32>(&rt, 9, 250, u32::MAX)
+    compare::<32>(&rt, 9, 125, u32::MAX)
+}
+
+#[test]
+fn more_sums_that_overflow(rt: HostRuntime) -> Result<(), Fail> {
+    compare::<32>(&rt, 10, 125, u32::MAX)
 }
