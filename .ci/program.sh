@@ -33,25 +33,22 @@ digest() (
 sources() { digest spt; }
 library_sources() { digest spt_c; }
 
-# program SOURCES: the program that was built from these sources, nothing where there is none
-program() {
-    for folder in "$made" "$release"; do
-        if [ -x "$folder/spt" ] && [ "$1" = "$(cat "$folder/sources" 2> /dev/null)" ]; then
-            echo "$folder/spt"
-            return
-        fi
-    done
-}
-
-# library SOURCES: the folder that holds the library for C of these sources, nothing where there is none
-library() {
-    for folder in "$made/library" "$release/library"; do
-        if [ -f "$folder/libspt.so" ] && [ "$1" = "$(cat "$folder/sources" 2> /dev/null)" ]; then
+# built_from SOURCES FILE FOLDER..: the first folder whose file was built from these sources, nothing where there is none
+built_from() (
+    sources=$1
+    file=$2
+    shift 2
+    for folder in "$@"; do
+        if [ -x "$folder/$file" ] && [ "$sources" = "$(cat "$folder/sources" 2> /dev/null)" ]; then
             echo "$folder"
-            return
+            break
         fi
     done
-}
+)
+
+# program SOURCES: the program of these sources; library SOURCES: the folder with the library for C of these; else nothing
+program() { built_from "$1" spt "$made" "$release" | sed 's|$|/spt|'; }
+library() { built_from "$1" libspt.so "$made/library" "$release/library"; }
 
 # Keeps the program that was just built in crates/spt, from the sources that the argument names.
 keep() {
