@@ -1,4 +1,6 @@
 //! What a command is, and several of them as one.
+ghost use Rattle.sp_command.specs.Either.{either_of};
+
 use crate::faults::{Fault, FileKind, Status};
 use crate::inputs::Inputs;
 use crate::layout::{PredBits, Run};
@@ -125,6 +127,8 @@ impl<'a, A: Commands<'a>, B: Commands<'a>> Commands<'a> for OneOf<A, B> {
 }
 
 impl<A: Run<P>, B: Run<P>, const P: u32> Run<P> for OneOf<A, B> {
+    ghost answers = { either_of A.answers B.answers };
+
     fn run<R: Threads + Wait + Sync, F: Inputs, W: Write>(
         &self,
         rt: &R,

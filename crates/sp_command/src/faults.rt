@@ -1,6 +1,7 @@
 //! What keeps a command from being done: its line on standard error, and its exit status.
-ghost use Rattle.std.specs.Prelude.{◌≡◌, ◌≤◌, ◌⊎◌, false, IfErr, codes};
+ghost use Rattle.std.specs.Prelude.{◌≡◌, ◌≤◌, ◌⊎◌, false, IfOk, IfErr, codes};
 ghost use Rattle.sp_command.specs.Faults.{code_of, is_done, status_of};
+ghost use Rattle.sp_command.specs.Scene.{IsOpened};
 ghost use Rattle.sp_command.specs.declared.faults.Fault.TheVariants.{CannotOpen, Input, InputTwice, Memory, WriteFailed};
 
 use crate::inputs::Inputs;
@@ -53,7 +54,9 @@ pub enum FileKind {
 impl FileKind {
     /// Opens the file at its beginning.
     pub fn open<F: Inputs>(self, files: &F, path: &str) -> Result<F::File, Fault>
-        ensures { IfErr result (λ fault. fault ≡ CannotOpen self) }
+        ensures opened { IfOk result
+            (λ file. IsOpened (F.text files.now path.now) (F.File.left file)) }
+        ensures untold { IfErr result (λ fault. fault ≡ CannotOpen self) }
     {
         match files.open_input(path) {
             Some(file) => Ok(file),
@@ -68,6 +71,10 @@ impl FileKind {
         graph: &str,
         path: &str,
     ) -> Result<(F::File, F::File), Fault>
+        ensures graph { IfOk result
+            (λ both. IsOpened (F.text files.now graph.now) (F.File.left both.0)) }
+        ensures file { IfOk result
+            (λ both. IsOpened (F.text files.now path.now) (F.File.left both.1)) }
         ensures twice { graph.now ≡ codes "-" → path.now ≡ codes "-" → result ≡ Err InputTwice }
         ensures once { IfErr result
             (λ fault. fault ≡ InputTwice → (graph.now ≡ codes "-") × (path.now ≡ codes "-")) }

@@ -1,4 +1,7 @@
 //! Where the files of a command line come from, and where it tells how far it is.
+ghost use Rattle.std.specs.Prelude.{ℕ, List, Option, None, IfSome};
+ghost use Rattle.sp_command.specs.Scene.{IsOpened};
+
 use crate::hints::Form;
 use sp_device::Read;
 use std::fmt::Display;
@@ -9,9 +12,13 @@ pub trait Inputs {
     /// An opened file.
     type File: Read + Drop;
 
+    /// The text of the file of a path, where it is known: no contract can tell what a file of the system holds.
+    ghost text: { Self → List ℕ → Option (List ℕ) } = { λ _ _. None };
+
     /// Opens a file at its beginning, or answers `None` where it cannot be opened. The path `-` is standard input, which
     /// begins where it stands.
-    fn open_input(&self, path: &str) -> Option<Self::File>;
+    fn open_input(&self, path: &str) -> Option<Self::File>
+        ensures { IfSome result (λ file. IsOpened (text self.now path.now) (Self.File.left file)) };
 
     /// Tells the user how far a command is, in a line. Where it can't be told nothing else changes.
     fn tell<D: Display>(&self, _progress: &D) {}

@@ -3,6 +3,7 @@ ghost use denote.Param.Send.{IsSync};
 ghost use Rattle.std.specs.Prelude.{◌≡◌, ◌<◌, ◌≤◌, true, IfNone, IfOk, IfErr, IfSome};
 ghost use Rattle.sp_word.specs.Word.{is_layout, max_pred};
 ghost use Rattle.sp_command.specs.Faults.{code_of, is_done, status_of};
+ghost use Rattle.sp_command.specs.Scene.{Meaning, scene};
 ghost use Rattle.sp_command.specs.Words.{ReadsSpelling, bits_in};
 
 use crate::faults::{Fault, Status};
@@ -104,6 +105,9 @@ impl fmt::Display for PredBits {
 
 /// What runs in words with `P` bits of predecessor.
 pub trait Run<const P: u32> {
+    /// What its answer says of the texts of its files and of what is written then.
+    ghost answers: { Meaning Self };
+
     /// Runs it. Its output goes to `out`.
     fn run<R: Threads + Wait + Sync, F: Inputs, W: Write>(
         &self,
@@ -113,6 +117,8 @@ pub trait Run<const P: u32> {
         out: &mut W,
     ) -> Result<Status, Fault>
         requires { (is_layout P ≡ true) × IsSync R.row }
+        ensures answered { answers self.now
+            (scene (F.text files.now) (W.written out.old) (W.written out.new)) result }
         ensures done { IfOk result (λ status. is_done status ≡ true) }
         ensures unwritten { IfErr result
             (λ fault. code_of (status_of fault) ≤ 2 → out.new ≡ out.old) };
@@ -129,6 +135,14 @@ pub fn run_in<C, R: Threads + Wait + Sync, F: Inputs, W: Write>(
 ) -> Result<Status, Fault>
 where
     C: Run<20> + Run<24> + Run<28> + Run<32>,
+    ensures with_20 { pred_bits ≡ PredBits.Bits20 → ⟦<C as Run<20>>⟧.answers command.now
+        (scene (F.text files.now) (W.written out.old) (W.written out.new)) result }
+    ensures with_24 { pred_bits ≡ PredBits.Bits24 → ⟦<C as Run<24>>⟧.answers command.now
+        (scene (F.text files.now) (W.written out.old) (W.written out.new)) result }
+    ensures with_28 { pred_bits ≡ PredBits.Bits28 → ⟦<C as Run<28>>⟧.answers command.now
+        (scene (F.text files.now) (W.written out.old) (W.written out.new)) result }
+    ensures with_32 { pred_bits ≡ PredBits.Bits32 → ⟦<C as Run<32>>⟧.answers command.now
+        (scene (F.text files.now) (W.written out.old) (W.written out.new)) result }
     ensures done { IfOk result (λ status. is_done status ≡ true) }
     ensures unwritten { IfErr result (λ fault. code_of (status_of fault) ≤ 2 → out.new ≡ out.old) }
 {
