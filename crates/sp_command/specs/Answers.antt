@@ -23,9 +23,9 @@ Told {V} IsFound text_of status_of s status = (v : V) × IsFound v × Appends s.
 
 -- The writer failed, and a beginning of the text of something that was found stands.
 abbrev pub Broke : {V : Type 0} → (IsFound : V → Type 0) → (text_of : V → List ℕ) → Scene → Fault → Type 0
-Broke {V} IsFound text_of s fault = (fault ≡ fault.WriteFailed) × ((v : V) × IsFound v × IsBegun (text_of v) s.before s.after)
+Broke {V} IsFound text_of s why = (why ≡ fault.WriteFailed) × ((v : V) × IsFound v × IsBegun (text_of v) s.before s.after)
 
 -- What was found is told; or something kept the command from finding it, and nothing was written; or the writer failed.
 abbrev pub Tells : {V : Type 0} → (IsFound : V → Type 0) → (text_of : V → List ℕ) → (status_of : V → Status) → (IsRefused : FileKind → DimacsError → Type 0) → Scene → Result Status Fault → Type 0
 Tells IsFound text_of status_of IsRefused s (Ok status) = Told IsFound text_of status_of s status
-Tells IsFound text_of status_of IsRefused s (Err fault) = (Hinders IsRefused fault × IsUnwritten s) ⊎ Broke IsFound text_of s fault
+Tells IsFound text_of status_of IsRefused s (Err why) = (Hinders IsRefused why × IsUnwritten s) ⊎ Broke IsFound text_of s why
