@@ -1,2 +1,4 @@
 pub mod Judging
 pub mod VerdictTexts
+pub mod SameVerdicts
+pub mod Texts

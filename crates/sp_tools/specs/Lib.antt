@@ -1,2 +1,5 @@
 pub mod Verdict
 pub mod Verdicts
+pub mod Reading
+pub mod CheckAnswers
+pub mod ReplayAnswers

@@ -3,16 +3,19 @@ ghost use Rattle.std.specs.Prelude.{◌≡◌, ◌≢◌, ℕ, List, ◌++◌, t
 ghost use Rattle.sp_word.specs.Word.{is_layout};
 ghost use Rattle.sp_device.specs.Printing.{IsSending, Finished};
 ghost use Rattle.sp_command.specs.Faults.{is_done};
+ghost use Rattle.sp_command.specs.Scene.{scene};
+ghost use Rattle.sp_command.specs.Answers.{Hinders};
 ghost use Rattle.sp_tools.specs.Verdict.{IsVerdict, verdict_text, verdict_end};
+ghost use Rattle.sp_tools.specs.CheckAnswers.{TreeJudged, IsTreeRefused, TellsVerdict, GiveTexts, CheckAnswers};
 
 use crate::check_all::check_all_files;
+use crate::graphs::read_graph;
 use clap::{Arg, ArgAction, ArgMatches, Error};
 use sp_cert::{CheckError, Rule};
 use sp_command::{
     Command, Fault, FileKind, GRAPH_FILE, Inputs, Run, Status, Words, after_help, file,
 };
 use sp_device::{Printer, Write, WriteFault, finish, print_number, print_text};
-use sp_dimacs::read_gr;
 use sp_graph::Graph;
 use sp_tree::{Tree, read_tree};
 use std::alloc::{AllocError, Global};
@@ -22,10 +25,12 @@ use std::thread::Threads;
 /// What `check` is given, with the names of its files.
 #[derive(Drop)]
 pub struct Check<'a> {
-    graph: &'a str,
-    tree: &'a str,
+    /// The path of the graph.
+    pub graph: &'a str,
+    /// The path of the tree.
+    pub tree: &'a str,
     /// Whether the file has one block or more, each of which is checked.
-    all: bool,
+    pub all: bool,
 }
 
 impl<'a> Command<'a> for Check<'a> {
@@ -112,6 +117,8 @@ kinds are those of `spt tree --help`. In a tree file
 }
 
 impl<const P: u32> Run<P> for Check<'_> {
+    ghost answers = { CheckAnswers P };
+
     fn run<R: Threads + Wait + Sync, F: Inputs, W: Write>(
         &self,
         rt: &R,
@@ -120,15 +127,15 @@ impl<const P: u32> Run<P> for Check<'_> {
         out: &mut W,
     ) -> Result<Status, Fault> {
         if self.all {
-            check_all_files::<P, R, F, W>(rt, alloc, self.graph, self.tree, files, out)
+            check_all_files::<P, R, F, W>(rt, alloc, self, files, out)
         } else {
-            check_files::<P, R, F, W>(rt, alloc, self, files, out)
+            check_file::<P, R, F, W>(rt, alloc, self, files, out)
         }
     }
 }
 
 // Checks the tree against the graph, and writes the verdict.
-fn check_files<const P: u32, R: Threads + Sync, F: Inputs, W: Write>(
+fn check_file<const P: u32, R: Threads + Sync, F: Inputs, W: Write>(
     rt: &R,
     alloc: Global,
     given: &Check<'_>,
@@ -136,22 +143,38 @@ fn check_files<const P: u32, R: Threads + Sync, F: Inputs, W: Write>(
     out: &mut W,
 ) -> Result<Status, Fault>
     requires layout { is_layout P ≡ true }
+    ensures answered { (gr tree : List ℕ) → GiveTexts (F.text files.now) given.now gr tree
+        → TellsVerdict P gr tree
+            (scene (F.text files.now) (W.written out.old) (W.written out.new)) result }
     ensures done { IfOk result (λ status. is_done status ≡ true) }
     ensures unwritten { IfErr result (λ fault. fault ≢ Fault.WriteFailed → out.new ≡ out.old) }
 {
+    let verdict = find_verdict::<P, R, F>(rt, alloc, given, files)?;
+    write_verdict(verdict, out)?;
+    Ok(verdict.status())
+}
+
+// What the checker says of the tree in a file, against the graph in another.
+fn find_verdict<const P: u32, R: Threads + Sync, F: Inputs>(
+    rt: &R,
+    alloc: Global,
+    given: &Check<'_>,
+    files: &F,
+) -> Result<Verdict, Fault>
+    requires { is_layout P ≡ true }
+    ensures judged { (gr tree : List ℕ) → GiveTexts (F.text files.now) given.now gr tree
+        → IfOk result (TreeJudged P gr tree) }
+    ensures refused { (gr tree : List ℕ) → GiveTexts (F.text files.now) given.now gr tree
+        → IfErr result (Hinders (IsTreeRefused P gr tree)) }
+    ensures unwritten { IfErr result (λ fault. fault ≢ Fault.WriteFailed) }
+{
     let (mut gr, mut tree) = FileKind::Tree.open_with_graph(files, given.graph, given.tree)?;
-    let file = match read_gr::<P, _>(alloc, &mut gr) {
-        Ok(file) => file,
-        Err(error) => return Err(FileKind::Graph.fault(error)),
-    };
+    let graph = read_graph::<P, _>(alloc, &mut gr)?;
     let tree = match read_tree::<P, _>(alloc, &mut tree) {
         Ok(tree) => tree,
         Err(error) => return Err(FileKind::Tree.fault(error)),
     };
-    let graph = Graph::from_arcs(alloc, file.n, file.arcs)?;
-    let verdict = judge(rt, alloc, &graph, &tree)?;
-    write_verdict(verdict, out)?;
-    Ok(verdict.status())
+    Ok(judge(rt, alloc, &graph, &tree)?)
 }
 
 /// What the checker says.

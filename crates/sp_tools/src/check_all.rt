@@ -4,13 +4,16 @@ ghost use Rattle.std.specs.List.{flat_map};
 ghost use Rattle.sp_word.specs.Word.{is_layout};
 ghost use Rattle.sp_device.specs.Printing.{Sends, Finished};
 ghost use Rattle.sp_command.specs.Faults.{is_done};
+ghost use Rattle.sp_command.specs.Scene.{scene};
+ghost use Rattle.sp_command.specs.Answers.{Hinders};
 ghost use Rattle.sp_tools.specs.Verdicts.{FileJudged, TellsFault, judged_text, end_of};
+ghost use Rattle.sp_tools.specs.CheckAnswers.{TreesJudged, AreTreesRefused, TellsVerdicts, GiveTexts};
 
-use crate::check::{Verdict, judge};
+use crate::check::{Check, Verdict, judge};
+use crate::graphs::read_graph;
 use sp_blocks::TreeBlocks;
 use sp_command::{Fault, FileKind, Inputs, Status};
 use sp_device::{Printer, Read, Write, WriteFault, finish, print_number, print_text};
-use sp_dimacs::read_gr;
 use sp_graph::Graph;
 use std::alloc::Global;
 use std::thread::Threads;
@@ -26,24 +29,39 @@ pub struct Judged {
 pub fn check_all_files<const P: u32, R: Threads + Sync, F: Inputs, W: Write>(
     rt: &R,
     alloc: Global,
-    graph: &str,
-    trees: &str,
+    given: &Check<'_>,
     files: &F,
     out: &mut W,
 ) -> Result<Status, Fault>
     requires layout { is_layout P ≡ true }
+    ensures answered { (gr tree : List ℕ) → GiveTexts (F.text files.now) given.now gr tree
+        → TellsVerdicts P gr tree
+            (scene (F.text files.now) (W.written out.old) (W.written out.new)) result }
     ensures done { IfOk result (λ status. is_done status ≡ true) }
     ensures unwritten { IfErr result (λ fault. fault ≢ Fault.WriteFailed → out.new ≡ out.old) }
 {
-    let (mut gr, mut trees) = FileKind::Tree.open_with_graph(files, graph, trees)?;
-    let file = match read_gr::<P, _>(alloc, &mut gr) {
-        Ok(file) => file,
-        Err(error) => return Err(FileKind::Graph.fault(error)),
-    };
-    let graph = Graph::from_arcs(alloc, file.n, file.arcs)?;
-    let all = judge_blocks::<P, R, _>(rt, alloc, &graph, &mut trees)?;
+    let all = find_verdicts::<P, R, F>(rt, alloc, given, files)?;
     write_verdicts(&all, out)?;
     Ok(status_of(&all))
+}
+
+// What the checker says of each block of a file, against the graph in another.
+fn find_verdicts<const P: u32, R: Threads + Sync, F: Inputs>(
+    rt: &R,
+    alloc: Global,
+    given: &Check<'_>,
+    files: &F,
+) -> Result<Vec<Judged>, Fault>
+    requires { is_layout P ≡ true }
+    ensures judged { (gr tree : List ℕ) → GiveTexts (F.text files.now) given.now gr tree
+        → IfOk result (λ all. TreesJudged P gr tree all.items) }
+    ensures refused { (gr tree : List ℕ) → GiveTexts (F.text files.now) given.now gr tree
+        → IfErr result (Hinders (AreTreesRefused P gr tree)) }
+    ensures unwritten { IfErr result (λ fault. fault ≢ Fault.WriteFailed) }
+{
+    let (mut gr, mut trees) = FileKind::Tree.open_with_graph(files, given.graph, given.tree)?;
+    let graph = read_graph::<P, _>(alloc, &mut gr)?;
+    judge_blocks::<P, R, _>(rt, alloc, &graph, &mut trees)
 }
 
 // What the checker says of each block of a tree file.

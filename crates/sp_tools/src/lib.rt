@@ -4,6 +4,7 @@
 mod actors;
 mod check;
 mod check_all;
+mod graphs;
 mod offers;
 mod replay;
 

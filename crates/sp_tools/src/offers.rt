@@ -84,6 +84,8 @@ A fault is told with its line, as in `spt: offers: line 2: 5 OutOfRange A`:
 }
 
 impl<const P: u32> Run<P> for Offers<'_> {
+    ghost answers = { λ _ _ _. Unit {0} };
+
     fn run<R: Threads + Wait + Sync, F: Inputs, W: Write>(
         &self,
         rt: &R,

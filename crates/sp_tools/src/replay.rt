@@ -1,14 +1,18 @@
 //! `spt replay`: the run of a replay file, and its report or its picture.
-ghost use Rattle.std.specs.Prelude.{◌≡◌, ◌≢◌, ◌<◌, ◌↔◌, true, length, All, IfOk, IfErr, IsErrOf};
+ghost use Rattle.std.specs.Prelude.{◌≡◌, ◌≢◌, ◌<◌, ◌≤◌, ◌⊎◌, ◌↔◌, ℕ, List, Some, true, length, All, IfOk, IfErr};
 ghost use Rattle.sp_word.specs.Word.{is_layout};
-ghost use Rattle.sp_command.specs.declared.faults.Fault.TheVariants.{TooManySteps, WriteFailed};
+ghost use Rattle.sp_command.specs.declared.faults.Fault.TheVariants.{Memory, TooManySteps, WriteFailed};
 ghost use Rattle.sp_command.specs.declared.faults.Status.TheVariants.{Done};
+ghost use Rattle.sp_command.specs.Scene.{scene};
+ghost use Rattle.sp_command.specs.Answers.{Hinders};
 ghost use Rattle.sp_machine.specs.Programme.{IsNumber};
+ghost use Rattle.sp_tools.specs.Reading.{SpellsReplay};
+ghost use Rattle.sp_tools.specs.ReplayAnswers.{IsReplayRefused, IsPictureOf, TellsReport, TellsPicture, ReplayAnswers};
 
 use clap::{Arg, ArgAction, ArgMatches, Error};
 use sp_command::{Command, Fault, FileKind, Inputs, Run, Status, Words, after_help, file};
 use sp_device::Write;
-use sp_picture::{NoPicture, picture_of, write_picture};
+use sp_picture::{NoPicture, Picture, picture_of, write_picture};
 use sp_replay::{ReplayFile, read_replay, write_report};
 use std::alloc::Global;
 use std::sync::Wait;
@@ -17,8 +21,10 @@ use std::thread::Threads;
 /// What `replay` is given: the name of its file, and whether a picture is to be written in place of the report.
 #[derive(Drop)]
 pub struct Replay<'a> {
-    file: &'a str,
-    svg: bool,
+    /// The path of the file.
+    pub file: &'a str,
+    /// Whether a picture is to be written.
+    pub svg: bool,
 }
 
 impl<'a> Command<'a> for Replay<'a> {
@@ -123,6 +129,8 @@ fn svg<'a>(alloc: Global) -> Arg<'a> {
 }
 
 impl<const P: u32> Run<P> for Replay<'_> {
+    ghost answers = { ReplayAnswers P };
+
     fn run<R: Threads + Wait + Sync, F: Inputs, W: Write>(
         &self,
         _rt: &R,
@@ -130,13 +138,11 @@ impl<const P: u32> Run<P> for Replay<'_> {
         files: &F,
         out: &mut W,
     ) -> Result<Status, Fault> {
-        let file = read_file::<P, F>(alloc, self.file, files)?;
         if self.svg {
-            draw(alloc, &file, out)?;
+            draw::<P, F, W>(alloc, self.file, files, out)
         } else {
-            report(alloc, &file, out)?;
+            report::<P, F, W>(alloc, self.file, files, out)
         }
-        Ok(Status::Done)
     }
 }
 
@@ -147,6 +153,10 @@ fn read_file<const P: u32, F: Inputs>(
     files: &F,
 ) -> Result<ReplayFile<P>, Fault>
     requires { is_layout P ≡ true }
+    ensures spelled { (text : List ℕ) → F.text files.now path.now ≡ Some text
+        → IfOk result (SpellsReplay text) }
+    ensures refused { (text : List ℕ) → F.text files.now path.now ≡ Some text
+        → IfErr result (Hinders (IsReplayRefused P text)) }
     ensures steps { IfOk result (λ file. All (IsNumber file.programme.actors) file.steps.items) }
     ensures unwritten { IfErr result (λ fault. fault ≢ WriteFailed) }
 {
@@ -158,22 +168,29 @@ fn read_file<const P: u32, F: Inputs>(
 }
 
 // Runs the steps of the file, and writes the report.
-fn report<const P: u32, W: Write>(
+fn report<const P: u32, F: Inputs, W: Write>(
     alloc: Global,
-    file: &ReplayFile<P>,
+    path: &str,
+    files: &F,
     out: &mut W,
-) -> Result<(), Fault>
-    requires { All (IsNumber file.now.programme.actors) file.now.steps.items }
-    ensures { IfErr result (λ fault. fault ≢ WriteFailed → out.new ≡ out.old) }
+) -> Result<Status, Fault>
+    requires layout { is_layout P ≡ true }
+    ensures answered { (text : List ℕ) → F.text files.now path.now ≡ Some text
+        → TellsReport P text
+            (scene (F.text files.now) (W.written out.old) (W.written out.new)) result }
+    ensures done { IfOk result (λ status. status ≡ Done) }
+    ensures unwritten { IfErr result (λ fault. fault ≢ WriteFailed → out.new ≡ out.old) }
 {
+    let file = read_file::<P, F>(alloc, path, files)?;
     let report = sp_machine::replay::<P>(alloc, &file.programme, &file.steps)?;
     write_report::<P, W>(&report, out)?;
-    Ok(())
+    Ok(Status::Done)
 }
 
 // The fault of a command that has no picture of its run.
 fn fault_of(error: NoPicture) -> Fault
     ensures steps { (result ≡ TooManySteps) ↔ (error ≡ NoPicture.TooManySteps) }
+    ensures memory { (result ≡ Memory) ↔ (error ≡ NoPicture.Memory) }
     ensures unwritten { result ≢ WriteFailed }
 {
     match error {
@@ -182,20 +199,36 @@ fn fault_of(error: NoPicture) -> Fault
     }
 }
 
-// Runs the steps of the file, and writes the picture.
-fn draw<const P: u32, W: Write>(
-    alloc: Global,
-    file: &ReplayFile<P>,
-    out: &mut W,
-) -> Result<(), Fault>
+// The picture of the run of the steps of a file.
+fn picture_in<const P: u32>(alloc: Global, file: &ReplayFile<P>) -> Result<Picture<P>, Fault>
     requires { All (IsNumber file.now.programme.actors) file.now.steps.items }
-    ensures many { IsErrOf result TooManySteps ↔ (60 < length file.now.steps.items) }
+    ensures picture { IfOk result (IsPictureOf file.now.programme file.now.steps.items) }
+    ensures few { IfOk result (λ _. length file.now.steps.items ≤ 60) }
+    ensures many { IfErr result (λ fault. (fault ≡ Memory)
+        ⊎ ((fault ≡ TooManySteps) × (60 < length file.now.steps.items))) }
+{
+    match picture_of::<P>(alloc, &file.programme, &file.steps) {
+        Ok(picture) => Ok(picture),
+        Err(error) => Err(fault_of(error)),
+    }
+}
+
+// Runs the steps of the file, and writes the picture.
+fn draw<const P: u32, F: Inputs, W: Write>(
+    alloc: Global,
+    path: &str,
+    files: &F,
+    out: &mut W,
+) -> Result<Status, Fault>
+    requires layout { is_layout P ≡ true }
+    ensures answered { (text : List ℕ) → F.text files.now path.now ≡ Some text
+        → TellsPicture P text
+            (scene (F.text files.now) (W.written out.old) (W.written out.new)) result }
+    ensures done { IfOk result (λ status. status ≡ Done) }
     ensures unwritten { IfErr result (λ fault. fault ≢ WriteFailed → out.new ≡ out.old) }
 {
-    let picture = match picture_of::<P>(alloc, &file.programme, &file.steps) {
-        Ok(picture) => picture,
-        Err(error) => return Err(fault_of(error)),
-    };
+    let file = read_file::<P, F>(alloc, path, files)?;
+    let picture = picture_in::<P>(alloc, &file)?;
     write_picture::<P, W>(&picture, out)?;
-    Ok(())
+    Ok(Status::Done)
 }

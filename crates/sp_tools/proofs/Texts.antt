@@ -1,0 +1,84 @@
+-- From the texts of files to what is said of them.
+use Rattle.std.proofs.Common.{◌≡◌, ℕ, ◌<◌, Bool, List, length, Option, Result, Ok, Err, refl, inl, inr}
+use Rattle.std.specs.Prelude.{◌⊎◌, IfOk, IfErr}
+use Rattle.sp_text.specs.Text.{items_of}
+use Rattle.sp_text.specs.Lines.{lines}
+use Rattle.sp_text.specs.declared.faults.DimacsError.{DimacsError}
+use Rattle.sp_paths.specs.Paths.{Graph}
+use Rattle.sp_dimacs.specs.declared.graphs.GrFile.{GrFile}
+use Rattle.sp_dimacs.specs.Formats.{gr}
+use Rattle.sp_dimacs.specs.Graph.{SpellsGraph, GraphRead, graph_of}
+use Rattle.sp_tree.specs.Table.{TreeTable, IsTable}
+use Rattle.sp_tree.specs.Reading.{TreeRead}
+use Rattle.sp_replay.specs.declared.replays.ReplayFile.{ReplayFile}
+use Rattle.sp_replay.specs.ReplayFormat.{replay}
+use Rattle.sp_replay.specs.ReplayFile.{ReplayRead}
+use Rattle.sp_command.specs.declared.faults.Fault.{Fault}
+use Rattle.sp_command.specs.declared.faults.Fault.TheVariants as fault
+use Rattle.sp_command.specs.declared.faults.FileKind.TheVariants as kind
+use Rattle.sp_command.specs.Scene.{Scene, IsUnwritten}
+use Rattle.sp_command.specs.Answers.{Hinders}
+use Rattle.sp_tools.specs.declared.check.Verdict.{Verdict}
+use Rattle.sp_tools.specs.declared.check_all.Judged.{Judged}
+use Rattle.sp_tools.specs.Verdict.{IsVerdict}
+use Rattle.sp_tools.specs.Verdicts.{FileJudged, TellsFault}
+use Rattle.sp_tools.specs.Reading.{IsGraphIn, SpellsReplay}
+use Rattle.sp_tools.specs.CheckAnswers.{TreeJudged, TreesJudged, AreTreesRefused}
+use Rattle.sp_tools.specs.ReplayAnswers.{TellsPicture}
+use Rattle.sp_tools.proofs.SameVerdicts.{same_verdict, same_file}
+
+-- What was read to its end is spelled.
+pub graph_spelled : (P : ℕ) (text : List ℕ) (left : Option (List ℕ)) (failed : Bool) (file : GrFile) → GraphRead P text left failed (Ok file) → SpellsGraph P text file
+graph_spelled P text left failed file (_, clean, (ps, found, is)) = (ps, items_of gr (lines text), record { faultless = clean; problem_line = found; item_lines = refl }, is)
+
+pub replay_spelled : {P : ℕ} (text : List ℕ) (left : Option (List ℕ)) (failed : Bool) (file : ReplayFile P) → ReplayRead text left failed (Ok file) → SpellsReplay text file
+replay_spelled text left failed file (_, clean, (ps, found, is)) = (ps, items_of replay (lines text), record { faultless = clean; problem_line = found; item_lines = refl }, is)
+
+-- What is said of a tree against the rows of a graph is said of it against the graph.
+pub tree_judged : (P : ℕ) (gr_text text : List ℕ) (g : Graph) (left : Option (List ℕ)) (failed : Bool) (tree : TreeTable) (verdict : Verdict)
+    → IsGraphIn P gr_text g → TreeRead P text left failed (Ok tree) → IsTable P tree → IsVerdict P g tree verdict → TreeJudged P gr_text text verdict
+tree_judged P gr_text text g left failed tree verdict (file, spelled, same) (_, block) within says = record {
+  file = file;
+  graph = spelled;
+  table = tree;
+  within = within;
+  block = block;
+  says = same_verdict P g (graph_of file) same tree verdict says;
+}
+
+pub trees_judged : (P : ℕ) (gr_text text : List ℕ) (g : Graph) (all : List Judged) → IsGraphIn P gr_text g → FileJudged P g text all → TreesJudged P gr_text text all
+trees_judged P gr_text text g all (file, spelled, same) says = record { file = file; graph = spelled; says = same_file P g (graph_of file) same text all says }
+
+-- What holds of what was found, or of a fault, is weakened.
+pub ok_as : {A B : Type 0} (Before After : A → Type 0) (result : Result A B) → ((a : A) → Before a → After a) → IfOk result Before → IfOk result After
+ok_as Before After (Ok a) more is = more a is
+ok_as Before After (Err e) more is = tt
+
+pub err_as : {A B : Type 0} (Before After : B → Type 0) (result : Result A B) → ((b : B) → Before b → After b) → IfErr result Before → IfErr result After
+err_as Before After (Ok a) more is = tt
+err_as Before After (Err e) more is = more e is
+
+-- A fault of the trees keeps their verdicts from being found.
+pub trees_refused : (P : ℕ) (gr_text text : List ℕ) (g : Graph) (failed : Bool) → IsGraphIn P gr_text g → (why : Fault) → TellsFault P text failed why → Hinders (AreTreesRefused P gr_text text) why
+trees_refused P gr_text text g failed graph (fault.Usage e) is = absurd is
+trees_refused P gr_text text g failed graph fault.DeltaOutOfRange is = absurd is
+trees_refused P gr_text text g failed graph fault.InputTwice is = absurd is
+trees_refused P gr_text text g failed graph fault.NoPlaces is = absurd is
+trees_refused P gr_text text g failed graph (fault.CannotOpen file) is = absurd is
+trees_refused P gr_text text g failed graph (fault.Input kind.Graph e) is = absurd is
+trees_refused P gr_text text g failed graph (fault.Input kind.Sources e) is = absurd is
+trees_refused P gr_text text g failed graph (fault.Input kind.Pairs e) is = absurd is
+trees_refused P gr_text text g failed graph (fault.Input kind.Tree e) is = (graph.0, graph.1, (failed, is))
+trees_refused P gr_text text g failed graph (fault.Input kind.Replay e) is = absurd is
+trees_refused P gr_text text g failed graph (fault.Input kind.Offers e) is = absurd is
+trees_refused P gr_text text g failed graph (fault.NoSuchVertex v) is = absurd is
+trees_refused P gr_text text g failed graph fault.TooManySteps is = absurd is
+trees_refused P gr_text text g failed graph fault.Memory is = tt
+trees_refused P gr_text text g failed graph fault.WriteFailed is = absurd is
+trees_refused P gr_text text g failed graph fault.CannotWrite is = absurd is
+
+-- There is no picture, for want of memory or since there are too many steps.
+pub undrawn : (P : ℕ) (text : List ℕ) (s : Scene) (file : ReplayFile P) (why : Fault) → SpellsReplay text file → IsUnwritten s
+    → (why ≡ fault.Memory) ⊎ ((why ≡ fault.TooManySteps) × (60 < length file.steps.items)) → TellsPicture P text s (Err why)
+undrawn P text s file why spelled unwritten (inl is) = rw is (inl (inl (tt, unwritten)))
+undrawn P text s file why spelled unwritten (inr (is, many)) = inr (is, unwritten, (file, spelled, many))

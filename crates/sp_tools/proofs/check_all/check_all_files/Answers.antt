@@ -1,0 +1,10 @@
+use Rattle.std.proofs.Common.{refl, inr}
+use Rattle.std.proofs.lemmas.Result.{err_from_is_err_and}
+use Rattle.sp_tools.proofs.check_all.check_all_files.Goals as goal
+
+pub returns-in_err-write_verdicts-clause-answered : goal.returns-in_err-write_verdicts-clause-answered
+returns-in_err-write_verdicts-clause-answered g c = λ gr trees texts.
+    let residual = c.from_residual-in_err-write_verdicts in
+    let p = err_from_is_err_and residual.result residual.ensures.1 in
+    let begun = rw c.deref.ensures.value at c.in_err-write_verdicts.ensures in
+    rw (p.1, p.2) (inr (refl, (c.in_ok-all.all.items, c.in_ok-all.ensures.judged gr trees texts, begun.0)))

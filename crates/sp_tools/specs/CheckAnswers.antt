@@ -1,0 +1,75 @@
+-- What `check` says of the texts of its files.
+use Rattle.std.specs.Prelude.{◌≡◌, ℕ, Bool, true, false, List, Some, Option, Result, Err}
+use Rattle.std.specs.List.{flat_map}
+use Rattle.sp_text.specs.declared.faults.DimacsError.{DimacsError}
+use Rattle.sp_dimacs.specs.declared.graphs.GrFile.{GrFile}
+use Rattle.sp_dimacs.specs.Graph.{graph_of, SpellsGraph}
+use Rattle.sp_tree.specs.Table.{TreeTable, IsTable}
+use Rattle.sp_tree.specs.TreeText.{tree_text}
+use Rattle.sp_blocks.specs.Whole.{IsFileFault}
+use Rattle.sp_command.specs.declared.faults.Fault.{Fault}
+use Rattle.sp_command.specs.declared.faults.Status.{Status}
+use Rattle.sp_command.specs.declared.faults.FileKind.{FileKind}
+use Rattle.sp_command.specs.declared.faults.FileKind.TheVariants as kind
+use Rattle.sp_command.specs.Scene.{Scene, Meaning}
+use Rattle.sp_command.specs.Answers.{Tells}
+use Rattle.sp_tools.specs.declared.check.Check.{Check}
+use Rattle.sp_tools.specs.declared.check.Verdict.{Verdict}
+use Rattle.sp_tools.specs.declared.check_all.Judged.{Judged}
+use Rattle.sp_tools.specs.Reading.{GraphIn, TreeIn}
+use Rattle.sp_tools.specs.Verdict.{IsVerdict, verdict_text, verdict_end}
+use Rattle.sp_tools.specs.Verdicts.{FileJudged, judged_text, end_of}
+
+-- ## One tree
+
+-- The texts spell a graph and a tree, and this is the verdict on the tree.
+pub record TreeJudged (P : ℕ) (gr tree : List ℕ) (verdict : Verdict) : Type 0 where
+  pub file : GrFile
+  pub graph : SpellsGraph P gr file
+  pub table : TreeTable
+  pub within : IsTable P table
+  pub block : tree ≡ tree_text table
+  pub says : IsVerdict P (graph_of file) table verdict
+
+-- the first fault of the graph's text; or, where that has none, of the tree's
+abbrev pub IsTreeRefused : (P : ℕ) → (gr tree : List ℕ) → FileKind → DimacsError → Type 0
+IsTreeRefused P gr tree kind.Graph e = GraphIn P gr (Err e)
+IsTreeRefused P gr tree kind.Tree e = (file : GrFile) × SpellsGraph P gr file × TreeIn P tree (Err e)
+IsTreeRefused P gr tree _ e = ⊥
+
+abbrev pub TellsVerdict : (P : ℕ) → (gr tree : List ℕ) → Scene → Result Status Fault → Type 0
+TellsVerdict P gr tree s result = Tells (TreeJudged P gr tree) verdict_text verdict_end (IsTreeRefused P gr tree) s result
+
+-- ## One tree or more
+
+-- The texts spell a graph and trees, and these are the verdicts on them.
+pub record TreesJudged (P : ℕ) (gr trees : List ℕ) (all : List Judged) : Type 0 where
+  pub file : GrFile
+  pub graph : SpellsGraph P gr file
+  pub says : FileJudged P (graph_of file) trees all
+
+-- the first fault of the graph's text; or, where that has none, of the trees'
+abbrev pub AreTreesRefused : (P : ℕ) → (gr trees : List ℕ) → FileKind → DimacsError → Type 0
+AreTreesRefused P gr trees kind.Graph e = GraphIn P gr (Err e)
+AreTreesRefused P gr trees kind.Tree e = (file : GrFile) × SpellsGraph P gr file × ((failed : Bool) × IsFileFault P trees failed e)
+AreTreesRefused P gr trees _ e = ⊥
+
+abbrev pub judged_texts : List Judged → List ℕ
+judged_texts all = flat_map judged_text all
+
+abbrev pub TellsVerdicts : (P : ℕ) → (gr trees : List ℕ) → Scene → Result Status Fault → Type 0
+TellsVerdicts P gr trees s result = Tells (TreesJudged P gr trees) judged_texts end_of (AreTreesRefused P gr trees) s result
+
+-- ## The command
+
+-- the texts of its files
+abbrev pub GiveTexts : (List ℕ → Option (List ℕ)) → Check → (gr tree : List ℕ) → Type 0
+GiveTexts texts c gr tree = (texts c.graph.now ≡ Some gr) × (texts c.tree.now ≡ Some tree)
+
+abbrev pub SaysOf : (P : ℕ) → (all : Bool) → (gr tree : List ℕ) → Scene → Result Status Fault → Type 0
+SaysOf P true gr tree s result = TellsVerdicts P gr tree s result
+SaysOf P false gr tree s result = TellsVerdict P gr tree s result
+
+-- The verdict on the tree of its second file, or with `all` those on its trees, against the graph of its first file.
+abbrev pub CheckAnswers : (P : ℕ) → Meaning Check
+CheckAnswers P c s result = (gr tree : List ℕ) → GiveTexts s.texts c gr tree → SaysOf P c.all gr tree s result

@@ -1,0 +1,74 @@
+-- What `replay` says of the text of its file.
+use Rattle.std.specs.Prelude.{◌≡◌, ◌<◌, ◌≤◌, ◌⊎◌, ℕ, Bool, true, false, List, length, map, All, Some, Result, Ok, Err}
+use Rattle.std.specs.String.{string_bytes}
+use Rattle.std.specs.Io.KnownBytes.{Appends}
+use Rattle.sp_text.specs.declared.faults.DimacsError.{DimacsError}
+use Rattle.sp_machine.specs.declared.report.Report.{Report}
+use Rattle.sp_machine.specs.Programme.{Programme}
+use Rattle.sp_machine.specs.Run.{opening_machine, run_of}
+use Rattle.sp_machine.specs.ReportOf.{IsReportOf}
+use Rattle.sp_replay.specs.declared.replays.ReplayFile.{ReplayFile}
+use Rattle.sp_replay.specs.ReportText.{report_text}
+use Rattle.sp_picture.specs.declared.picture.Picture.{Picture}
+use Rattle.sp_picture.specs.Marks.{marks_from}
+use Rattle.sp_picture.specs.Ties.{IsTie, lost_from}
+use Rattle.sp_command.specs.declared.faults.Fault.{Fault}
+use Rattle.sp_command.specs.declared.faults.Fault.TheVariants.{TooManySteps}
+use Rattle.sp_command.specs.declared.faults.Status.{Status}
+use Rattle.sp_command.specs.declared.faults.Status.TheVariants.{Done}
+use Rattle.sp_command.specs.declared.faults.FileKind.{FileKind}
+use Rattle.sp_command.specs.declared.faults.FileKind.TheVariants as kind
+use Rattle.sp_command.specs.Scene.{Scene, HasText, IsUnwritten, Meaning}
+use Rattle.sp_command.specs.Answers.{Tells}
+use Rattle.sp_tools.specs.declared.replay.Replay.{Replay}
+use Rattle.sp_tools.specs.Reading.{ReplayIn, SpellsReplay}
+
+-- The text spells a programme and steps, and this is the report of their run.
+pub record IsReplayed {P : ℕ} (text : List ℕ) (report : Report P) : Type 0 where
+  pub file : ReplayFile P
+  pub spelled : SpellsReplay text file
+  pub is : IsReportOf file.programme file.steps.items report
+
+-- It shows the calls, the steps and the lost exchanges of the run, each tied as it should be.
+pub record IsPictureOf {P : ℕ} (p : Programme P) (steps : List ℕ) (picture : Picture P) : Type 0 where
+  pub bars : picture.drawing.bars.items ≡ (run_of p steps).log.calls
+  pub marks : picture.drawing.marks.items ≡ marks_from (opening_machine p) steps
+  pub lost : map (λ tie. tie.lost) picture.drawing.ties.items ≡ lost_from 0 picture.drawing.marks.items
+  pub tied : All (IsTie picture.drawing.marks.items) picture.drawing.ties.items
+
+-- The text spells a programme and steps, few enough for a picture, and this is one of their run.
+pub record IsDrawn {P : ℕ} (text : List ℕ) (picture : Picture P) : Type 0 where
+  pub file : ReplayFile P
+  pub spelled : SpellsReplay text file
+  pub few : length file.steps.items ≤ 60
+  pub is : IsPictureOf file.programme file.steps.items picture
+
+-- the first fault of the text
+abbrev pub IsReplayRefused : (P : ℕ) → (text : List ℕ) → FileKind → DimacsError → Type 0
+IsReplayRefused P text kind.Replay e = ReplayIn {P = P} text (Err e)
+IsReplayRefused P text _ e = ⊥
+
+abbrev pub done : {V : Type 0} → V → Status
+done v = Done
+
+abbrev pub TellsReport : (P : ℕ) → (text : List ℕ) → Scene → Result Status Fault → Type 0
+TellsReport P text s result = Tells (IsReplayed {P = P} text) report_text done (IsReplayRefused P text) s result
+
+abbrev pub picture_text : {P : ℕ} → Picture P → List ℕ
+picture_text picture = string_bytes picture.text
+
+-- Too many steps were spelled for a picture, and nothing was written.
+abbrev pub HasTooMany : (P : ℕ) → (text : List ℕ) → Scene → Fault → Type 0
+HasTooMany P text s why = (why ≡ TooManySteps) × IsUnwritten s × ((file : ReplayFile P) × SpellsReplay text file × (60 < length file.steps.items))
+
+abbrev pub TellsPicture : (P : ℕ) → (text : List ℕ) → Scene → Result Status Fault → Type 0
+TellsPicture P text s (Ok status) = Tells (IsDrawn {P = P} text) picture_text done (IsReplayRefused P text) s (Ok status)
+TellsPicture P text s (Err why) = Tells (IsDrawn {P = P} text) picture_text done (IsReplayRefused P text) s (Err why) ⊎ HasTooMany P text s why
+
+abbrev pub SaysOf : (P : ℕ) → (svg : Bool) → (text : List ℕ) → Scene → Result Status Fault → Type 0
+SaysOf P true text s result = TellsPicture P text s result
+SaysOf P false text s result = TellsReport P text s result
+
+-- The report of the run of its file, or with `svg` a picture of it.
+abbrev pub ReplayAnswers : (P : ℕ) → Meaning Replay
+ReplayAnswers P c s result = (text : List ℕ) → HasText s c.file.now text → SaysOf P c.svg text s result
