@@ -3,3 +3,4 @@ pub mod Verdicts
 pub mod Reading
 pub mod CheckAnswers
 pub mod ReplayAnswers
+pub mod OffersAnswers

@@ -1,7 +1,6 @@
 //! The commands of the program `spt` beside those that run from sources: `check`, `replay` and `offers`.
 #![tactic(auto)]
 
-mod actors;
 mod check;
 mod check_all;
 mod graphs;

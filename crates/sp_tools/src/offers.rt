@@ -1,24 +1,26 @@
 //! `spt offers`: the offers of several actors, made on threads.
-ghost use Rattle.std.specs.Prelude.{◌≡◌, ◌≢◌, true, IfOk, IfErr};
+ghost use Rattle.std.specs.Prelude.{◌≡◌, ◌≢◌, ℕ, List, Some, true, IfOk, IfErr};
 ghost use Rattle.sp_word.specs.Word.{is_layout};
 ghost use Rattle.sp_command.specs.declared.faults.Status.TheVariants.{Done};
+ghost use Rattle.sp_command.specs.Scene.{scene};
+ghost use Rattle.sp_command.specs.Answers.{Hinders};
+ghost use Rattle.sp_tools.specs.OffersAnswers.{SpellsOffers, IsOffersRefused, TellsWords, OffersAnswers};
 
-use crate::actors::offer_all;
 use clap::{ArgMatches, Error};
+use sp_actors::final_words;
 use sp_command::{Command, Fault, FileKind, Inputs, Run, Status, Words, after_help, file};
 use sp_device::Write;
 use sp_machine::Programme;
-use sp_offer::{AnyWord, OfferTable};
 use sp_replay::{read_offers, write_words};
-use sp_word::Word;
-use std::alloc::{AllocError, Global};
+use std::alloc::Global;
 use std::sync::Wait;
 use std::thread::Threads;
 
 /// What `offers` is given, with the name of its file.
 #[derive(Drop)]
 pub struct Offers<'a> {
-    file: &'a str,
+    /// The path of the file.
+    pub file: &'a str,
 }
 
 impl<'a> Command<'a> for Offers<'a> {
@@ -84,7 +86,7 @@ A fault is told with its line, as in `spt: offers: line 2: 5 OutOfRange A`:
 }
 
 impl<const P: u32> Run<P> for Offers<'_> {
-    ghost answers = { λ _ _ _. Unit {0} };
+    ghost answers = { OffersAnswers P };
 
     fn run<R: Threads + Wait + Sync, F: Inputs, W: Write>(
         &self,
@@ -106,31 +108,34 @@ fn offer_file<const P: u32, R: Threads + Wait + Sync, F: Inputs, W: Write>(
     out: &mut W,
 ) -> Result<Status, Fault>
     requires layout { is_layout P ≡ true }
+    ensures answered { (text : List ℕ) → F.text files.now path.now ≡ Some text
+        → TellsWords P text
+            (scene (F.text files.now) (W.written out.old) (W.written out.new)) result }
     ensures done { IfOk result (λ status. status ≡ Done) }
     ensures unwritten { IfErr result (λ fault. fault ≢ Fault.WriteFailed → out.new ≡ out.old) }
 {
-    let mut reader = FileKind::Offers.open(files, path)?;
-    let programme = match read_offers::<P, _>(alloc, &mut reader) {
-        Ok(programme) => programme,
-        Err(error) => return Err(FileKind::Offers.fault(error)),
-    };
+    let programme = read_file::<P, F>(alloc, path, files)?;
     let words = final_words::<P, R>(rt, alloc, &programme)?;
     write_words::<P, W>(&words, out)?;
     Ok(Status::Done)
 }
 
-// The words of a table once all offers were made.
-fn final_words<const P: u32, R: Threads + Wait + Sync>(
-    rt: &R,
+// Reads the file.
+fn read_file<const P: u32, F: Inputs>(
     alloc: Global,
-    programme: &Programme<P>,
-) -> Result<Vec<Word<P>>, AllocError>
-    requires layout { is_layout P ≡ true }
+    path: &str,
+    files: &F,
+) -> Result<Programme<P>, Fault>
+    requires { is_layout P ≡ true }
+    ensures spelled { (text : List ℕ) → F.text files.now path.now ≡ Some text
+        → IfOk result (SpellsOffers text) }
+    ensures refused { (text : List ℕ) → F.text files.now path.now ≡ Some text
+        → IfErr result (Hinders (IsOffersRefused P text)) }
+    ensures unwritten { IfErr result (λ fault. fault ≢ Fault.WriteFailed) }
 {
-    let count = programme.words();
-    let (table, caller) = OfferTable::<AnyWord, P>::new(alloc, count, AnyWord)?;
-    let mut caller = offer_all::<P, R>(rt, alloc, &table, caller, programme)?;
-    let mut words = vec![in alloc; Word::<P>::unreached(); count as usize]?;
-    table.copy_words(&mut caller, &mut words);
-    Ok(words)
+    let mut reader = FileKind::Offers.open(files, path)?;
+    match read_offers::<P, _>(alloc, &mut reader) {
+        Ok(programme) => Ok(programme),
+        Err(error) => Err(FileKind::Offers.fault(error)),
+    }
 }

@@ -1,0 +1,45 @@
+-- What `offers` says of the text of its file.
+use Rattle.std.specs.Prelude.{◌≡◌, ℕ, Bool, List, Some, Option, Result, Err}
+use Rattle.sp_text.specs.declared.faults.DimacsError.{DimacsError}
+use Rattle.sp_text.specs.Text.{Item as Line, Spells}
+use Rattle.sp_text.specs.Formats.{ranges_of}
+use Rattle.sp_word.specs.Word.{Word}
+use Rattle.sp_machine.specs.Programme.{Programme}
+use Rattle.sp_replay.specs.ReplayFormat.{offers}
+use Rattle.sp_replay.specs.Offers.{IsOffers, OffersRead}
+use Rattle.sp_replay.specs.ReportText.{words_text}
+use Rattle.sp_actors.specs.Least.{AreLeast}
+use Rattle.sp_command.specs.declared.faults.Fault.{Fault}
+use Rattle.sp_command.specs.declared.faults.Status.{Status}
+use Rattle.sp_command.specs.declared.faults.FileKind.{FileKind}
+use Rattle.sp_command.specs.declared.faults.FileKind.TheVariants as kind
+use Rattle.sp_command.specs.Scene.{Scene, HasText, Meaning}
+use Rattle.sp_command.specs.Answers.{Tells}
+use Rattle.sp_tools.specs.declared.offers.Offers.{Offers}
+use Rattle.sp_tools.specs.ReplayAnswers.{done}
+
+-- The text has no fault, and spells this programme.
+abbrev pub SpellsOffers : {P : ℕ} → (text : List ℕ) → Programme P → Type 0
+SpellsOffers {P} text p = (problem : List ℕ) × (lines : List Line) × Spells offers (ranges_of P) text problem lines × IsOffers problem lines p
+
+-- what a reader answers to the text
+abbrev pub OffersIn : {P : ℕ} → (text : List ℕ) → Result (Programme P) DimacsError → Type 0
+OffersIn text result = (left : Option (List ℕ)) × (failed : Bool) × OffersRead text left failed result
+
+-- The text spells offers, and these words are the least of them, vertex by vertex.
+pub record AreLeft (P : ℕ) (text : List ℕ) (words : List Word) : Type 0 where
+  pub programme : Programme P
+  pub spelled : SpellsOffers text programme
+  pub least : AreLeast programme words
+
+-- the first fault of the text
+abbrev pub IsOffersRefused : (P : ℕ) → (text : List ℕ) → FileKind → DimacsError → Type 0
+IsOffersRefused P text kind.Offers e = OffersIn {P = P} text (Err e)
+IsOffersRefused P text _ e = ⊥
+
+abbrev pub TellsWords : (P : ℕ) → (text : List ℕ) → Scene → Result Status Fault → Type 0
+TellsWords P text s result = Tells (AreLeft P text) words_text done (IsOffersRefused P text) s result
+
+-- The words that the offers of its file leave.
+abbrev pub OffersAnswers : (P : ℕ) → Meaning Offers
+OffersAnswers P c s result = (text : List ℕ) → HasText s c.file.now text → TellsWords P text s result
