@@ -1,7 +1,6 @@
 -- How the blocks of a file are judged, one after the other.
-use Rattle.std.proofs.Common.{◌≡◌, ℕ, zero, suc, ◌+◌, ◌-◌, ◌^◌, ◌<◌, min, Bool, List, [], ◌∷◌, ◌++◌, length, append_assoc, append-nil, Option, Some, None, Ok, Err, refl, sym, ap, ◌∙◌, subst, arith}
+use Rattle.std.proofs.Common.{◌≡◌, ℕ, ◌+◌, ◌-◌, ◌^◌, ◌<◌, min, Bool, List, [], ◌∷◌, ◌++◌, length, append-nil, Option, Some, None, Ok, Err, refl, sym, ap, ◌∙◌, subst, arith}
 use Rattle.std.specs.Prelude.{All}
-use Rattle.std.specs.List.{flat_map}
 use Rattle.std.proofs.KnownBytes.{Consumes-nil, Consumes-trans, prepend_known-nil}
 use Rattle.std.proofs.lemmas.Grind.{flat_map-append}
 use Rattle.std.proofs.lemmas.List.Elements.{All-push}
@@ -11,10 +10,10 @@ use Rattle.sp_text.specs.declared.faults.DimacsError.{DimacsError}
 use Rattle.sp_tree.specs.Table.{TreeTable, IsTable}
 use Rattle.sp_tree.specs.TreeText.{tree_text}
 use Rattle.sp_blocks.specs.declared.blocks.TreeBlocks.{TreeBlocks}
-use Rattle.sp_blocks.specs.Block.{lines_in, IsWithinBlock}
+use Rattle.sp_blocks.specs.Block.{lines_in}
 use Rattle.sp_blocks.specs.Stream.{IsFaultOf}
 use Rattle.sp_blocks.specs.Giving.{left_of, IsFresh, IsGoing, Gives, in_file, lines_before}
-use Rattle.sp_blocks.specs.Whole.{trees_text, lines_of, IsFile, IsFileFault}
+use Rattle.sp_blocks.specs.Whole.{trees_text, lines_of, IsFileFault}
 use Rattle.sp_tools.specs.declared.check_all.Judged.{Judged}
 use Rattle.sp_tools.specs.Verdict.{IsVerdict}
 use Rattle.sp_tools.specs.Verdicts.{AreJudged, FileJudged}

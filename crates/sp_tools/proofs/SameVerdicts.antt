@@ -13,7 +13,7 @@ use Rattle.sp_dimacs.specs.Graph.{graph_of}
 use Rattle.sp_tree.specs.Table.{TreeTable, table_of}
 use Rattle.sp_cert.specs.declared.rule.Rule.{Rule}
 use Rattle.sp_cert.specs.declared.rule.Rule.TheVariants.{Size, OwnSource, NoLesserOffer, NamesPredecessor, OnlyTooFar}
-use Rattle.sp_cert.specs.Rules.{IsExplained, Breaks, Fails, IsFirstFault}
+use Rattle.sp_cert.specs.Rules.{IsExplained, Breaks, Fails}
 use Rattle.sp_tools.specs.declared.check.Verdict.{Verdict}
 use Rattle.sp_tools.specs.declared.check.Verdict.TheVariants.{Yes, No}
 use Rattle.sp_tools.specs.declared.check_all.Judged.{Judged}

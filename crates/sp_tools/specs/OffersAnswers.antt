@@ -1,5 +1,5 @@
 -- What `offers` says of the text of its file.
-use Rattle.std.specs.Prelude.{◌≡◌, ℕ, Bool, List, Some, Option, Result, Err}
+use Rattle.std.specs.Prelude.{ℕ, Bool, List, Option, Result, Err}
 use Rattle.sp_text.specs.declared.faults.DimacsError.{DimacsError}
 use Rattle.sp_text.specs.Text.{Item as Line, Spells}
 use Rattle.sp_text.specs.Formats.{ranges_of}

@@ -1,7 +1,6 @@
 -- What `replay` says of the text of its file.
-use Rattle.std.specs.Prelude.{◌≡◌, ◌<◌, ◌≤◌, ◌⊎◌, ℕ, Bool, true, false, List, length, map, All, Some, Result, Ok, Err}
+use Rattle.std.specs.Prelude.{◌≡◌, ◌<◌, ◌≤◌, ◌⊎◌, ℕ, Bool, true, false, List, length, map, All, Result, Ok, Err}
 use Rattle.std.specs.String.{string_bytes}
-use Rattle.std.specs.Io.KnownBytes.{Appends}
 use Rattle.sp_text.specs.declared.faults.DimacsError.{DimacsError}
 use Rattle.sp_machine.specs.declared.report.Report.{Report}
 use Rattle.sp_machine.specs.Programme.{Programme}

@@ -1,6 +1,5 @@
 -- What `check --all` says of the blocks of a tree file, and how it ends.
-use Rattle.std.specs.Prelude.{◌≡◌, ℕ, Bool, true, false, List, [], ◌∷◌, ◌++◌, codes, decimal, if◌then◌else◌, Result, Ok, Err}
-use Rattle.std.specs.List.{flat_map, list_all}
+use Rattle.std.specs.Prelude.{◌≡◌, ℕ, Bool, true, false, List, [], ◌∷◌, ◌++◌, codes, decimal, if◌then◌else◌}
 use Rattle.sp_paths.specs.Paths.{Graph}
 use Rattle.sp_tree.specs.Table.{TreeTable}
 use Rattle.sp_cert.specs.Rules.{number_of}

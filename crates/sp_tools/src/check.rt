@@ -145,7 +145,7 @@ fn check_file<const P: u32, R: Threads + Sync, F: Inputs, W: Write>(
     requires layout { is_layout P ≡ true }
     ensures answered { (gr tree : List ℕ) → GiveTexts (F.text files.now) given.now gr tree
         → TellsVerdict P gr tree
-            (scene (F.text files.now) (W.written out.old) (W.written out.new)) result }
+        (scene (F.text files.now) (W.written out.old) (W.written out.new)) result }
     ensures done { IfOk result (λ status. is_done status ≡ true) }
     ensures unwritten { IfErr result (λ fault. fault ≢ Fault.WriteFailed → out.new ≡ out.old) }
 {

@@ -110,7 +110,7 @@ fn offer_file<const P: u32, R: Threads + Wait + Sync, F: Inputs, W: Write>(
     requires layout { is_layout P ≡ true }
     ensures answered { (text : List ℕ) → F.text files.now path.now ≡ Some text
         → TellsWords P text
-            (scene (F.text files.now) (W.written out.old) (W.written out.new)) result }
+        (scene (F.text files.now) (W.written out.old) (W.written out.new)) result }
     ensures done { IfOk result (λ status. status ≡ Done) }
     ensures unwritten { IfErr result (λ fault. fault ≢ Fault.WriteFailed → out.new ≡ out.old) }
 {

@@ -177,7 +177,7 @@ fn report<const P: u32, F: Inputs, W: Write>(
     requires layout { is_layout P ≡ true }
     ensures answered { (text : List ℕ) → F.text files.now path.now ≡ Some text
         → TellsReport P text
-            (scene (F.text files.now) (W.written out.old) (W.written out.new)) result }
+        (scene (F.text files.now) (W.written out.old) (W.written out.new)) result }
     ensures done { IfOk result (λ status. status ≡ Done) }
     ensures unwritten { IfErr result (λ fault. fault ≢ WriteFailed → out.new ≡ out.old) }
 {
@@ -223,7 +223,7 @@ fn draw<const P: u32, F: Inputs, W: Write>(
     requires layout { is_layout P ≡ true }
     ensures answered { (text : List ℕ) → F.text files.now path.now ≡ Some text
         → TellsPicture P text
-            (scene (F.text files.now) (W.written out.old) (W.written out.new)) result }
+        (scene (F.text files.now) (W.written out.old) (W.written out.new)) result }
     ensures done { IfOk result (λ status. status ≡ Done) }
     ensures unwritten { IfErr result (λ fault. fault ≢ WriteFailed → out.new ≡ out.old) }
 {

@@ -1,4 +1,4 @@
-use Rattle.std.proofs.Common.{◌-◌, ◌^◌, ℕ}
+use Rattle.std.proofs.Common.{◌-◌, ◌^◌}
 use Rattle.std.specs.Prelude.{vec_len}
 use Rattle.sp_tools.proofs.Judging.{HaveVerdicts}
 use Rattle.sp_tools.proofs.check_all.judge_blocks.Given as goal

@@ -7,6 +7,8 @@ returns-in-Err-clause-refused g c = λ text known.
     rw c.fault.ensures (g.D.Read.left c.read_gr.new.reader, g.D.Read.has_failed c.read_gr.new.reader, c.in-Err.ensures.exact text known)
 
 pub returns-clause-graph : goal.returns-clause-graph
-returns-clause-graph g c = λ text known.
-    (c.in-Ok.file, graph_spelled g.row.P text (g.D.Read.left c.read_gr.new.reader) (g.D.Read.has_failed c.read_gr.new.reader) c.in-Ok.file (c.in-Ok.ensures.exact text known),
-    same_graph c.in-Ok.file c.in_ok-from_arcs.field-0 c.in_ok-from_arcs.ensures.n c.in_ok-from_arcs.ensures.arcs)
+returns-clause-graph g c = λ text known. (
+  c.in-Ok.file,
+  graph_spelled g.row.P text (g.D.Read.left c.read_gr.new.reader) (g.D.Read.has_failed c.read_gr.new.reader) c.in-Ok.file (c.in-Ok.ensures.exact text known),
+  same_graph c.in-Ok.file c.in_ok-from_arcs.field-0 c.in_ok-from_arcs.ensures.n c.in_ok-from_arcs.ensures.arcs,
+)
