@@ -1,12 +1,14 @@
 //! A whole run of the program.
 ghost use Rattle.std.specs.Prelude.{◌≡◌, ◌≤◌, true, IfOk, IfErr};
 ghost use Rattle.sp_command.specs.Faults.{code_of, is_done, status_of};
+ghost use Rattle.sp_command.specs.Scene.{scene};
+ghost use Rattle.sp_cli.specs.Orders.{Obeys};
 ghost use Rattle.sp_cli.specs.Words.{names_output};
 
 use crate::commands::AnyCommand;
 use crate::hints::Refusal;
 use crate::words::{Order, read_order};
-use sp_command::{Fault, Inputs, Outputs, PredBits, Status, print, run_in};
+use sp_command::{Fault, Inputs, Outputs, PredBits, Run, Status, print, run_in};
 use sp_device::Write;
 use std::alloc::Global;
 use std::sync::Wait;
@@ -68,6 +70,10 @@ fn carry_out<R: Threads + Wait + Sync, F: Inputs + Outputs, W: Write>(
     ensures done { IfOk result (λ status. is_done status ≡ true) }
     ensures unwritten { IfErr result (λ fault. code_of (status_of fault) ≤ 2 → out.new ≡ out.old) }
     ensures elsewhere { names_output order.now ≡ true → out.new ≡ out.old }
+    ensures answered { Obeys ⟦<AnyCommand<'static> as Run<20>>⟧.answers
+        ⟦<AnyCommand<'static> as Run<24>>⟧.answers ⟦<AnyCommand<'static> as Run<28>>⟧.answers
+        ⟦<AnyCommand<'static> as Run<32>>⟧.answers
+        order.now (scene (F.text files.now) (W.written out.old) (W.written out.new)) result }
 {
     match order {
         Order::Show(text) => {

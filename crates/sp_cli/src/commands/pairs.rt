@@ -1,12 +1,20 @@
 //! `spt pairs`: for each pair of a list how far its target is from its source.
+ghost use denote.Param.Send.{IsSync};
+ghost use Rattle.std.specs.Prelude.{◌≡◌, ◌≤◌, ℕ, true, List, Option, Some, Ok, Err, IfOk, IfErr, MatchResult};
+ghost use Rattle.sp_word.specs.Word.{is_layout};
+ghost use Rattle.sp_command.specs.Faults.{code_of, is_done, status_of};
+ghost use Rattle.sp_command.specs.Scene.{scene};
+ghost use Rattle.sp_cli.specs.Answers.{PairsAnswers, PairsTold};
+ghost use Rattle.sp_cli.specs.Ends.{end_of, fault_of};
+
 use super::reading::Watched;
-use super::running::Running;
+use super::running::{Running, Teller};
 use clap::{ArgMatches, Error};
-use sp_batch::{Listener, Progress, Settings, run_pairs_told};
+use sp_batch::{BatchError, Listener, Progress, Settings, Summary, run_pairs_told};
 use sp_command::{
     Command, Fault, FileKind, GRAPH_FILE, Inputs, Run, Status, Words, after_help, file,
 };
-use sp_device::Write;
+use sp_device::{Read, Write};
 use std::alloc::Global;
 use std::sync::Wait;
 use std::thread::Threads;
@@ -19,9 +27,9 @@ for a small graph. Any number gives the same bytes";
 /// What `pairs` is given, with the names of its files.
 #[derive(Drop)]
 pub struct Pairs<'a> {
-    graph: &'a str,
-    pairs: &'a str,
-    running: Running,
+    pub graph: &'a str,
+    pub pairs: &'a str,
+    pub running: Running,
 }
 
 impl<'a> Command<'a> for Pairs<'a> {
@@ -118,8 +126,55 @@ Others are
     }
 }
 
+impl Pairs<'_> {
+    // Tells that all is written, where it is, and how the run ends.
+    fn end<F: Inputs>(
+        &self,
+        answer: Result<Summary, BatchError>,
+        teller: &Teller<'_, F>,
+    ) -> Result<Status, Fault>
+        ensures { MatchResult answer
+            (λ summary. result ≡ Ok (end_of self.now.running.far_ok summary))
+            (λ error. result ≡ Err (fault_of error)) }
+    {
+        if let Ok(written) = answer {
+            let count = written.sources as usize;
+            teller.hear(Progress::Pairs {
+                found: count,
+                count,
+            });
+        }
+        self.running.end_of(answer)
+    }
+
+    // Runs for the pairs of one text in the graph of another.
+    fn run_on<const P: u32, R: Threads + Wait + Sync, G: Read, S: Read, F: Inputs, W: Write>(
+        &self,
+        rt: &R,
+        alloc: Global,
+        gr: &mut G,
+        pairs: &mut S,
+        settings: &Settings<P, Teller<'_, F>>,
+        out: &mut W,
+    ) -> Result<Status, Fault>
+        requires { (is_layout P ≡ true) × IsSync R.row }
+        ensures answered { (gr_text list_text : List ℕ) (texts : List ℕ → Option (List ℕ))
+            → G.left gr.old ≡ Some gr_text → S.left pairs.old ≡ Some list_text
+            → PairsTold P self.now.running.far_ok gr_text list_text
+            (scene texts (W.written out.old) (W.written out.new)) result }
+        ensures done { IfOk result (λ status. is_done status ≡ true) }
+        ensures unwritten { IfErr result
+            (λ fault. code_of (status_of fault) ≤ 2 → out.new ≡ out.old) }
+    {
+        let answer = run_pairs_told::<P, R, G, S, W, _>(rt, alloc, gr, pairs, out, settings);
+        self.end(answer, settings.listener)
+    }
+}
+
 // Writes the line of each pair of the list.
 impl<const P: u32> Run<P> for Pairs<'_> {
+    ghost answers = { PairsAnswers P };
+
     fn run<R: Threads + Wait + Sync, F: Inputs, W: Write>(
         &self,
         rt: &R,
@@ -137,16 +192,6 @@ impl<const P: u32> Run<P> for Pairs<'_> {
         let (gr, pairs) = FileKind::Pairs.open_with_graph(files, self.graph, self.pairs)?;
         let mut gr = Watched::new(gr, FileKind::Graph, &teller);
         let mut pairs = Watched::new(pairs, FileKind::Pairs, &teller);
-        let answer = run_pairs_told::<P, R, _, _, W, _>(
-            rt, alloc, &mut gr, &mut pairs, out, &settings,
-        );
-        if let Ok(written) = answer {
-            let count = written.sources as usize;
-            teller.hear(Progress::Pairs {
-                found: count,
-                count,
-            });
-        }
-        self.running.end_of(answer)
+        self.run_on::<P, R, _, _, F, W>(rt, alloc, &mut gr, &mut pairs, &settings, out)
     }
 }

@@ -35,7 +35,9 @@ pub struct Watched<'t, 'f, D, F> {
 
 impl<'t, 'f, D: Read, F: Inputs> Watched<'t, 'f, D, F> {
     /// A device of which nothing was read yet.
-    pub fn new(device: D, file: FileKind, teller: &'t Teller<'f, F>) -> Self {
+    pub fn new(device: D, file: FileKind, teller: &'t Teller<'f, F>) -> Self
+        ensures { ⟦<Watched<'static, 'static, D, F> as Read>⟧.left result ≡ D.left device }
+    {
         Watched {
             device,
             teller,

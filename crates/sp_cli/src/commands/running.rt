@@ -21,7 +21,7 @@ pub struct Running {
     // How many threads may work, the main thread counted.
     workers: u32,
     // Whether a run is done where a vertex is too far.
-    far_ok: bool,
+    pub far_ok: bool,
     // Whether it is told how far a run is.
     progress: bool,
     ghost crew: { IsCrew workers },

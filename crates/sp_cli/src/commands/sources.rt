@@ -1,6 +1,7 @@
 //! The sources of `spt tree`: those of a file, a part of them, or those of the command line.
-ghost use Rattle.std.specs.Prelude.{◌≡◌, ◌≤◌, ◌-◌, true, take, drop, IfSome};
+ghost use Rattle.std.specs.Prelude.{◌≡◌, ◌≤◌, ◌-◌, true, take, drop, IfSome, IfOk};
 ghost use Rattle.sp_word.specs.Word.{is_layout};
+ghost use Rattle.sp_command.specs.Scene.{IsOpened};
 
 use clap::{Arg, ArgAction, ArgMatches, Command, value_parser};
 use sp_command::{Fault, FileKind, Inputs, Words};
@@ -84,6 +85,8 @@ impl<'a> Sources<'a> {
         graph: &str,
     ) -> Result<(F::File, String), Fault>
         requires { is_layout P ≡ true }
+        ensures { IfOk result
+            (λ both. IsOpened (F.text files.now graph.now) (F.File.left both.0)) }
     {
         let (path, places) = match self {
             Sources::File(path, places) => (*path, places.unwrap_or(ALL)),

@@ -1,13 +1,21 @@
 //! `spt tree`: for each source of a list its shortest-path tree.
+ghost use denote.Param.Send.{IsSync};
+ghost use Rattle.std.specs.Prelude.{◌≡◌, ◌≤◌, ℕ, true, List, Option, Some, Ok, Err, IfOk, IfErr, MatchResult};
+ghost use Rattle.sp_word.specs.Word.{is_layout};
+ghost use Rattle.sp_command.specs.Faults.{code_of, is_done, status_of};
+ghost use Rattle.sp_command.specs.Scene.{scene};
+ghost use Rattle.sp_cli.specs.Answers.{TreeAnswers, TreesTold, TreesOfFile, TreesOfSome};
+ghost use Rattle.sp_cli.specs.Ends.{end_of, fault_of};
+
 use super::reading::Watched;
-use super::running::Running;
+use super::running::{Running, Teller};
 use super::sources::Sources;
 use clap::{ArgMatches, Error};
-use sp_batch::{Listener, Progress, Settings, run_batch_told};
+use sp_batch::{BatchError, Listener, Progress, Settings, Summary, run_batch_told};
 use sp_command::{
     Command, Fault, FileKind, GRAPH_FILE, Inputs, Run, Status, Words, after_help, file,
 };
-use sp_device::{OfRead, Write};
+use sp_device::{OfRead, Read, Write};
 use std::alloc::Global;
 use std::sync::Wait;
 use std::thread::Threads;
@@ -21,9 +29,9 @@ Any number gives the same bytes";
 /// What `tree` is given, with the names of its files.
 #[derive(Drop)]
 pub struct Tree<'a> {
-    graph: &'a str,
-    sources: Sources<'a>,
-    running: Running,
+    pub graph: &'a str,
+    pub sources: Sources<'a>,
+    pub running: Running,
 }
 
 impl<'a> Command<'a> for Tree<'a> {
@@ -134,8 +142,99 @@ Others are
     }
 }
 
+impl Tree<'_> {
+    // Tells that all is written, where it is, and how the run ends.
+    fn end<F: Inputs>(
+        &self,
+        answer: Result<Summary, BatchError>,
+        teller: &Teller<'_, F>,
+    ) -> Result<Status, Fault>
+        ensures { MatchResult answer
+            (λ summary. result ≡ Ok (end_of self.now.running.far_ok summary))
+            (λ error. result ≡ Err (fault_of error)) }
+    {
+        if let Ok(written) = answer {
+            teller.hear(Progress::Sources {
+                written,
+                count: written.sources as usize,
+            });
+        }
+        self.running.end_of(answer)
+    }
+
+    // Runs from the sources of one text in the graph of another.
+    fn run_on<const P: u32, R: Threads + Wait + Sync, G: Read, S: Read, F: Inputs, W: Write>(
+        &self,
+        rt: &R,
+        alloc: Global,
+        gr: &mut G,
+        ss: &mut S,
+        settings: &Settings<P, Teller<'_, F>>,
+        out: &mut W,
+    ) -> Result<Status, Fault>
+        requires { (is_layout P ≡ true) × IsSync R.row }
+        ensures answered { (gr_text ss_text : List ℕ) (texts : List ℕ → Option (List ℕ))
+            → G.left gr.old ≡ Some gr_text → S.left ss.old ≡ Some ss_text
+            → TreesTold P self.now.running.far_ok gr_text ss_text
+            (scene texts (W.written out.old) (W.written out.new)) result }
+        ensures done { IfOk result (λ status. is_done status ≡ true) }
+        ensures unwritten { IfErr result
+            (λ fault. code_of (status_of fault) ≤ 2 → out.new ≡ out.old) }
+    {
+        let answer = run_batch_told::<P, R, G, S, W, _>(rt, alloc, gr, ss, out, settings);
+        self.end(answer, settings.listener)
+    }
+
+    // Runs from the sources of a file.
+    fn run_file<const P: u32, R: Threads + Wait + Sync, F: Inputs, W: Write>(
+        &self,
+        rt: &R,
+        alloc: Global,
+        files: &F,
+        path: &str,
+        settings: &Settings<P, Teller<'_, F>>,
+        out: &mut W,
+    ) -> Result<Status, Fault>
+        requires { (is_layout P ≡ true) × IsSync R.row }
+        ensures answered { TreesOfFile P self.now.running.far_ok self.now.graph.now path.now
+            (scene (F.text files.now) (W.written out.old) (W.written out.new)) result }
+        ensures done { IfOk result (λ status. is_done status ≡ true) }
+        ensures unwritten { IfErr result
+            (λ fault. code_of (status_of fault) ≤ 2 → out.new ≡ out.old) }
+    {
+        let (gr, ss) = FileKind::Sources.open_with_graph(files, self.graph, path)?;
+        let mut gr = Watched::new(gr, FileKind::Graph, settings.listener);
+        let mut ss = Watched::new(ss, FileKind::Sources, settings.listener);
+        self.run_on::<P, R, _, _, F, W>(rt, alloc, &mut gr, &mut ss, settings, out)
+    }
+
+    // Runs from the sources of a text that is made of those that were given, or of a part of a file's.
+    fn run_made<const P: u32, R: Threads + Wait + Sync, F: Inputs, W: Write>(
+        &self,
+        rt: &R,
+        alloc: Global,
+        files: &F,
+        settings: &Settings<P, Teller<'_, F>>,
+        out: &mut W,
+    ) -> Result<Status, Fault>
+        requires { (is_layout P ≡ true) × IsSync R.row }
+        ensures answered { TreesOfSome P self.now.running.far_ok self.now.graph.now
+            (scene (F.text files.now) (W.written out.old) (W.written out.new)) result }
+        ensures done { IfOk result (λ status. is_done status ≡ true) }
+        ensures unwritten { IfErr result
+            (λ fault. code_of (status_of fault) ≤ 2 → out.new ≡ out.old) }
+    {
+        let (gr, text) = self.sources.open::<P, F>(alloc, files, self.graph)?;
+        let mut gr = Watched::new(gr, FileKind::Graph, settings.listener);
+        let mut ss = OfRead::new(text.as_bytes());
+        self.run_on::<P, R, _, _, F, W>(rt, alloc, &mut gr, &mut ss, settings, out)
+    }
+}
+
 // Writes the tree of each source of the list, or the line of the vertex that is too far.
 impl<const P: u32> Run<P> for Tree<'_> {
+    ghost answers = { TreeAnswers P };
+
     fn run<R: Threads + Wait + Sync, F: Inputs, W: Write>(
         &self,
         rt: &R,
@@ -150,23 +249,11 @@ impl<const P: u32> Run<P> for Tree<'_> {
             workers,
             listener: &teller,
         };
-        let answer = if let Sources::File(path, None) = &self.sources {
-            let (gr, ss) = FileKind::Sources.open_with_graph(files, self.graph, path)?;
-            let mut gr = Watched::new(gr, FileKind::Graph, &teller);
-            let mut ss = Watched::new(ss, FileKind::Sources, &teller);
-            run_batch_told::<P, R, _, _, W, _>(rt, alloc, &mut gr, &mut ss, out, &settings)
-        } else {
-            let (gr, text) = self.sources.open::<P, F>(alloc, files, self.graph)?;
-            let mut gr = Watched::new(gr, FileKind::Graph, &teller);
-            let mut ss = OfRead::new(text.as_bytes());
-            run_batch_told::<P, R, _, _, W, _>(rt, alloc, &mut gr, &mut ss, out, &settings)
-        };
-        if let Ok(written) = answer {
-            teller.hear(Progress::Sources {
-                written,
-                count: written.sources as usize,
-            });
+        match &self.sources {
+            Sources::File(path, None) => {
+                self.run_file::<P, R, F, W>(rt, alloc, files, path, &settings, out)
+            }
+            _ => self.run_made::<P, R, F, W>(rt, alloc, files, &settings, out),
         }
-        self.running.end_of(answer)
     }
 }

@@ -1,0 +1,129 @@
+-- What the answers of `tree` and `pairs` say of the texts of their files and of what is written then.
+use Rattle.std.specs.Prelude.{◌≡◌, ◌≤◌, ℕ, Bool, List, All, Option, Some, None, Result, Ok, Err, IfOk}
+use Rattle.std.specs.Io.KnownBytes.{Appends}
+use Rattle.sp_text.specs.declared.faults.DimacsError.{DimacsError}
+use Rattle.sp_paths.specs.Paths.{PairAnswer}
+use Rattle.sp_dimacs.specs.declared.graphs.GrFile.{GrFile}
+use Rattle.sp_dimacs.specs.declared.sources.SsFile.{SsFile}
+use Rattle.sp_dimacs.specs.declared.pairs.PairsFile.{PairsFile}
+use Rattle.sp_dimacs.specs.Graph.{graph_of, SpellsGraph}
+use Rattle.sp_dimacs.specs.Sources.{SpellsSources, SourcesRead}
+use Rattle.sp_dimacs.specs.Pairs.{SpellsPairs, PairsRead}
+use Rattle.sp_batch.specs.declared.answers.Summary.{Summary}
+use Rattle.sp_batch.specs.Batch.{Answer, AreAnswers, batch_text, IsSummary, HasBegun, IsFirstAbove}
+use Rattle.sp_batch.specs.Pairs.{ArePairAnswers, pairs_text, IsPairsSummary, HasBegunPairs, IsPairUpTo, IsFirstPairAbove}
+use Rattle.sp_command.specs.declared.faults.FileKind.TheVariants as file
+use Rattle.sp_command.specs.declared.faults.Fault.{Fault}
+use Rattle.sp_command.specs.declared.faults.Fault.TheVariants as fault
+use Rattle.sp_command.specs.declared.faults.Status.{Status}
+use Rattle.sp_command.specs.Scene.{Scene, Meaning, HasText, IsUnwritten}
+use Rattle.sp_tools.specs.Reading.{GraphIn}
+use Rattle.sp_cli.specs.declared.commands.tree.Tree.{Tree}
+use Rattle.sp_cli.specs.declared.commands.pairs.Pairs.{Pairs}
+use Rattle.sp_cli.specs.declared.commands.sources.Sources.{Sources}
+use Rattle.sp_cli.specs.declared.commands.sources.Sources.TheVariants.{File, Given}
+use Rattle.sp_cli.specs.Ends.{end_of}
+
+-- ## Texts
+
+-- what a reader of sources answers to a text, whatever it leaves of it, and whether its device fails or not
+abbrev pub SourcesIn : (P : ℕ) → (text : List ℕ) → Result SsFile DimacsError → Type 0
+SourcesIn P text result = (left : Option (List ℕ)) × (failed : Bool) × SourcesRead P text left failed result
+
+-- the same of pairs
+abbrev pub PairsIn : (P : ℕ) → (text : List ℕ) → Result PairsFile DimacsError → Type 0
+PairsIn P text result = (left : Option (List ℕ)) × (failed : Bool) × PairsRead P text left failed result
+
+-- A text spells a graph.
+abbrev pub HoldsGraph : (P : ℕ) → (gr : List ℕ) → Type 0
+HoldsGraph P gr = (graph : GrFile) × SpellsGraph P gr graph
+
+-- One text spells a graph, and another one sources.
+pub record HoldGraphAndSources (P : ℕ) (gr ss : List ℕ) : Type 0 where
+  pub graph : GrFile
+  pub list : SsFile
+  pub graph_spelled : SpellsGraph P gr graph
+  pub list_spelled : SpellsSources P ss list
+
+-- One text spells a graph, and another one pairs.
+pub record HoldGraphAndPairs (P : ℕ) (gr pairs : List ℕ) : Type 0 where
+  pub graph : GrFile
+  pub list : PairsFile
+  pub graph_spelled : SpellsGraph P gr graph
+  pub list_spelled : SpellsPairs P pairs list
+
+-- ## Trees
+
+-- All sources have an answer, exactly the text of all of them was written, and the status tells whether some vertex is too far.
+pub record AreTreesWritten (P : ℕ) (far_ok : Bool) (graph : GrFile) (list : SsFile) (s : Scene) (status : Status) : Type 0 where
+  pub answers : List Answer
+  pub summary : Summary
+  pub are : AreAnswers P (graph_of graph) list.sources.items answers
+  pub wrote : Appends s.before s.after (batch_text answers)
+  pub counts : IsSummary answers summary
+  pub ends : status ≡ end_of far_ok summary
+
+-- All sources are vertices and have an answer, and of the text of all the answers a beginning stands.
+abbrev pub AreTreesBegun : (P : ℕ) → (gr ss : List ℕ) → Scene → Type 0
+AreTreesBegun P gr ss s = (read : HoldGraphAndSources P gr ss) × All (λ v. v ≤ read.graph.n) read.list.sources.items × HasBegun P (graph_of read.graph) read.list.sources.items s.before s.after
+
+-- What is written for the texts of a graph and of sources, and how that ends: the answers of all sources; or nothing, where a text
+-- is refused or a source is no vertex, or a file couldn't be opened; or a beginning, where memory was refused or the writer failed.
+abbrev pub TreesTold : (P : ℕ) → (far_ok : Bool) → (gr ss : List ℕ) → Scene → Result Status Fault → Type 0
+TreesTold P far_ok gr ss s (Ok status) = (read : HoldGraphAndSources P gr ss) × AreTreesWritten P far_ok read.graph read.list s status
+TreesTold P far_ok gr ss s (Err (fault.Input file.Graph e)) = GraphIn P gr (Err e) × IsUnwritten s
+TreesTold P far_ok gr ss s (Err (fault.Input file.Sources e)) = HoldsGraph P gr × SourcesIn P ss (Err e) × IsUnwritten s
+TreesTold P far_ok gr ss s (Err (fault.NoSuchVertex v)) = (read : HoldGraphAndSources P gr ss) × IsFirstAbove read.graph.n read.list.sources.items v × IsUnwritten s
+TreesTold P far_ok gr ss s (Err fault.Memory) = AreTreesBegun P gr ss s
+TreesTold P far_ok gr ss s (Err fault.WriteFailed) = AreTreesBegun P gr ss s
+TreesTold P far_ok gr ss s (Err (fault.CannotOpen kind)) = IsUnwritten s
+TreesTold P far_ok gr ss s (Err fault.InputTwice) = IsUnwritten s
+TreesTold P far_ok gr ss s (Err fault.DeltaOutOfRange) = IsUnwritten s
+TreesTold P far_ok gr ss s (Err _) = ⊥
+
+-- the trees of the sources in the file of this path
+abbrev pub TreesOfFile : (P : ℕ) → (far_ok : Bool) → (graph path : List ℕ) → Scene → Result Status Fault → Type 0
+TreesOfFile P far_ok graph path s result = (gr ss : List ℕ) → HasText s graph gr → HasText s path ss → TreesTold P far_ok gr ss s result
+
+-- The trees of some list of sources, where all was done. This says nothing of which they are, nor of a run that wasn't done.
+abbrev pub TreesOfSome : (P : ℕ) → (far_ok : Bool) → (graph : List ℕ) → Scene → Result Status Fault → Type 0
+TreesOfSome P far_ok graph s result = IfOk result (λ status. (gr : List ℕ) → HasText s graph gr → (ss : List ℕ) × TreesTold P far_ok gr ss s (Ok status))
+
+-- those of a whole file, or of a part of one, or those that are given
+abbrev pub TreesOf : (P : ℕ) → (far_ok : Bool) → (graph : List ℕ) → Sources → Scene → Result Status Fault → Type 0
+TreesOf P far_ok graph (File path None) s result = TreesOfFile P far_ok graph path.now s result
+TreesOf P far_ok graph (File path (Some places)) s result = TreesOfSome P far_ok graph s result
+TreesOf P far_ok graph (Given sources) s result = TreesOfSome P far_ok graph s result
+
+-- what `tree` answers
+abbrev pub TreeAnswers : (P : ℕ) → Meaning Tree
+TreeAnswers P tree s result = TreesOf P tree.running.far_ok tree.graph.now tree.sources s result
+
+-- ## Pairs
+
+-- All pairs have an answer, exactly the text of all of them was written, and the status tells whether some vertex is too far.
+pub record ArePairsWritten (P : ℕ) (far_ok : Bool) (graph : GrFile) (list : PairsFile) (s : Scene) (status : Status) : Type 0 where
+  pub answers : List PairAnswer
+  pub summary : Summary
+  pub are : ArePairAnswers P (graph_of graph) list.pairs.items answers
+  pub wrote : Appends s.before s.after (pairs_text list.pairs.items answers)
+  pub counts : IsPairsSummary list.pairs.items answers summary
+  pub ends : status ≡ end_of far_ok summary
+
+-- What is written for the texts of a graph and of pairs, and how that ends: the answers of all pairs; or nothing, where a text is
+-- refused or a number is no vertex, or a file couldn't be opened, or memory was refused; or a beginning, where the writer failed.
+abbrev pub PairsTold : (P : ℕ) → (far_ok : Bool) → (gr pairs : List ℕ) → Scene → Result Status Fault → Type 0
+PairsTold P far_ok gr pairs s (Ok status) = (read : HoldGraphAndPairs P gr pairs) × ArePairsWritten P far_ok read.graph read.list s status
+PairsTold P far_ok gr pairs s (Err (fault.Input file.Graph e)) = GraphIn P gr (Err e) × IsUnwritten s
+PairsTold P far_ok gr pairs s (Err (fault.Input file.Pairs e)) = HoldsGraph P gr × PairsIn P pairs (Err e) × IsUnwritten s
+PairsTold P far_ok gr pairs s (Err (fault.NoSuchVertex v)) = (read : HoldGraphAndPairs P gr pairs) × IsFirstPairAbove read.graph.n read.list.pairs.items v × IsUnwritten s
+PairsTold P far_ok gr pairs s (Err fault.Memory) = (read : HoldGraphAndPairs P gr pairs) × All (IsPairUpTo read.graph.n) read.list.pairs.items × IsUnwritten s
+PairsTold P far_ok gr pairs s (Err fault.WriteFailed) = (read : HoldGraphAndPairs P gr pairs) × All (IsPairUpTo read.graph.n) read.list.pairs.items × HasBegunPairs P (graph_of read.graph) read.list.pairs.items s.before s.after
+PairsTold P far_ok gr pairs s (Err (fault.CannotOpen kind)) = IsUnwritten s
+PairsTold P far_ok gr pairs s (Err fault.InputTwice) = IsUnwritten s
+PairsTold P far_ok gr pairs s (Err fault.DeltaOutOfRange) = IsUnwritten s
+PairsTold P far_ok gr pairs s (Err _) = ⊥
+
+-- what `pairs` answers
+abbrev pub PairsAnswers : (P : ℕ) → Meaning Pairs
+PairsAnswers P given s result = (gr pairs : List ℕ) → HasText s given.graph.now gr → HasText s given.pairs.now pairs → PairsTold P given.running.far_ok gr pairs s result
