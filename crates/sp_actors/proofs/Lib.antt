@@ -1,1 +1,3 @@
-pub mod Offers
+pub mod Making
+pub mod Handles
+pub mod LeastWords

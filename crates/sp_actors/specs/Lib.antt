@@ -1,2 +1,3 @@
 pub mod Least
-pub mod Known
+pub mod Made
+pub mod Promised

@@ -1,21 +1,20 @@
-//! The words that the offers of a programme leave.
-ghost use Rattle.std.specs.Prelude.{IfOk};
+//! The words that a programme's offers leave.
+ghost use Rattle.std.specs.Prelude.{◌≡◌, IfOk, vec_len};
+ghost use Rattle.sp_offer.specs.Calling.{CopiesWords};
 ghost use Rattle.sp_actors.specs.Least.{AreLeast};
 
-use crate::actors::offer_all;
 use crate::law::OffersOf;
+use crate::threads::offer_all;
 use sp_machine::Programme;
-use sp_offer::OfferTable;
+use sp_offer::{Caller, Lawful, OfferTable};
 use sp_word::Word;
 use std::alloc::{AllocError, Global};
 use std::sync::Wait;
 use std::thread::Threads;
 
-/// Makes the offers of all actors on a table whose words are all unreached, and answers the words that are left, that of vertex 1
-/// first.
-///
-/// Each actor has a thread of its own, and makes its offers in the order of its items; where a thread can't be started, the calling
-/// thread makes them. What a programme reads or relaxes is left out, and so are its words at the start.
+/// Makes the offers of all actors of a programme on a table whose words are all unreached, those of each actor on a
+/// thread of its own, and answers the words that are left, that of vertex 1 first. Where a thread can't be started,
+/// the calling thread makes the actor's offers. What a programme reads or relaxes is left out.
 pub fn final_words<const P: u32, R: Threads + Wait + Sync>(
     rt: &R,
     alloc: Global,
@@ -24,10 +23,23 @@ pub fn final_words<const P: u32, R: Threads + Wait + Sync>(
     ensures { IfOk result (λ words. AreLeast programme.now words.items) }
 {
     let count = programme.words();
-    let law = OffersOf { programme };
-    let (table, caller) = OfferTable::<OffersOf<P>, P>::new(alloc, count, law)?;
-    let mut caller = offer_all(rt, alloc, &table, caller, programme)?;
+    let (table, caller) = OfferTable::<OffersOf<P>, P>::new(alloc, count, OffersOf { programme })?;
+    let mut caller = offer_all::<OffersOf<P>, P, R>(rt, alloc, &table, caller, programme)?;
     let mut words = vec![in alloc; Word::<P>::unreached(); count as usize]?;
-    table.copy_words(&mut caller, &mut words);
+    copy_words(&table, &mut caller, &mut words);
     Ok(words)
+}
+
+// Copies all words.
+fn copy_words<L: Lawful, const P: u32>(
+    table: &OfferTable<L, P>,
+    caller: &mut Caller,
+    words: &mut Vec<Word<P>>,
+)
+    requires caller { caller.old.table ≡ table.now.id }
+    requires room { vec_len words.old ≡ table.now.vertices }
+    ensures length { vec_len words.new ≡ vec_len words.old }
+    ensures copy { CopiesWords P L.allows table.now words.new.items caller.old caller.new }
+{
+    table.copy_words(caller, words);
 }
