@@ -6,16 +6,20 @@ each other, and one check of these functions tells of all: each edit is refused 
 Proofs look into functions without a contract, though; so an edit of such a one never goes with one of a function that names it.
 What isn't refused so is tried alone, in a check of the whole crate, as `rt ci` tries what stands in crates/CRATE/must-fail.
 
-Usage: python3 tests/edits.py [--over-gate] [CRATE..]
+Usage: python3 tests/edits.py [--over-gate] [--changed] [CRATE..]
 
 --over-gate takes the libraries that `rt ci` has just proved in this folder; else they are proved first where they aren't yet.
+--changed leaves out the crates of which dist/edits says that all their edits were refused: with these edits, of these sources of the
+crate and of those below it, by this kit. A whole run writes that list to .spt/edits, and .ci/release puts it into dist/.
 The last line is 'N passed, M failed'.
 """
 
 import argparse
 import dataclasses
+import hashlib
 import os
 import re
+import subprocess
 import sys
 import tempfile
 
@@ -30,6 +34,8 @@ OWNER = re.compile(r"(?:pub )?(?:unsafe )?(?:impl|trait)\b")
 OF_A_TRAIT = re.compile(r".* for \W*(?:mut )?(?:\w+::)*(\w+)")
 INHERENT = re.compile(r"(?:impl(?:<.*?>)?|(?:pub )?trait) (\w+)")
 JOBS = ["--jobs", "1"]
+KEPT = f"{HOME}/dist/edits"
+MADE = f"{HOME}/.spt/edits"
 
 
 @dataclasses.dataclass(frozen=True)
@@ -189,18 +195,42 @@ def tried(crate):
     return [holds for holds, _ in outcomes]
 
 
+def sum_of(crate):
+    """Of all that the answers of a crate's edits stand on: the edits, the sources of the crate and of those below it, the kit."""
+    script = 'home=$1; . "$home/.ci/program.sh"; digest "$2"; rt version'
+    said = subprocess.run(["sh", "-c", script, "sh", HOME, crate.name], capture_output=True, check=True).stdout
+    for edit in edits_of(crate):
+        said += f"{edit.name}\n{edit.lines}".encode()
+    return hashlib.sha256(said).hexdigest()
+
+
+def kept_sums():
+    """The sum of each crate all of whose edits were refused, as dist/ has it."""
+    if not os.path.isfile(KEPT):
+        return {}
+    with open(KEPT) as file:
+        return dict(line.split() for line in file)
+
+
+def keep(sums):
+    os.makedirs(os.path.dirname(MADE), exist_ok=True)
+    with open(MADE, "w") as file:
+        file.writelines(f"{name} {sums[name]}\n" for name in sorted(sums))
+
+
 def lanes(crates):
     """A lane of the kit for each crate: its work in edits, its memory, and the call."""
 
     def task(crate):
         return [], len(os.listdir(f"{crate.folder}/edits")), rt.need(crate), lambda given, jobs: tried(crate)
 
-    return {(it.name, "edits"): task(it) for it in crates if os.path.isdir(f"{it.folder}/edits")}
+    return {(it.name, "edits"): task(it) for it in crates}
 
 
 def main():
     options = argparse.ArgumentParser(description=__doc__, formatter_class=argparse.RawDescriptionHelpFormatter)
     options.add_argument("--over-gate", action="store_true")
+    options.add_argument("--changed", action="store_true")
     options.add_argument("crates", nargs="*")
     chosen = options.parse_args()
     os.chdir(HOME)
@@ -209,12 +239,22 @@ def main():
         rt.rtlib.Crate = rt.Crate
         rt.Crate.cuts_libraries = True
     crates = [it for it in rt.rtlib.crates_below(HOME) if not chosen.crates or it.name in chosen.crates]
+    crates = [it for it in crates if os.path.isdir(f"{it.folder}/edits")]
+    sums, before = {it.name: sum_of(it) for it in crates}, kept_sums() if chosen.changed else {}
+    refused_before = [it for it in crates if before.get(it.name) == sums[it.name]]
+    for crate in refused_before:
+        print(f"{crate.name}: its edits were refused before, of the same sources")
+    crates = [it for it in crates if it not in refused_before]
     for crate in crates:
         if not chosen.over_gate and any(dep.build_rlib(JOBS, anew=False) for dep in crate.below()):
             return 1
-    outcomes = [it for found in rt.in_lanes(lanes(crates)).values() for it in found]
+    found = rt.in_lanes(lanes(crates)) if crates else {}
+    if not chosen.crates:
+        wrong = {name for (name, _), outcomes in found.items() if not all(outcomes)}
+        keep({name: its for name, its in sums.items() if name not in wrong})
+    outcomes = [it for outcomes in found.values() for it in outcomes]
     print(f"{sum(outcomes)} passed, {len(outcomes) - sum(outcomes)} failed")
-    return 0 if outcomes and all(outcomes) else 1
+    return 0 if all(outcomes) else 1
 
 
 if __name__ == "__main__":
