@@ -189,8 +189,9 @@ def tried(crate):
             if edit in found:
                 outcomes.append((True, f"{crate.name}/{edit.name}: refused"))
             else:
-                holds, said = rt.must_fail(crate, edit.path, JOBS, kept_whole)
-                outcomes.append((holds, said.replace("must-fail ", "alone: ").replace(".edit", "")))
+                outcome, said = rt.must_fail(crate, edit.path, JOBS, kept_whole)
+                is_refused = outcome in (rt.REFUSED, rt.AT_LIMIT)
+                outcomes.append((is_refused, said.replace("must-fail ", "alone: ").replace(".edit", "")))
     print("\n".join(said for _, said in outcomes), flush=True)
     return [holds for holds, _ in outcomes]
 

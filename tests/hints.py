@@ -56,7 +56,8 @@ FORMS = [
     ("zstd", zstd, "compressed by zstd", "zstdcat"),
     ("zip", zipped, "compressed by zip", "funzip"),
     ("a byte order mark", lambda data: b"\xef\xbb\xbf" + data, "begins with a byte order mark", "tail -c +4"),
-    ("UTF-16", lambda data: data.decode().encode("utf-16"), "text in UTF-16", "iconv -f UTF-16 -t UTF-8"),
+    ("UTF-16", lambda data: b"\xff\xfe" + data.decode().encode("utf-16-le"), "text in UTF-16", "iconv -f UTF-16 -t UTF-8"),
+    ("UTF-16 of the other order", lambda data: b"\xfe\xff" + data.decode().encode("utf-16-be"), "text in UTF-16", "iconv -f UTF-16 -t UTF-8"),
 ]
 
 
@@ -89,6 +90,14 @@ def forms(count, program, folder):
         told = run(program, "check", GRAPH, tree)
         wanted = f"spt: {tree}: {what}; use {tool} {tree} | spt check .. -"
         count.of(f"a tree, {name}: {told}", told[0] == 2 and second(told) == wanted)
+
+
+def plain(count, program, folder):
+    """Of a file that begins otherwise nothing is said."""
+    for data in (b"", b"\x1f", b"begins otherwise\n"):
+        graph = put(f"{folder}/plain", data)
+        told = run(program, "tree", graph, SOURCES, "--delta", "3")
+        count.of(f"a graph that begins with {data}: {told}", told[0] == 2 and told[2].count("\n") == 1)
 
 
 def reasons(count, program, folder):
@@ -129,19 +138,24 @@ def layouts(count, program, folder):
         count.of(f"{vertices} vertices: {told}", told == (2, "", lines))
         told = run(program, "tree", "-", "--source", "1", "--delta", "3", "--pred-bits", layout, given=read(graph))
         count.of(f"{vertices} vertices on standard input: {told}", told == (2, "", "spt: gr: line 2: 5 OutOfRange N\n"))
+    graph = put(f"{folder}/large.gr", b"c many vertices\n\n p  sp 268435455 0 \n")
+    told = run(program, "check", graph, TREE, "--pred-bits", "20")
+    wanted = f"spt: gr: line 3: 5 OutOfRange N\nspt: {graph}: 268435455 vertices; use --pred-bits 32\n"
+    count.of(f"vertices between blanks: {told}", told == (2, "", wanted))
 
 
 def unread(count, program, folder):
-    """Nobody reads the output, which is no fault that a user wants to be told of."""
+    """Nobody reads the output, which is no fault that a user wants to be told of, but where it was to go to a file."""
     graph = put(f"{folder}/many.gr", b"p sp 100000 0\n")
     words = [program, "tree", graph, *(word for it in range(1, 2000) for word in ("--source", str(it))), "--delta", "3"]
-    for told in (words, [program, "--help"]):
+    broken = b"spt: write failed\nspt: /dev/stdout: Broken pipe (os error 32)\n"
+    for told, errors in ((words, b""), ([program, "--help"], b""), ([*words, "-o", "/dev/stdout"], broken)):
         reading, writing = os.pipe()
         os.close(reading)
         done = subprocess.run(told, stdout=writing, stderr=subprocess.PIPE, timeout=SECONDS)
         os.close(writing)
-        count.of(f"{told[1]} that nobody reads: {done}", (done.returncode, done.stderr) == (6, b""))
+        count.of(f"{told[1]} that nobody reads: {done}", (done.returncode, done.stderr) == (6, errors))
 
 
 if __name__ == "__main__":
-    sys.exit(try_all(__doc__, (forms, reasons, layouts, unread)))
+    sys.exit(try_all(__doc__, (forms, plain, reasons, layouts, unread)))

@@ -15,7 +15,7 @@ sys.dont_write_bytecode = True
 from trees import HOME, try_all  # noqa: E402
 
 SECONDS = 60
-GRAPH, SOURCES = (f"{HOME}/examples/diamond.{ending}" for ending in ("gr", "ss"))
+GRAPH, SOURCES, PAIRS = (f"{HOME}/examples/diamond.{ending}" for ending in ("gr", "ss", "pairs"))
 STRETCH = 1 << 24
 
 
@@ -47,6 +47,21 @@ def sources_in_turn(count, program, folder):
     count.of(f"three sources: {told[2]!r}", told[0] == 0 and rises and "\nspt: 3 of 3 sources" in told[2])
 
 
+def pairs_in_turn(count, program, folder):
+    """How many pairs are found before each source is run from."""
+    words = ("pairs", GRAPH, PAIRS, "--delta", "mean")
+    told, plain = run(program, *words, "--progress"), run(program, *words)
+    lines = [
+        f"spt: gr: {os.path.getsize(GRAPH)} bytes read",
+        f"spt: pairs: {os.path.getsize(PAIRS)} bytes read",
+        "spt: graph of 4 vertices and 5 arcs",
+        "spt: 0 of 3 pairs",
+        "spt: 2 of 3 pairs",
+        "spt: 3 of 3 pairs",
+    ]
+    count.of(f"three pairs: {told}", told[:2] == plain[:2] and told[2].splitlines() == lines and plain[2] == "")
+
+
 def long_file(count, program, folder):
     """A file of more than 16 MiB is told of on the way; the numbers rise, and the last is its size."""
     path = f"{folder}/long.gr"
@@ -71,4 +86,4 @@ def closed(count, program, folder):
 
 
 if __name__ == "__main__":
-    sys.exit(try_all(__doc__, (small, sources_in_turn, long_file, closed)))
+    sys.exit(try_all(__doc__, (small, sources_in_turn, pairs_in_turn, long_file, closed)))

@@ -1,6 +1,7 @@
 pub mod AnswersInOrder
 pub mod AnswersExist
 pub mod OfFile
+pub mod Chosen
 pub mod TextsToAnswers
 pub mod TextsToPairs
 pub mod SlotSteps

@@ -9,14 +9,13 @@ use Rattle.sp_paths.specs.Paths.{Graph}
 use Rattle.sp_paths.specs.Bags.{AreSame}
 use Rattle.sp_paths.proofs.SameArcs.{same_arcs_same_answers}
 use Rattle.sp_dimacs.specs.declared.graphs.GrFile.{GrFile}
-use Rattle.sp_dimacs.specs.declared.sources.SsFile.{SsFile}
 use Rattle.sp_dimacs.specs.Graph.{graph_of, IsNetwork}
-use Rattle.sp_dimacs.specs.Sources.{AreSourcesWithin}
 use Rattle.sp_device.specs.declared.devices.Write.{Ghosts as Writer}
 use Rattle.sp_batch.specs.declared.answers.Summary.{Summary}
 use Rattle.sp_batch.specs.declared.answers.BatchError.{BatchError}
 use Rattle.sp_batch.specs.declared.answers.BatchError.TheVariants.{Gr, Ss, Pairs, NoSuchVertex, Memory, Write}
 use Rattle.sp_batch.specs.Batch.{Answer, TreeOf, FarFrom, IsAnswerTo, AreAnswers, HasBegun}
+use Rattle.sp_batch.specs.Places.{AreNumbered}
 use Rattle.sp_batch.specs.Steps.{HasBegunFirst, AreAllAnswered}
 use Rattle.sp_batch.specs.Answered.{IsBatch, is_early}
 use Rattle.sp_batch.proofs.AnswersInOrder.{none_begun}
@@ -60,32 +59,32 @@ same_graph file graph n arcs = record {
   back = λ (a : Arc) is. Contains-permutation file.arcs.items graph.arcs a arcs is;
 }
 
--- A file and a list of sources that are vertices of its graph.
-pub record AreSources (P : ℕ) (file : GrFile) (list : SsFile) : Type 0 where
+-- A file and sources that are vertices of its graph.
+pub record AreSources (P : ℕ) (file : GrFile) (sources : List ℕ) : Type 0 where
   pub layout : is_layout P ≡ true
   pub network : IsNetwork P file
-  pub named : AreSourcesWithin P list
-  pub within : All (λ s. s ≤ file.n) list.sources.items
+  pub numbered : AreNumbered sources
+  pub within : All (λ s. s ≤ file.n) sources
 
 -- What was begun with the first answers is a beginning with all.
-file_begun : (P : ℕ) (file : GrFile) (list : SsFile) (old new : Option (List ℕ)) → AreSources P file list → HasBegunFirst P (graph_of file) list.sources.items old new → HasBegun P (graph_of file) list.sources.items old new
-file_begun P file list old new ok begun =
-    begun_whole P (graph_of file) ok.layout ok.network.most ok.network.arcs list.sources.items old new (λ i d less. ((ok.named.sources i d less).least, ok.within i d less)) begun
+file_begun : (P : ℕ) (file : GrFile) (sources : List ℕ) (old new : Option (List ℕ)) → AreSources P file sources → HasBegunFirst P (graph_of file) sources old new → HasBegun P (graph_of file) sources old new
+file_begun P file sources old new ok begun =
+    begun_whole P (graph_of file) ok.layout ok.network.most ok.network.arcs sources old new (λ i d less. (ok.numbered.named i d less, ok.within i d less)) begun
 
 -- What was answered for the rows of a file's graph was answered for the file.
-pub of_file : {W : Type 0} (P : ℕ) (file : GrFile) (list : SsFile) (graph : Graph) (device : Writer W) (old new : W) (result : Result Summary BatchError) → AreSame graph (graph_of file) → AreSources P file list
-    → AreAllAnswered P graph list.sources.items device old result new → IsBatch P file list device old new result
-of_file P file list graph device old new (Ok summary) same ok h = (h.answers, same_all P graph (graph_of file) list.sources.items h.answers same h.are, h.text.wrote, h.text.counted)
-of_file P file list graph device old new (Err Memory) same ok begun = (ok.within, file_begun P file list (device.written old) (device.written new) ok (same_begun P graph (graph_of file) list.sources.items (device.written old) (device.written new) same begun))
-of_file P file list graph device old new (Err Write) same ok (begun, failed) = (ok.within, file_begun P file list (device.written old) (device.written new) ok (same_begun P graph (graph_of file) list.sources.items (device.written old) (device.written new) same begun), failed)
-of_file P file list graph device old new (Err (Gr e)) same ok is = absurd is
-of_file P file list graph device old new (Err (Ss e)) same ok is = absurd is
-of_file P file list graph device old new (Err (Pairs e)) same ok is = absurd is
-of_file P file list graph device old new (Err (NoSuchVertex v)) same ok is = absurd is
+pub of_file : {W : Type 0} (P : ℕ) (file : GrFile) (sources : List ℕ) (graph : Graph) (device : Writer W) (old new : W) (result : Result Summary BatchError) → AreSame graph (graph_of file) → AreSources P file sources
+    → AreAllAnswered P graph sources device old result new → IsBatch P file sources device old new result
+of_file P file sources graph device old new (Ok summary) same ok h = (h.answers, same_all P graph (graph_of file) sources h.answers same h.are, h.text.wrote, h.text.counted)
+of_file P file sources graph device old new (Err Memory) same ok begun = (ok.within, file_begun P file sources (device.written old) (device.written new) ok (same_begun P graph (graph_of file) sources (device.written old) (device.written new) same begun))
+of_file P file sources graph device old new (Err Write) same ok (begun, failed) = (ok.within, file_begun P file sources (device.written old) (device.written new) ok (same_begun P graph (graph_of file) sources (device.written old) (device.written new) same begun), failed)
+of_file P file sources graph device old new (Err (Gr e)) same ok is = absurd is
+of_file P file sources graph device old new (Err (Ss e)) same ok is = absurd is
+of_file P file sources graph device old new (Err (Pairs e)) same ok is = absurd is
+of_file P file sources graph device old new (Err (NoSuchVertex v)) same ok is = absurd is
 
 -- Memory was refused before anything was written.
-pub refused_early : {W : Type 0} (P : ℕ) (file : GrFile) (list : SsFile) (device : Writer W) (old : W) → AreSources P file list → IsBatch P file list device old old (Err Memory)
-refused_early P file list device old ok = (ok.within, file_begun P file list (device.written old) (device.written old) ok (none_begun P (graph_of file) list.sources.items (device.written old)))
+pub refused_early : {W : Type 0} (P : ℕ) (file : GrFile) (sources : List ℕ) (device : Writer W) (old : W) → AreSources P file sources → IsBatch P file sources device old old (Err Memory)
+refused_early P file sources device old ok = (ok.within, file_begun P file sources (device.written old) (device.written old) ok (none_begun P (graph_of file) sources (device.written old)))
 
 -- Once answers are written, no file is refused.
 pub not_early : {W : Type 0} (P : ℕ) (g : Graph) (sources : List ℕ) (device : Writer W) (old new : W) (result : Result Summary BatchError) (same : Type 0) → AreAllAnswered P g sources device old result new → IfErr result (λ e. is_early e ≡ true → same)

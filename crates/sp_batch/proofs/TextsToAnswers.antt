@@ -12,7 +12,8 @@ use Rattle.sp_dimacs.specs.Sources.{SpellsSources, SourcesRead}
 use Rattle.sp_batch.specs.declared.answers.Summary.{Summary}
 use Rattle.sp_batch.specs.declared.answers.BatchError.{BatchError}
 use Rattle.sp_batch.specs.declared.answers.BatchError.TheVariants.{Gr, Ss, Pairs, NoSuchVertex, Memory, Write}
-use Rattle.sp_batch.specs.Answered.{IsBatch, BatchAnswered, BatchOfSome}
+use Rattle.sp_batch.specs.Places.{part_of}
+use Rattle.sp_batch.specs.Answered.{IsBatch, BatchAnswered, BatchOfSome, GivenAnswered, GivenOfSome}
 
 -- What was read to its end is spelled.
 pub graph_spelled : (P : ℕ) (text : List ℕ) (left : Option (List ℕ)) (has_failed : Bool) (file : GrFile) → GraphRead P text left has_failed (Ok file) → SpellsGraph P text file
@@ -21,23 +22,44 @@ graph_spelled P text left has_failed file (_, clean, (ps, found, is)) = (ps, ite
 pub sources_spelled : (P : ℕ) (text : List ℕ) (left : Option (List ℕ)) (has_failed : Bool) (list : SsFile) → SourcesRead P text left has_failed (Ok list) → SpellsSources P text list
 sources_spelled P text left has_failed list (_, clean, (ps, found, is)) = (ps, items_of ss (lines text), record { faultless = clean; problem_line = found; item_lines = refl }, is)
 
--- What was answered for a graph and sources is the answer to texts that spell them.
-pub answered : {G S W : Type 0} (P : ℕ) (gr_text ss_text : List ℕ) (g : Reader G) (gr : G) (s : Reader S) (ss : S) (w : Writer W) (old new : W) (file : GrFile) (list : SsFile) (result : Result Summary BatchError)
-    → SpellsGraph P gr_text file → SpellsSources P ss_text list → IsBatch P file list w old new result → BatchAnswered P gr_text ss_text g gr s ss w old new result
-answered P gr_text ss_text g gr s ss w old new file list (Ok summary) graph sources is = (file, list, graph, sources, is)
-answered P gr_text ss_text g gr s ss w old new file list (Err (NoSuchVertex v)) graph sources is = (file, list, graph, sources, is)
-answered P gr_text ss_text g gr s ss w old new file list (Err Memory) graph sources is = (file, list, graph, sources, is)
-answered P gr_text ss_text g gr s ss w old new file list (Err Write) graph sources is = (file, list, graph, sources, is)
-answered P gr_text ss_text g gr s ss w old new file list (Err (Gr e)) graph sources is = absurd is
-answered P gr_text ss_text g gr s ss w old new file list (Err (Ss e)) graph sources is = absurd is
-answered P gr_text ss_text g gr s ss w old new file list (Err (Pairs e)) graph sources is = absurd is
+-- What was answered for a graph and a part of some sources is the answer to texts that spell them.
+pub answered : {G S W : Type 0} (P : ℕ) (places : Option (ℕ × ℕ)) (gr_text ss_text : List ℕ) (g : Reader G) (gr : G) (s : Reader S) (ss : S) (w : Writer W) (old new : W) (file : GrFile) (list : SsFile) (result : Result Summary BatchError)
+    → SpellsGraph P gr_text file → SpellsSources P ss_text list → IsBatch P file (part_of places list.sources.items) w old new result → BatchAnswered P places gr_text ss_text g gr s ss w old new result
+answered P places gr_text ss_text g gr s ss w old new file list (Ok summary) graph sources is = (file, list, graph, sources, is)
+answered P places gr_text ss_text g gr s ss w old new file list (Err (NoSuchVertex v)) graph sources is = (file, list, graph, sources, is)
+answered P places gr_text ss_text g gr s ss w old new file list (Err Memory) graph sources is = (file, list, graph, sources, is)
+answered P places gr_text ss_text g gr s ss w old new file list (Err Write) graph sources is = (file, list, graph, sources, is)
+answered P places gr_text ss_text g gr s ss w old new file list (Err (Gr e)) graph sources is = absurd is
+answered P places gr_text ss_text g gr s ss w old new file list (Err (Ss e)) graph sources is = absurd is
+answered P places gr_text ss_text g gr s ss w old new file list (Err (Pairs e)) graph sources is = absurd is
 
-pub of_some : {W : Type 0} (P : ℕ) (gr_text ss_text : List ℕ) (w : Writer W) (old new : W) (file : GrFile) (list : SsFile) (result : Result Summary BatchError)
-    → SpellsGraph P gr_text file → SpellsSources P ss_text list → IsBatch P file list w old new result → BatchOfSome P w old new result
-of_some P gr_text ss_text w old new file list (Ok summary) graph sources is = (gr_text, ss_text, file, list, graph, sources, is)
-of_some P gr_text ss_text w old new file list (Err (NoSuchVertex v)) graph sources is = (gr_text, ss_text, file, list, graph, sources, is)
-of_some P gr_text ss_text w old new file list (Err Memory) graph sources is = (gr_text, ss_text, file, list, graph, sources, is)
-of_some P gr_text ss_text w old new file list (Err Write) graph sources is = (gr_text, ss_text, file, list, graph, sources, is)
-of_some P gr_text ss_text w old new file list (Err (Gr e)) graph sources is = absurd is
-of_some P gr_text ss_text w old new file list (Err (Ss e)) graph sources is = absurd is
-of_some P gr_text ss_text w old new file list (Err (Pairs e)) graph sources is = absurd is
+pub of_some : {W : Type 0} (P : ℕ) (places : Option (ℕ × ℕ)) (gr_text ss_text : List ℕ) (w : Writer W) (old new : W) (file : GrFile) (list : SsFile) (result : Result Summary BatchError)
+    → SpellsGraph P gr_text file → SpellsSources P ss_text list → IsBatch P file (part_of places list.sources.items) w old new result → BatchOfSome P places w old new result
+of_some P places gr_text ss_text w old new file list (Ok summary) graph sources is = (gr_text, ss_text, file, list, graph, sources, is)
+of_some P places gr_text ss_text w old new file list (Err (NoSuchVertex v)) graph sources is = (gr_text, ss_text, file, list, graph, sources, is)
+of_some P places gr_text ss_text w old new file list (Err Memory) graph sources is = (gr_text, ss_text, file, list, graph, sources, is)
+of_some P places gr_text ss_text w old new file list (Err Write) graph sources is = (gr_text, ss_text, file, list, graph, sources, is)
+of_some P places gr_text ss_text w old new file list (Err (Gr e)) graph sources is = absurd is
+of_some P places gr_text ss_text w old new file list (Err (Ss e)) graph sources is = absurd is
+of_some P places gr_text ss_text w old new file list (Err (Pairs e)) graph sources is = absurd is
+
+-- What was answered for a graph and given sources is the answer to a text that spells the graph.
+pub given_answered : {G W : Type 0} (P : ℕ) (gr_text sources : List ℕ) (g : Reader G) (gr : G) (w : Writer W) (old new : W) (file : GrFile) (result : Result Summary BatchError)
+    → SpellsGraph P gr_text file → IsBatch P file sources w old new result → GivenAnswered P gr_text sources g gr w old new result
+given_answered P gr_text sources g gr w old new file (Ok summary) graph is = (file, graph, is)
+given_answered P gr_text sources g gr w old new file (Err (NoSuchVertex v)) graph is = (file, graph, is)
+given_answered P gr_text sources g gr w old new file (Err Memory) graph is = (file, graph, is)
+given_answered P gr_text sources g gr w old new file (Err Write) graph is = (file, graph, is)
+given_answered P gr_text sources g gr w old new file (Err (Gr e)) graph is = absurd is
+given_answered P gr_text sources g gr w old new file (Err (Ss e)) graph is = absurd is
+given_answered P gr_text sources g gr w old new file (Err (Pairs e)) graph is = absurd is
+
+pub given_of_some : {W : Type 0} (P : ℕ) (gr_text sources : List ℕ) (w : Writer W) (old new : W) (file : GrFile) (result : Result Summary BatchError)
+    → SpellsGraph P gr_text file → IsBatch P file sources w old new result → GivenOfSome P sources w old new result
+given_of_some P gr_text sources w old new file (Ok summary) graph is = (gr_text, file, graph, is)
+given_of_some P gr_text sources w old new file (Err (NoSuchVertex v)) graph is = (gr_text, file, graph, is)
+given_of_some P gr_text sources w old new file (Err Memory) graph is = (gr_text, file, graph, is)
+given_of_some P gr_text sources w old new file (Err Write) graph is = (gr_text, file, graph, is)
+given_of_some P gr_text sources w old new file (Err (Gr e)) graph is = absurd is
+given_of_some P gr_text sources w old new file (Err (Ss e)) graph is = absurd is
+given_of_some P gr_text sources w old new file (Err (Pairs e)) graph is = absurd is

@@ -1,5 +1,6 @@
 pub mod Batch
 pub mod Width
+pub mod Places
 pub mod Found
 pub mod Steps
 pub mod Answered

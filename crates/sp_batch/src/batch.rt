@@ -1,19 +1,20 @@
 //! A batch of sources.
-ghost use Rattle.std.specs.Prelude.{◌≡◌, ◌≤◌, ℕ, true, List, length, All, Some, IfSome, IfNone, IfErr};
+ghost use Rattle.std.specs.Prelude.{◌≡◌, ◌≤◌, ℕ, true, List, length, All, Some, None, IfSome, IfNone, IfErr};
 ghost use Rattle.sp_word.specs.Word.{is_layout};
 ghost use Rattle.sp_paths.specs.Paths.{IsVertex, IsGraph};
 ghost use Rattle.sp_dimacs.specs.Graph.{IsNetwork};
-ghost use Rattle.sp_dimacs.specs.Sources.{AreSourcesWithin};
 ghost use Rattle.sp_batch.specs.Batch.{IsFirstAbove};
-ghost use Rattle.sp_batch.specs.Answered.{BatchAnswered, BatchOfSome, IsBatch, is_early};
+ghost use Rattle.sp_batch.specs.Places.{AreNumbered};
+ghost use Rattle.sp_batch.specs.Answered.{BatchAnswered, BatchOfSome, GivenAnswered, GivenOfSome, IsBatch, is_early};
 
 use crate::answering::answer_sources;
 use crate::answers::{BatchError, Summary};
 use crate::finding::Lead;
+use crate::places::{Places, chosen};
 use crate::progress::{Listener, Nobody, Progress};
 use crate::watch::{Unwatched, Watch};
 use crate::width::{BucketWidth, Settings};
-use sp_dimacs::{GrFile, Read, SsFile, Write, read_gr, read_ss};
+use sp_dimacs::{GrFile, Read, Write, read_gr, read_ss};
 use sp_graph::Graph;
 use sp_word::Workers;
 use std::alloc::Global;
@@ -39,22 +40,22 @@ fn first_above(sources: &[u32], n: u32) -> Option<u32>
 /// Tests the sources, and writes the answers, several sources at once where the graph has at least so many vertices and
 /// arcs in all.
 #[tactic(auto, using(crate::proofs::OfFile::not_early))]
-pub(crate) fn answer_files<const P: u32, R: Threads + Wait + Sync + Watch, W: Write, L: Listener>(
+pub(crate) fn answer_file<const P: u32, R: Threads + Wait + Sync + Watch, W: Write, L: Listener>(
     rt: &R,
     alloc: Global,
     file: GrFile,
-    list: &SsFile,
+    sources: &[u32],
     least: usize,
     settings: &Settings<P, L>,
     out: &mut W,
 ) -> Result<Summary, BatchError>
     requires layout { is_layout P ≡ true }
     requires network { IsNetwork P file }
-    requires sources { AreSourcesWithin P list.now }
-    ensures batch { IsBatch P file list.now W.Write out.old out.new result }
+    requires sources { AreNumbered sources.now }
+    ensures batch { IsBatch P file sources.now W.Write out.old out.new result }
     ensures untouched { IfErr result (λ e. is_early e ≡ true → out.new ≡ out.old) }
 {
-    if let Some(source) = first_above(&list.sources, file.n) {
+    if let Some(source) = first_above(sources, file.n) {
         return Err(BatchError::NoSuchVertex(source));
     }
     let graph = Graph::from_arcs(alloc, file.n, file.arcs)?;
@@ -66,7 +67,7 @@ pub(crate) fn answer_files<const P: u32, R: Threads + Wait + Sync + Watch, W: Wr
         plan: settings.plan_for(&graph),
         listener: settings.listener,
     };
-    answer_sources::<P, R, W, L>(rt, alloc, &graph, least, &lead, &list.sources, out)
+    answer_sources::<P, R, W, L>(rt, alloc, &graph, least, &lead, sources, out)
 }
 
 /// Reads a graph and a list of sources, and writes for each source, in the order of the list, its shortest-path tree,
@@ -90,21 +91,21 @@ pub fn run_batch<const P: u32, R: Threads + Wait + Sync, G: Read, S: Read, W: Wr
     requires layout { is_layout P ≡ true }
     ensures exact { (gr_text ss_text : List ℕ)
         → G.left gr.old ≡ Some gr_text → S.left ss.old ≡ Some ss_text
-        → BatchAnswered P gr_text ss_text G.Read gr.new S.Read ss.new
+        → BatchAnswered P None gr_text ss_text G.Read gr.new S.Read ss.new
         W.Write out.old out.new result }
     ensures untouched { IfErr result (λ e. is_early e ≡ true → out.new ≡ out.old) }
-    ensures found { BatchOfSome P W.Write out.old out.new result }
+    ensures found { BatchOfSome P None W.Write out.old out.new result }
 {
     let settings = Settings {
         width,
         workers,
         listener: &Nobody,
     };
-    run_batch_told::<P, R, G, S, W, Nobody>(rt, alloc, gr, ss, out, &settings)
+    run_batch_told::<P, R, G, S, W, Nobody>(rt, alloc, gr, ss, None, out, &settings)
 }
 
-/// The same as `run_batch`, and tells how far it is: when the graph stands, and before each source, or each group of those that
-/// are answered at once.
+/// The same as `run_batch`, for the sources at these places of the list alone where places are given, and tells how far it is:
+/// when the graph stands, and before each source, or each group of those that are answered at once.
 pub fn run_batch_told<
     const P: u32,
     R: Threads + Wait + Sync,
@@ -117,16 +118,17 @@ pub fn run_batch_told<
     alloc: Global,
     gr: &mut G,
     ss: &mut S,
+    places: Option<Places>,
     out: &mut W,
     settings: &Settings<P, L>,
 ) -> Result<Summary, BatchError>
     requires layout { is_layout P ≡ true }
     ensures exact { (gr_text ss_text : List ℕ)
         → G.left gr.old ≡ Some gr_text → S.left ss.old ≡ Some ss_text
-        → BatchAnswered P gr_text ss_text G.Read gr.new S.Read ss.new
+        → BatchAnswered P places gr_text ss_text G.Read gr.new S.Read ss.new
         W.Write out.old out.new result }
     ensures untouched { IfErr result (λ e. is_early e ≡ true → out.new ≡ out.old) }
-    ensures found { BatchOfSome P W.Write out.old out.new result }
+    ensures found { BatchOfSome P places W.Write out.old out.new result }
 {
     let file = match read_gr::<P, G>(alloc, gr) {
         Ok(file) => file,
@@ -136,13 +138,40 @@ pub fn run_batch_told<
         Ok(list) => list,
         Err(error) => return Err(BatchError::Ss(error)),
     };
-    answer_files::<P, (&R, Unwatched), W, L>(
-        &(rt, Unwatched),
-        alloc,
-        file,
-        &list,
-        LEAST_ITEMS,
-        settings,
-        out,
-    )
+    let sources = chosen::<P>(places, &list);
+    let rt = &(rt, Unwatched);
+    answer_file::<P, (&R, Unwatched), W, L>(rt, alloc, file, sources, LEAST_ITEMS, settings, out)
+}
+
+/// The same for sources that were given, in place of the text of a list.
+pub fn run_given_told<const P: u32, R: Threads + Wait + Sync, G: Read, W: Write, L: Listener>(
+    rt: &R,
+    alloc: Global,
+    gr: &mut G,
+    sources: &[u32],
+    out: &mut W,
+    settings: &Settings<P, L>,
+) -> Result<Summary, BatchError>
+    requires layout { is_layout P ≡ true }
+    requires sources { AreNumbered sources.now }
+    ensures exact { (gr_text : List ℕ) → G.left gr.old ≡ Some gr_text
+        → GivenAnswered P gr_text sources.now G.Read gr.new W.Write out.old out.new result }
+    ensures untouched { IfErr result (λ e. is_early e ≡ true → out.new ≡ out.old) }
+    ensures found { GivenOfSome P sources.now W.Write out.old out.new result }
+{
+    let rt = &(rt, Unwatched);
+    match read_gr::<P, G>(alloc, gr) {
+        Ok(file) => {
+            answer_file::<P, (&R, Unwatched), W, L>(
+                rt,
+                alloc,
+                file,
+                sources,
+                LEAST_ITEMS,
+                settings,
+                out,
+            )
+        }
+        Err(error) => Err(BatchError::Gr(error)),
+    }
 }

@@ -6,11 +6,11 @@ mod devices;
 mod graphs;
 mod groups;
 mod meeting;
-mod refusals;
 mod slots;
 mod threads;
 
-use crate::batch::answer_files;
+use crate::batch::answer_file;
+use crate::places::chosen;
 use crate::watch::{Unwatched, Watch};
 use crate::{BatchError, BucketWidth, Nobody, Settings, Summary, run_batch};
 use sp_dimacs::{DimacsError, Kind, UpTo, UpToWriter, read_gr, read_ss};
@@ -117,7 +117,8 @@ pub fn run_watched<R: Threads + Wait + Sync + Watch>(
         workers,
         listener: &Nobody,
     };
-    let answer = answer_files::<28, R, _, _>(rt, alloc, file, &list, least, &settings, &mut out);
+    let sources = chosen::<28>(None, &list);
+    let answer = answer_file::<28, R, _, _>(rt, alloc, file, sources, least, &settings, &mut out);
     Ran { answer, out }
 }
 
@@ -187,9 +188,4 @@ pub fn count_processors(rt: &impl Threads) -> u64 {
 /// A fault of the graph.
 pub fn gr(line: u64, kind: Kind) -> Result<Summary, BatchError> {
     Err(BatchError::Gr(DimacsError { line, kind }))
-}
-
-/// A fault of the sources.
-pub fn ss(line: u64, kind: Kind) -> Result<Summary, BatchError> {
-    Err(BatchError::Ss(DimacsError { line, kind }))
 }

@@ -1,5 +1,5 @@
 -- What the answers of `tree` and `pairs` say of the texts of their files and of what is written then.
-use Rattle.std.specs.Prelude.{◌≡◌, ◌≤◌, ℕ, Bool, List, All, Option, Some, None, Result, Ok, Err, IfOk}
+use Rattle.std.specs.Prelude.{◌≡◌, ◌≤◌, ℕ, Bool, List, All, Option, Some, None, Result, Ok, Err, IsErr}
 use Rattle.std.specs.Io.KnownBytes.{Appends}
 use Rattle.sp_text.specs.declared.faults.DimacsError.{DimacsError}
 use Rattle.sp_paths.specs.Paths.{PairAnswer}
@@ -11,6 +11,7 @@ use Rattle.sp_dimacs.specs.Sources.{SpellsSources, SourcesRead}
 use Rattle.sp_dimacs.specs.Pairs.{SpellsPairs, PairsRead}
 use Rattle.sp_batch.specs.declared.answers.Summary.{Summary}
 use Rattle.sp_batch.specs.Batch.{Answer, AreAnswers, batch_text, IsSummary, HasBegun, IsFirstAbove}
+use Rattle.sp_batch.specs.Places.{part_of}
 use Rattle.sp_batch.specs.Pairs.{ArePairAnswers, pairs_text, IsPairsSummary, HasBegunPairs, IsPairUpTo, IsFirstPairAbove}
 use Rattle.sp_command.specs.declared.faults.FileKind.TheVariants as file
 use Rattle.sp_command.specs.declared.faults.Fault.{Fault}
@@ -21,7 +22,7 @@ use Rattle.sp_tools.specs.Reading.{GraphIn}
 use Rattle.sp_cli.specs.declared.commands.tree.Tree.{Tree}
 use Rattle.sp_cli.specs.declared.commands.pairs.Pairs.{Pairs}
 use Rattle.sp_cli.specs.declared.commands.sources.Sources.{Sources}
-use Rattle.sp_cli.specs.declared.commands.sources.Sources.TheVariants.{File, Given}
+use Rattle.sp_cli.specs.declared.commands.sources.Sources.TheVariants.{File, Part, Given}
 use Rattle.sp_cli.specs.Ends.{end_of}
 
 -- ## Texts
@@ -38,13 +39,6 @@ PairsIn P text result = (left : Option (List ℕ)) × (failed : Bool) × PairsRe
 abbrev pub HoldsGraph : (P : ℕ) → (gr : List ℕ) → Type 0
 HoldsGraph P gr = (graph : GrFile) × SpellsGraph P gr graph
 
--- One text spells a graph, and another one sources.
-pub record HoldGraphAndSources (P : ℕ) (gr ss : List ℕ) : Type 0 where
-  pub graph : GrFile
-  pub list : SsFile
-  pub graph_spelled : SpellsGraph P gr graph
-  pub list_spelled : SpellsSources P ss list
-
 -- One text spells a graph, and another one pairs.
 pub record HoldGraphAndPairs (P : ℕ) (gr pairs : List ℕ) : Type 0 where
   pub graph : GrFile
@@ -52,48 +46,77 @@ pub record HoldGraphAndPairs (P : ℕ) (gr pairs : List ℕ) : Type 0 where
   pub graph_spelled : SpellsGraph P gr graph
   pub list_spelled : SpellsPairs P pairs list
 
+-- ## Sources
+
+-- the sources that a command was given: those at some places of a text, or all of it; or these
+pub data Asked : Type 0 where
+  InText : (places : Option (ℕ × ℕ)) → (ss : List ℕ) → Asked
+  These : (sources : List ℕ) → Asked
+
+-- these are they
+abbrev pub AreAsked : (P : ℕ) → Asked → (sources : List ℕ) → Type 0
+AreAsked P (InText places ss) sources = (list : SsFile) × SpellsSources P ss list × (sources ≡ part_of places list.sources.items)
+AreAsked P (These given) sources = sources ≡ given
+
+-- a reader refuses their text
+abbrev pub AreRefused : (P : ℕ) → Asked → DimacsError → Type 0
+AreRefused P (InText places ss) e = SourcesIn P ss (Err e)
+AreRefused P (These given) e = ⊥
+
+-- A text spells a graph, and these are the sources.
+pub record HasGraphAndSources (P : ℕ) (gr : List ℕ) (asked : Asked) : Type 0 where
+  pub graph : GrFile
+  pub sources : List ℕ
+  pub graph_spelled : SpellsGraph P gr graph
+  pub are_asked : AreAsked P asked sources
+
 -- ## Trees
 
 -- All sources have an answer, exactly the text of all of them was written, and the status tells whether some vertex is too far.
-pub record AreTreesWritten (P : ℕ) (far_ok : Bool) (graph : GrFile) (list : SsFile) (s : Scene) (status : Status) : Type 0 where
+pub record AreTreesWritten (P : ℕ) (far_ok : Bool) (graph : GrFile) (sources : List ℕ) (s : Scene) (status : Status) : Type 0 where
   pub answers : List Answer
   pub summary : Summary
-  pub are : AreAnswers P (graph_of graph) list.sources.items answers
+  pub are : AreAnswers P (graph_of graph) sources answers
   pub wrote : Appends s.before s.after (batch_text answers)
   pub counts : IsSummary answers summary
   pub ends : status ≡ end_of far_ok summary
 
 -- All sources are vertices and have an answer, and of the text of all the answers a beginning stands.
-abbrev pub AreTreesBegun : (P : ℕ) → (gr ss : List ℕ) → Scene → Type 0
-AreTreesBegun P gr ss s = (read : HoldGraphAndSources P gr ss) × All (λ v. v ≤ read.graph.n) read.list.sources.items × HasBegun P (graph_of read.graph) read.list.sources.items s.before s.after
+abbrev pub AreTreesBegun : (P : ℕ) → (gr : List ℕ) → Asked → Scene → Type 0
+AreTreesBegun P gr asked s = (read : HasGraphAndSources P gr asked) × All (λ v. v ≤ read.graph.n) read.sources × HasBegun P (graph_of read.graph) read.sources s.before s.after
 
--- What is written for the texts of a graph and of sources, and how that ends: the answers of all sources; or nothing, where a text
+-- What is written for the text of a graph and for sources, and how that ends: the answers of all sources; or nothing, where a text
 -- is refused or a source is no vertex, or a file couldn't be opened; or a beginning, where memory was refused or the writer failed.
-abbrev pub TreesTold : (P : ℕ) → (far_ok : Bool) → (gr ss : List ℕ) → Scene → Result Status Fault → Type 0
-TreesTold P far_ok gr ss s (Ok status) = (read : HoldGraphAndSources P gr ss) × AreTreesWritten P far_ok read.graph read.list s status
-TreesTold P far_ok gr ss s (Err (fault.Input file.Graph e)) = GraphIn P gr (Err e) × IsUnwritten s
-TreesTold P far_ok gr ss s (Err (fault.Input file.Sources e)) = HoldsGraph P gr × SourcesIn P ss (Err e) × IsUnwritten s
-TreesTold P far_ok gr ss s (Err (fault.NoSuchVertex v)) = (read : HoldGraphAndSources P gr ss) × IsFirstAbove read.graph.n read.list.sources.items v × IsUnwritten s
-TreesTold P far_ok gr ss s (Err fault.Memory) = AreTreesBegun P gr ss s
-TreesTold P far_ok gr ss s (Err fault.WriteFailed) = AreTreesBegun P gr ss s
-TreesTold P far_ok gr ss s (Err (fault.CannotOpen kind)) = IsUnwritten s
-TreesTold P far_ok gr ss s (Err fault.InputTwice) = IsUnwritten s
-TreesTold P far_ok gr ss s (Err fault.DeltaOutOfRange) = IsUnwritten s
-TreesTold P far_ok gr ss s (Err _) = ⊥
+abbrev pub TreesTold : (P : ℕ) → (far_ok : Bool) → (gr : List ℕ) → Asked → Scene → Result Status Fault → Type 0
+TreesTold P far_ok gr asked s (Ok status) = (read : HasGraphAndSources P gr asked) × AreTreesWritten P far_ok read.graph read.sources s status
+TreesTold P far_ok gr asked s (Err (fault.Input file.Graph e)) = GraphIn P gr (Err e) × IsUnwritten s
+TreesTold P far_ok gr asked s (Err (fault.Input file.Sources e)) = HoldsGraph P gr × AreRefused P asked e × IsUnwritten s
+TreesTold P far_ok gr asked s (Err (fault.NoSuchVertex v)) = (read : HasGraphAndSources P gr asked) × IsFirstAbove read.graph.n read.sources v × IsUnwritten s
+TreesTold P far_ok gr asked s (Err fault.Memory) = AreTreesBegun P gr asked s
+TreesTold P far_ok gr asked s (Err fault.WriteFailed) = AreTreesBegun P gr asked s
+TreesTold P far_ok gr asked s (Err (fault.CannotOpen kind)) = IsUnwritten s
+TreesTold P far_ok gr asked s (Err fault.InputTwice) = IsUnwritten s
+TreesTold P far_ok gr asked s (Err fault.DeltaOutOfRange) = IsUnwritten s
+TreesTold P far_ok gr asked s (Err _) = ⊥
 
--- the trees of the sources in the file of this path
-abbrev pub TreesOfFile : (P : ℕ) → (far_ok : Bool) → (graph path : List ℕ) → Scene → Result Status Fault → Type 0
-TreesOfFile P far_ok graph path s result = (gr ss : List ℕ) → HasText s graph gr → HasText s path ss → TreesTold P far_ok gr ss s result
+-- the trees of the sources in the file of this path, or of those at some places of it
+abbrev pub TreesOfFile : (P : ℕ) → (far_ok : Bool) → (graph path : List ℕ) → (places : Option (ℕ × ℕ)) → Scene → Result Status Fault → Type 0
+TreesOfFile P far_ok graph path places s result = (gr ss : List ℕ) → HasText s graph gr → HasText s path ss → TreesTold P far_ok gr (InText places ss) s result
 
--- The trees of some list of sources, where all was done. This says nothing of which they are, nor of a run that wasn't done.
-abbrev pub TreesOfSome : (P : ℕ) → (far_ok : Bool) → (graph : List ℕ) → Scene → Result Status Fault → Type 0
-TreesOfSome P far_ok graph s result = IfOk result (λ status. (gr : List ℕ) → HasText s graph gr → (ss : List ℕ) × TreesTold P far_ok gr ss s (Ok status))
+-- the same where a word for the places may spell none, which is told, with nothing written
+abbrev pub TreesOfPart : (P : ℕ) → (far_ok : Bool) → (graph path : List ℕ) → Option (ℕ × ℕ) → Scene → Result Status Fault → Type 0
+TreesOfPart P far_ok graph path None s result = IsErr result × IsUnwritten s
+TreesOfPart P far_ok graph path (Some places) s result = TreesOfFile P far_ok graph path (Some places) s result
 
--- those of a whole file, or of a part of one, or those that are given
+-- the trees of these sources
+abbrev pub TreesOfGiven : (P : ℕ) → (far_ok : Bool) → (graph sources : List ℕ) → Scene → Result Status Fault → Type 0
+TreesOfGiven P far_ok graph sources s result = (gr : List ℕ) → HasText s graph gr → TreesTold P far_ok gr (These sources) s result
+
+-- those of a whole file, of a part of one, or those that were given
 abbrev pub TreesOf : (P : ℕ) → (far_ok : Bool) → (graph : List ℕ) → Sources → Scene → Result Status Fault → Type 0
-TreesOf P far_ok graph (File path None) s result = TreesOfFile P far_ok graph path.now s result
-TreesOf P far_ok graph (File path (Some places)) s result = TreesOfSome P far_ok graph s result
-TreesOf P far_ok graph (Given sources) s result = TreesOfSome P far_ok graph s result
+TreesOf P far_ok graph (File path) s result = TreesOfFile P far_ok graph path.now None s result
+TreesOf P far_ok graph (Part path places) s result = TreesOfPart P far_ok graph path.now places s result
+TreesOf P far_ok graph (Given given) s result = TreesOfGiven P far_ok graph given.list.items s result
 
 -- what `tree` answers
 abbrev pub TreeAnswers : (P : ℕ) → Meaning Tree

@@ -12,6 +12,3 @@ mod words;
 
 pub use run::run_command;
 pub use sp_command::{Form, Inputs, Outputs};
-
-#[cfg(test)]
-mod tests;

@@ -14,8 +14,6 @@ mod making;
 mod own;
 mod refusals;
 mod solving;
-#[cfg(test)]
-mod tests;
 mod texts;
 
 pub use answers::{SptAnswer, SptBatch};

@@ -1,7 +1,5 @@
-mod blanks;
 mod counts;
 mod faults;
-mod layouts;
 mod lines;
 mod lists;
 mod pieces;

@@ -1,6 +1,4 @@
 mod offers;
 mod read;
 mod refused;
-mod reports;
-mod runs;
 mod written;

@@ -1,4 +1,3 @@
-mod answers;
 mod devices;
 mod entries;
 mod memory;

@@ -1,5 +1,4 @@
 mod counts;
-mod faults;
 mod layouts;
 mod pieces;
 mod tables;

@@ -1,32 +1,55 @@
 //! The sources of `spt tree`: those of a file, a part of them, or those of the command line.
-ghost use Rattle.std.specs.Prelude.{◌≡◌, ◌≤◌, ◌-◌, true, take, drop, IfSome, IfOk};
-ghost use Rattle.sp_word.specs.Word.{is_layout};
-ghost use Rattle.sp_command.specs.Scene.{IsOpened};
+ghost use Rattle.std.specs.Prelude.{◌≡◌, ◌≤◌, IfSome};
+ghost use Rattle.sp_batch.specs.Places.{AreNumbered};
 
 use clap::{Arg, ArgAction, ArgMatches, Command, value_parser};
-use sp_command::{Fault, FileKind, Inputs, Words};
-use sp_device::Read;
-use sp_dimacs::{read_gr, read_ss};
-use sp_text::DimacsError;
+use sp_batch::Places;
+use sp_command::Words;
 use std::alloc::{AllocError, Global};
 
 // The greatest predecessor of any word.
 const MAX_VERTEX: i64 = 4_294_967_294;
 
-// All places of a file.
-const ALL: &str = "1-1048576";
+// As many sources as a file may have.
+const MOST_SOURCES: usize = 1_048_576;
 
 const PART_LONG: &str = "\
 Write the trees of the sources at the places from A to B of the file alone, counted from 1. Places
 beyond its end have no tree";
 
+/// Sources of the command line, each at least 1, and no more than a file may have.
+#[derive(Drop)]
+pub struct Given {
+    pub list: Vec<u32>,
+    ghost numbered: { AreNumbered list.items },
+}
+
+impl Given {
+    // These, if they may be asked for.
+    fn new(list: Vec<u32>) -> Option<Given>
+        ensures { IfSome result (λ given. given.list.items ≡ list.items) }
+    {
+        if list.len() > MOST_SOURCES {
+            return None;
+        }
+        for source in &list {
+            if *source == 0 {
+                return None;
+            }
+        }
+        Some(Given { list })
+    }
+}
+
 /// Which sources have a tree.
 #[derive(Drop)]
 pub enum Sources<'a> {
-    /// Those of a file, or those at some places of it.
-    File(&'a str, Option<&'a str>),
+    /// Those of a file.
+    File(&'a str),
+    /// Those at some places of a file, where the word for the places spells some.
+    Part(&'a str, Option<Places>),
     /// These.
-    Given(Vec<u32>),
+    Given(Given),
 }
 
 impl<'a> Sources<'a> {
@@ -54,98 +77,38 @@ impl<'a> Sources<'a> {
     /// Reads them.
     pub fn read(alloc: Global, given: &ArgMatches<'a>) -> Result<Option<Self>, AllocError> {
         if let Some(path) = given.get_str("SS") {
-            return Ok(Some(Sources::File(path, given.get_str("sources"))));
+            return Ok(Some(match given.get_str("sources") {
+                Some(places) => Sources::Part(path, places_of(places)),
+                None => Sources::File(path),
+            }));
         }
-        let mut sources = Vec::new(alloc);
         let Some(values) = given.get_many::<u32>("source") else {
             return Ok(None);
         };
+        let mut list = Vec::new(alloc);
         for value in values {
             let Ok(source) = value else {
                 return Ok(None);
             };
-            sources.push(source)?;
+            list.push(source)?;
         }
-        Ok(Some(Sources::Given(sources)))
+        let Some(given) = Given::new(list) else {
+            return Ok(None);
+        };
+        Ok(Some(Sources::Given(given)))
     }
 
     /// The path of the file.
     pub fn path(&self) -> Option<&'a str> {
         match self {
-            Sources::File(path, _) => Some(path),
+            Sources::File(path) | Sources::Part(path, _) => Some(path),
             Sources::Given(_) => None,
-        }
-    }
-
-    /// Opens the graph, and makes the text of a file of these sources.
-    pub fn open<const P: u32, F: Inputs>(
-        &self,
-        alloc: Global,
-        files: &F,
-        graph: &str,
-    ) -> Result<(F::File, String), Fault>
-        requires { is_layout P ≡ true }
-        ensures { IfOk result
-            (λ both. IsOpened (F.text files.now graph.now) (F.File.left both.0)) }
-    {
-        let (path, places) = match self {
-            Sources::File(path, places) => (*path, places.unwrap_or(ALL)),
-            Sources::Given(sources) => {
-                let gr = FileKind::Graph.open(files, graph)?;
-                return Ok((gr, text_of(alloc, sources)?));
-            }
-        };
-        let Some((first, last)) = places_of(places) else {
-            return Err(Fault::NoPlaces);
-        };
-        let (mut gr, mut ss) = FileKind::Sources.open_with_graph(files, graph, path)?;
-        match read_ss::<P, _>(alloc, &mut ss) {
-            Ok(list) => Ok((gr, text_of(alloc, part(&list.sources, first, last))?)),
-            Err(error) => Err(first_fault::<P, _>(alloc, &mut gr, error)),
         }
     }
 }
 
 // The places that `A-B` names.
-fn places_of(text: &str) -> Option<(usize, usize)>
-    ensures { IfSome result (λ p. 1 ≤ p.0) }
-{
+fn places_of(text: &str) -> Option<Places> {
     let (first, last) = text.split_once('-')?;
-    let first: u32 = first.parse().ok()?;
-    let last: u32 = last.parse().ok()?;
-    if first == 0 {
-        return None;
-    }
-    Some((first as usize, last as usize))
-}
-
-// The sources from the first of two places to the last, both counted from 1, as far as there are any.
-#[tactic(auto, using(std::proofs::lemmas::List::take_min, std::proofs::lemmas::List::drop_min))]
-fn part(sources: &[u32], first: usize, last: usize) -> &[u32]
-    requires { 1 ≤ first }
-    ensures { result.now ≡ drop (first - 1) (take last sources.now) }
-{
-    let upto = &sources[..last.min(sources.len())];
-    &upto[(first - 1).min(upto.len())..]
-}
-
-// The text of a file of these sources.
-fn text_of(alloc: Global, sources: &[u32]) -> Result<String, AllocError> {
-    let count = sources.len();
-    let mut text = format!(in alloc; "p aux sp ss {count}\n")?;
-    for source in sources {
-        let line = format!(in alloc; "s {source}\n")?;
-        text.push_str(line.as_str())?;
-    }
-    Ok(text)
-}
-
-// The fault of a graph, or this one of the sources where there is none.
-fn first_fault<const P: u32, R: Read>(alloc: Global, gr: &mut R, error: DimacsError) -> Fault
-    requires { is_layout P ≡ true }
-{
-    match read_gr::<P, _>(alloc, gr) {
-        Ok(_) => FileKind::Sources.fault(error),
-        Err(error) => FileKind::Graph.fault(error),
-    }
+    Places::new(first.parse().ok()?, last.parse().ok()?)
 }

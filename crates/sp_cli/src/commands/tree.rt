@@ -4,18 +4,20 @@ ghost use Rattle.std.specs.Prelude.{◌≡◌, ◌≤◌, ℕ, true, List, Optio
 ghost use Rattle.sp_word.specs.Word.{is_layout};
 ghost use Rattle.sp_command.specs.Faults.{code_of, is_done, status_of};
 ghost use Rattle.sp_command.specs.Scene.{scene};
-ghost use Rattle.sp_cli.specs.Answers.{TreeAnswers, TreesTold, TreesOfFile, TreesOfSome};
+ghost use Rattle.sp_cli.specs.Answers.{TreeAnswers, TreesTold, InText, These, TreesOfFile, TreesOfPart, TreesOfGiven};
 ghost use Rattle.sp_cli.specs.Ends.{end_of, fault_of};
 
 use super::reading::Watched;
 use super::running::{Running, Teller};
-use super::sources::Sources;
+use super::sources::{Given, Sources};
 use clap::{ArgMatches, Error};
-use sp_batch::{BatchError, Listener, Progress, Settings, Summary, run_batch_told};
+use sp_batch::{
+    BatchError, Listener, Places, Progress, Settings, Summary, run_batch_told, run_given_told,
+};
 use sp_command::{
     Command, Fault, FileKind, GRAPH_FILE, Inputs, Run, Status, Words, after_help, file,
 };
-use sp_device::{OfRead, Read, Write};
+use sp_device::{Read, Write};
 use std::alloc::Global;
 use std::sync::Wait;
 use std::thread::Threads;
@@ -58,7 +60,7 @@ The sources are a .ss file:
   s V           a source; there are K of these lines
   c ...         a comment; so is a line without a field
 Both are read, the graph first, and all sources are tested, before anything is written. One of them
-may be `-` for standard input. Sources of the command line are taken as a .ss file of them.
+may be `-` for standard input.
 
 For each source, in the order of its file, a block is written:
   p spt N S     the tree of source S, of N vertices
@@ -162,41 +164,43 @@ impl Tree<'_> {
         self.running.end_of(answer)
     }
 
-    // Runs from the sources of one text in the graph of another.
+    // Runs from the sources of one text, or from those at some places of it, in the graph of another.
     fn run_on<const P: u32, R: Threads + Wait + Sync, G: Read, S: Read, F: Inputs, W: Write>(
         &self,
         rt: &R,
         alloc: Global,
         gr: &mut G,
         ss: &mut S,
+        places: Option<Places>,
         settings: &Settings<P, Teller<'_, F>>,
         out: &mut W,
     ) -> Result<Status, Fault>
         requires { (is_layout P ≡ true) × IsSync R.row }
         ensures answered { (gr_text ss_text : List ℕ) (texts : List ℕ → Option (List ℕ))
             → G.left gr.old ≡ Some gr_text → S.left ss.old ≡ Some ss_text
-            → TreesTold P self.now.running.far_ok gr_text ss_text
+            → TreesTold P self.now.running.far_ok gr_text (InText places ss_text)
             (scene texts (W.written out.old) (W.written out.new)) result }
         ensures done { IfOk result (λ status. is_done status ≡ true) }
         ensures unwritten { IfErr result
             (λ fault. code_of (status_of fault) ≤ 2 → out.new ≡ out.old) }
     {
-        let answer = run_batch_told::<P, R, G, S, W, _>(rt, alloc, gr, ss, out, settings);
+        let answer = run_batch_told::<P, R, G, S, W, _>(rt, alloc, gr, ss, places, out, settings);
         self.end(answer, settings.listener)
     }
 
-    // Runs from the sources of a file.
+    // Runs from the sources of a file, or from those at some places of it.
     fn run_file<const P: u32, R: Threads + Wait + Sync, F: Inputs, W: Write>(
         &self,
         rt: &R,
         alloc: Global,
         files: &F,
         path: &str,
+        places: Option<Places>,
         settings: &Settings<P, Teller<'_, F>>,
         out: &mut W,
     ) -> Result<Status, Fault>
         requires { (is_layout P ≡ true) × IsSync R.row }
-        ensures answered { TreesOfFile P self.now.running.far_ok self.now.graph.now path.now
+        ensures answered { TreesOfFile P self.now.running.far_ok self.now.graph.now path.now places
             (scene (F.text files.now) (W.written out.old) (W.written out.new)) result }
         ensures done { IfOk result (λ status. is_done status ≡ true) }
         ensures unwritten { IfErr result
@@ -205,29 +209,77 @@ impl Tree<'_> {
         let (gr, ss) = FileKind::Sources.open_with_graph(files, self.graph, path)?;
         let mut gr = Watched::new(gr, FileKind::Graph, settings.listener);
         let mut ss = Watched::new(ss, FileKind::Sources, settings.listener);
-        self.run_on::<P, R, _, _, F, W>(rt, alloc, &mut gr, &mut ss, settings, out)
+        self.run_on::<P, R, _, _, F, W>(rt, alloc, &mut gr, &mut ss, places, settings, out)
     }
 
-    // Runs from the sources of a text that is made of those that were given, or of a part of a file's.
-    fn run_made<const P: u32, R: Threads + Wait + Sync, F: Inputs, W: Write>(
+    // Runs from the sources at some places of a file, where the word for the places spells some.
+    fn run_part<const P: u32, R: Threads + Wait + Sync, F: Inputs, W: Write>(
         &self,
         rt: &R,
         alloc: Global,
         files: &F,
+        path: &str,
+        places: &Option<Places>,
         settings: &Settings<P, Teller<'_, F>>,
         out: &mut W,
     ) -> Result<Status, Fault>
         requires { (is_layout P ≡ true) × IsSync R.row }
-        ensures answered { TreesOfSome P self.now.running.far_ok self.now.graph.now
+        ensures answered { TreesOfPart P self.now.running.far_ok self.now.graph.now path.now
+            places.now (scene (F.text files.now) (W.written out.old) (W.written out.new)) result }
+        ensures done { IfOk result (λ status. is_done status ≡ true) }
+        ensures unwritten { IfErr result
+            (λ fault. code_of (status_of fault) ≤ 2 → out.new ≡ out.old) }
+    {
+        if places.is_none() {
+            return Err(Fault::NoPlaces);
+        }
+        self.run_file::<P, R, F, W>(rt, alloc, files, path, *places, settings, out)
+    }
+
+    // Runs from the sources that were given, in the graph of a text.
+    fn run_given_on<const P: u32, R: Threads + Wait + Sync, G: Read, F: Inputs, W: Write>(
+        &self,
+        rt: &R,
+        alloc: Global,
+        gr: &mut G,
+        given: &Given,
+        settings: &Settings<P, Teller<'_, F>>,
+        out: &mut W,
+    ) -> Result<Status, Fault>
+        requires { (is_layout P ≡ true) × IsSync R.row }
+        ensures answered { (gr_text : List ℕ) (texts : List ℕ → Option (List ℕ))
+            → G.left gr.old ≡ Some gr_text
+            → TreesTold P self.now.running.far_ok gr_text (These given.now.list.items)
+            (scene texts (W.written out.old) (W.written out.new)) result }
+        ensures done { IfOk result (λ status. is_done status ≡ true) }
+        ensures unwritten { IfErr result
+            (λ fault. code_of (status_of fault) ≤ 2 → out.new ≡ out.old) }
+    {
+        let answer = run_given_told::<P, R, G, W, _>(rt, alloc, gr, &given.list, out, settings);
+        self.end(answer, settings.listener)
+    }
+
+    // Runs from the sources that were given.
+    fn run_given<const P: u32, R: Threads + Wait + Sync, F: Inputs, W: Write>(
+        &self,
+        rt: &R,
+        alloc: Global,
+        files: &F,
+        given: &Given,
+        settings: &Settings<P, Teller<'_, F>>,
+        out: &mut W,
+    ) -> Result<Status, Fault>
+        requires { (is_layout P ≡ true) × IsSync R.row }
+        ensures answered { TreesOfGiven P self.now.running.far_ok self.now.graph.now
+            given.now.list.items
             (scene (F.text files.now) (W.written out.old) (W.written out.new)) result }
         ensures done { IfOk result (λ status. is_done status ≡ true) }
         ensures unwritten { IfErr result
             (λ fault. code_of (status_of fault) ≤ 2 → out.new ≡ out.old) }
     {
-        let (gr, text) = self.sources.open::<P, F>(alloc, files, self.graph)?;
+        let gr = FileKind::Graph.open(files, self.graph)?;
         let mut gr = Watched::new(gr, FileKind::Graph, settings.listener);
-        let mut ss = OfRead::new(text.as_bytes());
-        self.run_on::<P, R, _, _, F, W>(rt, alloc, &mut gr, &mut ss, settings, out)
+        self.run_given_on::<P, R, _, F, W>(rt, alloc, &mut gr, given, settings, out)
     }
 }
 
@@ -250,10 +302,15 @@ impl<const P: u32> Run<P> for Tree<'_> {
             listener: &teller,
         };
         match &self.sources {
-            Sources::File(path, None) => {
-                self.run_file::<P, R, F, W>(rt, alloc, files, path, &settings, out)
+            Sources::File(path) => {
+                self.run_file::<P, R, F, W>(rt, alloc, files, path, None, &settings, out)
             }
-            _ => self.run_made::<P, R, F, W>(rt, alloc, files, &settings, out),
+            Sources::Part(path, places) => {
+                self.run_part::<P, R, F, W>(rt, alloc, files, path, places, &settings, out)
+            }
+            Sources::Given(given) => {
+                self.run_given::<P, R, F, W>(rt, alloc, files, given, &settings, out)
+            }
         }
     }
 }

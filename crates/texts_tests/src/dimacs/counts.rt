@@ -3,7 +3,7 @@ ghost use Rattle.std.specs.Prelude.{◌≡◌, ◌≤◌, ◌<◌, ◌^◌, true
 ghost use Rattle.sp_word.specs.Word.{is_layout};
 
 use sp_device::UpTo;
-use sp_dimacs::{DimacsError, GrReader, read_gr, read_pairs, read_ss};
+use sp_dimacs::{DimacsError, GrReader, read_gr};
 use std::alloc::Global;
 
 /// The number of arcs of a text.
@@ -13,24 +13,6 @@ pub fn arcs<const P: u32>(alloc: Global, text: &[u8]) -> Result<usize, DimacsErr
 {
     let file = read_gr::<P, _>(alloc, &mut UpTo::whole(text))?;
     Ok(file.arcs.len())
-}
-
-/// The number of sources of a text.
-pub fn sources<const P: u32>(alloc: Global, text: &[u8]) -> Result<usize, DimacsError>
-    requires layout { is_layout P ≡ true }
-    requires short { length text.now ≤ 2 ^ 62 }
-{
-    let file = read_ss::<P, _>(alloc, &mut UpTo::whole(text))?;
-    Ok(file.sources.len())
-}
-
-/// The number of pairs of a text.
-pub fn pairs<const P: u32>(alloc: Global, text: &[u8]) -> Result<usize, DimacsError>
-    requires layout { is_layout P ≡ true }
-    requires short { length text.now ≤ 2 ^ 62 }
-{
-    let file = read_pairs::<P, _>(alloc, &mut UpTo::whole(text))?;
-    Ok(file.pairs.len())
 }
 
 /// The number of arcs of a text that is fed in pieces of this many bytes.

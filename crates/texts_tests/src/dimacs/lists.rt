@@ -1,5 +1,4 @@
-use super::counts::{pairs, sources};
-use crate::answers::{fault, out, told};
+use crate::answers::fault;
 use sp_device::UpTo;
 use sp_dimacs::{Kind, PairsReader, SsReader, read_pairs, read_ss};
 use std::test::Fail;
@@ -22,29 +21,6 @@ fn sources_of_a_text(rt: HostRuntime) -> Result<(), Fail> {
 }
 
 #[test]
-fn faults_of_sources(rt: HostRuntime) -> Result<(), Fail> {
-    let alloc = rt.alloc();
-    for (text, want) in [
-        (b"".as_slice(), told(1, Kind::NoProblem)),
-        (b"s 1\n", told(1, Kind::NoProblem)),
-        (b"p aux sp ss 0\n", Ok(0)),
-        (b"p sp ss 0\n", told(1, Kind::BadLine)),
-        (b"p aux sp ss 1\ns 01\n", told(2, Kind::BadLine)),
-        (
-            b"p aux sp ss 0\np aux sp ss 0\n",
-            told(2, Kind::SecondProblem),
-        ),
-        (b"p aux sp ss 1048577\n", out(1, b'K')),
-        (b"p aux sp ss 1\ns 0\n", out(2, b'V')),
-        (b"p aux sp ss 1048576\n", told(2, Kind::TooFew)),
-        (b"p aux sp ss 1\ns 1\ns 2\n", told(3, Kind::TooMany)),
-    ] {
-        assert_eq!(rt; sources::<28>(alloc, text), want, "in {text:?}");
-    }
-    Ok(())
-}
-
-#[test]
 fn pairs_of_a_text(rt: HostRuntime) -> Result<(), Fail> {
     let alloc = rt.alloc();
     let text = b"p pairs 3\nq 1 4\nq 1 1\nq 4 1";
@@ -57,26 +33,6 @@ fn pairs_of_a_text(rt: HostRuntime) -> Result<(), Fail> {
         reader.feed(rest)?;
         let again = reader.finish()?;
         assert_eq!(rt; again.pairs.as_slice(), [(1, 4), (1, 1), (4, 1)].as_slice());
-    }
-    Ok(())
-}
-
-#[test]
-fn faults_of_pairs(rt: HostRuntime) -> Result<(), Fail> {
-    let alloc = rt.alloc();
-    for (text, want) in [
-        (b"p pairs 1\n".as_slice(), told(2, Kind::TooFew)),
-        (b"p pairs 0\n", Ok(0)),
-        (b"", told(1, Kind::NoProblem)),
-        (b"q 1 9\n", told(1, Kind::NoProblem)),
-        (b"p pairs 1\nq 1\n", told(2, Kind::BadLine)),
-        (b"p pairs 1\np pairs 1\n", told(2, Kind::SecondProblem)),
-        (b"p pairs 1048577\n", out(1, b'K')),
-        (b"p pairs 1\nq 0 0\n", out(2, b'S')),
-        (b"p pairs 1\nq 1 0\n", out(2, b'T')),
-        (b"p pairs 1\nq 1 2\nq 1 2\n", told(3, Kind::TooMany)),
-    ] {
-        assert_eq!(rt; pairs::<28>(alloc, text), want, "in {text:?}");
     }
     Ok(())
 }

@@ -1,7 +1,11 @@
-use super::reports::{LOST_EXCHANGE, LOST_EXCHANGE_REPORT};
 use sp_device::{UpTo, UpToWriter, WriteFault};
 use sp_replay::{read_replay, replay, write_report};
 use std::test::Fail;
+
+pub const LOST_EXCHANGE: &[u8] = b"p rep 1 2\no 1 1 5 3\no 2 1 5 2\ns 1\ns 2\ns 1\ns 2\ns 2\n";
+
+const LOST_EXCHANGE_REPORT: &[u8] =
+    b"o 1 1 5 3 shorter 1 3\no 2 1 5 2 smaller 2 5\nw 1 5 2\nt 2 1\nclosed yes\n";
 
 #[test]
 fn a_beginning_stands(rt: HostRuntime) -> Result<(), Fail> {

@@ -1,6 +1,5 @@
 //! The tree of a worked example, and how many rows of a text are read.
-ghost use Rattle.std.specs.Prelude.{◌≡◌, ◌≤◌, ◌<◌, ◌^◌, true, length};
-ghost use Rattle.sp_word.specs.Word.{is_layout};
+ghost use Rattle.std.specs.Prelude.{◌≤◌, ◌<◌, ◌^◌, length};
 
 use sp_device::UpTo;
 use sp_text::DimacsError;
@@ -17,15 +16,6 @@ pub fn diamond(alloc: Global) -> Result<Tree<28>, AllocError> {
         Word::pack(5, 2),
     ];
     Tree::of_words(alloc, 1, &words)
-}
-
-/// The number of rows of a text.
-pub fn rows<const P: u32>(alloc: Global, text: &[u8]) -> Result<usize, DimacsError>
-    requires layout { is_layout P ≡ true }
-    requires short { length text.now ≤ 2 ^ 62 }
-{
-    let tree = read_tree::<P, _>(alloc, &mut UpTo::whole(text))?;
-    Ok(tree.rows().len())
 }
 
 /// The number of rows of a text of which a failing device passes this beginning.

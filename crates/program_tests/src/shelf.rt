@@ -1,0 +1,97 @@
+//! Runs of the program over memory whose devices may fail.
+use sp_cli::{Inputs, Outputs, run_command};
+use sp_device::{UpTo, UpToWriter, WriteFault};
+use std::alloc::{AllocError, Global};
+use std::process::Abort;
+use std::str::from_utf8;
+use std::sync::Wait;
+use std::test::Fail;
+use std::thread::Threads;
+
+/// More bytes than any text here has.
+pub const AMPLE: usize = 1 << 24;
+
+/// A file over memory.
+#[derive(Clone, Copy)]
+pub enum Stored<'a> {
+    /// It has these bytes.
+    Whole(&'a [u8]),
+    /// It gives these bytes, and then its device fails.
+    Failing(&'a [u8]),
+}
+
+/// A file with this text.
+pub fn whole(text: &str) -> Stored<'_> {
+    Stored::Whole(text.as_bytes())
+}
+
+// Files over memory, by name. None can be made.
+#[derive(Clone, Copy)]
+struct Shelf<'a> {
+    files: &'a [(&'a str, Stored<'a>)],
+}
+
+impl Outputs for Shelf<'_> {
+    type Output = UpToWriter;
+
+    fn create(&self, _alloc: Global, _path: &str) -> Result<Option<UpToWriter>, AllocError> {
+        Ok(None)
+    }
+
+    fn keep(&self, _output: UpToWriter) -> Result<(), WriteFault> {
+        Err(WriteFault)
+    }
+
+    fn discard(&self, _output: UpToWriter) {}
+}
+
+impl<'a> Inputs for Shelf<'a> {
+    type File = UpTo<'a>;
+
+    fn open_input(&self, path: &str) -> Option<UpTo<'a>> {
+        for (name, stored) in self.files {
+            if *name == path {
+                return reader(*stored);
+            }
+        }
+        None
+    }
+}
+
+fn reader<'a>(stored: Stored<'a>) -> Option<UpTo<'a>> {
+    match stored {
+        Stored::Whole(bytes) if bytes.len() <= AMPLE => Some(UpTo::whole(bytes)),
+        Stored::Failing(bytes) if bytes.len() <= AMPLE => Some(UpTo::failing(bytes)),
+        _ => None,
+    }
+}
+
+/// What a run of the program gave.
+#[derive(Drop)]
+pub struct Ended {
+    pub status: u8,
+    pub out: UpToWriter,
+    pub err: UpToWriter,
+}
+
+/// Runs the program on the words of a line, with one blank between two, and with streams that take so many bytes in all.
+pub fn run_into<R: Threads + Wait + Sync>(
+    rt: &R,
+    alloc: Global,
+    rooms: (usize, usize),
+    line: &str,
+    files: &[(&str, Stored<'_>)],
+) -> Result<Ended, Fail> {
+    let mut out = UpToWriter::new(alloc, rooms.0.min(AMPLE), AMPLE);
+    let mut err = UpToWriter::new(alloc, rooms.1.min(AMPLE), AMPLE);
+    let words: Vec<&str> = line.split(' ').collect(alloc)?;
+    let status = run_command(rt, alloc, &words, &Shelf { files }, &mut out, &mut err);
+    Ok(Ended { status, out, err })
+}
+
+/// Asserts the status, and what stands on standard output and on standard error.
+pub fn expect(rt: &impl Abort, name: &str, ended: Ended, status: u8, out: &str, err: &str) {
+    assert_eq!(rt; from_utf8(ended.err.taken()), Ok(err), "in {name}");
+    assert_eq!(rt; from_utf8(ended.out.taken()), Ok(out), "in {name}");
+    assert_eq!(rt; ended.status, status, "in {name}");
+}

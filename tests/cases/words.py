@@ -1,0 +1,110 @@
+"""Command lines that are no order, and files that can't be had."""
+
+from .shared import ALONE, FROM_1, Case
+
+REPLAY = {"f.rep": "p rep 1 1\n"}
+HELP = "\nFor more information, try '--help'.\n"
+BITS = "  [possible values: 20, 24, 28, 32]\n"
+
+# name, line, text on standard error
+TOLD = [
+    ("unknown command", "solve f.rep", "error: unrecognized subcommand 'solve'\n\nUsage: spt <COMMAND>\n"),
+    ("no file", "replay", "error: the following required arguments were not provided:\n  <FILE>\n\nUsage: spt replay <FILE>\n"),
+    ("one file too many", "replay f.rep g.rep", "error: unexpected argument 'g.rep' found\n\nUsage: spt replay [OPTIONS] <FILE>\n"),
+    ("other pred bits", "replay f.rep --pred-bits 21", f"error: invalid value '21' for '--pred-bits <P>'\n{BITS}"),
+    ("no pred bits", "replay f.rep --pred-bits", f"error: a value is required for '--pred-bits <P>' but none was supplied\n{BITS}"),
+    (
+        "no delta",
+        "tree f.rep f.rep",
+        "error: the following required arguments were not provided:\n  --delta <D>\n\nUsage: spt tree --delta <D> <GR> <SS>\n",
+    ),
+    (
+        "delta beyond every layout",
+        "tree f.rep f.rep --delta 17592186044415 --pred-bits=20",
+        "error: invalid value '17592186044415' for '--delta <D>': 17592186044415 is not in 1..=17592186044414\n",
+    ),
+    ("delta of none", "tree f.rep f.rep --delta 0", "error: invalid value '0' for '--delta <D>': 0 is not in 1..=17592186044414\n"),
+    (
+        "delta that is no number",
+        "pairs f.rep f.rep --delta means",
+        "error: invalid value 'means' for '--delta <D>': invalid digit found in string\n",
+    ),
+    (
+        "delta that looks like an option",
+        "tree f.rep f.rep --delta=-1",
+        "error: invalid value '-1' for '--delta <D>': invalid digit found in string\n",
+    ),
+    (
+        "delta beyond every number",
+        "tree f.rep f.rep --delta 18446744073709551616",
+        "error: invalid value '18446744073709551616' for '--delta <D>': number too large to fit in target type\n",
+    ),
+]
+
+# Values out of range or spelled otherwise, words of other commands, and words that are missing, with whatever text.
+REFUSED = [
+    "replay f.rep --pred-bits 028",
+    "replay f.rep --pred-bits +28",
+    "replay f.rep --pred-bits -28",
+    "replay f.rep --pred-bits 28.0",
+    "replay f.rep --pred-bits 0x1c",
+    "replay f.rep --pred-bits ",
+    "replay f.rep --pred-bits \t28",
+    "replay f.rep --pred-bits 256",
+    "tree f.rep f.rep --delta 1 --pred-bits 21",
+    "check f.rep f.rep --pred-bits 21",
+    "offers f.rep --pred-bits 21",
+    "tree f.rep f.rep --delta 0",
+    "tree f.rep f.rep --delta -1",
+    "tree f.rep f.rep --delta 1.5",
+    "tree f.rep f.rep --delta ",
+    "tree f.rep f.rep --delta x",
+    "tree f.rep f.rep --delta Mean",
+    "tree f.rep f.rep --delta mean5",
+    "tree f.rep f.rep --delta 18446744073709551616",
+    "tree f.rep f.rep --delta 1 --workers 0",
+    "tree f.rep f.rep --delta 1 --workers 65",
+    "tree f.rep f.rep --delta 1 --workers -1",
+    "tree f.rep f.rep --delta 1 --workers 2.0",
+    "tree f.rep f.rep --delta 1 --workers ",
+    "tree f.rep f.rep --delta 1 --workers 4294967297",
+    "tree f.rep --delta 1",
+    "tree f.rep --delta 1 --source 0",
+    "tree f.rep --delta 1 --source 4294967295",
+    "tree f.rep --delta 1 --sources 1-1",
+    "tree f.rep f.rep --delta 1 --source 1",
+    "tree f.rep --delta 1 --source 1 --sources 1-1",
+    "check f.rep f.rep --delta 1",
+    "check f.rep",
+    "offers f.rep --workers 2",
+    "offers",
+]
+
+FILES = {"empty": "", "alone.gr": ALONE, "one.ss": FROM_1, "bad.gr": "a 1 2 3\n", "bad.pairs": "p pairs 1\n"}
+
+# The graph is opened first, and the other file before the graph is read; the graph is read first.
+FILES_IN_ORDER = [
+    ("tree --delta 1 - -", 1, "standard input twice"),
+    ("pairs --delta 1 - -", 1, "standard input twice"),
+    ("check - -", 1, "standard input twice"),
+    ("tree --delta 1 no.gr no.ss", 6, "gr: cannot open"),
+    ("tree --delta 1 no.gr one.ss", 6, "gr: cannot open"),
+    ("tree --delta 1 empty no.ss", 6, "ss: cannot open"),
+    ("pairs --delta 1 no.gr no.pairs", 6, "gr: cannot open"),
+    ("pairs --delta 1 alone.gr no.pairs", 6, "pairs: cannot open"),
+    ("pairs --delta 1 bad.gr no.pairs", 6, "pairs: cannot open"),
+    ("pairs --delta 1 bad.gr bad.pairs", 2, "gr: line 1: 3 NoProblem"),
+    ("check no.gr no.tree", 6, "gr: cannot open"),
+    ("check empty no.tree", 6, "tree: cannot open"),
+    ("replay no.rep", 6, "replay: cannot open"),
+    ("offers no.off", 6, "offers: cannot open"),
+]
+
+
+def cases():
+    made = [Case(name, line, REPLAY, 1, text + HELP, is_whole=True) for name, line, text in TOLD]
+    made += [Case("refused words", line, REPLAY, 1, None) for line in REFUSED]
+    made += [Case("files in order", line, FILES, status, fault) for line, status, fault in FILES_IN_ORDER]
+    made += [Case(f"version by {word}", word, {}, 0, "spt 0.2.0\n") for word in ("--version", "-V")]
+    made += [Case("output to standard output", "check alone.gr none.tree -o -", {"alone.gr": ALONE, "none.tree": "p spt 1 1\ne 0\n"}, 3, "no 1 2\n")]
+    return made
