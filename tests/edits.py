@@ -10,7 +10,7 @@ Usage: python3 tests/edits.py [--over-gate] [--changed] [CRATE..]
 
 --over-gate takes the libraries that `rt ci` has just proved in this folder; else they are proved first where they aren't yet.
 --changed leaves out the crates of which dist/edits says that all their edits were refused: with these edits, of these sources of the
-crate and of those below it, by this kit. A whole run writes that list to .spt/edits, and .ci/release puts it into dist/.
+crate and of those below it, by a kit of this logic. A whole run writes that list to .spt/edits, and .ci/release puts it into dist/.
 The last line is 'N passed, M failed'.
 """
 
@@ -179,6 +179,11 @@ def refused(crate, part, kept):
     return [edit for edit in part if any(it.is_named(path) for it in edit.functions for path in wrong or ())]
 
 
+def is_refusal(outcome):
+    """Whether the kit's answer to an edit that was tried alone says that it was refused: some kits answer that, others how the check ended."""
+    return outcome in [getattr(rt, ending, True) for ending in ("REFUSED", "AT_LIMIT")]
+
+
 def tried(crate):
     """Whether each edit of the crate is refused; what is said of it is printed."""
     edits = list(edits_of(crate))
@@ -190,15 +195,14 @@ def tried(crate):
                 outcomes.append((True, f"{crate.name}/{edit.name}: refused"))
             else:
                 outcome, said = rt.must_fail(crate, edit.path, JOBS, kept_whole)
-                is_refused = outcome in (rt.REFUSED, rt.AT_LIMIT)
-                outcomes.append((is_refused, said.replace("must-fail ", "alone: ").replace(".edit", "")))
+                outcomes.append((is_refusal(outcome), said.replace("must-fail ", "alone: ").replace(".edit", "")))
     print("\n".join(said for _, said in outcomes), flush=True)
     return [holds for holds, _ in outcomes]
 
 
 def sum_of(crate):
-    """Of all that the answers of a crate's edits stand on: the edits, the sources of the crate and of those below it, the kit."""
-    script = 'home=$1; . "$home/.ci/program.sh"; digest "$2"; rt version'
+    """Of all that the answers of a crate's edits stand on: the edits, the sources of the crate and of those below it, the kit's logic."""
+    script = 'home=$1; . "$home/.ci/program.sh"; digest "$2"; rt version | grep -o "logic .*"'
     said = subprocess.run(["sh", "-c", script, "sh", HOME, crate.name], capture_output=True, check=True).stdout
     for edit in edits_of(crate):
         said += f"{edit.name}\n{edit.lines}".encode()
