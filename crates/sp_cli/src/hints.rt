@@ -113,12 +113,17 @@ fn layout_hint<'a, F: Inputs>(
     })
 }
 
-// The number N of the line `p sp N M`.
+// The number N of the line `p sp N M`, which is the line of this number.
 fn vertices_of<R: Read + Drop>(file: R, line: u64) -> Option<u64> {
     let mut lines = Lines::new(file);
     for _ in 1..line {
         lines.next().ok()??;
     }
-    let text = from_utf8(lines.next().ok()??).ok()?;
+    third_number(lines.next().ok()??)
+}
+
+// The third field of a line, where it is a number.
+fn third_number(line: &[u8]) -> Option<u64> {
+    let text = from_utf8(line).ok()?;
     text.split_ascii_whitespace().nth(2)?.parse().ok()
 }

@@ -93,12 +93,16 @@ fn output_of<'a>(given: &ArgMatches<'a>) -> Option<&'a str> {
     }
 }
 
+// The program's words: those of each command, and what help says of all.
 fn program<'a>(alloc: Global) -> Result<Command<'a>, AllocError> {
-    let program = Command::new(alloc, "spt")
+    AnyCommand::add_to(told_of_all(alloc), alloc)
+}
+
+fn told_of_all<'a>(alloc: Global) -> Command<'a> {
+    Command::new(alloc, "spt")
         .version("0.2.0")
         .about(help::PROGRAM)
         .after_help(help::PROGRAM_MORE)
         .subcommand_required(true)
-        .arg_required_else_help(true);
-    AnyCommand::add_to(program, alloc)
+        .arg_required_else_help(true)
 }

@@ -55,23 +55,37 @@ pub enum Sources<'a> {
 impl<'a> Sources<'a> {
     /// Adds the file and the options that stand for it.
     pub fn add_to(command: Command<'a>, alloc: Global) -> Words<'a> {
-        let file = Arg::new(alloc, "SS")
+        command
+            .arg(Self::file(alloc)?)?
+            .arg(Self::source(alloc))?
+            .arg(Self::part(alloc)?)
+    }
+
+    fn file(alloc: Global) -> Result<Arg<'a>, AllocError> {
+        Arg::new(alloc, "SS")
             .help("The sources, a .ss file")
             .required_unless_present("source")?
-            .conflicts_with("source")?;
-        let source = Arg::new(alloc, "source")
+            .conflicts_with("source")
+    }
+
+    fn source(alloc: Global) -> Arg<'a> {
+        Arg::new(alloc, "source")
             .long("source")
             .value_name("V")
             .value_parser(value_parser!(u32).range(1..=MAX_VERTEX))
             .action(ArgAction::Append)
-            .help("A source, in place of a file of them; it may be given several times");
-        let part = Arg::new(alloc, "sources")
-            .long("sources")
-            .value_name("A-B")
-            .conflicts_with("source")?
-            .help("The places of the file whose sources have a tree")
-            .long_help(PART_LONG);
-        command.arg(file)?.arg(source)?.arg(part)
+            .help("A source, in place of a file of them; it may be given several times")
+    }
+
+    fn part(alloc: Global) -> Result<Arg<'a>, AllocError> {
+        Ok(
+            Arg::new(alloc, "sources")
+                .long("sources")
+                .value_name("A-B")
+                .conflicts_with("source")?
+                .help("The places of the file whose sources have a tree")
+                .long_help(PART_LONG),
+        )
     }
 
     /// Reads them.

@@ -76,14 +76,18 @@ fn read_number(alloc: Global, text: &str) -> Result<u64, Error> {
 
 // The number in a command line that has this option alone.
 fn number_of<'a>(alloc: Global, words: &'a [&'a str]) -> Result<u64, Error> {
-    let number = Arg::new(alloc, Width::ID)
-        .long(Width::ID)
-        .value_name("D")
-        .value_parser(value_parser!(u64).range(1..=MAX_DELTA));
-    let mut reader = Command::new(alloc, "spt").arg(number)?;
+    let mut reader = Command::new(alloc, "spt").arg(number_option(alloc))?;
     let given = reader.try_get_matches_from_mut(words)?;
     match given.get_one(Width::ID) {
         Some(number) => Ok(number),
         None => Err(reader.error(ErrorKind::ValueValidation, "a width is needed")?),
     }
+}
+
+// The option, with a number in range for its value.
+fn number_option<'a>(alloc: Global) -> Arg<'a> {
+    Arg::new(alloc, Width::ID)
+        .long(Width::ID)
+        .value_name("D")
+        .value_parser(value_parser!(u64).range(1..=MAX_DELTA))
 }
