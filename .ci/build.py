@@ -3,91 +3,102 @@
 
 Usage: python3 .ci/build.py
 
-It tells on standard error which crates are done and which are at work. What `rt` says of a crate stays in .spt/logs.
+It tells on standard error which crates are done and which are at work. What the prover says of a crate stays in .spt/logs.
 """
 
 import os
-import re
+import shutil
 import subprocess
 import sys
+import threading
 import time
+
+sys.dont_write_bytecode = True
+import kit  # noqa: E402
 
 HOME = os.path.dirname(os.path.dirname(os.path.realpath(__file__)))
 LOGS = os.path.join(HOME, ".spt", "logs")
 PROGRAM = "spt"
 FOLDER = os.path.join(HOME, "crates", PROGRAM)
-SECONDS = 5
-# what proving a crate takes at most, in bytes
-MEMORY = 3 << 30
+
+rt = kit.load("rt")
 
 
-def crates():
-    """The libraries of the repository that each crate names, by crate."""
-    with open(os.path.join(HOME, "crates.txt")) as file:
-        lines = re.findall(r"^([a-z]\w*)[^:\n]*:(.*)$", file.read(), re.M)
-    known = {name for name, _ in lines}
-    return {name: [used for used in uses.split() if used in known] for name, uses in lines}
+class Progress:
+    """How many crates are proved and which are at work, told whenever that changes."""
+
+    def __init__(self, count):
+        self.count, self.proved, self.at_work = count, 0, []
+        self.begun, self.lock = time.time(), threading.Lock()
+
+    def begin(self, name):
+        with self.lock:
+            self.at_work.append(name)
+            self.tell()
+
+    def end(self, name, is_proved):
+        with self.lock:
+            self.at_work.remove(name)
+            self.proved += is_proved
+            self.tell()
+
+    def tell(self):
+        self.say(f"{self.proved} of {self.count} crates proved, at work: {', '.join(self.at_work) or 'none'}")
+
+    def say(self, text):
+        print(f"spt: {text}; {time.time() - self.begun:.0f} s", file=sys.stderr, flush=True)
 
 
-def below(uses, name):
-    """The crates that this one needs, with itself."""
-    found, open_ones = set(), [name]
-    while open_ones:
-        crate = open_ones.pop()
-        if crate not in found:
-            found.add(crate)
-            open_ones += uses[crate]
-    return found
+def log_of(name):
+    return os.path.join(LOGS, name)
 
 
-def lanes():
-    """How many crates are proved at once: as many as there are processors and memory for."""
-    memory = os.sysconf("SC_PAGE_SIZE") * os.sysconf("SC_PHYS_PAGES")
-    return max(1, min(os.cpu_count() or 1, memory // MEMORY))
+def proved(progress, crate, given, jobs):
+    """Whether a library is proved and built, as `rt lib` does it, where those below it are."""
+    if not all(given[it.name, "proof"] for it in crate.below()):
+        return False
+    progress.begin(crate.name)
+    with open(log_of(crate.name), "w") as crate.out:
+        is_proved = crate.build_rlib(["--jobs", str(jobs)], anew=False) == 0
+    progress.end(crate.name, is_proved)
+    return is_proved
 
 
-def told(uses, needed, done, begun):
-    """Tells how many crates are done, and which others have all that they use."""
-    ready = sorted(it for it in needed - done if done.issuperset(uses[it]))
-    names = ", ".join(ready[: lanes()]) or "none"
-    print(f"spt: {len(done)} of {len(needed)} crates proved, at work: {names}; {time.time() - begun:.0f} s", file=sys.stderr, flush=True)
-
-
-def prove(uses, needed, begun):
-    """Proves what the program uses and the program, crates that don't wait for one another side by side; whether all are proved."""
-    path, done = os.path.join(LOGS, "crates"), set()
-    with open(path, "wb") as log:
-        # (several runs of rt would wait for one another, as each keeps others out of all crates that it uses)
-        run = subprocess.Popen(["rt", "all", "check", "--jobs", str(lanes())], cwd=FOLDER, stdout=log, stderr=log)
-    while run.poll() is None:
-        told(uses, needed, done, begun)
-        try:
-            run.wait(SECONDS)
-        except subprocess.TimeoutExpired:
-            pass
-        with open(path) as log:
-            done = needed.intersection(re.findall(r"^== (\w+)$", log.read(), re.M))
-    return run.returncode == 0
-
-
-def link(begun):
-    """Builds the program, once all is proved; whether it is there."""
-    print(f"spt: all proved, building the program; {time.time() - begun:.0f} s", file=sys.stderr, flush=True)
-    with open(os.path.join(LOGS, "program"), "wb") as log:
-        return subprocess.run(["rt", "run", "--", "--version"], cwd=FOLDER, stdout=log, stderr=log).returncode == 0
+def linked(progress):
+    """Whether the program is proved over its libraries, and built."""
+    progress.begin(PROGRAM)
+    words = ["rt", "run", "--jobs", str(min(4, os.cpu_count() or 1)), "--", "--version"]
+    with open(log_of(PROGRAM), "w") as log:
+        is_linked = subprocess.run(words, cwd=FOLDER, stdout=log, stderr=log).returncode == 0
+    progress.end(PROGRAM, is_linked)
+    return is_linked
 
 
 def main():
-    os.makedirs(LOGS, exist_ok=True)
-    uses, begun = crates(), time.time()
-    for part, is_done in (("crates", lambda: prove(uses, below(uses, PROGRAM), begun)), ("program", lambda: link(begun))):
-        if not is_done():
-            with open(os.path.join(LOGS, part)) as log:
-                print(log.read(), file=sys.stderr)
-            print("spt: not proved", file=sys.stderr)
-            return 1
-    print(f"spt: proved and built; {time.time() - begun:.0f} s", file=sys.stderr)
-    return 0
+    shutil.rmtree(LOGS, ignore_errors=True)
+    os.makedirs(LOGS)
+    os.chdir(FOLDER)
+    rt.rtlib.guarded()
+    *libraries, _program = rt.rtlib.crates_below(FOLDER)
+    progress = Progress(len(libraries) + 1)
+
+    def task(crate):
+        waits = [(it.name, "proof") for it in crate.below()]
+        return waits, crate.count(rb"\n"), rt.need(crate), lambda given, jobs: proved(progress, crate, given, jobs)
+
+    # (no other rt works in these folders meanwhile)
+    held = rt.rtlib.lock(libraries)
+    found = rt.in_lanes({(it.name, "proof"): task(it) for it in libraries})
+    for folder in held:
+        os.close(folder)
+    wrong = [name for (name, _), is_proved in found.items() if not is_proved and os.path.isfile(log_of(name))]
+    if not wrong and not linked(progress):
+        wrong = [PROGRAM]
+    for name in wrong[:1]:
+        with open(log_of(name)) as log:
+            print(log.read(), file=sys.stderr)
+    progress.say("not proved" if wrong else "proved and built")
+    return 1 if wrong else 0
 
 
 if __name__ == "__main__":
