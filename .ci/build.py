@@ -3,12 +3,14 @@
 
 Usage: python3 .ci/build.py
 
-It tells on standard error which crates are done and which are at work. What the prover says of a crate stays in .spt/logs.
+Each crate is proved from nothing, over what the crates below it state, as the gate does it: that is sooner than over what checks while
+one writes have kept (`rt check`), which holds their proofs too. A crate that an earlier run proved from the same sources isn't
+proved again. It tells on standard error which crates are done and which are at work. What the prover says of a crate stays in
+.spt/logs.
 """
 
 import os
 import shutil
-import subprocess
 import sys
 import threading
 import time
@@ -53,25 +55,48 @@ def log_of(name):
     return os.path.join(LOGS, name)
 
 
-def proved(progress, crate, given, jobs):
-    """Whether a library is proved and built, as `rt lib` does it, where those below it are."""
+def build(crate, jobs, to, *flags):
+    """Whether the crate is proved from nothing, and built."""
+    words = crate.words(["--jobs", str(jobs)], keeps=False)
+    return crate.call(rt.rtlib.RATTLE, "build", *words, *flags, "-o", to) == 0
+
+
+def proved_library(crate, jobs):
+    """Whether a library is proved, in this run or in an earlier one of the same sources."""
+    folder = os.path.dirname(crate.rlib)
+    stamp, kept = crate.stamp(), os.path.join(folder, "statements")
+    if rt.rtlib.text_of(kept) == stamp and os.path.isdir(crate.rlib):
+        return True
+    shutil.rmtree(folder, ignore_errors=True)
+    os.makedirs(folder)
+    is_proved = build(crate, jobs, crate.rlib, "--statements") and crate.stamp() == stamp
+    if is_proved:
+        with open(kept, "w") as file:
+            file.write(stamp)
+    return is_proved
+
+
+def linked_program(crate, jobs):
+    """Whether the program is proved over its libraries, built and linked."""
+    os.makedirs(os.path.join(crate.folder, "out"), exist_ok=True)
+    made = f"out/{crate.name}"
+    toolchain = ["--toolchain", f"{rt.KIT}/toolchain"]
+    if not build(crate, jobs, f"{made}.o", *toolchain, "--backend", "llvm"):
+        return False
+    words = ["--target", "x86_64-unknown-linux-gnu", *toolchain, "-o", made, f"{made}.o"]
+    of_c = [f"{rt.KIT}/c/libos_c.a", f"{rt.KIT}/c/liblibc_c.a"]
+    return crate.call(f"{rt.KIT}/bin/rattle-link", *words, *of_c) == 0
+
+
+def done(progress, crate, given, jobs):
+    """Whether a crate is proved and built, where those below it are."""
     if not all(given[it.name, "proof"] for it in crate.below()):
         return False
     progress.begin(crate.name)
     with open(log_of(crate.name), "w") as crate.out:
-        is_proved = crate.build_rlib(["--jobs", str(jobs)], anew=False) == 0
-    progress.end(crate.name, is_proved)
-    return is_proved
-
-
-def linked(progress):
-    """Whether the program is proved over its libraries, and built."""
-    progress.begin(PROGRAM)
-    words = ["rt", "run", "--jobs", str(min(4, os.cpu_count() or 1)), "--", "--version"]
-    with open(log_of(PROGRAM), "w") as log:
-        is_linked = subprocess.run(words, cwd=FOLDER, stdout=log, stderr=log).returncode == 0
-    progress.end(PROGRAM, is_linked)
-    return is_linked
+        is_done = (linked_program if crate.is_program else proved_library)(crate, jobs)
+    progress.end(crate.name, is_done)
+    return is_done
 
 
 def main():
@@ -79,21 +104,19 @@ def main():
     os.makedirs(LOGS)
     os.chdir(FOLDER)
     rt.rtlib.guarded()
-    *libraries, _program = rt.rtlib.crates_below(FOLDER)
-    progress = Progress(len(libraries) + 1)
+    crates = rt.rtlib.crates_below(FOLDER)
+    progress = Progress(len(crates))
 
     def task(crate):
         waits = [(it.name, "proof") for it in crate.below()]
-        return waits, crate.count(rb"\n"), rt.need(crate), lambda given, jobs: proved(progress, crate, given, jobs)
+        return waits, crate.count(rb"\n"), rt.need(crate), lambda given, jobs: done(progress, crate, given, jobs)
 
     # (no other rt works in these folders meanwhile)
-    held = rt.rtlib.lock(libraries)
-    found = rt.in_lanes({(it.name, "proof"): task(it) for it in libraries})
+    held = rt.rtlib.lock(crates)
+    found = rt.in_lanes({(it.name, "proof"): task(it) for it in crates})
     for folder in held:
         os.close(folder)
-    wrong = [name for (name, _), is_proved in found.items() if not is_proved and os.path.isfile(log_of(name))]
-    if not wrong and not linked(progress):
-        wrong = [PROGRAM]
+    wrong = [name for (name, _), is_done in found.items() if not is_done and os.path.isfile(log_of(name))]
     for name in wrong[:1]:
         with open(log_of(name)) as log:
             print(log.read(), file=sys.stderr)

@@ -2,7 +2,7 @@
 ghost use Rattle.std.specs.Prelude.{◌≡◌, IfOk, length};
 
 use samples::{DIAMOND, Triple, arcs_of};
-use sp_team::{Scan, open_tails, scan_arcs};
+use sp_scan::{Scan, open_tails, scan_arcs};
 use sp_word::Word;
 use std::process::Abort;
 use std::test::Fail;

@@ -11,9 +11,9 @@ use Rattle.sp_device.specs.declared.devices.Write.{Ghosts as Writer}
 use Rattle.sp_device.specs.Devices.{IsBegun}
 use Rattle.sp_device.proofs.TextSteps.{begun_behind, begun_more}
 use Rattle.sp_paths.specs.Paths.{Graph}
-use Rattle.sp_batch.specs.declared.answers.Summary.{Summary}
-use Rattle.sp_batch.specs.declared.answers.BatchError.{BatchError}
-use Rattle.sp_batch.specs.declared.answers.BatchError.TheVariants.{Gr, Ss, Pairs, NoSuchVertex, Memory, Write}
+use Rattle.sp_job.specs.declared.answers.Summary.{Summary}
+use Rattle.sp_job.specs.declared.answers.BatchError.{BatchError}
+use Rattle.sp_job.specs.declared.answers.BatchError.TheVariants.{Gr, Ss, Pairs, NoSuchVertex, Memory, Write}
 use Rattle.sp_batch.specs.Batch.{Answer, AreAnswers, answer_text, batch_text, is_far, IsSummary}
 use Rattle.sp_batch.specs.declared.finding.Found.{Found}
 use Rattle.sp_batch.specs.declared.answering.Step.{Step}

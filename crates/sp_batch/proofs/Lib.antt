@@ -1,9 +1,4 @@
 pub mod AnswersInOrder
 pub mod AnswersExist
 pub mod OfFile
-pub mod Chosen
 pub mod TextsToAnswers
-pub mod TextsToPairs
-pub mod SlotSteps
-pub mod PairLines
-pub mod PairsOfFile

@@ -1,23 +1,22 @@
 -- The answers for a graph whose arcs were put in another order.
 use Rattle.std.proofs.Common.{◌≡◌, ℕ, ◌≤◌, true, List, [], ◌∷◌, Option, Some, None, Result, Ok, Err, ◌∙◌}
 use Rattle.std.proofs.lemmas.Bool.{false≢true}
-use Rattle.std.specs.Prelude.{IfErr, All, IsPermutation}
+use Rattle.std.specs.Prelude.{IfErr, All}
 use Rattle.sp_word.specs.Word.{max_dist, is_layout}
-use Rattle.std.proofs.lemmas.List.Sorted.{Contains-permutation, IsPermutation-sym}
-use Rattle.sp_paths.specs.declared.arc.Arc.{Arc}
 use Rattle.sp_paths.specs.Paths.{Graph}
 use Rattle.sp_paths.specs.Bags.{AreSame}
 use Rattle.sp_paths.proofs.SameArcs.{same_arcs_same_answers}
 use Rattle.sp_dimacs.specs.declared.graphs.GrFile.{GrFile}
 use Rattle.sp_dimacs.specs.Graph.{graph_of, IsNetwork}
 use Rattle.sp_device.specs.declared.devices.Write.{Ghosts as Writer}
-use Rattle.sp_batch.specs.declared.answers.Summary.{Summary}
-use Rattle.sp_batch.specs.declared.answers.BatchError.{BatchError}
-use Rattle.sp_batch.specs.declared.answers.BatchError.TheVariants.{Gr, Ss, Pairs, NoSuchVertex, Memory, Write}
+use Rattle.sp_job.specs.declared.answers.Summary.{Summary}
+use Rattle.sp_job.specs.declared.answers.BatchError.{BatchError}
+use Rattle.sp_job.specs.declared.answers.BatchError.TheVariants.{Gr, Ss, Pairs, NoSuchVertex, Memory, Write}
 use Rattle.sp_batch.specs.Batch.{Answer, TreeOf, FarFrom, IsAnswerTo, AreAnswers, HasBegun}
-use Rattle.sp_batch.specs.Places.{AreNumbered}
+use Rattle.sp_job.specs.Places.{AreNumbered}
 use Rattle.sp_batch.specs.Steps.{HasBegunFirst, AreAllAnswered}
-use Rattle.sp_batch.specs.Answered.{IsBatch, is_early}
+use Rattle.sp_job.specs.Answers.{is_early}
+use Rattle.sp_batch.specs.Answered.{IsBatch}
 use Rattle.sp_batch.proofs.AnswersInOrder.{none_begun}
 use Rattle.sp_batch.proofs.AnswersExist.{begun_whole}
 
@@ -49,14 +48,6 @@ same_begun P g h sources old new same is = record {
   answers = is.answers;
   are = same_all P g h is.done is.answers same is.are;
   begun = is.begun;
-}
-
--- The same arcs in another order.
-pub same_graph : (file : GrFile) (graph : Graph) → graph.n ≡ file.n → IsPermutation file.arcs.items graph.arcs → AreSame graph (graph_of file)
-same_graph file graph n arcs = record {
-  n = n;
-  there = λ (a : Arc) is. Contains-permutation graph.arcs file.arcs.items a (IsPermutation-sym file.arcs.items graph.arcs arcs) is;
-  back = λ (a : Arc) is. Contains-permutation file.arcs.items graph.arcs a arcs is;
 }
 
 -- A file and sources that are vertices of its graph.

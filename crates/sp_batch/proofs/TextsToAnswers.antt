@@ -1,26 +1,16 @@
 -- From the two texts to the answers.
 use Rattle.std.proofs.Common.{ℕ, Bool, List, Option, Result, Ok, Err, refl}
-use Rattle.sp_text.specs.Text.{items_of}
-use Rattle.sp_text.specs.Lines.{lines}
 use Rattle.sp_device.specs.declared.devices.Read.{Ghosts as Reader}
 use Rattle.sp_device.specs.declared.devices.Write.{Ghosts as Writer}
 use Rattle.sp_dimacs.specs.declared.graphs.GrFile.{GrFile}
 use Rattle.sp_dimacs.specs.declared.sources.SsFile.{SsFile}
-use Rattle.sp_dimacs.specs.Formats.{gr, ss}
 use Rattle.sp_dimacs.specs.Graph.{SpellsGraph, GraphRead}
 use Rattle.sp_dimacs.specs.Sources.{SpellsSources, SourcesRead}
-use Rattle.sp_batch.specs.declared.answers.Summary.{Summary}
-use Rattle.sp_batch.specs.declared.answers.BatchError.{BatchError}
-use Rattle.sp_batch.specs.declared.answers.BatchError.TheVariants.{Gr, Ss, Pairs, NoSuchVertex, Memory, Write}
-use Rattle.sp_batch.specs.Places.{part_of}
+use Rattle.sp_job.specs.declared.answers.Summary.{Summary}
+use Rattle.sp_job.specs.declared.answers.BatchError.{BatchError}
+use Rattle.sp_job.specs.declared.answers.BatchError.TheVariants.{Gr, Ss, Pairs, NoSuchVertex, Memory, Write}
+use Rattle.sp_job.specs.Places.{part_of}
 use Rattle.sp_batch.specs.Answered.{IsBatch, BatchAnswered, BatchOfSome, GivenAnswered, GivenOfSome}
-
--- What was read to its end is spelled.
-pub graph_spelled : (P : ℕ) (text : List ℕ) (left : Option (List ℕ)) (has_failed : Bool) (file : GrFile) → GraphRead P text left has_failed (Ok file) → SpellsGraph P text file
-graph_spelled P text left has_failed file (_, clean, (ps, found, is)) = (ps, items_of gr (lines text), record { faultless = clean; problem_line = found; item_lines = refl }, is)
-
-pub sources_spelled : (P : ℕ) (text : List ℕ) (left : Option (List ℕ)) (has_failed : Bool) (list : SsFile) → SourcesRead P text left has_failed (Ok list) → SpellsSources P text list
-sources_spelled P text left has_failed list (_, clean, (ps, found, is)) = (ps, items_of ss (lines text), record { faultless = clean; problem_line = found; item_lines = refl }, is)
 
 -- What was answered for a graph and a part of some sources is the answer to texts that spell them.
 pub answered : {G S W : Type 0} (P : ℕ) (places : Option (ℕ × ℕ)) (gr_text ss_text : List ℕ) (g : Reader G) (gr : G) (s : Reader S) (ss : S) (w : Writer W) (old new : W) (file : GrFile) (list : SsFile) (result : Result Summary BatchError)

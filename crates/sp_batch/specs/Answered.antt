@@ -1,5 +1,5 @@
 -- What a batch answers, and what then stands written.
-use Rattle.std.specs.Prelude.{◌≡◌, ◌≤◌, ℕ, Bool, true, false, List, All, Option, Result, Ok, Err}
+use Rattle.std.specs.Prelude.{◌≡◌, ◌≤◌, ℕ, true, List, All, Option, Result, Ok, Err}
 use Rattle.std.specs.Io.KnownBytes.{Appends}
 use Rattle.sp_device.specs.declared.devices.Read.{Ghosts as Reader}
 use Rattle.sp_device.specs.declared.devices.Write.{Ghosts as Writer}
@@ -7,10 +7,10 @@ use Rattle.sp_dimacs.specs.declared.graphs.GrFile.{GrFile}
 use Rattle.sp_dimacs.specs.declared.sources.SsFile.{SsFile}
 use Rattle.sp_dimacs.specs.Graph.{graph_of, SpellsGraph, GraphRead}
 use Rattle.sp_dimacs.specs.Sources.{SpellsSources, SourcesRead}
-use Rattle.sp_batch.specs.declared.answers.Summary.{Summary}
-use Rattle.sp_batch.specs.declared.answers.BatchError.{BatchError}
-use Rattle.sp_batch.specs.declared.answers.BatchError.TheVariants.{Gr, Ss, Pairs, NoSuchVertex, Memory, Write}
-use Rattle.sp_batch.specs.Places.{part_of}
+use Rattle.sp_job.specs.declared.answers.Summary.{Summary}
+use Rattle.sp_job.specs.declared.answers.BatchError.{BatchError}
+use Rattle.sp_job.specs.declared.answers.BatchError.TheVariants.{Gr, Ss, Pairs, NoSuchVertex, Memory, Write}
+use Rattle.sp_job.specs.Places.{part_of}
 use Rattle.sp_batch.specs.Batch.{Answer, AreAnswers, batch_text, IsSummary, HasBegun, IsFirstAbove}
 
 -- For the sources of a graph exactly the text of their answers was written; or a source is no vertex, and nothing was
@@ -51,12 +51,3 @@ GivenAnswered P gr_text sources g gr w old new result = (file : GrFile) × Spell
 abbrev pub GivenOfSome : {W : Type 0} → (P : ℕ) → (sources : List ℕ) → Writer W → (old new : W) → Result Summary BatchError → Type 0
 GivenOfSome P sources w old new (Err (Gr e)) = w.written new ≡ w.written old
 GivenOfSome P sources w old new result = (gr_text : List ℕ) × (file : GrFile) × SpellsGraph P gr_text file × IsBatch P file sources w old new result
-
--- The files were refused, before anything was to be written.
-abbrev pub is_early : BatchError → Bool
-is_early (Gr e) = true
-is_early (Ss e) = true
-is_early (Pairs e) = true
-is_early (NoSuchVertex s) = true
-is_early Memory = false
-is_early Write = false

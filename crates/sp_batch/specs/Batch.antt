@@ -4,10 +4,11 @@ use Rattle.std.specs.List.{flat_map, count_by}
 use Rattle.sp_word.specs.Word.{max_dist}
 use Rattle.sp_device.specs.Devices.{IsBegun}
 use Rattle.sp_paths.specs.Paths.{Graph, IsFar}
-use Rattle.sp_tree.specs.Table.{TreeTable, IsTable}
+use Rattle.sp_table.specs.Table.{TreeTable, IsTable}
 use Rattle.sp_tree.specs.TreeText.{tree_text, far_text}
-use Rattle.sp_solve.specs.Answer.{IsAnswer}
-use Rattle.sp_batch.specs.declared.answers.Summary.{Summary}
+use Rattle.sp_answer.specs.Answer.{IsAnswer}
+use Rattle.sp_job.specs.declared.answers.Summary.{Summary}
+use Rattle.sp_job.specs.Answers.{IsCount}
 
 -- the answer to one source: its tree, or the vertex that is too far
 pub data Answer : Type 0 where
@@ -37,12 +38,6 @@ batch_text answers = flat_map answer_text answers
 abbrev pub is_far : Answer → Bool
 is_far (TreeOf t) = false
 is_far (FarFrom source vertex) = true
-
--- how many there were, how many of them with a vertex that is too far, and how many bytes were written
-pub record IsCount (count far : ℕ) (text : List ℕ) (summary : Summary) : Type 0 where
-  pub sources : summary.sources ≡ count
-  pub too_far : summary.too_far ≡ far
-  pub bytes : summary.bytes ≡ length text
 
 abbrev pub IsSummary : List Answer → Summary → Type 0
 IsSummary answers summary = IsCount (length answers) (count_by is_far answers) (batch_text answers) summary

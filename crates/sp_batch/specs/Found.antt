@@ -1,15 +1,9 @@
 -- What was found for sources, before it is written.
-use Rattle.std.specs.Prelude.{◌≡◌, ◌≤◌, ℕ, true, List, map}
-use Rattle.sp_word.specs.Word.{is_layout, max_pred}
+use Rattle.std.specs.Prelude.{ℕ, List, map}
 use Rattle.sp_paths.specs.Paths.{Graph}
 use Rattle.sp_batch.specs.declared.finding.Found.{Found}
 use Rattle.sp_batch.specs.declared.finding.Found.TheVariants.{Tree, Far}
 use Rattle.sp_batch.specs.Batch.{Answer, TreeOf, FarFrom, IsAnswerTo, AreAnswers}
-
--- The layout and the graph are within the limits of a run.
-pub record IsReady (P : ℕ) (g : Graph) : Type 0 where
-  pub layout : is_layout P ≡ true
-  pub n : g.n ≤ max_pred P
 
 -- the answer that it is
 abbrev pub answer_of : {P : ℕ} → Found P → Answer

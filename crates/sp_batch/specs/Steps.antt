@@ -4,9 +4,9 @@ use Rattle.std.specs.Io.KnownBytes.{Appends}
 use Rattle.sp_device.specs.declared.devices.Write.{Ghosts as Writer}
 use Rattle.sp_device.specs.Devices.{IsBegun}
 use Rattle.sp_paths.specs.Paths.{Graph}
-use Rattle.sp_batch.specs.declared.answers.Summary.{Summary}
-use Rattle.sp_batch.specs.declared.answers.BatchError.{BatchError}
-use Rattle.sp_batch.specs.declared.answers.BatchError.TheVariants.{Memory, Write}
+use Rattle.sp_job.specs.declared.answers.Summary.{Summary}
+use Rattle.sp_job.specs.declared.answers.BatchError.{BatchError}
+use Rattle.sp_job.specs.declared.answers.BatchError.TheVariants.{Memory, Write}
 use Rattle.sp_batch.specs.declared.answering.Step.{Step}
 use Rattle.sp_batch.specs.Batch.{Answer, AreAnswers, batch_text, IsSummary}
 use Rattle.sp_batch.specs.declared.finding.Found.{Found}

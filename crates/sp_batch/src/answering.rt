@@ -3,16 +3,16 @@ ghost use Rattle.std.specs.Prelude.{◌≡◌, ◌<◌, ◌≤◌, [], ◌∷◌
 ghost use denote.Param.Send.{IsSync};
 ghost use Rattle.sp_word.specs.declared.workers.TheConstants.{MOST_WORKERS};
 ghost use Rattle.sp_paths.specs.Paths.{IsVertex};
-ghost use Rattle.sp_batch.specs.Found.{IsReady, AreFound};
+ghost use Rattle.sp_job.specs.Ready.{IsReady};
+ghost use Rattle.sp_batch.specs.Found.{AreFound};
 ghost use Rattle.sp_batch.specs.Steps.{IsGroupWritten, AreAllAnswered, MovesOn};
 
-use crate::answers::{BatchError, Summary};
-use crate::finding::{Found, Lead, Plan, find_group, find_source};
-use crate::progress::{Listener, Nobody, Progress};
+use crate::finding::{Found, find_group, find_source};
 use crate::watch::Watch;
 use crate::writing::{nothing, sum, write_group, write_one};
 use sp_dimacs::Write;
 use sp_graph::Graph;
+use sp_job::{BatchError, Lead, Listener, Nobody, Plan, Progress, Summary};
 use sp_word::Workers;
 use std::alloc::{AllocError, Global};
 use std::sync::Wait;

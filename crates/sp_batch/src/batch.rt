@@ -4,18 +4,17 @@ ghost use Rattle.sp_word.specs.Word.{is_layout};
 ghost use Rattle.sp_paths.specs.Paths.{IsVertex, IsGraph};
 ghost use Rattle.sp_dimacs.specs.Graph.{IsNetwork};
 ghost use Rattle.sp_batch.specs.Batch.{IsFirstAbove};
-ghost use Rattle.sp_batch.specs.Places.{AreNumbered};
-ghost use Rattle.sp_batch.specs.Answered.{BatchAnswered, BatchOfSome, GivenAnswered, GivenOfSome, IsBatch, is_early};
+ghost use Rattle.sp_job.specs.Places.{AreNumbered};
+ghost use Rattle.sp_job.specs.Answers.{is_early};
+ghost use Rattle.sp_batch.specs.Answered.{BatchAnswered, BatchOfSome, GivenAnswered, GivenOfSome, IsBatch};
 
 use crate::answering::answer_sources;
-use crate::answers::{BatchError, Summary};
-use crate::finding::Lead;
-use crate::places::{Places, chosen};
-use crate::progress::{Listener, Nobody, Progress};
 use crate::watch::{Unwatched, Watch};
-use crate::width::{BucketWidth, Settings};
 use sp_dimacs::{GrFile, Read, Write, read_gr, read_ss};
 use sp_graph::Graph;
+use sp_job::{
+    BatchError, BucketWidth, Lead, Listener, Nobody, Places, Progress, Settings, Summary, chosen,
+};
 use sp_word::Workers;
 use std::alloc::Global;
 use std::sync::Wait;

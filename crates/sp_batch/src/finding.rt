@@ -2,30 +2,17 @@
 ghost use Rattle.std.specs.Prelude.{◌≡◌, ◌++◌, All, IfOk};
 ghost use denote.Param.Send.{IsSync};
 ghost use Rattle.sp_paths.specs.Paths.{IsVertex};
-ghost use Rattle.sp_batch.specs.Found.{IsReady, IsFound, AreFound};
+ghost use Rattle.sp_job.specs.Ready.{IsReady};
+ghost use Rattle.sp_batch.specs.Found.{IsFound, AreFound};
 
 use crate::watch::Watch;
 use sp_graph::Graph;
+use sp_job::Plan;
 use sp_solve::{RunError, run_source};
-use sp_tree::Tree;
-use sp_word::{Delta, Workers};
+use sp_table::Tree;
 use std::alloc::{AllocError, Global};
 use std::sync::Wait;
 use std::thread::{Threads, join};
-
-/// How runs are made: the width of a bucket, and the number of workers.
-#[derive(Clone, Copy)]
-pub(crate) struct Plan<const P: u32> {
-    pub(crate) delta: Delta<P>,
-    pub(crate) workers: Workers,
-}
-
-/// How runs are made, and who is told how far they are.
-#[derive(Drop)]
-pub(crate) struct Lead<'a, const P: u32, L> {
-    pub(crate) plan: Plan<P>,
-    pub(crate) listener: &'a L,
-}
 
 /// What is to be told of a source.
 #[derive(Drop)]

@@ -6,14 +6,13 @@ mod devices;
 mod graphs;
 mod groups;
 mod meeting;
-mod slots;
 mod threads;
 
 use crate::batch::answer_file;
-use crate::places::chosen;
 use crate::watch::{Unwatched, Watch};
 use crate::{BatchError, BucketWidth, Nobody, Settings, Summary, run_batch};
 use sp_dimacs::{DimacsError, Kind, UpTo, UpToWriter, read_gr, read_ss};
+use sp_job::chosen;
 use sp_word::{Delta, Workers};
 use std::alloc::Global;
 use std::process::Abort;

@@ -3,9 +3,9 @@ ghost use Rattle.std.specs.Prelude.{◌≡◌, [], ◌∷◌};
 ghost use Rattle.sp_batch.specs.Found.{answer_of};
 ghost use Rattle.sp_batch.specs.Steps.{AreWritten, IsGroupWritten, Fits, none, sum_of};
 
-use crate::answers::{BatchError, Summary};
 use crate::finding::Found;
 use sp_dimacs::Write;
+use sp_job::{BatchError, Summary};
 use sp_tree::{write_far, write_tree};
 
 /// Of no source.

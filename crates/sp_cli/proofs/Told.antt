@@ -4,17 +4,17 @@ use Rattle.std.proofs.lemmas.Bool.{false≢true}
 use Rattle.std.specs.Prelude.{IsSome}
 use Rattle.sp_device.specs.declared.devices.Read.{Ghosts as Reader}
 use Rattle.sp_device.specs.declared.devices.Write.{Ghosts as Writer}
-use Rattle.sp_batch.specs.declared.answers.Summary.{Summary}
-use Rattle.sp_batch.specs.declared.answers.BatchError.{BatchError}
-use Rattle.sp_batch.specs.declared.answers.BatchError.TheVariants.{Gr, Ss, Pairs, NoSuchVertex, Memory, Write}
-use Rattle.sp_batch.specs.Places.{part_of}
+use Rattle.sp_job.specs.declared.answers.Summary.{Summary}
+use Rattle.sp_job.specs.declared.answers.BatchError.{BatchError}
+use Rattle.sp_job.specs.declared.answers.BatchError.TheVariants.{Gr, Ss, Pairs, NoSuchVertex, Memory, Write}
+use Rattle.sp_job.specs.Places.{part_of}
 use Rattle.sp_batch.specs.Answered.{BatchAnswered, GivenAnswered}
-use Rattle.sp_batch.specs.Pairs.{PairsAnswered}
+use Rattle.sp_pairs.specs.Pairs.{PairsAnswered}
 use Rattle.sp_command.specs.declared.faults.Fault.{Fault}
 use Rattle.sp_command.specs.declared.faults.Status.{Status}
 use Rattle.sp_command.specs.Scene.{Scene, scene}
 use Rattle.sp_cli.specs.Answers.{Asked, InText, These, TreesTold, TreesOfFile, TreesOfPart, PairsTold}
-use Rattle.sp_cli.specs.Ends.{end_of, fault_of}
+use Rattle.sp_options.specs.Ends.{end_of, fault_of}
 
 -- what a command answers whose batch has answered this
 abbrev pub end_after : (far_ok : Bool) → Result Summary BatchError → Result Status Fault

@@ -9,21 +9,21 @@ use Rattle.sp_dimacs.specs.declared.pairs.PairsFile.{PairsFile}
 use Rattle.sp_dimacs.specs.Graph.{graph_of, SpellsGraph}
 use Rattle.sp_dimacs.specs.Sources.{SpellsSources, SourcesRead}
 use Rattle.sp_dimacs.specs.Pairs.{SpellsPairs, PairsRead}
-use Rattle.sp_batch.specs.declared.answers.Summary.{Summary}
+use Rattle.sp_job.specs.declared.answers.Summary.{Summary}
 use Rattle.sp_batch.specs.Batch.{Answer, AreAnswers, batch_text, IsSummary, HasBegun, IsFirstAbove}
-use Rattle.sp_batch.specs.Places.{part_of}
-use Rattle.sp_batch.specs.Pairs.{ArePairAnswers, pairs_text, IsPairsSummary, HasBegunPairs, IsPairUpTo, IsFirstPairAbove}
+use Rattle.sp_job.specs.Places.{part_of}
+use Rattle.sp_pairs.specs.Pairs.{ArePairAnswers, pairs_text, IsPairsSummary, HasBegunPairs, IsPairUpTo, IsFirstPairAbove}
 use Rattle.sp_command.specs.declared.faults.FileKind.TheVariants as file
 use Rattle.sp_command.specs.declared.faults.Fault.{Fault}
 use Rattle.sp_command.specs.declared.faults.Fault.TheVariants as fault
 use Rattle.sp_command.specs.declared.faults.Status.{Status}
 use Rattle.sp_command.specs.Scene.{Scene, Meaning, HasText, IsUnwritten}
 use Rattle.sp_tools.specs.Reading.{GraphIn}
-use Rattle.sp_cli.specs.declared.commands.tree.Tree.{Tree}
-use Rattle.sp_cli.specs.declared.commands.pairs.Pairs.{Pairs}
-use Rattle.sp_cli.specs.declared.commands.sources.Sources.{Sources}
-use Rattle.sp_cli.specs.declared.commands.sources.Sources.TheVariants.{File, Part, Given}
-use Rattle.sp_cli.specs.Ends.{end_of}
+use Rattle.sp_cli.specs.declared.tree.Tree.{Tree}
+use Rattle.sp_cli.specs.declared.pairs.Pairs.{Pairs}
+use Rattle.sp_options.specs.declared.sources.Sources.{Sources}
+use Rattle.sp_options.specs.declared.sources.Sources.TheVariants.{File, Part, Given}
+use Rattle.sp_options.specs.Ends.{end_of}
 
 -- ## Texts
 

@@ -2,18 +2,13 @@
 //!
 //! A command is a type in a file of its own, here or in a crate below, with its words, its help and what it does. A new one is such
 //! a file, and its name in `AnyCommand`.
-mod pairs;
-mod reading;
-mod running;
-mod sources;
-mod tree;
-mod width;
-
+use crate::pairs::Pairs;
+use crate::tree::Tree;
 use sp_command::OneOf;
 use sp_tools::{Check, Offers, Replay};
 
 /// A command, with what it was given. They stand in the order of the help.
 pub type AnyCommand<'a> = OneOf<
-    tree::Tree<'a>,
-    OneOf<pairs::Pairs<'a>, OneOf<Check<'a>, OneOf<Replay<'a>, Offers<'a>>>>,
+    Tree<'a>,
+    OneOf<Pairs<'a>, OneOf<Check<'a>, OneOf<Replay<'a>, Offers<'a>>>>,
 >;

@@ -1,15 +1,10 @@
 //! A whole run of the program.
-ghost use Rattle.std.specs.Prelude.{◌≡◌, ◌≤◌, true, IfOk, IfErr};
-ghost use Rattle.sp_command.specs.Faults.{code_of, is_done, status_of};
-ghost use Rattle.sp_command.specs.Scene.{scene};
-ghost use Rattle.sp_cli.specs.Orders.{Obeys};
-ghost use Rattle.sp_cli.specs.Words.{names_output};
+ghost use Rattle.std.specs.Prelude.{◌≡◌, ◌≤◌};
 
 use crate::commands::AnyCommand;
-use crate::hints::Refusal;
-use crate::words::{Order, read_order};
-use sp_command::{Fault, Inputs, Outputs, PredBits, Run, Status, print, run_in};
+use sp_command::{Inputs, Outputs};
 use sp_device::Write;
+use sp_order::run_line;
 use std::alloc::Global;
 use std::sync::Wait;
 use std::thread::Threads;
@@ -31,90 +26,5 @@ pub fn run_command<R: Threads + Wait + Sync, F: Inputs + Outputs, W: Write, E: W
     ensures silent_far { result ≡ 4 → err.new ≡ err.old }
     ensures unwritten { 1 ≤ result → result ≤ 2 → out.new ≡ out.old }
 {
-    let status = match obey(rt, alloc, words, files, out) {
-        Ok(status) => status,
-        Err(refusal) => {
-            refusal.tell(err);
-            refusal.fault.status()
-        }
-    };
-    status.code()
-}
-
-fn obey<'a, R: Threads + Wait + Sync, F: Inputs + Outputs, W: Write>(
-    rt: &R,
-    alloc: Global,
-    words: &'a [&'a str],
-    files: &F,
-    out: &mut W,
-) -> Result<Status, Refusal<'a>>
-    ensures done { IfOk result (λ status. is_done status ≡ true) }
-    ensures unwritten { IfErr result
-        (λ refusal. code_of (status_of refusal.fault) ≤ 2 → out.new ≡ out.old) }
-{
-    let order = read_order(alloc, words)?;
-    match carry_out(rt, alloc, &order, files, out) {
-        Ok(status) => Ok(status),
-        Err(fault) => Err(Refusal::new(fault, &order, files)),
-    }
-}
-
-// Does what is ordered. Where that names a file for the output, nothing goes to `out`.
-fn carry_out<R: Threads + Wait + Sync, F: Inputs + Outputs, W: Write>(
-    rt: &R,
-    alloc: Global,
-    order: &Order<'_>,
-    files: &F,
-    out: &mut W,
-) -> Result<Status, Fault>
-    ensures done { IfOk result (λ status. is_done status ≡ true) }
-    ensures unwritten { IfErr result (λ fault. code_of (status_of fault) ≤ 2 → out.new ≡ out.old) }
-    ensures elsewhere { names_output order.now ≡ true → out.new ≡ out.old }
-    ensures answered { Obeys ⟦<AnyCommand<'static> as Run<20>>⟧.answers
-        ⟦<AnyCommand<'static> as Run<24>>⟧.answers ⟦<AnyCommand<'static> as Run<28>>⟧.answers
-        ⟦<AnyCommand<'static> as Run<32>>⟧.answers
-        order.now (scene (F.text files.now) (W.written out.old) (W.written out.new)) result }
-{
-    match order {
-        Order::Show(text) => {
-            print(out, text)?;
-            Ok(Status::Done)
-        }
-        Order::Run {
-            command,
-            pred_bits,
-            output: None,
-        } => run_in(command, *pred_bits, rt, alloc, files, out),
-        Order::Run {
-            command,
-            pred_bits,
-            output: Some(path),
-        } => run_into(rt, alloc, command, *pred_bits, files, path),
-    }
-}
-
-// Runs a command into a file, which takes its name once the command is done.
-fn run_into<R: Threads + Wait + Sync, F: Inputs + Outputs>(
-    rt: &R,
-    alloc: Global,
-    command: &AnyCommand<'_>,
-    pred_bits: PredBits,
-    files: &F,
-    path: &str,
-) -> Result<Status, Fault>
-    ensures done { IfOk result (λ status. is_done status ≡ true) }
-{
-    let Some(mut output) = files.create(alloc, path)? else {
-        return Err(Fault::CannotWrite);
-    };
-    match run_in(command, pred_bits, rt, alloc, files, &mut output) {
-        Ok(status) => match files.keep(output) {
-            Ok(()) => Ok(status),
-            Err(_) => Err(Fault::CannotWrite),
-        },
-        Err(fault) => {
-            files.discard(output);
-            Err(fault)
-        }
-    }
+    run_line::<AnyCommand<'_>, R, F, W, E>(rt, alloc, words, files, out, err)
 }

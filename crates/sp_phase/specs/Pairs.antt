@@ -3,8 +3,8 @@ use Rattle.std.specs.Prelude.{◌≡◌, ℕ, ◌<◌, Option, Some, None}
 use Rattle.sp_word.specs.Word.{Word, Pair, Unreached, max_dist}
 use Rattle.sp_paths.specs.Paths.{Graph, IsVertex, IsPair, Found, NoWalk, word_at}
 use Rattle.sp_paths.specs.Paths.{TooFar as FarVertex}
-use Rattle.sp_store.specs.declared.answers.RunError.{RunError}
-use Rattle.sp_store.specs.declared.answers.RunError.TheVariants.{Memory, TooFar, NoSuchVertex}
+use Rattle.sp_answer.specs.declared.answer.RunError.{RunError}
+use Rattle.sp_answer.specs.declared.answer.RunError.TheVariants.{Memory, TooFar, NoSuchVertex}
 use Rattle.sp_phase.specs.declared.advancing.Until.{Until}
 use Rattle.sp_phase.specs.declared.advancing.Until.TheVariants.{Final}
 use Rattle.sp_phase.specs.Lead.{Lead}

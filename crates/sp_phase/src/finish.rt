@@ -3,7 +3,7 @@ ghost use Rattle.std.specs.Prelude.{◌≡◌, None, IfOk, IfErr};
 ghost use Rattle.sp_graph.specs.LeftOut.{IsLeastLeftOut};
 ghost use Rattle.sp_offer.specs.Story.{known_table};
 ghost use Rattle.sp_paths.specs.Paths.{word_at};
-ghost use Rattle.sp_solve.specs.Answer.{IsAnswer, IsRefusal};
+ghost use Rattle.sp_answer.specs.Answer.{IsAnswer, IsRefusal};
 ghost use Rattle.sp_phase.specs.Sweep.{HasSwept, HasWords};
 
 use crate::leader::Leader;
@@ -11,7 +11,7 @@ use sp_graph::left_out;
 use sp_offer::Caller;
 use sp_paths::swept_copy;
 use sp_store::RunError;
-use sp_tree::Tree;
+use sp_table::Tree;
 use std::alloc::AllocError;
 
 impl<'a, 'g, const P: u32> Leader<'a, 'g, P> {

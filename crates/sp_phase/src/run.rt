@@ -3,7 +3,7 @@ ghost use Rattle.std.specs.Prelude.{◌≡◌, ℕ, ◌≤◌, Option, Some, Non
 ghost use Rattle.std.specs.Option.{option_or};
 ghost use Rattle.sp_offer.specs.Story.{known_table};
 ghost use Rattle.sp_paths.specs.Paths.{IsVertex};
-ghost use Rattle.sp_solve.specs.Answer.{IsAnswer, IsRefusal};
+ghost use Rattle.sp_answer.specs.Answer.{IsAnswer, IsRefusal};
 ghost use Rattle.sp_phase.specs.Sweep.{HasWords};
 ghost use Rattle.sp_phase.specs.Progress.{IsMemory, IsUnspent, IsSpent, IsAsFar, HasRead};
 ghost use Rattle.sp_phase.specs.Settling.{IsToldBy, IsLaterBucket};
@@ -13,8 +13,8 @@ use crate::leader::Leader;
 use sp_claim::Claimer;
 use sp_offer::Caller;
 use sp_store::{RunError, Store};
+use sp_table::Tree;
 use sp_task::Gate;
-use sp_tree::Tree;
 use sp_word::{Word, Workers};
 use std::alloc::Global;
 use std::marker::Model;

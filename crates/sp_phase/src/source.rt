@@ -1,15 +1,15 @@
 //! A run from one source, by rounds.
 ghost use Rattle.std.specs.Prelude.{◌≡◌, ◌≤◌, true, IfOk, IfErr};
 ghost use Rattle.sp_word.specs.Word.{is_layout, max_pred};
-ghost use Rattle.sp_solve.specs.Answer.{IsAnswer, IsRefusal};
+ghost use Rattle.sp_answer.specs.Answer.{IsAnswer, IsRefusal};
 
 use crate::run::Run;
 use sp_claim::Claimer;
 use sp_graph::Graph;
 use sp_offer::Caller;
 use sp_store::{RunError, Store};
+use sp_table::Tree;
 use sp_task::Gate;
-use sp_tree::Tree;
 use sp_word::{Delta, Workers};
 use std::alloc::Global;
 use std::sync::Wait;

@@ -11,9 +11,9 @@ use Rattle.sp_paths.specs.Theorems.{HasPassed}
 use Rattle.sp_paths.proofs.RowSteps.{light_rows_relaxed}
 use Rattle.sp_paths.proofs.TheoremProofs.{passed_is_pair, finished_is_pair}
 use Rattle.sp_graph.specs.LeftOut.{IsLeastLeftOut}
-use Rattle.sp_task.specs.Walking.{WalksFrom}
-use Rattle.sp_team.specs.Shown.{Shows, LeadsOut, IsClosedUpTo, IsArcRelaxed as IsEachRelaxed}
-use Rattle.sp_team.specs.declared.scan.Scan.TheVariants.{Whole, LeavesOut}
+use Rattle.sp_walks.specs.Walks.{WalksFrom}
+use Rattle.sp_scan.specs.Shown.{Shows, LeadsOut, IsClosedUpTo, IsArcRelaxed as IsEachRelaxed}
+use Rattle.sp_scan.specs.declared.scan.Scan.TheVariants.{Whole, LeavesOut}
 use Rattle.sp_solve.specs.declared.reach.PairAnswer.{PairAnswer as Told}
 use Rattle.sp_solve.specs.WholeRun.{IsPlace, IsOfWalks, IsRelaxedCopy}
 use Rattle.sp_solve.specs.Reach.{Reached, AnswersTargets, IsAnswerFor, IsUpTo, answer_of, answer_by, reach_of}

@@ -11,12 +11,12 @@ use Rattle.sp_paths.specs.Theorems.{FinishedIsTree}
 use Rattle.sp_paths.proofs.Walks.{arc_in, walk_none, walk_from_by, walk_by, walk_by_parts}
 use Rattle.sp_graph.specs.LeftOut.{IsLeastLeftOut}
 use Rattle.sp_offer.specs.Order.{lawful}
-use Rattle.sp_tree.specs.Table.{TreeTable, HasPredWithin, table_of, tree_of}
-use Rattle.sp_task.specs.Walking.{WalksFrom}
+use Rattle.sp_table.specs.Table.{TreeTable, HasPredWithin, table_of, tree_of}
+use Rattle.sp_walks.specs.Walks.{WalksFrom}
 use Rattle.sp_team.specs.Law.{AllowsArcs, IsReady}
-use Rattle.sp_team.specs.Shown.{Shows, LeadsOut}
-use Rattle.sp_team.specs.declared.scan.Scan.TheVariants.{Whole}
-use Rattle.sp_solve.specs.Answer.{IsAnswer}
+use Rattle.sp_scan.specs.Shown.{Shows, LeadsOut}
+use Rattle.sp_scan.specs.declared.scan.Scan.TheVariants.{Whole}
+use Rattle.sp_answer.specs.Answer.{IsAnswer}
 use Rattle.sp_solve.specs.WholeRun.{IsPlace, TakesWalks, IsRelaxedCopy}
 
 -- a lawful pair is of a walk

@@ -1,4 +1,2 @@
-pub mod Answer
-pub mod TreeWords
 pub mod WholeRun
 pub mod Reach

@@ -3,7 +3,7 @@ use Rattle.std.specs.Prelude.{◌≡◌, ◌≤◌, ℕ, List, All, length, Opti
 use Rattle.sp_word.specs.Word.{Word, Pair, Unreached, max_dist}
 use Rattle.sp_paths.specs.Paths.{Graph, IsVertex, IsPair, PairAnswer, word_at}
 use Rattle.sp_paths.specs.Paths.{Found as FoundPair, TooFar as FarVertex, NoWalk as NoWay}
-use Rattle.sp_task.specs.Walking.{WalksFrom}
+use Rattle.sp_walks.specs.Walks.{WalksFrom}
 use Rattle.sp_solve.specs.declared.reach.Shown.{Shown}
 use Rattle.sp_solve.specs.declared.reach.Shown.TheVariants.{Final, Open}
 use Rattle.sp_solve.specs.declared.reach.PairAnswer.{PairAnswer as Told}

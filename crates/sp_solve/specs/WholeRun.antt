@@ -4,7 +4,7 @@ use Rattle.sp_word.specs.Word.{Word, Pair, is_layout, max_dist, max_pred}
 use Rattle.sp_paths.specs.Paths.{IsGraph, IsVertex, IsTableFrom, IsWithin, word_at}
 use Rattle.sp_paths.specs.Theorems.{IsFinished}
 use Rattle.sp_offer.specs.Story.{Knowledge, known_table}
-use Rattle.sp_task.specs.Walking.{WalksFrom}
+use Rattle.sp_walks.specs.Walks.{WalksFrom}
 
 -- a source in a graph, in the ranges of words with P bits of predecessor
 pub record IsPlace (P : ℕ) (run : WalksFrom) : Type 0 where

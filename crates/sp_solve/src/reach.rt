@@ -16,8 +16,9 @@ ghost use Rattle.sp_solve.specs.Reach.{
 use crate::whole::WholeRun;
 use sp_graph::{Graph, look_up};
 use sp_offer::{Caller, OfferTable};
-use sp_task::Walks;
-use sp_team::{Scan, Search, Team, is_relaxed_up_to, open_tails, scan_arcs};
+use sp_scan::{Scan, is_relaxed_up_to, open_tails, scan_arcs};
+use sp_team::{Search, Team};
+use sp_walks::Walks;
 use sp_word::Word;
 use std::alloc::{AllocError, Global};
 use std::marker::Model;

@@ -3,13 +3,14 @@ ghost use Rattle.std.specs.Prelude.{◌≡◌, length, IfOk, OnOk};
 ghost use Rattle.sp_word.specs.Word.{max_dist};
 ghost use Rattle.sp_paths.specs.Paths.{word_at};
 ghost use Rattle.sp_graph.specs.LeftOut.{IsLeastLeftOut};
-ghost use Rattle.sp_team.specs.Shown.{Shows};
+ghost use Rattle.sp_scan.specs.Shown.{Shows};
 ghost use Rattle.sp_solve.specs.WholeRun.{TakesWalks, HasOpened, IsOfWalks, IsRelaxedCopy};
 
 use crate::whole::WholeRun;
 use sp_offer::{Caller, OfferTable};
-use sp_task::Walks;
-use sp_team::{Relaxed, Scan, Search, open_tails, relax_all, scan_arcs};
+use sp_scan::{Scan, open_tails, scan_arcs};
+use sp_team::{Relaxed, Search, relax_all};
+use sp_walks::Walks;
 use sp_word::Word;
 use std::alloc::AllocError;
 use std::sync::Wait;

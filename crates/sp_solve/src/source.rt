@@ -1,13 +1,13 @@
 //! A run from one source, by a team.
 ghost use Rattle.std.specs.Prelude.{◌≡◌, ◌≤◌, true, IfOk, IfErr};
 ghost use Rattle.sp_word.specs.Word.{is_layout, max_pred};
-ghost use Rattle.sp_solve.specs.Answer.{IsAnswer, IsRefusal};
+ghost use Rattle.sp_answer.specs.Answer.{IsAnswer, IsRefusal};
 
 use crate::whole::WholeRun;
+use sp_answer::RunError;
 use sp_graph::Graph;
-use sp_store::RunError;
+use sp_table::Tree;
 use sp_team::Team;
-use sp_tree::Tree;
 use sp_word::{Delta, Workers};
 use std::alloc::Global;
 use std::sync::Wait;

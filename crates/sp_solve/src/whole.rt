@@ -6,14 +6,14 @@ ghost use Rattle.std.specs.Prelude.{◌≡◌, ◌≤◌, None, true, length, If
 ghost use Rattle.sp_word.specs.Word.{is_layout, max_pred};
 ghost use Rattle.sp_paths.specs.Paths.{IsVertex, word_at};
 ghost use Rattle.sp_graph.specs.LeftOut.{IsLeastLeftOut};
-ghost use Rattle.sp_solve.specs.Answer.{IsAnswer, IsRefusal};
+ghost use Rattle.sp_answer.specs.Answer.{IsAnswer, IsRefusal};
 ghost use Rattle.sp_solve.specs.WholeRun.{IsRelaxedCopy};
 
+use sp_answer::RunError;
 use sp_graph::Graph;
 use sp_paths::finished_table;
-use sp_store::RunError;
+use sp_table::Tree;
 use sp_team::Team;
-use sp_tree::Tree;
 use sp_word::Word;
 use std::alloc::{AllocError, Global};
 use std::marker::Model;
@@ -30,7 +30,7 @@ pub(crate) struct WholeRun<'g, const P: u32> {
 }
 
 impl<'g, const P: u32> Model for WholeRun<'g, P> {
-    ghost use Rattle.sp_task.specs.Walking.{WalksFrom};
+    ghost use Rattle.sp_walks.specs.Walks.{WalksFrom};
     ghost use Rattle.sp_solve.specs.WholeRun.{IsPlace};
 
     ghost Value = { WalksFrom };

@@ -7,7 +7,8 @@ use Rattle.sp_graph.specs.RowsValue.{Split}
 use Rattle.sp_offer.specs.Order.{lawful}
 use Rattle.sp_task.specs.declared.task.Task.{Task}
 use Rattle.sp_task.specs.Offers.{IsTask}
-use Rattle.sp_task.specs.Walking.{WalksFrom, WalksAllowArcs}
+use Rattle.sp_walks.specs.Walks.{WalksFrom}
+use Rattle.sp_task.specs.Walking.{WalksAllowArcs}
 use Rattle.sp_store.specs.Stage.{Stage, IsStage, AreOfStage, rows_of}
 use Rattle.sp_store.specs.Rounds.{IsDue}
 

@@ -7,9 +7,9 @@ use Rattle.sp_graph.specs.RowsValue.{Split}
 use Rattle.sp_word.specs.History.{Table}
 use Rattle.sp_offer.specs.Order.{IsNoMore, IsKnownWord, lawful}
 use Rattle.sp_offer.specs.Story.{Knowledge, known_table}
-use Rattle.sp_task.specs.Walking.{WalksFrom}
-use Rattle.sp_store.specs.declared.answers.RunError.{RunError}
-use Rattle.sp_store.specs.declared.answers.RunError.TheVariants.{Memory, TooFar, NoSuchVertex}
+use Rattle.sp_walks.specs.Walks.{WalksFrom}
+use Rattle.sp_answer.specs.declared.answer.RunError.{RunError}
+use Rattle.sp_answer.specs.declared.answer.RunError.TheVariants.{Memory, TooFar, NoSuchVertex}
 
 -- a graph, a source in it, the width of a bucket, which tables the run has for words and for claims, and from how many
 -- tasks on a round is shared

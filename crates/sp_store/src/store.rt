@@ -7,8 +7,8 @@ ghost use Rattle.sp_store.specs.Stage.{IsUnstored, IsStage, IsOf, AreRowsOf, Lea
 ghost use Rattle.sp_store.specs.Held.{split_of};
 ghost use Rattle.sp_store.specs.Rounds.{IsDue, IsRoundOf};
 
-use crate::answers::RunError;
 use crate::held::Held;
+use sp_answer::RunError;
 use sp_claim::{ClaimTable, Claimer};
 use sp_graph::{Graph, Rows};
 use sp_offer::{Caller, OfferTable};

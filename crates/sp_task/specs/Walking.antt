@@ -1,16 +1,11 @@
--- The law of walks from a source.
+-- What the law of walks allows a task.
 use Rattle.std.specs.Prelude.{ℕ, ◌≤◌}
 use Rattle.sp_word.specs.Word.{max_dist, max_pred}
-use Rattle.sp_paths.specs.Paths.{Graph, IsGraph, HasWalk, IsLawful}
+use Rattle.sp_paths.specs.Paths.{IsGraph, HasWalk, IsLawful}
 use Rattle.sp_graph.specs.RowsValue.{Split}
 use Rattle.sp_offer.specs.Order.{lawful}
 use Rattle.sp_task.specs.declared.task.Task.{Task}
 use Rattle.sp_task.specs.Offers.{IsAllowed}
-
--- what contracts see of the law: the graph and the source
-pub record WalksFrom : Type 0 where
-  pub graph : Graph
-  pub source : ℕ
 
 -- a task whose distance is that of a walk to its vertex asks for lawful offers alone
 abbrev pub WalksAllowArcs : Type 0

@@ -7,11 +7,12 @@
 mod gate;
 mod round;
 mod task;
-mod walks;
+mod walking;
 mod workers;
 
 pub use gate::{Gate, OpenGate};
 pub use round::{run_round, run_round_by};
+pub use sp_walks::Walks;
 pub use task::{Round, Task, TaskKind};
-pub use walks::{Walks, walks_allow_arcs};
+pub use walking::walks_allow_arcs;
 pub use workers::{Receipt, RoundOut, RoundRefused};

@@ -1,4 +1,2 @@
 pub mod Later
 pub mod Rows
-pub mod Shows
-pub mod OpenTails

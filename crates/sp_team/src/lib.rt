@@ -4,14 +4,9 @@
 //! all arcs are relaxed is seen afterwards, in a copy of the words.
 #![tactic(auto)]
 
-mod board;
-mod entries;
-mod hands;
 mod relax;
-mod scan;
 mod search;
 mod team;
 
-pub use scan::{Scan, is_relaxed_up_to, open_tails, scan_arcs};
 pub use search::Search;
 pub use team::{Relaxed, Team, relax_all};

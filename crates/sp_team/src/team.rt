@@ -6,14 +6,12 @@ ghost use Rattle.sp_offer.specs.Story.{Follows, own_calls};
 ghost use Rattle.sp_team.specs.Law.{IsReady};
 ghost use Rattle.sp_team.specs.Later.{IsLater};
 
-use crate::board::Board;
-use crate::entries::Block;
-use crate::hands::Hands;
 use crate::relax::{read_dist, relax, warm};
 use crate::search::{Horizon, Search};
 use crossbeam_deque::{Stealer, Worker};
 use sp_bucket::Entry;
 use sp_graph::Graph;
+use sp_hands::{Block, Board, Deques, Hands, make_deques};
 use sp_offer::{Caller, Lawful, OfferTable};
 use sp_word::{Delta, Workers};
 use std::alloc::{AllocError, Global};
@@ -338,24 +336,6 @@ fn run_workers<R: Threads + Wait + Sync, L: Lawful + Send + Sync, const P: u32>(
     };
     let (later, sooner) = join(rt, theirs, mine);
     merge(table, sooner, later)
-}
-
-/// The deques of a team: the workers' own, and a thief's side of each.
-#[derive(Drop)]
-struct Deques {
-    owners: Vec<Worker<Block>>,
-    stealers: Vec<Stealer<Block>>,
-}
-
-fn make_deques(alloc: Global, workers: usize) -> Result<Deques, AllocError> {
-    let mut owners = Vec::with_capacity(alloc, workers)?;
-    let mut stealers = Vec::with_capacity(alloc, workers)?;
-    for _ in 0..workers {
-        let own = Worker::new_fifo(alloc, 16)?;
-        stealers.push(own.stealer()?)?;
-        owners.push(own)?;
-    }
-    Ok(Deques { owners, stealers })
 }
 
 /// Relaxes the arcs of the vertices in the queue, and of all whose distance becomes smaller thereby, as long as there is

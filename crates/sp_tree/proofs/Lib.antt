@@ -1,5 +1,4 @@
 pub mod Parts
-pub mod RisingRows
 pub mod TreePieces
 pub mod Numerals
 pub mod Canonical

@@ -1,4 +1,3 @@
-pub mod Table
 pub mod TreeText
 pub mod Spelling
 pub mod Fields

@@ -1,14 +1,14 @@
 //! The tree of shortest paths from a vertex.
 ghost use Rattle.std.specs.Prelude.{◌≤◌, IfOk};
 ghost use Rattle.sp_word.specs.Word.{max_pred};
-ghost use Rattle.sp_solve.specs.Answer.{IsAnswer};
+ghost use Rattle.sp_answer.specs.Answer.{IsAnswer};
 
 use crate::paths::{before, path_to};
 use crate::roads::roads;
 use anyhow::Result;
 use sp_graph::Graph;
 use sp_solve::{RunError, run_source};
-use sp_tree::Tree;
+use sp_table::Tree;
 use sp_word::{Delta, Workers};
 use std::sync::Wait;
 use std::thread::Threads;

@@ -2,8 +2,9 @@
 use crate::report::Ending;
 use crate::sample::Sample;
 use samples::FROM_ONE;
-use sp_batch::{BatchError, BucketWidth, Summary, run_batch, run_pairs};
+use sp_batch::{BatchError, BucketWidth, Summary, run_batch};
 use sp_dimacs::{OfRead, Write};
+use sp_pairs::run_pairs;
 use sp_text::Kind;
 use sp_word::Workers;
 use std::io;

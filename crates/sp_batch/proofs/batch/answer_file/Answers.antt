@@ -1,5 +1,6 @@
 use Rattle.std.proofs.lemmas.Result.{err_from_is_err_and}
-use Rattle.sp_batch.proofs.OfFile.{AreSources, same_graph, of_file, refused_early}
+use Rattle.sp_job.proofs.Files.{same_graph}
+use Rattle.sp_batch.proofs.OfFile.{AreSources, of_file, refused_early}
 use Rattle.sp_batch.proofs.batch.answer_file.Goals as goal
 
 pub returns-in_err-graph-clause-batch : goal.returns-in_err-graph-clause-batch

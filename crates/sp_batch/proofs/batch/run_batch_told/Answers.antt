@@ -1,5 +1,6 @@
 use Rattle.std.proofs.Common.{refl}
-use Rattle.sp_batch.proofs.TextsToAnswers.{graph_spelled, sources_spelled, answered, of_some}
+use Rattle.sp_job.proofs.Files.{graph_spelled, sources_spelled}
+use Rattle.sp_batch.proofs.TextsToAnswers.{answered, of_some}
 use Rattle.sp_batch.proofs.batch.run_batch_told.Goals as goal
 
 pub returns-in-Err-read_ss-clause-exact : goal.returns-in-Err-read_ss-clause-exact

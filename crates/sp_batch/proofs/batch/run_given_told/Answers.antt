@@ -1,4 +1,5 @@
-use Rattle.sp_batch.proofs.TextsToAnswers.{graph_spelled, given_answered, given_of_some}
+use Rattle.sp_job.proofs.Files.{graph_spelled}
+use Rattle.sp_batch.proofs.TextsToAnswers.{given_answered, given_of_some}
 use Rattle.sp_batch.proofs.batch.run_given_told.Goals as goal
 
 pub returns-in-Ok-clause-exact : goal.returns-in-Ok-clause-exact

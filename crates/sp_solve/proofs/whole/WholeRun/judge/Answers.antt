@@ -3,9 +3,9 @@ use Rattle.std.specs.Prelude.{All}
 use Rattle.sp_word.specs.Word.{max_dist}
 use Rattle.sp_paths.specs.declared.arc.Arc.{Arc}
 use Rattle.sp_paths.specs.Paths.{IsVertex, word_at}
-use Rattle.sp_task.specs.Walking.{WalksFrom}
-use Rattle.sp_team.specs.Shown.{Shows}
-use Rattle.sp_team.specs.declared.scan.Scan.TheVariants.{Whole, LeavesOut}
+use Rattle.sp_walks.specs.Walks.{WalksFrom}
+use Rattle.sp_scan.specs.Shown.{Shows}
+use Rattle.sp_scan.specs.declared.scan.Scan.TheVariants.{Whole, LeavesOut}
 use Rattle.sp_solve.specs.WholeRun.{IsOfWalks}
 use Rattle.sp_solve.specs.Reach.{AnswersTargets, reach_of}
 use Rattle.sp_solve.proofs.TargetAnswers.{near_answers, answers_whole, answers_left}

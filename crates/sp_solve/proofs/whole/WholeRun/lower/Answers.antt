@@ -1,5 +1,5 @@
 use Rattle.std.proofs.Common.{sym, subst, arith}
-use Rattle.sp_task.specs.Walking.{WalksFrom}
+use Rattle.sp_walks.specs.Walks.{WalksFrom}
 use Rattle.sp_solve.specs.WholeRun.{TakesWalks}
 use Rattle.sp_solve.proofs.WholeRun.{table_ready}
 use Rattle.sp_solve.proofs.whole.WholeRun.lower.Goals as goal

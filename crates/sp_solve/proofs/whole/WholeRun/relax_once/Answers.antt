@@ -2,8 +2,8 @@ use Rattle.std.proofs.Common.{List, ◌∙◌, subst, ap}
 use Rattle.sp_word.specs.Word.{max_dist}
 use Rattle.sp_paths.specs.declared.arc.Arc.{Arc}
 use Rattle.sp_paths.specs.Paths.{word_at}
-use Rattle.sp_task.specs.Walking.{WalksFrom}
-use Rattle.sp_team.specs.Shown.{Shows}
+use Rattle.sp_walks.specs.Walks.{WalksFrom}
+use Rattle.sp_scan.specs.Shown.{Shows}
 use Rattle.sp_solve.proofs.whole.WholeRun.relax_once.Goals as goal
 
 pub returns-clause-shows : goal.returns-clause-shows

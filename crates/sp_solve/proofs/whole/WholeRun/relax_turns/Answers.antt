@@ -1,8 +1,8 @@
 use Rattle.std.proofs.Common.{subst}
 use Rattle.sp_word.specs.Word.{max_dist}
 use Rattle.sp_paths.specs.Paths.{word_at}
-use Rattle.sp_team.specs.declared.scan.Scan.{Scan}
-use Rattle.sp_team.specs.Shown.{Shows}
+use Rattle.sp_scan.specs.declared.scan.Scan.{Scan}
+use Rattle.sp_scan.specs.Shown.{Shows}
 use Rattle.sp_solve.proofs.WholeRun.{whole_left}
 use Rattle.sp_solve.proofs.whole.WholeRun.relax_turns.Goals as goal
 

@@ -3,8 +3,8 @@ use Rattle.std.specs.Prelude.{None}
 use Rattle.sp_word.specs.Word.{max_pred}
 use Rattle.sp_paths.specs.Paths.{word_at}
 use Rattle.sp_graph.specs.LeftOut.{IsLeastLeftOut}
-use Rattle.sp_task.specs.Walking.{WalksFrom}
-use Rattle.sp_solve.specs.Answer.{IsAnswer}
+use Rattle.sp_walks.specs.Walks.{WalksFrom}
+use Rattle.sp_answer.specs.Answer.{IsAnswer}
 use Rattle.sp_solve.specs.WholeRun.{IsRelaxedCopy}
 use Rattle.sp_solve.proofs.WholeRun.{preds_within, whole_answer}
 use Rattle.sp_solve.proofs.whole.WholeRun.tree_of.Goals as goal

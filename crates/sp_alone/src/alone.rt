@@ -1,0 +1,57 @@
+//! A run from one source, by the calling thread alone.
+ghost use Rattle.std.specs.Prelude.{◌≡◌, ◌≤◌, true, IfOk, IfErr};
+ghost use Rattle.sp_word.specs.Word.{is_layout, max_dist, max_pred};
+ghost use Rattle.sp_paths.specs.Paths.{IsVertex};
+ghost use Rattle.sp_answer.specs.Answer.{IsAnswer, IsRefusal};
+ghost use Rattle.sp_alone.specs.TreeWords.{AreTreeWords};
+
+use sp_answer::RunError;
+use sp_graph::Graph;
+use sp_plain::Answer;
+use sp_serial::solve_alone;
+use sp_table::Tree;
+use sp_word::{Delta, Word};
+use std::alloc::Global;
+
+// The tree of words that are the plain program's answer.
+fn tree_of_words<const P: u32>(
+    alloc: Global,
+    graph: &Graph,
+    source: u32,
+    words: &[Word<P>],
+) -> Result<Tree<P>, RunError>
+    requires layout { is_layout P ≡ true }
+    requires n { graph.now.n ≤ max_pred P }
+    requires source { IsVertex graph.now.n source }
+    requires words { AreTreeWords graph.now source (max_dist P) words.now }
+    ensures tree { IfOk result (IsAnswer P graph.now source) }
+    ensures refused { IfErr result (IsRefusal P graph.now source) }
+{
+    match Tree::of_words(alloc, source, words) {
+        Ok(tree) => Ok(tree),
+        Err(_) => Err(RunError::Memory),
+    }
+}
+
+/// The shortest-path tree from the source, or the vertex that is too far, as `run_source` answers it, without another
+/// thread and without waiting: it returns.
+pub fn run_source_alone<const P: u32>(
+    alloc: Global,
+    graph: &Graph,
+    delta: Delta<P>,
+    source: u32,
+) -> Result<Tree<P>, RunError>
+    requires layout { is_layout P ≡ true }
+    requires n { graph.now.n ≤ max_pred P }
+    ensures tree { IfOk result (IsAnswer P graph.now source) }
+    ensures refused { IfErr result (IsRefusal P graph.now source) }
+{
+    if source < 1 || source > graph.n() {
+        return Err(RunError::NoSuchVertex);
+    }
+    match solve_alone(alloc, graph, delta, source) {
+        Ok(Answer::Tree(words)) => tree_of_words(alloc, graph, source, &words),
+        Ok(Answer::TooFar(vertex)) => Err(RunError::TooFar(vertex)),
+        Err(_) => Err(RunError::Memory),
+    }
+}

@@ -1,0 +1,6 @@
+//! What a run from a source answers: its tree, or why there is none.
+#![tactic(auto)]
+
+mod answer;
+
+pub use answer::RunError;

@@ -1,5 +1,0 @@
-use Rattle.sp_batch.specs.Slots.{AreHeld, AreFirstClosed}
-use Rattle.sp_batch.proofs.asking.find_answers.Given as goal
-
-abbrev pub invariant-loop-place : goal.invariant-loop-place
-invariant-loop-place g l = AreHeld g.row.P l.graph l.pairs l.slots.items × AreFirstClosed l.place l.slots.items

@@ -1,6 +1,0 @@
-use Rattle.std.proofs.Common.{◌≡◌, length}
-use Rattle.sp_batch.specs.Slots.{AreAllOpen}
-use Rattle.sp_batch.proofs.asking.open_slots.Given as goal
-
-abbrev pub invariant-loop-done : goal.invariant-loop-done
-invariant-loop-done l = AreAllOpen l.pairs l.slots.items × (length l.nearest.items ≡ l.n)

@@ -1,0 +1,197 @@
+//! `spt pairs`: for each pair of a list how far its target is from its source.
+ghost use denote.Param.Send.{IsSync};
+ghost use Rattle.std.specs.Prelude.{◌≡◌, ◌≤◌, ℕ, true, List, Option, Some, Ok, Err, IfOk, IfErr, MatchResult};
+ghost use Rattle.sp_word.specs.Word.{is_layout};
+ghost use Rattle.sp_command.specs.Faults.{code_of, is_done, status_of};
+ghost use Rattle.sp_command.specs.Scene.{scene};
+ghost use Rattle.sp_cli.specs.Answers.{PairsAnswers, PairsTold};
+ghost use Rattle.sp_options.specs.Ends.{end_of, fault_of};
+
+use clap::{ArgMatches, Error};
+use sp_command::{
+    Command, Fault, FileKind, GRAPH_FILE, Inputs, Run, Status, Words, after_help, file,
+};
+use sp_device::{Read, Write};
+use sp_job::{BatchError, Listener, Progress, Settings, Summary};
+use sp_options::{Running, Teller, Watched};
+use sp_pairs::run_pairs_told;
+use std::alloc::Global;
+use std::sync::Wait;
+use std::thread::Threads;
+
+const WORKERS_LONG: &str = "\
+Threads that may work at once, from 1 to 64, the main thread counted. As many as there are processors
+is a good choice, where they are free. No more threads are started than there are processors, nor any
+for a small graph. Any number gives the same bytes";
+
+/// What `pairs` is given, with the names of its files.
+#[derive(Drop)]
+pub struct Pairs<'a> {
+    pub graph: &'a str,
+    pub pairs: &'a str,
+    pub running: Running,
+}
+
+impl<'a> Command<'a> for Pairs<'a> {
+    const NAME: &'static str = "pairs";
+
+    const ABOUT: &'static str = "Write the distance of each pair of a source and a target";
+
+    const LONG_ABOUT: &'static str = "\
+Write the distance of each pair of a source and a target
+
+A distance is the least length of a walk from the source to the target. The predecessor is the vertex
+before the target on a shortest walk, the one with the smallest number where there are several. Each
+source is run from once, wherever its pairs stand, and no further than its targets ask for. The same
+bytes are written for each delta and each number of workers.";
+
+    const AFTER_HELP: &'static str = after_help!(
+        "\
+The graph is a .gr file, as `spt tree --help` tells. The pairs are a file of their own, its fields
+parted by blanks:
+  p pairs K     there are K pairs, at most 1048576; it stands first, and once
+  q S T         a pair of source S and target T; there are K of these lines
+  c ...         a comment; so is a line without a field
+Both are read, the graph first, all numbers are tested, and all answers are found, before anything is
+written.
+
+For each pair, in the order of its file, one line is written:
+  d S T D P     target T has distance D and predecessor P from source S; S itself has 0 and 0
+  x S V         T has no distance within the greatest of a word, and V is the smallest vertex beyond
+                that with an arc from one within it (exit status 4 at the end)
+  n S T         T has no distance, and there is no such V: no walk leads from S to T
+
+It takes as much memory as `spt tree` does for one source, and 28 bytes a pair.
+
+Example: where diamond.gr is the graph of the example there, and diamond.pairs has the lines
+  p pairs 3
+  q 1 4
+  q 1 1
+  q 4 1
+the output of `spt pairs diamond.gr diamond.pairs --delta 3` is
+  d 1 4 5 2
+  d 1 1 0 0
+  n 4 1
+
+A fault of a file is told with its line, as in `spt: pairs: line 2: 7 TooFew`; FILE is gr or pairs:
+",
+        faults: "  6 TooMany        more than M arcs or K pairs
+  7 TooFew         fewer than M arcs or K pairs
+",
+        others: "\
+Others are
+  spt: FILE: cannot open             (exit status 6)
+  spt: delta out of range            a word of this layout has no such distance (exit status 1)
+  spt: standard input twice          both files are `-` (exit status 1)
+  spt: source V: no such vertex      the first number of a pair above N, S before T; nothing is
+                                     written (exit status 2)
+  spt: memory                        nothing is written (exit status 5)
+  spt: write failed                  a beginning of the output may stand (exit status 6)
+",
+        statuses:
+            0 "done"
+            1 "the command line is wrong, or delta is out of range"
+            2 "a file is refused, or a source or a target is no vertex"
+            4 "for some pair a vertex is too far, without --far-ok; all answers are written";
+            "a file" "the output"
+    );
+
+    fn words(alloc: Global) -> Words<'a> {
+        let command = clap::Command::new(alloc, Self::NAME)
+            .arg(file(alloc, "GR", GRAPH_FILE))?
+            .arg(file(alloc, "PAIRS", "The pairs, a file of lines q S T"))?;
+        Running::add_to(command, alloc, WORKERS_LONG)
+    }
+
+    fn read(alloc: Global, given: &ArgMatches<'a>) -> Result<Option<Self>, Error> {
+        let (Some(graph), Some(pairs)) = (given.get_str("GR"), given.get_str("PAIRS")) else {
+            return Ok(None);
+        };
+        let Some(running) = Running::read(alloc, given)? else {
+            return Ok(None);
+        };
+        Ok(Some(Pairs {
+            graph,
+            pairs,
+            running,
+        }))
+    }
+
+    fn path_of(&self, file: FileKind) -> Option<&'a str> {
+        match file {
+            FileKind::Graph => Some(self.graph),
+            FileKind::Pairs => Some(self.pairs),
+            _ => None,
+        }
+    }
+}
+
+impl Pairs<'_> {
+    // Tells that all is written, where it is, and how the run ends.
+    fn end<F: Inputs>(
+        &self,
+        answer: Result<Summary, BatchError>,
+        teller: &Teller<'_, F>,
+    ) -> Result<Status, Fault>
+        ensures { MatchResult answer
+            (λ summary. result ≡ Ok (end_of self.now.running.far_ok summary))
+            (λ error. result ≡ Err (fault_of error)) }
+    {
+        if let Ok(written) = answer {
+            let count = written.sources as usize;
+            teller.hear(Progress::Pairs {
+                found: count,
+                count,
+            });
+        }
+        self.running.end_of(answer)
+    }
+
+    // Runs for the pairs of one text in the graph of another.
+    fn run_on<const P: u32, R: Threads + Wait + Sync, G: Read, S: Read, F: Inputs, W: Write>(
+        &self,
+        rt: &R,
+        alloc: Global,
+        gr: &mut G,
+        pairs: &mut S,
+        settings: &Settings<P, Teller<'_, F>>,
+        out: &mut W,
+    ) -> Result<Status, Fault>
+        requires { (is_layout P ≡ true) × IsSync R.row }
+        ensures answered { (gr_text list_text : List ℕ) (texts : List ℕ → Option (List ℕ))
+            → G.left gr.old ≡ Some gr_text → S.left pairs.old ≡ Some list_text
+            → PairsTold P self.now.running.far_ok gr_text list_text
+            (scene texts (W.written out.old) (W.written out.new)) result }
+        ensures done { IfOk result (λ status. is_done status ≡ true) }
+        ensures unwritten { IfErr result
+            (λ fault. code_of (status_of fault) ≤ 2 → out.new ≡ out.old) }
+    {
+        let answer = run_pairs_told::<P, R, G, S, W, _>(rt, alloc, gr, pairs, out, settings);
+        self.end(answer, settings.listener)
+    }
+}
+
+// Writes the line of each pair of the list.
+impl<const P: u32> Run<P> for Pairs<'_> {
+    ghost answers = { PairsAnswers P };
+
+    fn run<R: Threads + Wait + Sync, F: Inputs, W: Write>(
+        &self,
+        rt: &R,
+        alloc: Global,
+        files: &F,
+        out: &mut W,
+    ) -> Result<Status, Fault> {
+        let (width, workers) = self.running.team::<P>()?;
+        let teller = self.running.teller(files);
+        let settings = Settings {
+            width,
+            workers,
+            listener: &teller,
+        };
+        let (gr, pairs) = FileKind::Pairs.open_with_graph(files, self.graph, self.pairs)?;
+        let mut gr = Watched::new(gr, FileKind::Graph, &teller);
+        let mut pairs = Watched::new(pairs, FileKind::Pairs, &teller);
+        self.run_on::<P, R, _, _, F, W>(rt, alloc, &mut gr, &mut pairs, &settings, out)
+    }
+}

@@ -1,0 +1,171 @@
+//! What the workers of a team tell one another. All of it is advice: nothing is proved of it, and nothing rests on it.
+
+use std::alloc::{AllocError, Global};
+use std::sync::Wait;
+use std::sync::atomic::{AtomicU64, Ordering};
+use std::time::Duration;
+
+/// The level of a worker that has no entry.
+const NONE: u64 = u64::MAX;
+
+/// A number in a line of the cache of its own.
+#[derive(Drop)]
+struct Line {
+    number: AtomicU64,
+    _room: [u64; 15],
+}
+
+impl Line {
+    fn new(number: u64) -> Line {
+        Line {
+            number: AtomicU64::new(number),
+            _room: [0; 15],
+        }
+    }
+
+    fn get(&self) -> u64 {
+        self.number.load(Ordering::SeqCst)
+    }
+
+    fn set(&self, number: u64) {
+        self.number.store(number, Ordering::SeqCst);
+    }
+
+    fn raise(&self) {
+        self.number.fetch_add(1, Ordering::SeqCst);
+    }
+
+    fn lower(&self) {
+        self.number.fetch_sub(1, Ordering::SeqCst);
+    }
+}
+
+/// What the workers of a team tell one another.
+#[derive(Drop)]
+pub struct Board {
+    // How many workers have entries, or look for some that were shared.
+    active: Line,
+    // How many look for work.
+    hungry: Line,
+    // How many blocks lie in deques.
+    shared: Line,
+    // How many sleep.
+    asleep: Line,
+    // Changes when sleepers are to look again.
+    bell: Line,
+    // The lowest bucket of each worker.
+    levels: Vec<Line>,
+    // Whose words are looked for; all words, where no vertex is named.
+    targets: Vec<u32>,
+}
+
+impl Board {
+    /// For so many workers, of whom the first has the first entries, and the targets of all.
+    pub fn new(alloc: Global, workers: usize, targets: &[u32]) -> Result<Board, AllocError> {
+        let mut levels = Vec::with_capacity(alloc, workers)?;
+        for worker in 0..workers {
+            levels.push(Line::new(if worker == 0 { 0 } else { NONE }))?;
+        }
+        Ok(Board {
+            active: Line::new(1),
+            hungry: Line::new(0),
+            shared: Line::new(0),
+            asleep: Line::new(0),
+            bell: Line::new(0),
+            levels,
+            targets: Vec::from_slice(alloc, targets)?,
+        })
+    }
+
+    /// Whose words are looked for; all words, where no vertex is named.
+    pub fn targets(&self) -> &[u32] {
+        self.targets.as_slice()
+    }
+
+    pub fn is_alone(&self) -> bool {
+        self.levels.len() <= 1
+    }
+
+    pub fn hungry(&self) -> u64 {
+        self.hungry.get()
+    }
+
+    pub fn shared(&self) -> u64 {
+        self.shared.get()
+    }
+
+    pub fn is_over(&self) -> bool {
+        self.active.get() == 0
+    }
+
+    pub fn begin_work(&self) {
+        self.active.raise();
+    }
+
+    pub fn end_work(&self) {
+        self.active.lower();
+    }
+
+    /// A worker that had entries works no more.
+    pub fn leave(&self, worker: usize) {
+        self.set_level(worker, NONE);
+        self.end_work();
+    }
+
+    pub fn begin_hunger(&self) {
+        self.hungry.raise();
+    }
+
+    pub fn end_hunger(&self) {
+        self.hungry.lower();
+    }
+
+    /// The worker's lowest bucket.
+    pub fn set_level(&self, worker: usize, level: u64) {
+        if let Some(line) = self.levels.get(worker) {
+            line.set(level);
+        }
+    }
+
+    /// The lowest bucket of all workers.
+    pub fn lowest(&self) -> u64 {
+        let mut least = NONE;
+        for line in &self.levels {
+            least = least.min(line.get());
+        }
+        least
+    }
+
+    /// A block was put into a deque.
+    pub fn put(&self) {
+        self.shared.raise();
+        if self.asleep.get() > 0 {
+            self.bell.raise();
+            self.bell.number.wake_all();
+        }
+    }
+
+    /// A block was taken out of a deque.
+    pub fn taken(&self) {
+        self.shared.lower();
+    }
+
+    /// All work is done: those who sleep shall see it.
+    pub fn dismiss(&self) {
+        self.bell.raise();
+        self.bell.number.wake_all();
+    }
+
+    /// Sleeps for a while, unless there is something to do.
+    pub fn sleep<R: Wait>(&self, rt: &R, micros: u64) {
+        self.asleep.raise();
+        let seen = self.bell.get();
+        if self.shared.get() == 0 && !self.is_over() {
+            let low = (seen % 4294967296) as u32;
+            self.bell
+                .number
+                .park_timeout(rt, low, Duration::from_micros(micros));
+        }
+        self.asleep.lower();
+    }
+}

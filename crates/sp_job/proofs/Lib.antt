@@ -1,0 +1,2 @@
+pub mod PartsOfLists
+pub mod Files

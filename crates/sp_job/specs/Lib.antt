@@ -1,0 +1,4 @@
+pub mod Width
+pub mod Places
+pub mod Ready
+pub mod Answers

@@ -1,0 +1,23 @@
+-- How runs from sources end.
+use Rattle.std.specs.Prelude.{Bool, true, false, ◌==◌, if◌then◌else◌}
+use Rattle.sp_job.specs.declared.answers.Summary.{Summary}
+use Rattle.sp_job.specs.declared.answers.BatchError.{BatchError}
+use Rattle.sp_job.specs.declared.answers.BatchError.TheVariants as batch
+use Rattle.sp_command.specs.declared.faults.Fault.{Fault}
+use Rattle.sp_command.specs.declared.faults.Fault.TheVariants as fault
+use Rattle.sp_command.specs.declared.faults.FileKind.TheVariants as file
+use Rattle.sp_command.specs.declared.faults.Status.{Status}
+use Rattle.sp_command.specs.declared.faults.Status.TheVariants as status
+
+-- All answers were written. Where a vertex is too far this is told, unless it was said to be fine.
+abbrev pub end_of : Bool → Summary → Status
+end_of true summary = status.Done
+end_of false summary = if summary.too_far == 0 then status.Done else status.TooFar
+
+abbrev pub fault_of : BatchError → Fault
+fault_of (batch.Gr error) = fault.Input file.Graph error
+fault_of (batch.Ss error) = fault.Input file.Sources error
+fault_of (batch.Pairs error) = fault.Input file.Pairs error
+fault_of (batch.NoSuchVertex source) = fault.NoSuchVertex source
+fault_of batch.Memory = fault.Memory
+fault_of batch.Write = fault.WriteFailed

@@ -1,0 +1,73 @@
+//! Files whose reading is told.
+ghost use Rattle.std.specs.Prelude.{◌≡◌};
+
+use crate::running::Teller;
+use sp_command::{FileKind, Inputs};
+use sp_device::{Failed, Read};
+use std::fmt;
+
+// It is told each time that so many bytes more were read.
+const STRETCH: u64 = 1 << 24;
+
+/// How much of a file was read.
+#[derive(Clone, Copy)]
+struct BytesRead {
+    file: FileKind,
+    bytes: u64,
+}
+
+impl fmt::Display for BytesRead {
+    fn fmt<W: fmt::Write>(&self, f: &mut fmt::Formatter<W>) -> fmt::Result {
+        let BytesRead { file, bytes } = self;
+        write!(f, "{file}: {bytes} bytes read")
+    }
+}
+
+/// A device of which is told how much was read, now and then and at its end.
+#[derive(Drop)]
+pub struct Watched<'t, 'f, D, F> {
+    device: D,
+    teller: &'t Teller<'f, F>,
+    read: BytesRead,
+    // It is told next when so many were read.
+    next: u64,
+}
+
+impl<'t, 'f, D: Read, F: Inputs> Watched<'t, 'f, D, F> {
+    /// A device of which nothing was read yet.
+    pub fn new(device: D, file: FileKind, teller: &'t Teller<'f, F>) -> Self
+        ensures { ⟦<Watched<'static, 'static, D, F> as Read>⟧.left result ≡ D.left device }
+    {
+        Watched {
+            device,
+            teller,
+            read: BytesRead { file, bytes: 0 },
+            next: STRETCH,
+        }
+    }
+
+    // Counts what was read, none at the end.
+    fn count(&mut self, bytes: usize)
+        ensures { self.new.device ≡ self.old.device }
+    {
+        self.read.bytes = self.read.bytes.saturating_add(bytes as u64);
+        if bytes == 0 || self.read.bytes >= self.next {
+            self.next = self.read.bytes.saturating_add(STRETCH);
+            self.teller.tell(&self.read);
+        }
+    }
+}
+
+impl<D: Read, F: Inputs> Read for Watched<'_, '_, D, F> {
+    ghost left = { λ d. D.left d.device };
+
+    ghost passed = { λ d. D.passed d.device };
+
+    ghost has_failed = { λ d. D.has_failed d.device };
+
+    fn read(&mut self, buf: &mut [u8]) -> Result<usize, Failed> {
+        let bytes = self.device.read(buf)?;
+        self.count(bytes);
+        Ok(bytes)
+    }
+}

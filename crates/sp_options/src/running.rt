@@ -1,0 +1,167 @@
+//! How runs from sources are made and told of, and how they end.
+ghost use Rattle.std.specs.Prelude.{◌≡◌, true, Ok, Err, IfErr, MatchResult};
+ghost use Rattle.sp_word.specs.Word.{is_layout};
+ghost use Rattle.sp_word.specs.Ranges.{IsCrew};
+ghost use Rattle.sp_options.specs.Ends.{end_of, fault_of};
+ghost use Rattle.sp_command.specs.declared.faults.Fault.TheVariants.{DeltaOutOfRange};
+
+use crate::width::Width;
+use clap::{Arg, ArgAction, ArgMatches, Command, Error, value_parser};
+use sp_command::{Fault, FileKind, Inputs, Status, Words};
+use sp_job::{BatchError, BucketWidth, Listener, Progress, Summary};
+use sp_word::Workers;
+use std::alloc::Global;
+use std::fmt::Display;
+
+/// How runs are made.
+#[derive(Drop)]
+pub struct Running {
+    // The width of a bucket.
+    width: Width,
+    // How many threads may work, the main thread counted.
+    workers: u32,
+    // Whether a run is done where a vertex is too far.
+    pub far_ok: bool,
+    // Whether it is told how far a run is.
+    progress: bool,
+    ghost crew: { IsCrew workers },
+}
+
+impl Running {
+    /// Adds its options to those of a command, with what there is to know of the number of threads.
+    pub fn add_to<'a>(command: Command<'a>, alloc: Global, workers: &'a str) -> Words<'a> {
+        command
+            .arg(Width::option(alloc))?
+            .arg(Self::workers(alloc, workers))?
+            .arg(Self::far_ok(alloc))?
+            .arg(Self::progress(alloc))
+    }
+
+    fn workers<'a>(alloc: Global, about: &'a str) -> Arg<'a> {
+        Arg::new(alloc, "workers")
+            .long("workers")
+            .value_name("W")
+            .value_parser(value_parser!(u32).range(1..=64))
+            .default_value("1")
+            .help("Threads that may work at once")
+            .long_help(about)
+    }
+
+    fn far_ok<'a>(alloc: Global) -> Arg<'a> {
+        Arg::new(alloc, "far-ok")
+            .long("far-ok")
+            .action(ArgAction::SetTrue)
+            .help("End with exit status 0 where a vertex is too far")
+    }
+
+    fn progress<'a>(alloc: Global) -> Arg<'a> {
+        Arg::new(alloc, "progress")
+            .long("progress")
+            .action(ArgAction::SetTrue)
+            .help("Tell on standard error how far the run is")
+    }
+
+    /// Reads them.
+    pub fn read(alloc: Global, given: &ArgMatches<'_>) -> Result<Option<Self>, Error> {
+        let (Some(delta), Some(workers)) = (given.get_str(Width::ID), given.get_one("workers"))
+        else {
+            return Ok(None);
+        };
+        if Workers::new(workers).is_none() {
+            return Ok(None);
+        }
+        Ok(Some(Running {
+            width: Width::read(alloc, delta)?,
+            workers,
+            far_ok: given.get_flag("far-ok"),
+            progress: given.get_flag("progress"),
+        }))
+    }
+
+    /// The width and the number of threads, if words with `P` bits of predecessor have such a distance.
+    pub fn team<const P: u32>(&self) -> Result<(BucketWidth<P>, Workers), Fault>
+        requires { is_layout P ≡ true }
+        ensures { IfErr result (λ fault. fault ≡ DeltaOutOfRange) }
+    {
+        let Some(width) = self.width.bucket::<P>() else {
+            return Err(Fault::DeltaOutOfRange);
+        };
+        let Some(workers) = Workers::new(self.workers) else {
+            unreachable!()
+        };
+        Ok((width, workers))
+    }
+
+    /// Tells how far a run is, where that was asked for.
+    pub fn teller<'f, F: Inputs>(&self, files: &'f F) -> Teller<'f, F> {
+        Teller {
+            files,
+            is_asked: self.progress,
+        }
+    }
+
+    /// How a run ends that has answered so.
+    pub fn end_of(&self, answer: Result<Summary, BatchError>) -> Result<Status, Fault>
+        ensures { MatchResult answer (λ summary. result ≡ Ok (end_of self.now.far_ok summary))
+            (λ error. result ≡ Err (fault_of error)) }
+    {
+        match answer {
+            Ok(summary) => Ok(status_after(summary, self.far_ok)),
+            Err(error) => Err(fault_of(error)),
+        }
+    }
+}
+
+/// Tells by the files of a command line how far a run is.
+pub struct Teller<'f, F> {
+    files: &'f F,
+    is_asked: bool,
+}
+
+impl<F> Drop for Teller<'_, F> {
+    fn drop(self) {
+        let Teller {
+            files: _,
+            is_asked: _,
+        } = self;
+    }
+}
+
+impl<F: Inputs> Teller<'_, F> {
+    /// Tells a line, where that was asked for.
+    pub fn tell<D: Display>(&self, line: &D) {
+        if self.is_asked {
+            self.files.tell(line);
+        }
+    }
+}
+
+impl<F: Inputs> Listener for Teller<'_, F> {
+    fn hear(&self, progress: Progress) {
+        self.tell(&progress);
+    }
+}
+
+// How a run ends that has written all answers.
+fn status_after(summary: Summary, far_ok: bool) -> Status
+    ensures { result ≡ end_of far_ok summary }
+{
+    if far_ok || summary.too_far == 0 {
+        Status::Done
+    } else {
+        Status::TooFar
+    }
+}
+
+fn fault_of(error: BatchError) -> Fault
+    ensures { result ≡ fault_of error }
+{
+    match error {
+        BatchError::Gr(error) => FileKind::Graph.fault(error),
+        BatchError::Ss(error) => FileKind::Sources.fault(error),
+        BatchError::Pairs(error) => FileKind::Pairs.fault(error),
+        BatchError::NoSuchVertex(vertex) => Fault::NoSuchVertex(vertex),
+        BatchError::Memory => Fault::Memory,
+        BatchError::Write => Fault::WriteFailed,
+    }
+}

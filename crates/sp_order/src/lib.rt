@@ -1,0 +1,13 @@
+//! The command line of the program `spt`: what its words order, the run of that, and how a fault is told.
+//!
+//! The commands are a type, `C`: what is done with all of them, to add their words, to read the one that is named and to run it, is
+//! done by its impls of `Commands` and `Run`.
+#![tactic(auto)]
+
+mod help;
+mod hints;
+mod run;
+mod words;
+
+pub use run::run_line;
+pub use words::{Order, read_order};

@@ -1,0 +1,126 @@
+//! A whole run of the program.
+ghost use Rattle.std.specs.Prelude.{◌≡◌, ◌≤◌, true, IfOk, IfErr};
+ghost use Rattle.sp_command.specs.Faults.{code_of, is_done, status_of};
+ghost use Rattle.sp_command.specs.Scene.{scene};
+ghost use Rattle.sp_order.specs.Orders.{Obeys};
+ghost use Rattle.sp_order.specs.Words.{names_output};
+
+use crate::hints::Refusal;
+use crate::words::{Order, read_order};
+use sp_command::{Commands, Fault, Inputs, Outputs, PredBits, Run, Status, print, run_in};
+use sp_device::Write;
+use std::alloc::Global;
+use std::sync::Wait;
+use std::thread::Threads;
+
+/// Runs the command that the words order, the program's name first among them, and answers the exit
+/// status. Its output goes to `out`, or to the file that the words name for it, and the text of a fault to `err`; whether `err`
+/// takes that text changes no status.
+pub fn run_line<'a, C, R: Threads + Wait + Sync, F: Inputs + Outputs, W: Write, E: Write>(
+    rt: &R,
+    alloc: Global,
+    words: &'a [&'a str],
+    files: &F,
+    out: &mut W,
+    err: &mut E,
+) -> u8
+where
+    C: Commands<'a> + Run<20> + Run<24> + Run<28> + Run<32>,
+    ensures range { result ≤ 6 }
+    ensures silent { result ≡ 0 → err.new ≡ err.old }
+    ensures silent_no { result ≡ 3 → err.new ≡ err.old }
+    ensures silent_far { result ≡ 4 → err.new ≡ err.old }
+    ensures unwritten { 1 ≤ result → result ≤ 2 → out.new ≡ out.old }
+{
+    let status = match obey::<C, R, F, W>(rt, alloc, words, files, out) {
+        Ok(status) => status,
+        Err(refusal) => {
+            refusal.tell(err);
+            refusal.fault.status()
+        }
+    };
+    status.code()
+}
+
+fn obey<'a, C, R: Threads + Wait + Sync, F: Inputs + Outputs, W: Write>(
+    rt: &R,
+    alloc: Global,
+    words: &'a [&'a str],
+    files: &F,
+    out: &mut W,
+) -> Result<Status, Refusal<'a>>
+where
+    C: Commands<'a> + Run<20> + Run<24> + Run<28> + Run<32>,
+    ensures done { IfOk result (λ status. is_done status ≡ true) }
+    ensures unwritten { IfErr result
+        (λ refusal. code_of (status_of refusal.fault) ≤ 2 → out.new ≡ out.old) }
+{
+    let order: Order<'a, C> = read_order(alloc, words)?;
+    match carry_out(rt, alloc, &order, files, out) {
+        Ok(status) => Ok(status),
+        Err(fault) => Err(Refusal::new(fault, &order, files)),
+    }
+}
+
+// Does what is ordered. Where that names a file for the output, nothing goes to `out`.
+fn carry_out<C, R: Threads + Wait + Sync, F: Inputs + Outputs, W: Write>(
+    rt: &R,
+    alloc: Global,
+    order: &Order<'_, C>,
+    files: &F,
+    out: &mut W,
+) -> Result<Status, Fault>
+where
+    C: Run<20> + Run<24> + Run<28> + Run<32>,
+    ensures done { IfOk result (λ status. is_done status ≡ true) }
+    ensures unwritten { IfErr result (λ fault. code_of (status_of fault) ≤ 2 → out.new ≡ out.old) }
+    ensures elsewhere { names_output order.now ≡ true → out.new ≡ out.old }
+    ensures answered { Obeys ⟦<C as Run<20>>⟧.answers ⟦<C as Run<24>>⟧.answers
+        ⟦<C as Run<28>>⟧.answers ⟦<C as Run<32>>⟧.answers
+        order.now (scene (F.text files.now) (W.written out.old) (W.written out.new)) result }
+{
+    match order {
+        Order::Show(text) => {
+            print(out, text)?;
+            Ok(Status::Done)
+        }
+        Order::Run {
+            command,
+            pred_bits,
+            output: None,
+        } => run_in(command, *pred_bits, rt, alloc, files, out),
+        Order::Run {
+            command,
+            pred_bits,
+            output: Some(path),
+        } => run_into(rt, alloc, command, *pred_bits, files, path),
+    }
+}
+
+// Runs a command into a file, which takes its name once the command is done.
+fn run_into<C, R: Threads + Wait + Sync, F: Inputs + Outputs>(
+    rt: &R,
+    alloc: Global,
+    command: &C,
+    pred_bits: PredBits,
+    files: &F,
+    path: &str,
+) -> Result<Status, Fault>
+where
+    C: Run<20> + Run<24> + Run<28> + Run<32>,
+    ensures done { IfOk result (λ status. is_done status ≡ true) }
+{
+    let Some(mut output) = files.create(alloc, path)? else {
+        return Err(Fault::CannotWrite);
+    };
+    match run_in(command, pred_bits, rt, alloc, files, &mut output) {
+        Ok(status) => match files.keep(output) {
+            Ok(()) => Ok(status),
+            Err(_) => Err(Fault::CannotWrite),
+        },
+        Err(fault) => {
+            files.discard(output);
+            Err(fault)
+        }
+    }
+}

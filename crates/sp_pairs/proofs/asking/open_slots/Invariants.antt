@@ -1,0 +1,6 @@
+use Rattle.std.proofs.Common.{◌≡◌, length}
+use Rattle.sp_pairs.specs.Slots.{AreAllOpen}
+use Rattle.sp_pairs.proofs.asking.open_slots.Given as goal
+
+abbrev pub invariant-loop-done : goal.invariant-loop-done
+invariant-loop-done l = AreAllOpen l.pairs l.slots.items × (length l.nearest.items ≡ l.n)

@@ -1,0 +1,204 @@
+//! The answers to pairs, found by one run from each source.
+ghost use Rattle.std.specs.Prelude.{◌≡◌, ◌+◌, ◌<◌, false, length, All, IfOk, IfSome};
+ghost use Rattle.sp_job.specs.Ready.{IsReady};
+ghost use Rattle.sp_pairs.specs.Slots.{IsClosed, slot_of, IsPairOf, AreAllOpen, pair_at, AreHeld, AreFirstClosed, StayClosed, IsPlaceBehind, AreTargetsOf, IsFor, IsClosedAt};
+
+use sp_graph::Graph;
+use sp_job::{Lead, Listener, Plan, Progress};
+use sp_solve::{PairAnswer, Reach, run_targets, useful_workers};
+use sp_team::Team;
+use std::alloc::{AllocError, Global};
+use std::sync::Wait;
+use std::thread::Threads;
+
+/// What is known of a pair, in 16 bytes: fields lie in the order in which they stand here.
+#[derive(Clone, Copy)]
+pub(crate) enum Slot {
+    /// Nothing yet. The next pair of the same source stands at this place; where there is none, it is the number of pairs.
+    Open { next: usize },
+    /// The target's word.
+    Found { pred: u32, dist: u64 },
+    /// The vertex that is too far.
+    TooFar(u32),
+    /// No walk leads to the target.
+    NoWalk,
+}
+
+fn slot_of(answer: PairAnswer) -> Slot
+    ensures { result ≡ slot_of answer }
+{
+    match answer {
+        PairAnswer::Found { dist, pred } => Slot::Found { pred, dist },
+        PairAnswer::TooFar(vertex) => Slot::TooFar(vertex),
+        PairAnswer::NoWalk => Slot::NoWalk,
+    }
+}
+
+fn is_open(slot: &Slot) -> bool
+    ensures { result ≡ false → IsClosed slot.now }
+{
+    match slot {
+        Slot::Open { .. } => true,
+        Slot::Found { .. } | Slot::TooFar(_) | Slot::NoWalk => false,
+    }
+}
+
+// Open slots for pairs of so many vertices. From the last pair to the first, a table tells for each source where its next
+// pair stands.
+fn open_slots(alloc: Global, n: u32, pairs: &[(u32, u32)]) -> Result<Vec<Slot>, AllocError>
+    requires { All (IsPairOf n) pairs.now }
+    ensures { IfOk result (λ slots. AreAllOpen pairs.now slots.items) }
+{
+    let count = pairs.len();
+    let mut nearest = vec![in alloc; count; n as usize]?;
+    let mut slots = vec![in alloc; Slot::Open { next: count }; count]?;
+    for done in 0..count {
+        let place = count - 1 - done;
+        let source = pairs[place].0 as usize - 1;
+        slots[place] = Slot::Open {
+            next: nearest[source],
+        };
+        nearest[source] = place;
+    }
+    Ok(slots)
+}
+
+// The place of the next pair of the same source.
+fn next_place(pairs: &[(u32, u32)], slots: &[Slot], place: usize) -> Option<usize>
+    requires here { place < length pairs.now }
+    requires size { length slots.now ≡ length pairs.now }
+    ensures { IfSome result (IsPlaceBehind place pairs.now) }
+{
+    let Slot::Open { next } = slots[place] else {
+        return None;
+    };
+    if next > place && next < pairs.len() && pairs[next].0 == pairs[place].0 {
+        return Some(next);
+    }
+    None
+}
+
+// The target of the pair at a place, and those of the pairs of the same source behind it.
+fn targets_from(
+    alloc: Global,
+    graph: &Graph,
+    pairs: &[(u32, u32)],
+    slots: &[Slot],
+    place: usize,
+) -> Result<Vec<u32>, AllocError>
+    requires here { place < length pairs.now }
+    requires size { length slots.now ≡ length pairs.now }
+    requires pairs { All (IsPairOf graph.now.n) pairs.now }
+    ensures { IfOk result (λ targets.
+        AreTargetsOf graph.now.n (pair_at pairs.now place) targets.items) }
+{
+    let mut targets = Vec::new(alloc);
+    targets.push(pairs[place].1)?;
+    let mut at = place;
+    while let Some(next) = next_place(pairs, slots, at) {
+        targets.push(pairs[next].1)?;
+        at = next;
+    }
+    Ok(targets)
+}
+
+// Keeps the answer for the target number `k` as that of the pair at a place, if it is that pair's.
+fn keep_answer<const P: u32>(
+    reach: &Reach<P>,
+    pairs: &[(u32, u32)],
+    slots: &mut Vec<Slot>,
+    place: usize,
+    k: usize,
+)
+    requires k { k < length reach.now.targets }
+    requires here { place < length pairs.now }
+    requires held { AreHeld P reach.now.graph pairs.now slots.old.items }
+    ensures held { AreHeld P reach.now.graph pairs.now slots.new.items }
+    ensures stay { StayClosed slots.old.items slots.new.items }
+    ensures closed { IsFor (pair_at pairs.now place) k reach.now
+        → IsClosedAt place slots.new.items }
+{
+    let (source, target) = pairs[place];
+    if source == reach.source() && target == reach.targets()[k] {
+        slots[place] = slot_of(reach.answer(k));
+    }
+}
+
+// Keeps the answers of a run for the pair at a place, and for those of the same source behind it.
+fn keep_answers<const P: u32>(
+    reach: &Reach<P>,
+    pairs: &[(u32, u32)],
+    slots: &mut Vec<Slot>,
+    place: usize,
+)
+    requires here { place < length pairs.now }
+    requires held { AreHeld P reach.now.graph pairs.now slots.old.items }
+    requires first { AreFirstClosed place slots.old.items }
+    requires reach { IsFor (pair_at pairs.now place) 0 reach.now }
+    ensures held { AreHeld P reach.now.graph pairs.now slots.new.items }
+    ensures first { AreFirstClosed (place + 1) slots.new.items }
+{
+    let mut at = place;
+    for k in 0..reach.targets().len() {
+        let next = next_place(pairs, slots, at);
+        keep_answer(reach, pairs, slots, at, k);
+        match next {
+            Some(place) => at = place,
+            None => return,
+        }
+    }
+}
+
+// Finds the answer to the pair at a place, and to those of the same source behind it.
+fn ask<const P: u32, R: Threads + Wait + Sync>(
+    rt: &R,
+    alloc: Global,
+    graph: &Graph,
+    plan: &Plan<P>,
+    pairs: &[(u32, u32)],
+    slots: &mut Vec<Slot>,
+    place: usize,
+) -> Result<(), AllocError>
+    requires ready { IsReady P graph.now }
+    requires pairs { All (IsPairOf graph.now.n) pairs.now }
+    requires here { place < length pairs.now }
+    requires held { AreHeld P graph.now pairs.now slots.old.items }
+    requires first { AreFirstClosed place slots.old.items }
+    ensures held { IfOk result (λ _. AreHeld P graph.now pairs.now slots.new.items) }
+    ensures first { IfOk result (λ _. AreFirstClosed (place + 1) slots.new.items) }
+{
+    let targets = targets_from(alloc, graph, pairs, slots, place)?;
+    let team = Team {
+        delta: plan.delta,
+        workers: useful_workers(rt, graph.n(), plan.workers),
+    };
+    let reach = run_targets::<P, R>(rt, alloc, graph, team, pairs[place].0, targets)?;
+    keep_answers(&reach, pairs, slots, place);
+    Ok(())
+}
+
+/// The answers to pairs, in their order.
+pub(crate) fn find_answers<const P: u32, R: Threads + Wait + Sync, L: Listener>(
+    rt: &R,
+    alloc: Global,
+    graph: &Graph,
+    lead: &Lead<P, L>,
+    pairs: &[(u32, u32)],
+) -> Result<Vec<Slot>, AllocError>
+    requires ready { IsReady P graph.now }
+    requires pairs { All (IsPairOf graph.now.n) pairs.now }
+    ensures held { IfOk result (λ slots. AreHeld P graph.now pairs.now slots.items) }
+    ensures closed { IfOk result (λ slots. All IsClosed slots.items) }
+{
+    let mut slots = open_slots(alloc, graph.n(), pairs)?;
+    for place in 0..pairs.len() {
+        if is_open(&slots[place]) {
+            lead.listener.hear(Progress::Pairs {
+                found: place,
+                count: pairs.len(),
+            });
+            ask::<P, R>(rt, alloc, graph, &lead.plan, pairs, &mut slots, place)?;
+        }
+    }
+    Ok(slots)
+}

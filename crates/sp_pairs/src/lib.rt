@@ -1,0 +1,12 @@
+//! From bytes to bytes: a graph and a list of pairs are read, and for each pair of a source and a target a line is written.
+#![tactic(auto)]
+
+mod asking;
+mod pair_lines;
+mod pairs;
+
+pub use pairs::{run_pairs, run_pairs_told};
+pub use sp_job::{BatchError, BucketWidth, Listener, Nobody, Progress, Settings, Summary};
+
+#[cfg(test)]
+mod tests;

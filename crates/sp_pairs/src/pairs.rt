@@ -1,0 +1,134 @@
+//! A batch of pairs: a source and a target each.
+ghost use Rattle.std.specs.Prelude.{◌≡◌, ℕ, true, List, All, Some, IfSome, IfNone, IfErr};
+ghost use Rattle.sp_word.specs.Word.{is_layout};
+ghost use Rattle.sp_dimacs.specs.Graph.{IsNetwork};
+ghost use Rattle.sp_dimacs.specs.Pairs.{ArePairsWithin};
+ghost use Rattle.sp_job.specs.Answers.{is_early};
+ghost use Rattle.sp_pairs.specs.Pairs.{IsPairUpTo, IsFirstPairAbove, ArePairsDone, PairsAnswered, PairsOfSome};
+
+use crate::asking::find_answers;
+use crate::pair_lines::write_pairs;
+use sp_dimacs::{GrFile, PairsFile, Read, Write, read_gr, read_pairs};
+use sp_graph::Graph;
+use sp_job::{BatchError, BucketWidth, Lead, Listener, Nobody, Progress, Settings, Summary};
+use sp_word::Workers;
+use std::alloc::Global;
+use std::sync::Wait;
+use std::thread::Threads;
+
+// The first number that isn't a vertex, of a pair the source before the target.
+fn first_pair_above(pairs: &[(u32, u32)], n: u32) -> Option<u32>
+    ensures first { IfSome result (IsFirstPairAbove n pairs.now) }
+    ensures none { IfNone result (All (IsPairUpTo n) pairs.now) }
+{
+    for (source, target) in pairs {
+        if *source > n {
+            return Some(*source);
+        }
+        if *target > n {
+            return Some(*target);
+        }
+    }
+    None
+}
+
+// Tests the pairs, finds all their answers, and then writes them.
+#[tactic(auto, using(crate::proofs::PairsOfFile::pairs_not_early))]
+fn answer_pairs<const P: u32, R: Threads + Wait + Sync, W: Write, L: Listener>(
+    rt: &R,
+    alloc: Global,
+    file: GrFile,
+    list: &PairsFile,
+    settings: &Settings<P, L>,
+    out: &mut W,
+) -> Result<Summary, BatchError>
+    requires layout { is_layout P ≡ true }
+    requires network { IsNetwork P file }
+    requires pairs { ArePairsWithin P list.now }
+    ensures done { ArePairsDone P file list.now W.Write out.old out.new result }
+    ensures untouched { IfErr result (λ e. is_early e ≡ true → out.new ≡ out.old) }
+{
+    if let Some(vertex) = first_pair_above(&list.pairs, file.n) {
+        return Err(BatchError::NoSuchVertex(vertex));
+    }
+    let graph = Graph::from_arcs(alloc, file.n, file.arcs)?;
+    settings.listener.hear(Progress::Graph {
+        vertices: graph.n(),
+        arcs: graph.m(),
+    });
+    let lead = Lead {
+        plan: settings.plan_for(&graph),
+        listener: settings.listener,
+    };
+    let slots = find_answers::<P, R, L>(rt, alloc, &graph, &lead, &list.pairs)?;
+    write_pairs(&list.pairs, &slots, out)
+}
+
+/// Reads a graph and a list of pairs, and writes for each pair, in the order of the list, one line: what the target has in
+/// the source's shortest-path tree, or the vertex that is too far for a word of `P` bits of predecessor, or that no walk
+/// leads there.
+///
+/// The graph is read first, then the pairs; then all their numbers are tested, and all answers are found, before anything
+/// is written. `width` is that of a bucket, `workers` the number of threads, the leader counted; what is written is
+/// the same for each of both. Where the writer fails, a beginning of the text stands.
+///
+/// Each source is run from once, wherever its pairs stand, and no further than to the farthest of their targets.
+pub fn run_pairs<const P: u32, R: Threads + Wait + Sync, G: Read, S: Read, W: Write>(
+    rt: &R,
+    alloc: Global,
+    gr: &mut G,
+    pairs: &mut S,
+    out: &mut W,
+    width: BucketWidth<P>,
+    workers: Workers,
+) -> Result<Summary, BatchError>
+    requires layout { is_layout P ≡ true }
+    ensures exact { (gr_text list_text : List ℕ)
+        → G.left gr.old ≡ Some gr_text → S.left pairs.old ≡ Some list_text
+        → PairsAnswered P gr_text list_text G.Read gr.new S.Read pairs.new
+        W.Write out.old out.new result }
+    ensures untouched { IfErr result (λ e. is_early e ≡ true → out.new ≡ out.old) }
+    ensures found { PairsOfSome P W.Write out.old out.new result }
+{
+    let settings = Settings {
+        width,
+        workers,
+        listener: &Nobody,
+    };
+    run_pairs_told::<P, R, G, S, W, Nobody>(rt, alloc, gr, pairs, out, &settings)
+}
+
+/// The same as `run_pairs`, and tells how far it is: when the graph stands, and before each run from a source.
+pub fn run_pairs_told<
+    const P: u32,
+    R: Threads + Wait + Sync,
+    G: Read,
+    S: Read,
+    W: Write,
+    L: Listener,
+>(
+    rt: &R,
+    alloc: Global,
+    gr: &mut G,
+    pairs: &mut S,
+    out: &mut W,
+    settings: &Settings<P, L>,
+) -> Result<Summary, BatchError>
+    requires layout { is_layout P ≡ true }
+    ensures exact { (gr_text list_text : List ℕ)
+        → G.left gr.old ≡ Some gr_text → S.left pairs.old ≡ Some list_text
+        → PairsAnswered P gr_text list_text G.Read gr.new S.Read pairs.new
+        W.Write out.old out.new result }
+    ensures untouched { IfErr result (λ e. is_early e ≡ true → out.new ≡ out.old) }
+    ensures found { PairsOfSome P W.Write out.old out.new result }
+{
+    let file = match read_gr::<P, G>(alloc, gr) {
+        Ok(file) => file,
+        Err(error) => return Err(BatchError::Gr(error)),
+    };
+    let list = match read_pairs::<P, S>(alloc, pairs) {
+        Ok(list) => list,
+        Err(error) => return Err(BatchError::Pairs(error)),
+    };
+    answer_pairs::<P, R, W, L>(rt, alloc, file, &list, settings, out)
+}

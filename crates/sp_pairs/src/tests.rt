@@ -1,0 +1,2 @@
+//! What no contract says of pairs.
+mod slots;

@@ -1,0 +1,6 @@
+//! What arcs show of a list of words: whether each is relaxed, and which vertex they leave out.
+#![tactic(auto)]
+
+mod scan;
+
+pub use scan::{Scan, is_relaxed_up_to, open_tails, scan_arcs};

@@ -1,0 +1,143 @@
+//! Trees as tables of rows.
+ghost use Rattle.std.specs.Prelude.{◌≡◌, ◌+◌, ◌-◌, ◌<◌, ◌≤◌, ◌∷◌, [], ◌++◌, ℕ, List, length, true, All, IfOk, Some, MatchOption, slice_get};
+ghost use Rattle.sp_word.specs.Word.{Pair, Unreached, is_layout, max_dist, max_pred};
+ghost use Rattle.sp_table.specs.Table.{TreeTable, IsTable, AreRows, HasPredWithin, last_vertex, table_of, tree_of, with_row};
+
+use crate::rows::rows_of;
+use sp_word::Word;
+use std::alloc::{AllocError, Global};
+use std::marker::Model;
+
+/// A tree of shortest paths: the number of vertices, the source, and a row for each vertex that is reached.
+#[derive(Drop)]
+pub struct Tree<const P: u32> {
+    n: u32,
+    source: u32,
+    rows: Vec<(u32, Word<P>)>,
+}
+
+impl<const P: u32> Model for Tree<P> {
+    ghost Value = { TreeTable };
+
+    ghost view = { λ t. record { n = t.n; source = t.source; rows = t.rows.items } };
+
+    ghost invariant = { λ t. IsTable P
+        (record { n = t.n; source = t.source; rows = t.rows.items }) };
+}
+
+impl<const P: u32> Tree<P> {
+    /// The tree of a source in which the vertices have these words.
+    ///
+    /// It takes the room for the rows once, and is linear.
+    pub fn of_words(alloc: Global, source: u32, words: &[Word<P>]) -> Result<Tree<P>, AllocError>
+        requires layout { is_layout P ≡ true }
+        requires least { 1 ≤ length words.now }
+        requires most { length words.now ≤ max_pred P }
+        requires source_least { 1 ≤ source }
+        requires source_most { source ≤ length words.now }
+        requires preds { All (HasPredWithin (length words.now)) words.now }
+        ensures tree { IfOk result (λ t. t ≡ tree_of source words.now) }
+        ensures words { IfOk result
+            (λ t. (v : ℕ) → 1 ≤ v → v ≤ t.n → slice_get words.now (v - 1) ≡ Some (table_of t v)) }
+    {
+        Ok(Tree {
+            n: words.len() as u32,
+            source,
+            rows: rows_of(alloc, words)?,
+        })
+    }
+
+    /// A tree that has no row yet.
+    pub fn bare(alloc: Global, n: u32, source: u32) -> Tree<P>
+        requires layout { is_layout P ≡ true }
+        requires least { 1 ≤ n }
+        requires most { n ≤ max_pred P }
+        requires source_least { 1 ≤ source }
+        requires source_most { source ≤ n }
+        ensures tree { result ≡ record { n = n; source = source; rows = [] } }
+        ensures table { IsTable P result }
+    {
+        Tree {
+            n,
+            source,
+            rows: Vec::new(alloc),
+        }
+    }
+
+    /// One row more, above the others.
+    pub fn push_row(&mut self, vertex: u32, dist: u64, pred: u32) -> Result<(), AllocError>
+        requires above { last_vertex self.old.rows < vertex }
+        requires most { vertex ≤ self.old.n }
+        requires dist { dist ≤ max_dist P }
+        requires pred { pred ≤ self.old.n }
+        ensures tree { IfOk result (λ u. self.new ≡ with_row self.old vertex dist pred) }
+        ensures table { IfOk result (λ u. IsTable P self.new) }
+    {
+        self.rows.push((vertex, Word::pack(dist, pred)))?;
+        Ok(())
+    }
+
+    /// The vertex of the last row, or 0.
+    pub fn last(&self) -> u32
+        ensures { result ≡ last_vertex self.now.rows }
+    {
+        match self.rows.last() {
+            Some(row) => row.0,
+            None => 0,
+        }
+    }
+
+    /// The number of vertices.
+    pub fn n(&self) -> u32
+        ensures n { result ≡ self.now.n }
+        ensures table { IsTable P self.now }
+    {
+        self.n
+    }
+
+    /// The source.
+    pub fn source(&self) -> u32
+        ensures source { result ≡ self.now.source }
+        ensures table { IsTable P self.now }
+    {
+        self.source
+    }
+
+    /// The vertices that are reached, by rising number, and their words.
+    pub fn rows(&self) -> &[(u32, Word<P>)]
+        ensures rows { result.now ≡ self.now.rows }
+        ensures table { IsTable P self.now }
+    {
+        &self.rows
+    }
+
+    // The word of a vertex that has a row.
+    fn word_of_row(&self, vertex: u32) -> Option<Word<P>>
+        ensures { MatchOption result (table_of self.now vertex ≡ Unreached)
+            (λ word. table_of self.now vertex ≡ word) }
+    {
+        match self.rows.binary_search_by_key(
+            &vertex,
+            |row: &(u32, Word<P>)| -> u32
+                ensures { result ≡ row.now.0 }
+            { row.0 },
+        ) {
+            Ok(place) => Some(self.rows[place].1),
+            Err(_) => None,
+        }
+    }
+
+    /// The word of a vertex.
+    pub fn word(&self, vertex: u32) -> Word<P>
+        requires least { 1 ≤ vertex }
+        requires most { vertex ≤ self.now.n }
+        ensures { result ≡ table_of self.now vertex }
+    {
+        // The layout of the words is the fact of the fields that is needed below.
+        let _ = &self.n;
+        match self.word_of_row(vertex) {
+            Some(word) => word,
+            None => Word::unreached(),
+        }
+    }
+}
