@@ -12,7 +12,7 @@ use mathlib.Core.Bool.{cond}
 use Rattle.std.proofs.lemmas.Map.Lookups.{exact_unsigned}
 use Rattle.std.proofs.lemmas.List.Elements.{All-nil, All-cons, All-push, All-append, All-weaker, All-head, All-tail}
 use Rattle.std.proofs.lemmas.List.Sorted.{IsPermutation-refl}
-use Rattle.sp_bucket.specs.declared.entry.Entry.{Entry}
+use Rattle.sp_bins.specs.declared.entry.Entry.{Entry}
 use Rattle.sp_bucket.specs.Content.{bucket_of, Content, Puts, Takes, IsLowest}
 use Rattle.sp_bucket.specs.Filed.{all_entries, IsBucket, IsFiled}
 use Rattle.sp_bucket.proofs.Shuffles.{one_more, one_more_behind, to_front}

@@ -4,7 +4,7 @@ use Rattle.std.specs.Prelude.{◌≢◌, All, Any, IsPermutation, slice_index_or
 use Rattle.std.specs.declared.alloc.Global.{Global}
 use Rattle.std.proofs.lemmas.List.Elements.{All-nil, All-cons, All-push, All-weaker, All-head}
 use Rattle.std.proofs.lemmas.List.Sorted.{All-permutation}
-use Rattle.sp_bucket.specs.declared.entry.Entry.{Entry}
+use Rattle.sp_bins.specs.declared.entry.Entry.{Entry}
 use Rattle.sp_bucket.specs.declared.ring.TheConstants.{LONGEST_RING}
 use Rattle.sp_bucket.specs.Content.{bucket_of, no_entries, Content, Puts, Takes, IsLowest}
 use Rattle.sp_bucket.specs.Filed.{all_entries}

@@ -7,7 +7,7 @@ use native.Mathlib.Decide.{dec_le, ℕ_discrete}
 use Rattle.std.proofs.Math.Nat.{mul-le-mul_left}
 use Rattle.std.proofs.lemmas.Nat.{div-add-mod'}
 use Rattle.std.proofs.lemmas.List.Elements.{All-nil, All-append, All-weaker}
-use Rattle.sp_bucket.specs.declared.entry.Entry.{Entry}
+use Rattle.sp_bins.specs.declared.entry.Entry.{Entry}
 use Rattle.sp_bucket.specs.Content.{bucket_of}
 use Rattle.sp_bucket.specs.Filed.{all_entries}
 use Rattle.sp_bucket.specs.Window.{Stand}

@@ -1,7 +1,7 @@
 -- What contracts see of buckets: entries, in whatever order, and the width that parts them into buckets.
 use Rattle.std.specs.Prelude.{◌≡◌, ◌≢◌, ℕ, ◌+◌, ◌/◌, ◌≤◌, List, [], ◌∷◌, ◌++◌, All, Any, Option, Some, None, IsPermutation, if◌then◌else◌, nat_le}
 use Rattle.std.specs.Int.{div_ceil}
-use Rattle.sp_bucket.specs.declared.entry.Entry.{Entry}
+use Rattle.sp_bins.specs.declared.entry.Entry.{Entry}
 use Rattle.sp_bucket.specs.declared.ring.TheConstants.{LONGEST_RING}
 
 -- bucket i has the distances from i * delta up to, not including, (i + 1) * delta

@@ -1,7 +1,7 @@
 -- The entries of several buckets, and a map whose keys are the buckets of their entries.
 use Rattle.std.specs.Prelude.{◌≡◌, ◌≢◌, ℕ, List, [], ◌∷◌, ◌++◌, All, Vec}
 use Rattle.std.specs.declared.alloc.Global.{Global}
-use Rattle.sp_bucket.specs.declared.entry.Entry.{Entry}
+use Rattle.sp_bins.specs.declared.entry.Entry.{Entry}
 use Rattle.sp_bucket.specs.Content.{bucket_of}
 
 -- the entries of all the lists, one list after the other

@@ -1,7 +1,7 @@
 -- A ring of buckets: a window of as many buckets as it has slots, of which bucket i stands in slot i % len.
 use Rattle.std.specs.Prelude.{◌≡◌, ℕ, suc, ◌+◌, ◌%◌, ◌<◌, ◌≤◌, List, [], ◌∷◌, All, Vec, Some, length}
 use Rattle.std.specs.declared.alloc.Global.{Global}
-use Rattle.sp_bucket.specs.declared.entry.Entry.{Entry}
+use Rattle.sp_bins.specs.declared.entry.Entry.{Entry}
 use Rattle.sp_bucket.specs.declared.ring.TheConstants.{LONGEST_RING}
 use Rattle.sp_bucket.specs.Content.{Content, bucket_of}
 use Rattle.sp_bucket.specs.Filed.{all_entries}

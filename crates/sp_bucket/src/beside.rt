@@ -2,9 +2,9 @@
 ghost use Rattle.std.specs.Prelude.{◌≡◌, ◌<◌, ◌≤◌, ◌↔◌, [], Some, OnOk, OnErr, IsNone, IfSome, IfOk};
 ghost use Rattle.sp_bucket.specs.Content.{no_entries, Puts, Takes, IsLowest};
 
-use crate::entry::Entry;
 use crate::map::BucketMap;
 use crate::ring::{BucketRing, LONGEST_RING};
+use sp_bins::Entry;
 use std::alloc::{AllocError, Global};
 use std::marker::Model;
 

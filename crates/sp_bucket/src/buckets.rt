@@ -3,9 +3,9 @@ ghost use Rattle.std.specs.Prelude.{◌≡◌, ◌<◌, ◌↔◌, [], None, OnO
 ghost use Rattle.sp_bucket.specs.Content.{no_entries, ring_for, Puts, Takes, IsLowest};
 
 use crate::beside::RingBesideMap;
-use crate::entry::Entry;
 use crate::map::BucketMap;
 use crate::ring::LONGEST_RING;
+use sp_bins::Entry;
 use std::alloc::{AllocError, Global};
 use std::marker::Model;
 

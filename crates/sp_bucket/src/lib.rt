@@ -2,12 +2,9 @@
 #![tactic(auto)]
 
 mod beside;
-mod bins;
 mod buckets;
-mod entry;
 mod map;
 mod ring;
 
-pub use bins::Bins;
 pub use buckets::Buckets;
-pub use entry::Entry;
+pub use sp_bins::{Bins, Entry};

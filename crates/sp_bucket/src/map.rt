@@ -3,7 +3,7 @@ ghost use Rattle.std.specs.Prelude.{◌≡◌, ◌<◌, ◌↔◌, [], None, IsT
 ghost use Rattle.std.specs.Bool.{OnFalse};
 ghost use Rattle.sp_bucket.specs.Content.{bucket_of, no_entries, Puts, Takes, IsLowest, HasNoEntryIn, HasEntryIn};
 
-use crate::entry::Entry;
+use sp_bins::Entry;
 use std::alloc::{AllocError, Global};
 use std::collections::BTreeMap;
 use std::marker::Model;

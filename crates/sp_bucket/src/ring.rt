@@ -4,7 +4,7 @@ ghost use Rattle.std.specs.Bool.{OnFalse};
 ghost use Rattle.sp_bucket.specs.Content.{bucket_of, no_entries, Puts, Takes, IsLowest, HasNoEntryIn};
 ghost use Rattle.sp_bucket.specs.Window.{IsWithin, content_of};
 
-use crate::entry::Entry;
+use sp_bins::Entry;
 use std::alloc::{AllocError, Global};
 use std::marker::Model;
 use std::mem;

@@ -5,7 +5,7 @@ ghost use Rattle.sp_cert.specs.Faults.{is_later, earlier_of};
 use crate::rule::Rule;
 
 /// A rule that fails at a vertex.
-#[derive(Clone, Copy, Debug, PartialEq, Eq)]
+#[derive(Clone, Copy)]
 pub struct Fault {
     pub vertex: u32,
     pub rule: Rule,

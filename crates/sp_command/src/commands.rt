@@ -5,7 +5,7 @@ use crate::faults::{Fault, FileKind, Status};
 use crate::inputs::Inputs;
 use crate::layout::{PredBits, Run};
 use crate::outputs;
-use clap::{Arg, ArgMatches, Error};
+use clap::{ArgMatches, Error};
 use sp_device::Write;
 use std::alloc::{AllocError, Global};
 use std::sync::Wait;
@@ -141,9 +141,4 @@ impl<A: Run<P>, B: Run<P>, const P: u32> Run<P> for OneOf<A, B> {
             OneOf::Second(command) => command.run(rt, alloc, files, out),
         }
     }
-}
-
-/// A file that a command needs.
-pub fn file<'a>(alloc: Global, name: &'a str, about: &'a str) -> Arg<'a> {
-    Arg::new(alloc, name).help(about).required(true)
 }

@@ -6,6 +6,7 @@ ghost use Rattle.sp_command.specs.Faults.{code_of, is_done, status_of};
 ghost use Rattle.sp_command.specs.Scene.{Meaning, scene};
 ghost use Rattle.sp_command.specs.Words.{ReadsSpelling, bits_in};
 
+use crate::arguments::valued;
 use crate::faults::{Fault, Status};
 use crate::inputs::Inputs;
 use clap::Arg;
@@ -62,13 +63,10 @@ impl PredBits {
 
     /// The option that says how many.
     pub fn option<'a>(alloc: Global) -> Arg<'a> {
-        Arg::new(alloc, Self::ID)
-            .long(Self::ID)
-            .value_name("P")
+        let about = "Bits of a word that hold the predecessor";
+        valued(alloc, Self::ID, "P", about, HELP)
             .value_parser(SPELLINGS.as_slice())
             .default_value("28")
-            .help("Bits of a word that hold the predecessor")
-            .long_help(HELP)
     }
 
     /// The fewest bits that hold every vertex of a graph of so many, if some do.

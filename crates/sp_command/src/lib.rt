@@ -5,6 +5,7 @@
 //! (`faults`), and often a second line, which says why, or what to do (`hints`).
 #![tactic(auto)]
 
+mod arguments;
 mod commands;
 mod faults;
 mod help;
@@ -14,7 +15,8 @@ mod layout;
 mod outputs;
 mod text;
 
-pub use commands::{Command, Commands, OneOf, Words, file};
+pub use arguments::{file, flag, valued};
+pub use commands::{Command, Commands, OneOf, Words};
 pub use faults::{Fault, FileKind, Status};
 pub use help::GRAPH_FILE;
 pub use hints::{Form, Hint, hint_of, output_hint};

@@ -1,4 +1,5 @@
 //! A file that the output of a command goes to, in place of standard output.
+use crate::arguments::valued;
 use clap::Arg;
 use sp_device::{Write, WriteFault};
 use std::alloc::{AllocError, Global};
@@ -28,10 +29,6 @@ pub trait Outputs {
 
 /// The option that names the file.
 pub fn option<'a>(alloc: Global) -> Arg<'a> {
-    Arg::new(alloc, OUTPUT)
-        .short('o')
-        .long(OUTPUT)
-        .value_name("OUT")
-        .help("Write the output to a file, in place of standard output")
-        .long_help(HELP)
+    let about = "Write the output to a file, in place of standard output";
+    valued(alloc, OUTPUT, "OUT", about, HELP).short('o')
 }

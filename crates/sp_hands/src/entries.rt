@@ -1,5 +1,5 @@
 //! What waits to be relaxed.
-use sp_bucket::Entry;
+use sp_bins::Entry;
 
 /// Entries of a bucket that a worker shares.
 #[derive(Drop)]

@@ -3,7 +3,7 @@
 use crate::board::Board;
 use crate::entries::Block;
 use crossbeam_deque::{Steal, Stealer, Worker};
-use sp_bucket::{Bins, Entry};
+use sp_bins::{Bins, Entry};
 use std::alloc::{AllocError, Global};
 use std::hint::spin_loop;
 use std::sync::Wait;

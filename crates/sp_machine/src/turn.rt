@@ -9,7 +9,7 @@ use crate::item::Item;
 use sp_word::Word;
 
 /// What an actor is at.
-#[derive(Clone, Copy, Debug, PartialEq, Eq)]
+#[derive(Clone, Copy)]
 pub(crate) enum At<const P: u32> {
     /// It has no further item.
     Idle,
@@ -37,7 +37,7 @@ impl<const P: u32> At<P> {
 }
 
 /// What a step of an actor does.
-#[derive(Clone, Copy, Debug, PartialEq, Eq)]
+#[derive(Clone, Copy)]
 pub(crate) enum Turn {
     /// There is no further item: nothing changes.
     Rests,

@@ -6,8 +6,8 @@ ghost use Rattle.sp_options.specs.Ends.{end_of, fault_of};
 ghost use Rattle.sp_command.specs.declared.faults.Fault.TheVariants.{DeltaOutOfRange};
 
 use crate::width::Width;
-use clap::{Arg, ArgAction, ArgMatches, Command, Error, value_parser};
-use sp_command::{Fault, FileKind, Inputs, Status, Words};
+use clap::{Arg, ArgMatches, Command, Error, value_parser};
+use sp_command::{Fault, FileKind, Inputs, Status, Words, flag, valued};
 use sp_job::{BatchError, BucketWidth, Listener, Progress, Summary};
 use sp_word::Workers;
 use std::alloc::Global;
@@ -37,28 +37,21 @@ impl Running {
             .arg(Self::progress(alloc))
     }
 
-    fn workers<'a>(alloc: Global, about: &'a str) -> Arg<'a> {
-        Arg::new(alloc, "workers")
-            .long("workers")
-            .value_name("W")
+    fn workers<'a>(alloc: Global, more: &'a str) -> Arg<'a> {
+        let about = "Threads that may work at once";
+        valued(alloc, "workers", "W", about, more)
             .value_parser(value_parser!(u32).range(1..=64))
             .default_value("1")
-            .help("Threads that may work at once")
-            .long_help(about)
     }
 
     fn far_ok<'a>(alloc: Global) -> Arg<'a> {
-        Arg::new(alloc, "far-ok")
-            .long("far-ok")
-            .action(ArgAction::SetTrue)
-            .help("End with exit status 0 where a vertex is too far")
+        let about = "End with exit status 0 where a vertex is too far";
+        flag(alloc, "far-ok", about)
     }
 
     fn progress<'a>(alloc: Global) -> Arg<'a> {
-        Arg::new(alloc, "progress")
-            .long("progress")
-            .action(ArgAction::SetTrue)
-            .help("Tell on standard error how far the run is")
+        let about = "Tell on standard error how far the run is";
+        flag(alloc, "progress", about)
     }
 
     /// Reads them.

@@ -3,7 +3,7 @@ ghost use Rattle.std.specs.Prelude.{◌≡◌, ◌≤◌, IfSome};
 ghost use Rattle.sp_job.specs.Places.{AreNumbered};
 
 use clap::{Arg, ArgAction, ArgMatches, Command, value_parser};
-use sp_command::Words;
+use sp_command::{Words, valued};
 use sp_job::Places;
 use std::alloc::{AllocError, Global};
 
@@ -78,14 +78,8 @@ impl<'a> Sources<'a> {
     }
 
     fn part(alloc: Global) -> Result<Arg<'a>, AllocError> {
-        Ok(
-            Arg::new(alloc, "sources")
-                .long("sources")
-                .value_name("A-B")
-                .conflicts_with("source")?
-                .help("The places of the file whose sources have a tree")
-                .long_help(PART_LONG),
-        )
+        let about = "The places of the file whose sources have a tree";
+        valued(alloc, "sources", "A-B", about, PART_LONG).conflicts_with("source")
     }
 
     /// Reads them.

@@ -5,6 +5,7 @@ ghost use Rattle.sp_options.specs.Width.{bucket_of, IsBucket};
 
 use clap::error::ErrorKind;
 use clap::{Arg, Command, Error, value_parser};
+use sp_command::valued;
 use sp_job::BucketWidth;
 use sp_word::Delta;
 use std::alloc::Global;
@@ -35,12 +36,8 @@ impl Width {
 
     /// The option, with any text for its value.
     pub fn option<'a>(alloc: Global) -> Arg<'a> {
-        Arg::new(alloc, Self::ID)
-            .long(Self::ID)
-            .value_name("D")
-            .required(true)
-            .help("The width of a bucket of tentative distances, or `mean`")
-            .long_help(LONG)
+        let about = "The width of a bucket of tentative distances, or `mean`";
+        valued(alloc, Self::ID, "D", about, LONG).required(true)
     }
 
     /// Reads the option's text. One that is neither a number in range nor `mean` is refused as `clap` refuses one that is no
@@ -86,8 +83,5 @@ fn number_of<'a>(alloc: Global, words: &'a [&'a str]) -> Result<u64, Error> {
 
 // The option, with a number in range for its value.
 fn number_option<'a>(alloc: Global) -> Arg<'a> {
-    Arg::new(alloc, Width::ID)
-        .long(Width::ID)
-        .value_name("D")
-        .value_parser(value_parser!(u64).range(1..=MAX_DELTA))
+    Width::option(alloc).value_parser(value_parser!(u64).range(1..=MAX_DELTA))
 }

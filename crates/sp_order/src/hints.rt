@@ -10,7 +10,7 @@ use std::io::ErrorKind;
 use std::str::from_utf8;
 
 /// What is told of a fault.
-#[derive(Clone, Copy, Debug)]
+#[derive(Clone, Copy)]
 enum Telling<'a> {
     Nothing,
     Line,
@@ -18,7 +18,7 @@ enum Telling<'a> {
 }
 
 /// A fault, with what is told of it.
-#[derive(Debug, Drop)]
+#[derive(Drop)]
 pub struct Refusal<'a> {
     pub fault: Fault,
     telling: Telling<'a>,

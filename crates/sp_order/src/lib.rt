@@ -10,4 +10,3 @@ mod run;
 mod words;
 
 pub use run::run_line;
-pub use words::{Order, read_order};

@@ -16,7 +16,7 @@ use Rattle.sp_paths.proofs.Least.{least_exists}
 use Rattle.sp_offer.specs.Order.{IsNoMore}
 use Rattle.sp_offer.specs.Story.{Knowledge, known_table}
 use Rattle.sp_offer.proofs.Orders.{at_most-both}
-use Rattle.sp_bucket.specs.declared.entry.Entry.{Entry}
+use Rattle.sp_bins.specs.declared.entry.Entry.{Entry}
 use Rattle.sp_bucket.specs.Content.{Content, IsLowest, Takes, bucket_of}
 use Rattle.sp_store.specs.declared.marks.Mark.{Mark}
 use Rattle.sp_store.specs.Stage.{Stage, IsStage, Learns}

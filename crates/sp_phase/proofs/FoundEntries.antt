@@ -11,7 +11,7 @@ use Rattle.sp_word.specs.declared.reply.Reply.TheVariants.{Shorter, SmallerPred,
 use Rattle.sp_paths.specs.declared.arc.Arc.{Arc}
 use Rattle.sp_paths.specs.Paths.{IsGraph, IsVertex, IsArc, IsAtMost}
 use Rattle.sp_paths.specs.Rows.{row_of, IsArcRelaxed}
-use Rattle.sp_bucket.specs.declared.entry.Entry.{Entry}
+use Rattle.sp_bins.specs.declared.entry.Entry.{Entry}
 use Rattle.sp_graph.specs.RowsValue.{Split}
 use Rattle.sp_task.specs.declared.task.TaskKind.{TaskKind}
 use Rattle.sp_task.specs.declared.task.TaskKind.TheVariants.{Light, Heavy}

@@ -11,7 +11,7 @@ use Rattle.sp_word.specs.Word.{Word, Pair, Unreached, dist_of, max_dist}
 use Rattle.sp_word.specs.History.{Table}
 use Rattle.sp_paths.specs.Paths.{IsGraph, IsVertex}
 use Rattle.sp_offer.specs.Story.{Knowledge, known_table}
-use Rattle.sp_bucket.specs.declared.entry.Entry.{Entry}
+use Rattle.sp_bins.specs.declared.entry.Entry.{Entry}
 use Rattle.sp_bucket.specs.Content.{Content, bucket_of, Puts, Takes}
 use Rattle.sp_bucket.proofs.EntryPlaces.{All-before, All-behind}
 use Rattle.sp_task.specs.declared.task.TaskKind.{TaskKind}

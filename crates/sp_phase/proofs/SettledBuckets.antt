@@ -11,7 +11,7 @@ use Rattle.sp_paths.proofs.Least.{least_exists}
 use Rattle.sp_graph.specs.LeftOut.{IsLeastLeftOut}
 use Rattle.sp_offer.specs.Order.{IsKnownWord}
 use Rattle.sp_offer.specs.Story.{Knowledge, known_table}
-use Rattle.sp_bucket.specs.declared.entry.Entry.{Entry}
+use Rattle.sp_bins.specs.declared.entry.Entry.{Entry}
 use Rattle.sp_bucket.specs.Content.{Content, IsLowest}
 use Rattle.sp_store.specs.declared.marks.Mark.{Mark}
 use Rattle.sp_store.specs.Stage.{Stage, IsStage, Falls, law_of}

@@ -4,7 +4,7 @@ ghost use Rattle.sp_word.specs.Word.{is_layout, max_dist, max_pred};
 ghost use Rattle.sp_paths.specs.Paths.{IsVertex};
 ghost use Rattle.sp_plain.specs.Passing.{IsTableOfWalks};
 
-use sp_bucket::{Bins, Entry};
+use sp_bins::{Bins, Entry};
 use sp_graph::{Graph, look_up};
 use sp_plain::relax;
 use sp_word::{Delta, Word};

@@ -6,7 +6,7 @@ use Rattle.std.proofs.lemmas.Bool.Decides.{nat_tests}
 use Rattle.sp_word.specs.Word.{Word}
 use Rattle.sp_paths.specs.declared.arc.Arc.{Arc}
 use Rattle.sp_offer.specs.Story.{Knowledge}
-use Rattle.sp_bucket.specs.declared.entry.Entry.{Entry}
+use Rattle.sp_bins.specs.declared.entry.Entry.{Entry}
 use Rattle.sp_graph.specs.RowsValue.{Split}
 use Rattle.sp_task.specs.declared.task.Task.{Task}
 use Rattle.sp_task.specs.Offers.{Asked, arcs_of, offer_along, offers_along}

@@ -11,7 +11,7 @@ use Rattle.sp_word.specs.declared.reply.Reply.TheVariants.{Shorter, SmallerPred,
 use Rattle.sp_offer.specs.Order.{IsNoMore}
 use Rattle.sp_offer.specs.Histories.{event}
 use Rattle.sp_offer.specs.Story.{Story, Knowledge, Calls, Knows, Follows, known_table, own_calls}
-use Rattle.sp_bucket.specs.declared.entry.Entry.{Entry}
+use Rattle.sp_bins.specs.declared.entry.Entry.{Entry}
 use Rattle.sp_task.specs.Offers.{Asked}
 use Rattle.sp_task.specs.Calls.{question_of, entries, entry_of_call, IsNearer, AllKnown}
 use Rattle.sp_task.specs.Later.{IsLater, HasLegalHistory}

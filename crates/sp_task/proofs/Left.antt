@@ -12,7 +12,7 @@ use Rattle.sp_paths.specs.declared.arc.Arc.{Arc}
 use Rattle.sp_paths.specs.Rows.{IsArcRelaxed}
 use Rattle.sp_graph.specs.RowsValue.{Split}
 use Rattle.sp_offer.specs.Story.{Story, Knowledge, known_table, own_calls}
-use Rattle.sp_bucket.specs.declared.entry.Entry.{Entry}
+use Rattle.sp_bins.specs.declared.entry.Entry.{Entry}
 use Rattle.sp_claim.specs.Held.{Held}
 use Rattle.sp_claim.specs.declared.grants.Grant.{Grant}
 use Rattle.sp_claim.specs.Grants.{times, EachOnce}

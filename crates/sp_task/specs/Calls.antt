@@ -6,7 +6,7 @@ use Rattle.sp_word.specs.declared.reply.Reply.{Reply}
 use Rattle.sp_word.specs.declared.reply.Reply.TheVariants.{Shorter, SmallerPred, Kept}
 use Rattle.sp_offer.specs.Order.{IsNoMore}
 use Rattle.sp_offer.specs.Story.{Story, known_table}
-use Rattle.sp_bucket.specs.declared.entry.Entry.{Entry}
+use Rattle.sp_bins.specs.declared.entry.Entry.{Entry}
 use Rattle.sp_task.specs.Offers.{Asked}
 
 -- the word that a call offers; a read offers none

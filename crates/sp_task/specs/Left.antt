@@ -5,7 +5,7 @@ use Rattle.sp_word.specs.History.{Event}
 use Rattle.sp_paths.specs.Rows.{IsArcRelaxed}
 use Rattle.sp_graph.specs.RowsValue.{Split}
 use Rattle.sp_offer.specs.Story.{Knowledge, known_table, own_calls}
-use Rattle.sp_bucket.specs.declared.entry.Entry.{Entry}
+use Rattle.sp_bins.specs.declared.entry.Entry.{Entry}
 use Rattle.sp_task.specs.declared.task.Task.{Task}
 use Rattle.sp_task.specs.Offers.{Asked, arcs_of, offers_of, AreSameOffers}
 use Rattle.sp_task.specs.Calls.{question_of, entries, IsNearer}

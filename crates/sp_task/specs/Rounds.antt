@@ -10,7 +10,7 @@ use Rattle.sp_graph.specs.RowsValue.{Split}
 use Rattle.sp_offer.specs.Order.{lawful}
 use Rattle.sp_offer.specs.Story.{Knowledge}
 use Rattle.sp_offer.specs.Rule.{Board}
-use Rattle.sp_bucket.specs.declared.entry.Entry.{Entry}
+use Rattle.sp_bins.specs.declared.entry.Entry.{Entry}
 use Rattle.sp_task.specs.declared.task.Task.{Task}
 use Rattle.sp_task.specs.declared.task.Round.{Round}
 use Rattle.sp_task.specs.declared.round.Prepared.{Prepared}

@@ -7,7 +7,7 @@ use Rattle.sp_offer.specs.Story.{Knowledge, Follows, known_table, own_calls}
 use Rattle.sp_claim.specs.Held.{Held}
 use Rattle.sp_claim.specs.declared.grants.Grant.{Grant}
 use Rattle.sp_claim.specs.Grants.{grant, times}
-use Rattle.sp_bucket.specs.declared.entry.Entry.{Entry}
+use Rattle.sp_bins.specs.declared.entry.Entry.{Entry}
 use Rattle.sp_graph.specs.RowsValue.{Split}
 use Rattle.sp_task.specs.declared.task.Task.{Task}
 use Rattle.sp_task.specs.declared.workers.Receipt.{Receipt}

@@ -6,7 +6,7 @@ ghost use Rattle.sp_offer.specs.Order.{lawful};
 ghost use Rattle.sp_team.specs.Law.{IsReady, AllowsSum};
 ghost use Rattle.sp_team.specs.Later.{IsLater};
 
-use sp_bucket::{Bins, Entry};
+use sp_bins::{Bins, Entry};
 use sp_graph::Graph;
 use sp_offer::{Caller, Lawful, OfferTable};
 use sp_paths::Arc;

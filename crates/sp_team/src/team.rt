@@ -9,7 +9,7 @@ ghost use Rattle.sp_team.specs.Later.{IsLater};
 use crate::relax::{read_dist, relax, warm};
 use crate::search::{Horizon, Search};
 use crossbeam_deque::{Stealer, Worker};
-use sp_bucket::Entry;
+use sp_bins::Entry;
 use sp_graph::Graph;
 use sp_hands::{Block, Board, Deques, Hands, make_deques};
 use sp_offer::{Caller, Lawful, OfferTable};

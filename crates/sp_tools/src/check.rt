@@ -10,10 +10,10 @@ ghost use Rattle.sp_tools.specs.CheckAnswers.{TreeJudged, IsTreeRefused, TellsVe
 
 use crate::check_all::check_all_files;
 use crate::graphs::read_graph;
-use clap::{Arg, ArgAction, ArgMatches, Error};
+use clap::{ArgMatches, Error};
 use sp_cert::{CheckError, Rule};
 use sp_command::{
-    Command, Fault, FileKind, GRAPH_FILE, Inputs, Run, Status, Words, after_help, file,
+    Command, Fault, FileKind, GRAPH_FILE, Inputs, Run, Status, Words, after_help, file, flag,
 };
 use sp_device::{Printer, Write, WriteFault, finish, print_number, print_text};
 use sp_graph::Graph;
@@ -88,12 +88,11 @@ kinds are those of `spt tree --help`. In a tree file
         clap::Command::new(alloc, Self::NAME)
             .arg(file(alloc, "GR", GRAPH_FILE))?
             .arg(file(alloc, "TREE", "The tree file"))?
-            .arg(
-                Arg::new(alloc, "all")
-                    .long("all")
-                    .help("Check each block of a file that has one or more")
-                    .action(ArgAction::SetTrue),
-            )
+            .arg(flag(
+                alloc,
+                "all",
+                "Check each block of a file that has one or more",
+            ))
     }
 
     fn read(_alloc: Global, given: &ArgMatches<'a>) -> Result<Option<Self>, Error> {
@@ -178,7 +177,7 @@ fn find_verdict<const P: u32, R: Threads + Sync, F: Inputs>(
 }
 
 /// What the checker says.
-#[derive(Clone, Copy, Debug, PartialEq, Eq)]
+#[derive(Clone, Copy, PartialEq, Eq)]
 pub enum Verdict {
     /// It is the tree.
     Yes,

@@ -9,8 +9,8 @@ ghost use Rattle.sp_machine.specs.Programme.{IsNumber};
 ghost use Rattle.sp_tools.specs.Reading.{SpellsReplay};
 ghost use Rattle.sp_tools.specs.ReplayAnswers.{IsReplayRefused, IsPictureOf, TellsReport, TellsPicture, ReplayAnswers};
 
-use clap::{Arg, ArgAction, ArgMatches, Error};
-use sp_command::{Command, Fault, FileKind, Inputs, Run, Status, Words, after_help, file};
+use clap::{ArgMatches, Error};
+use sp_command::{Command, Fault, FileKind, Inputs, Run, Status, Words, after_help, file, flag};
 use sp_device::Write;
 use sp_picture::{NoPicture, Picture, picture_of, write_picture};
 use sp_replay::{ReplayFile, read_replay, write_report};
@@ -103,9 +103,10 @@ Others are
     );
 
     fn words(alloc: Global) -> Words<'a> {
+        let svg = "Write a picture of the run in place of the report, as SVG";
         clap::Command::new(alloc, Self::NAME)
             .arg(file(alloc, "FILE", "The replay file"))?
-            .arg(svg(alloc))
+            .arg(flag(alloc, "svg", svg))
     }
 
     fn read(_alloc: Global, given: &ArgMatches<'a>) -> Result<Option<Self>, Error> {
@@ -119,13 +120,6 @@ Others are
             _ => None,
         }
     }
-}
-
-fn svg<'a>(alloc: Global) -> Arg<'a> {
-    Arg::new(alloc, "svg")
-        .long("svg")
-        .action(ArgAction::SetTrue)
-        .help("Write a picture of the run in place of the report, as SVG")
 }
 
 impl<const P: u32> Run<P> for Replay<'_> {

@@ -7,7 +7,7 @@ ghost use Rattle.sp_tree.specs.Fields.{capped_line, last_in, HasNoNext, IsNext};
 use sp_text::leading_number;
 
 /// A line of a tree file. A number above 2^64 - 1 is told as 2^64 - 1.
-#[derive(Clone, Copy, Debug, PartialEq, Eq)]
+#[derive(Clone, Copy)]
 pub enum Line {
     Problem { n: u64, source: u64 },
     Row { vertex: u64, dist: u64, pred: u64 },

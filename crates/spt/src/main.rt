@@ -1,13 +1,9 @@
 //! The program `spt`: its commands, over the files and the streams of the system.
 #![tactic(auto)]
 
-mod disk;
-mod noted;
-
-use disk::Disk;
-use noted::{Noted, Notes};
 use sp_cli::run_command;
 use sp_device::{OfWrite, Write};
+use sp_disk::{Disk, Noted, Notes};
 use std::io::Stdin;
 use std::process::ExitCode;
 use std::rt::{Env, Files};

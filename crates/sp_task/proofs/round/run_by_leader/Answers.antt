@@ -1,7 +1,7 @@
 use Rattle.std.proofs.Common.{refl, subst, List, [], length}
 use Rattle.sp_word.specs.Word.{max_dist}
 use Rattle.sp_offer.specs.Order.{lawful}
-use Rattle.sp_bucket.specs.declared.entry.Entry.{Entry}
+use Rattle.sp_bins.specs.declared.entry.Entry.{Entry}
 use Rattle.sp_task.specs.Work.{jobs_of}
 use Rattle.sp_task.specs.Left.{RanLeft}
 use Rattle.sp_task.proofs.Left.{alone_done, done_after}

@@ -1,5 +1,5 @@
 use Rattle.std.proofs.Common.{◌≡◌, ◌≢◌, [], ℕ, ◌+◌, ◌≤◌, ◌<◌, length, All, refl, sym, ap, subst, ◌∙◌, true≢false, arith}
-use Rattle.sp_bucket.specs.declared.entry.Entry.{Entry}
+use Rattle.sp_bins.specs.declared.entry.Entry.{Entry}
 use Rattle.sp_bucket.specs.Content.{IsLowest, bucket_of}
 use Rattle.sp_bucket.specs.Window.{Window, window_of, content_of}
 use Rattle.sp_bucket.proofs.RingSteps.{first_found, next_up, all_passed, offset_slot}

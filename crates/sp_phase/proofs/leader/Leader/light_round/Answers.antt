@@ -3,7 +3,7 @@ use Rattle.std.specs.Prelude.{All}
 use Rattle.std.proofs.lemmas.List.Elements.{All-nil}
 use Rattle.std.proofs.lemmas.Result.{IfOk-weaker}
 use Rattle.sp_paths.specs.Paths.{IsVertex}
-use Rattle.sp_bucket.specs.declared.entry.Entry.{Entry}
+use Rattle.sp_bins.specs.declared.entry.Entry.{Entry}
 use Rattle.sp_task.specs.declared.task.Task.{Task}
 use Rattle.sp_store.specs.Stage.{Stage}
 use Rattle.sp_store.specs.Rounds.{IsDue}

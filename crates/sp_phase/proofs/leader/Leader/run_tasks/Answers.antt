@@ -1,7 +1,7 @@
 use Rattle.std.proofs.Common.{List, ◌++◌, refl, ap, sym, subst, ◌∙◌, arith}
 use Rattle.std.specs.Prelude.{All}
 use Rattle.std.specs.List.Sorted.{IsPermutation}
-use Rattle.sp_bucket.specs.declared.entry.Entry.{Entry}
+use Rattle.sp_bins.specs.declared.entry.Entry.{Entry}
 use Rattle.sp_task.specs.declared.task.Task.{Task}
 use Rattle.sp_store.specs.Marks.{notes_of}
 use Rattle.sp_store.specs.Rounds.{IsDue}

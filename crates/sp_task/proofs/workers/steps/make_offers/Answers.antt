@@ -4,7 +4,7 @@ use Rattle.sp_word.specs.Word.{max_dist}
 use Rattle.sp_paths.specs.declared.arc.Arc.{Arc}
 use Rattle.sp_offer.specs.Order.{lawful}
 use Rattle.sp_offer.specs.Story.{Knowledge}
-use Rattle.sp_bucket.specs.declared.entry.Entry.{Entry}
+use Rattle.sp_bins.specs.declared.entry.Entry.{Entry}
 use Rattle.sp_task.specs.Offers.{offers_along}
 use Rattle.sp_task.specs.Work.{MadeOffers}
 use Rattle.sp_task.proofs.Arcs.{Along, along_more, along_same}

@@ -1,7 +1,7 @@
 //! The files of the system.
 use crate::noted::{Noted, Notes};
 use either::Either;
-use sp_cli::{Form, Inputs, Outputs};
+use sp_command::{Form, Inputs, Outputs};
 use sp_device::{Failed, OfRead, OfWrite, Write, WriteFault};
 use std::alloc::{AllocError, Global};
 use std::fmt::Display;

@@ -1,5 +1,5 @@
 //! What is noted of files and streams of the system while they are read and written.
-use sp_cli::Form;
+use sp_command::Form;
 use std::cell::Cell;
 use std::io;
 
