@@ -82,27 +82,27 @@ impl Board {
         self.targets.as_slice()
     }
 
-    pub fn is_alone(&self) -> bool {
+    pub(crate) fn is_alone(&self) -> bool {
         self.levels.len() <= 1
     }
 
-    pub fn hungry(&self) -> u64 {
+    pub(crate) fn hungry(&self) -> u64 {
         self.hungry.get()
     }
 
-    pub fn shared(&self) -> u64 {
+    pub(crate) fn shared(&self) -> u64 {
         self.shared.get()
     }
 
-    pub fn is_over(&self) -> bool {
+    pub(crate) fn is_over(&self) -> bool {
         self.active.get() == 0
     }
 
-    pub fn begin_work(&self) {
+    pub(crate) fn begin_work(&self) {
         self.active.raise();
     }
 
-    pub fn end_work(&self) {
+    pub(crate) fn end_work(&self) {
         self.active.lower();
     }
 
@@ -112,23 +112,23 @@ impl Board {
         self.end_work();
     }
 
-    pub fn begin_hunger(&self) {
+    pub(crate) fn begin_hunger(&self) {
         self.hungry.raise();
     }
 
-    pub fn end_hunger(&self) {
+    pub(crate) fn end_hunger(&self) {
         self.hungry.lower();
     }
 
     /// The worker's lowest bucket.
-    pub fn set_level(&self, worker: usize, level: u64) {
+    pub(crate) fn set_level(&self, worker: usize, level: u64) {
         if let Some(line) = self.levels.get(worker) {
             line.set(level);
         }
     }
 
     /// The lowest bucket of all workers.
-    pub fn lowest(&self) -> u64 {
+    pub(crate) fn lowest(&self) -> u64 {
         let mut least = NONE;
         for line in &self.levels {
             least = least.min(line.get());
@@ -137,7 +137,7 @@ impl Board {
     }
 
     /// A block was put into a deque.
-    pub fn put(&self) {
+    pub(crate) fn put(&self) {
         self.shared.raise();
         if self.asleep.get() > 0 {
             self.bell.raise();
@@ -146,18 +146,18 @@ impl Board {
     }
 
     /// A block was taken out of a deque.
-    pub fn taken(&self) {
+    pub(crate) fn taken(&self) {
         self.shared.lower();
     }
 
     /// All work is done: those who sleep shall see it.
-    pub fn dismiss(&self) {
+    pub(crate) fn dismiss(&self) {
         self.bell.raise();
         self.bell.number.wake_all();
     }
 
     /// Sleeps for a while, unless there is something to do.
-    pub fn sleep<R: Wait>(&self, rt: &R, micros: u64) {
+    pub(crate) fn sleep<R: Wait>(&self, rt: &R, micros: u64) {
         self.asleep.raise();
         let seen = self.bell.get();
         if self.shared.get() == 0 && !self.is_over() {

@@ -79,6 +79,7 @@ impl Hands {
         self.worker == 0
     }
 
+    /// The entries that wait, by bucket.
     pub fn bins(&mut self) -> &mut Bins {
         &mut self.bins
     }
