@@ -177,7 +177,7 @@ fn find_verdict<const P: u32, R: Threads + Sync, F: Inputs>(
 }
 
 /// What the checker says.
-#[derive(Clone, Copy, PartialEq, Eq)]
+#[derive(Clone, Copy, Debug, PartialEq, Eq)]
 pub enum Verdict {
     /// It is the tree.
     Yes,

@@ -19,7 +19,7 @@ use std::alloc::Global;
 use std::thread::Threads;
 
 /// What the checker says of a block.
-#[derive(Clone, Copy)]
+#[derive(Clone, Copy, Debug, PartialEq, Eq)]
 pub struct Judged {
     pub source: u32,
     pub verdict: Verdict,
