@@ -6,7 +6,7 @@ use sp_device::{Failed, OfRead, OfWrite, Write, WriteFault};
 use std::alloc::{AllocError, Global};
 use std::fmt::Display;
 use std::fs::OpenOptions;
-use std::io::{ErrorKind, Stdin};
+use std::io::{ErrorKind, Stdin, Stdout};
 use std::rt::Files;
 use std::{fs, io};
 
@@ -49,10 +49,10 @@ impl<'a, R: Files + Eprint> Inputs for Disk<'a, R> {
     }
 }
 
-/// A file of output that is being written.
+/// A file of output that is being written, or standard output. Both are of one type, so that the commands are compiled once.
 #[derive(Drop)]
-pub struct OutputFile<'a, F> {
-    device: OfWrite<Noted<'a, F>>,
+pub struct Output<'a, F> {
+    device: OfWrite<Noted<'a, Either<F, Stdout>>>,
     // None: it is written to straight.
     names: Option<Names>,
 }
@@ -64,12 +64,12 @@ struct Names {
     whole: String,
 }
 
-impl<'a, F: io::Write> Write for OutputFile<'a, F> {
-    ghost written = { λ d. ⟦<OfWrite<Noted<'a, F>> as Write>⟧.written d.device };
+impl<'a, F: io::Write> Write for Output<'a, F> {
+    ghost written = { λ d. ⟦<OfWrite<Noted<'a, Either<F, Stdout>>> as Write>⟧.written d.device };
 
-    ghost passed = { λ d. ⟦<OfWrite<Noted<'a, F>> as Write>⟧.passed d.device };
+    ghost passed = { λ d. ⟦<OfWrite<Noted<'a, Either<F, Stdout>>> as Write>⟧.passed d.device };
 
-    ghost has_failed = { λ d. ⟦<OfWrite<Noted<'a, F>> as Write>⟧.has_failed d.device };
+    ghost has_failed = { λ d. ⟦<OfWrite<Noted<'a, Either<F, Stdout>>> as Write>⟧.has_failed d.device };
 
     fn write(&mut self, bytes: &[u8]) -> Result<usize, Failed> {
         self.device.write(bytes)
@@ -77,7 +77,7 @@ impl<'a, F: io::Write> Write for OutputFile<'a, F> {
 }
 
 impl<'a, R: Files + AllocGlobal> Outputs for Disk<'a, R> {
-    type Output = OutputFile<'a, R::File>;
+    type Output = Output<'a, R::File>;
 
     fn create(&self, alloc: Global, path: &str) -> Result<Option<Self::Output>, AllocError> {
         let mut options = OpenOptions::new();
@@ -93,7 +93,7 @@ impl<'a, R: Files + AllocGlobal> Outputs for Disk<'a, R> {
     }
 
     fn keep(&self, output: Self::Output) -> Result<(), WriteFault> {
-        let OutputFile { device: _, names } = output;
+        let Output { device: _, names } = output;
         let Some(Names { part, whole }) = names else {
             return Ok(());
         };
@@ -106,7 +106,7 @@ impl<'a, R: Files + AllocGlobal> Outputs for Disk<'a, R> {
     }
 
     fn discard(&self, output: Self::Output) {
-        let OutputFile { device: _, names } = output;
+        let Output { device: _, names } = output;
         if let Some(Names { part, .. }) = names {
             let _ = fs::remove_file(self.rt, part.as_str());
         }
@@ -114,17 +114,26 @@ impl<'a, R: Files + AllocGlobal> Outputs for Disk<'a, R> {
 }
 
 impl<'a, R: Files> Disk<'a, R> {
+    /// Standard output, before its first byte.
+    pub fn standard_output(&self, stdout: Stdout) -> Output<'a, R::File> {
+        self.output(Either::Right(stdout), None)
+    }
+
     // A file of output that was opened, if it was.
     fn begun(
         &self,
         opened: io::Result<R::File>,
         names: Option<Names>,
-    ) -> Option<OutputFile<'a, R::File>> {
+    ) -> Option<Output<'a, R::File>> {
         let file = self.notes.checked(opened)?;
-        Some(OutputFile {
-            device: OfWrite::new(Noted::new(file, self.notes)),
+        Some(self.output(Either::Left(file), names))
+    }
+
+    fn output(&self, device: Either<R::File, Stdout>, names: Option<Names>) -> Output<'a, R::File> {
+        Output {
+            device: OfWrite::new(Noted::new(device, self.notes)),
             names,
-        })
+        }
     }
 }
 

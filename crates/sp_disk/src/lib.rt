@@ -7,5 +7,5 @@
 mod disk;
 mod noted;
 
-pub use disk::{Disk, OutputFile};
+pub use disk::{Disk, Output};
 pub use noted::{Noted, Notes};

@@ -63,8 +63,11 @@ impl Running {
         if Workers::new(workers).is_none() {
             return Ok(None);
         }
+        let Some(width) = Width::read(alloc, delta)? else {
+            return Ok(None);
+        };
         Ok(Some(Running {
-            width: Width::read(alloc, delta)?,
+            width,
             workers,
             far_ok: given.get_flag("far-ok"),
             progress: given.get_flag("progress"),

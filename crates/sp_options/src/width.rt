@@ -1,9 +1,8 @@
 //! The width of a bucket: a number, or the word that stands for the mean length of an arc.
-ghost use Rattle.std.specs.Prelude.{◌≡◌, ◌↔◌, true, codes, Ok, IfOk, IsSome, IfSome};
+ghost use Rattle.std.specs.Prelude.{◌≡◌, ◌↔◌, true, codes, Ok, Some, IfOk, IsSome, IfSome};
 ghost use Rattle.sp_word.specs.Word.{is_layout};
 ghost use Rattle.sp_options.specs.Width.{bucket_of, IsBucket};
 
-use clap::error::ErrorKind;
 use clap::{Arg, Command, Error, value_parser};
 use sp_command::valued;
 use sp_job::BucketWidth;
@@ -42,14 +41,14 @@ impl Width {
 
     /// Reads the option's text. One that is neither a number in range nor `mean` is refused as `clap` refuses one that is no
     /// number in range.
-    pub fn read(alloc: Global, text: &str) -> Result<Width, Error>
-        ensures mean { text.now ≡ codes "mean" → result ≡ Ok Width.MeanLength }
-        ensures number { IfOk result (λ width. width ≡ Width.MeanLength → text.now ≡ codes "mean") }
+    pub fn read(alloc: Global, text: &str) -> Result<Option<Width>, Error>
+        ensures mean { text.now ≡ codes "mean" → result ≡ Ok (Some Width.MeanLength) }
+        ensures number { IfOk result (λ found. found ≡ Some Width.MeanLength → text.now ≡ codes "mean") }
     {
         if text == MEAN {
-            return Ok(Width::MeanLength);
+            return Ok(Some(Width::MeanLength));
         }
-        Ok(Width::Number(read_number(alloc, text)?))
+        Ok(read_number(alloc, text)?.map(Width::Number))
     }
 
     /// What runs are given, if words with `P` bits of predecessor have such a distance.
@@ -66,19 +65,15 @@ impl Width {
 }
 
 // A number in range, read by `clap`, which tells what is none.
-fn read_number(alloc: Global, text: &str) -> Result<u64, Error> {
+fn read_number(alloc: Global, text: &str) -> Result<Option<u64>, Error> {
     let word = format!(in alloc; "--delta={text}")?;
     number_of(alloc, &["spt", word.as_str()])
 }
 
 // The number in a command line that has this option alone.
-fn number_of<'a>(alloc: Global, words: &'a [&'a str]) -> Result<u64, Error> {
+fn number_of<'a>(alloc: Global, words: &'a [&'a str]) -> Result<Option<u64>, Error> {
     let mut reader = Command::new(alloc, "spt").arg(number_option(alloc))?;
-    let given = reader.try_get_matches_from_mut(words)?;
-    match given.get_one(Width::ID) {
-        Some(number) => Ok(number),
-        None => Err(reader.error(ErrorKind::ValueValidation, "a width is needed")?),
-    }
+    Ok(reader.try_get_matches_from_mut(words)?.get_one(Width::ID))
 }
 
 // The option, with a number in range for its value.

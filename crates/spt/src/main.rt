@@ -3,8 +3,7 @@
 
 use sp_cli::run_command;
 use sp_device::{OfWrite, Write};
-use sp_disk::{Disk, Noted, Notes};
-use std::io::Stdin;
+use sp_disk::{Disk, Notes};
 use std::process::ExitCode;
 use std::rt::{Env, Files};
 use std::sync::Wait;
@@ -25,27 +24,30 @@ fn take_stack(one: usize, other: usize) -> bool {
 
 /// Runs the command that the program's arguments order, and answers the exit status.
 fn run<R: AllocGlobal + Env + Eprint + Files + Threads + Wait + Sync, W: Write, E: Write>(
-    rt: &R,
-    stdin: Stdin,
-    notes: &Notes,
+    disk: &Disk<'_, R>,
     out: &mut W,
     err: &mut E,
 ) -> io::Result<u8> {
+    let rt = disk.rt;
     let alloc = rt.alloc();
     let arguments: Vec<String> = env::args(rt)?.collect(alloc)?;
     let words: Vec<&str> = arguments.iter().map(|word| word.as_str()).collect(alloc)?;
     if !take_stack(arguments.len(), words.len()) {
         return Err(io::ErrorKind::OutOfMemory.into());
     }
-    let disk = Disk { rt, stdin, notes };
-    Ok(run_command(rt, alloc, &words, &disk, out, err))
+    Ok(run_command(rt, alloc, &words, disk, out, err))
 }
 
 fn main(rt: HostRuntime) -> ExitCode {
     let notes = Notes::new();
-    let mut out = OfWrite::new(Noted::new(rt.stdout(), &notes));
+    let disk = Disk {
+        rt: &rt,
+        stdin: rt.stdin(),
+        notes: &notes,
+    };
+    let mut out = disk.standard_output(rt.stdout());
     let mut err = OfWrite::new(rt.stderr());
-    match run(&rt, rt.stdin(), &notes, &mut out, &mut err) {
+    match run(&disk, &mut out, &mut err) {
         Ok(status) => ExitCode::from(status),
         Err(error) if error.kind() == io::ErrorKind::OutOfMemory => {
             let _ = eprintln!(rt; "spt: memory");
