@@ -6,11 +6,14 @@ An edit that the prover must refuse shows something only if a harmless change at
 All twins of a crate that don't change the same line are put into a copy of the repository at once, and `rt check` must prove the
 crate there; where it doesn't, halves are tried, down to one alone. The gate leaves it out: run it when edits or twins change.
 
-Usage: python3 tests/twins.py [CRATE[/NAME]..]
+Usage: python3 tests/twins.py [--over-gate] [CRATE[/NAME]..]
 
+--over-gate takes the libraries that `rt ci` has just proved in this folder, for several crates side by side.
 The last line is 'N passed, M failed'.
 """
 
+import argparse
+import concurrent.futures
 import os
 import shutil
 import subprocess
@@ -18,6 +21,9 @@ import sys
 import tempfile
 
 HOME = os.path.dirname(os.path.dirname(os.path.realpath(__file__)))
+sys.path.insert(0, f"{HOME}/.ci")
+sys.dont_write_bytecode = True
+import kit  # noqa: E402
 
 
 def twins(chosen):
@@ -88,12 +94,12 @@ def parted(folder, names):
     return parts, unfit
 
 
-def proved(folder, part):
+def proved(folder, check, part):
     """The names of the twins of a part that are proved."""
     made = [change for _, changes_made, _ in part for change in changes_made]
     before = texts_of(folder, made)
     write_all(folder, changed(before, made))
-    done = subprocess.run(["rt", "check"], cwd=folder, stdout=subprocess.PIPE, stderr=subprocess.STDOUT, text=True)
+    done = subprocess.run(check, cwd=folder, stdout=subprocess.PIPE, stderr=subprocess.STDOUT, text=True)
     write_all(folder, before)
     if done.returncode == 0 and "logic=proved" in done.stdout:
         return [name for name, _, _ in part]
@@ -101,14 +107,14 @@ def proved(folder, part):
         print("\n".join(done.stdout.splitlines()[-15:]))
         return []
     middle = len(part) // 2
-    return proved(folder, part[:middle]) + proved(folder, part[middle:])
+    return proved(folder, check, part[:middle]) + proved(folder, check, part[middle:])
 
 
-def tried(copy, crate, names):
+def tried(copy, crate, check, names):
     """Whether each twin of the crate has its edit and is proved."""
     folder = f"{copy}/crates/{crate}"
     parts, unfit = parted(folder, names)
-    well = {name for part in parts for name in proved(folder, part)}
+    well = {name for part in parts for name in proved(folder, check, part)}
     for name in names:
         if not any(os.path.exists(f"{HOME}/crates/{crate}/{kind}/{name}.edit") for kind in ("must-fail", "edits")):
             well.discard(name)
@@ -117,15 +123,31 @@ def tried(copy, crate, names):
     return [name in well for name in names]
 
 
+def checks_over_gate():
+    """For each crate the check of a copy of it, over the libraries that `rt ci` has proved here."""
+    rt = kit.load("rt")
+    rt.rtlib.Crate = rt.Crate
+    rt.Crate.cuts_libraries = True
+    return {it.name: [rt.rtlib.RATTLE, "check", *it.words(["--jobs", "1"], keeps=False)] for it in rt.rtlib.crates_below(HOME)}
+
+
 def main():
+    options = argparse.ArgumentParser(description=__doc__, formatter_class=argparse.RawDescriptionHelpFormatter)
+    options.add_argument("--over-gate", action="store_true")
+    options.add_argument("twins", nargs="*")
+    given = options.parse_args()
     chosen, outcomes = {}, []
-    for crate, name in twins(sys.argv[1:]):
+    for crate, name in twins(given.twins):
         chosen.setdefault(crate, []).append(name)
-    with tempfile.TemporaryDirectory() as folder:
+    checks = checks_over_gate() if given.over_gate else {it: ["rt", "check"] for it in chosen}
+    # (an rt keeps others out of the crates below it)
+    lanes = len(os.sched_getaffinity(0)) if given.over_gate else 1
+    with tempfile.TemporaryDirectory() as folder, concurrent.futures.ThreadPoolExecutor(lanes) as pool:
         copy = f"{folder}/copy"
-        shutil.copytree(HOME, copy, symlinks=True, ignore=shutil.ignore_patterns(".git", ".spt"))
-        for crate, names in chosen.items():
-            outcomes += tried(copy, crate, names)
+        left_out = (".git", ".spt", "out") if given.over_gate else (".git", ".spt")
+        shutil.copytree(HOME, copy, symlinks=True, ignore=shutil.ignore_patterns(*left_out))
+        for made in pool.map(lambda it: tried(copy, it, checks[it], chosen[it]), chosen):
+            outcomes += made
     print(f"{sum(outcomes)} passed, {len(outcomes) - sum(outcomes)} failed")
     return 0 if outcomes and all(outcomes) else 1
 

@@ -49,10 +49,13 @@ impl<'a, R: Files + Eprint> Inputs for Disk<'a, R> {
     }
 }
 
+// A file or standard output, as a device.
+type Device<'a, F> = OfWrite<Noted<'a, Either<F, Stdout>>>;
+
 /// A file of output that is being written, or standard output. Both are of one type, so that the commands are compiled once.
 #[derive(Drop)]
 pub struct Output<'a, F> {
-    device: OfWrite<Noted<'a, Either<F, Stdout>>>,
+    device: Device<'a, F>,
     // None: it is written to straight.
     names: Option<Names>,
 }
@@ -65,11 +68,11 @@ struct Names {
 }
 
 impl<'a, F: io::Write> Write for Output<'a, F> {
-    ghost written = { λ d. ⟦<OfWrite<Noted<'a, Either<F, Stdout>>> as Write>⟧.written d.device };
+    ghost written = { λ d. ⟦<Device<'a, F> as Write>⟧.written d.device };
 
-    ghost passed = { λ d. ⟦<OfWrite<Noted<'a, Either<F, Stdout>>> as Write>⟧.passed d.device };
+    ghost passed = { λ d. ⟦<Device<'a, F> as Write>⟧.passed d.device };
 
-    ghost has_failed = { λ d. ⟦<OfWrite<Noted<'a, Either<F, Stdout>>> as Write>⟧.has_failed d.device };
+    ghost has_failed = { λ d. ⟦<Device<'a, F> as Write>⟧.has_failed d.device };
 
     fn write(&mut self, bytes: &[u8]) -> Result<usize, Failed> {
         self.device.write(bytes)

@@ -43,7 +43,8 @@ impl Width {
     /// number in range.
     pub fn read(alloc: Global, text: &str) -> Result<Option<Width>, Error>
         ensures mean { text.now ≡ codes "mean" → result ≡ Ok (Some Width.MeanLength) }
-        ensures number { IfOk result (λ found. found ≡ Some Width.MeanLength → text.now ≡ codes "mean") }
+        ensures number { IfOk result
+            (λ found. found ≡ Some Width.MeanLength → text.now ≡ codes "mean") }
     {
         if text == MEAN {
             return Ok(Some(Width::MeanLength));
