@@ -28,13 +28,6 @@ FOLDER = os.path.join(HOME, "crates", PROGRAM)
 rt = kit.load("rt")
 
 
-def cost(crate):
-    """About how long a crate's proof takes, by which those with the longest chain of others behind them come first: a line's time for
-    each line of its code, and that of 120 lines before its first function. Proofs that stand in files take little of it."""
-    sources = [file for file in rt.rtlib.files_of(crate.folder) if file.startswith(f"{crate.folder}/src/") and file.endswith(".rt")]
-    return 120 + sum(rt.rtlib.text_of(file).count("\n") for file in sources if "tests" not in file[len(crate.folder):])
-
-
 class Progress:
     """How many crates are proved and which are at work, told whenever that changes."""
 
@@ -119,7 +112,7 @@ def main():
 
     def task(crate):
         waits = [(it.name, "proof") for it in crate.below()]
-        return waits, cost(crate), rt.need(crate), lambda given, jobs: done(progress, crate, given, jobs)
+        return waits, crate.count(rb"\n"), rt.need(crate), lambda given, jobs: done(progress, crate, given, jobs)
 
     # (no other rt works in these folders meanwhile)
     held = rt.rtlib.lock(crates)
