@@ -9,6 +9,7 @@ _spt() {
         --delta) words='mean' ;;
         --pred-bits) words='20 24 28 32' ;;
         --source) words='' ;;
+        --sources) words='' ;;
         --workers) words='' ;;
         *) words=none ;;
     esac
@@ -17,7 +18,7 @@ _spt() {
         return
     fi
     case ${COMP_WORDS[1]} in
-        tree) words='--source --delta --workers --far-ok --progress --pred-bits --output --help' ;;
+        tree) words='--source --sources --delta --workers --far-ok --progress --pred-bits --output --help' ;;
         pairs) words='--delta --workers --far-ok --progress --pred-bits --output --help' ;;
         check) words='--all --pred-bits --output --help' ;;
         replay) words='--svg --pred-bits --output --help' ;;

@@ -3,10 +3,14 @@
 
 Usage: python3 tests/cluster.py
 
+A share of 0 or of no number, and a file of sources that is missing or isn't one, end at once, with a line and status 1 or 2, and write
+nothing.
+
 What isn't installed (Debian: parallel, python3-distributed) is left out, and said so; with SPT_ALL=1 it counts as failed. The last
 line is 'N passed, M failed'.
 """
 
+import functools
 import os
 import shutil
 import subprocess
@@ -18,6 +22,7 @@ SPT = os.path.join(HOME, "spt")
 CLUSTER = os.path.join(HOME, "examples", "cluster")
 GRAPH, SOURCES = "a graph.gr", "sources.ss"
 COUNT, SHARE = 20, 6
+SECONDS = 120
 
 # A program that is spt, but that once, where no folder `lost` is there yet, does this after a beginning of its output.
 LOSSY = """#!/bin/sh
@@ -37,20 +42,31 @@ def put_program(folder, name, text):
     return path
 
 
-def by_parallel(folder, program):
-    """The trees by GNU parallel, and the status."""
-    words = [os.path.join(CLUSTER, "trees_by_parallel.sh"), GRAPH, SOURCES, str(SHARE), "--jobs", "2"]
-    environment = dict(os.environ, SPT=program)
-    done = subprocess.run(words, cwd=folder, env=environment, stdout=subprocess.PIPE, stderr=subprocess.DEVNULL)
-    return done.stdout, done.returncode
+def run(words, folder, **known):
+    """Status, output and errors; no status where it doesn't end."""
+    try:
+        done = subprocess.run(words, cwd=folder, env=dict(os.environ, **known), capture_output=True, timeout=SECONDS)
+    except subprocess.TimeoutExpired:
+        return None, b"", b""
+    return done.returncode, done.stdout, done.stderr.decode()
 
 
-def by_dask(python, folder, program):
-    """The trees by Dask, and the status."""
-    words = [python, os.path.join(CLUSTER, "trees_by_dask.py"), GRAPH, SOURCES, "trees", "--share", str(SHARE), "--program", program]
-    done = subprocess.run(words, cwd=folder, stdout=subprocess.DEVNULL, stderr=subprocess.DEVNULL)
-    with open(os.path.join(folder, "trees"), "rb") as file:
-        return file.read(), done.returncode
+def by_parallel(folder, program, sources=SOURCES, share=SHARE):
+    """The trees by GNU parallel, the status, and errors."""
+    words = [os.path.join(CLUSTER, "trees_by_parallel.sh"), GRAPH, sources, str(share), "--jobs", "2"]
+    status, trees, errors = run(words, folder, SPT=program)
+    return trees, status, errors
+
+
+def by_dask(python, folder, program, sources=SOURCES, share=SHARE):
+    """The trees by Dask, the status, and errors."""
+    words = [python, os.path.join(CLUSTER, "trees_by_dask.py"), GRAPH, sources, "trees", f"--share={share}", "--program", program]
+    status, _, errors = run(words, folder)
+    path = os.path.join(folder, "trees")
+    if not os.path.exists(path):
+        return b"", status, errors
+    with open(path, "rb") as file:
+        return file.read(), status, errors
 
 
 def python_with_dask():
@@ -68,17 +84,45 @@ def tools():
     python = python_with_dask()
     return {
         "GNU parallel": (by_parallel if shutil.which("parallel") else None, "kill -9 $$"),
-        "Dask": (python and (lambda *given: by_dask(python, *given)), "kill -9 $PPID; exit 1"),
+        "Dask": (python and functools.partial(by_dask, python), "kill -9 $PPID; exit 1"),
     }
 
 
 def cases(folder, run, deed, wanted):
     """The name of each case, and whether it holds."""
-    yield "the bytes of one run", run(folder, SPT) == (wanted, 0)
+    names = set(os.listdir(folder))
+    yield from refusals(folder, run)
+    yield f"nothing is left of what is refused: {os.listdir(folder)}", set(os.listdir(folder)) == names | set(FILES)
+    yield "the bytes of one run", run(folder, SPT)[:2] == (wanted, 0)
     lossy = put_program(folder, "lossy", LOSSY.format(folder=folder, spt=SPT, deed=deed))
-    yield "the same where a process is lost", run(folder, lossy) == (wanted, 0)
+    yield "the same where a process is lost", run(folder, lossy)[:2] == (wanted, 0)
     yield "a process was lost", os.path.isdir(os.path.join(folder, "lost"))
-    yield "a program that fails is told", run(folder, put_program(folder, "failing", "#!/bin/sh\nexit 2\n"))[1] != 0
+    trees, status, _ = run(folder, put_program(folder, "failing", "#!/bin/sh\nexit 2\n"))
+    yield "a program that fails is told", status == 2 and trees in (b"", wanted)
+    yield "a list of no source has no tree", run(folder, SPT, sources="empty.ss")[:2] == (b"", 0)
+
+
+# files that aren't lists of sources, but for the last
+FILES = {
+    "nothing.ss": "",
+    "comments.ss": "c p aux sp ss 3\n",
+    "other.ss": "p spp ss x 3\n",
+    "sign.ss": "p aux sp ss -3\n",
+    "many.ss": "p aux sp ss 99999999999999999999\n",
+    "empty.ss": "c none\n\n p  aux sp\tss 0 \r\n",
+}
+
+
+def refusals(folder, run):
+    """Wrong shares and files, each with whether it is told, at once and without output."""
+    for name, text in FILES.items():
+        with open(os.path.join(folder, name), "w") as file:
+            file.write(text)
+    shares = [dict(share=share) for share in ("0", "-1", "", "x", "00", "1.5", "0x10", "99999999999999999999")]
+    files = [dict(sources=name) for name in ["none.ss", ".", GRAPH, "-", *FILES] if name != "empty.ss"]
+    for given in shares + files:
+        trees, status, errors = run(folder, SPT, **given)
+        yield f"{given}: {status}, {errors}", trees == b"" and status in (1, 2) and "trees_by_" in errors and "Traceback" not in errors
 
 
 def main():

@@ -4,8 +4,9 @@
 Usage: python3 tests/hints.py [--program PROGRAM]
 
 Files that aren't there, files in other forms than plain text, from a path and from standard input, and what they are told to be read
-by, which is then done where that program is there; graphs with too many vertices for the layout; a reader that is gone. The last line
-is 'N passed, M failed'.
+by, which is then done where that program is there, whatever their names; graphs with too many vertices for the layout; numbers that are
+no vertices, with their lines; the mistakes that lines have most often; words that name no places and no delta; a reader that is gone.
+The last line is 'N passed, M failed'.
 """
 
 import bz2
@@ -16,6 +17,7 @@ import os
 import shutil
 import subprocess
 import sys
+import tempfile
 import zipfile
 
 sys.dont_write_bytecode = True
@@ -61,6 +63,21 @@ FORMS = [
 ]
 
 
+# what is told of the lines of each file
+GR = "a .gr file has one `p sp N M`, and `a U V W` for each of its M arcs"
+SS = "a .ss file has one `p aux sp ss K`, and `s V` for each of its K sources"
+PAIRS = "a file of pairs has one `p pairs K`, and `q S T` for each of its K pairs"
+BLOCK = "a tree file has one `p spt N S`, `v V D P` for each vertex, and `e R`, parted by one space"
+OFFERS = "a file of offers has one `p off N K`, and `o A V D P` for each offer"
+RUN = "a replay file has one `p rep N K`, and lines i, o, r, a and s: see spt replay --help"
+NO_PROBLEM = f"no `p sp N M` line; {GR}"
+COMMENT = "comments begin with `c`, and a blank parts it from the rest"
+LENGTHS = "lengths are whole numbers from 1 to 4294967295"
+SPELLING = "numbers are digits alone, with no sign, no point and no 0 before them"
+FROM_ZERO = "vertices are numbered from 1; where yours begin with 0, add 1 to each"
+TOO_FAR = "an x line, of a source for which a vertex was too far"
+
+
 def run(program, *words, given=b""):
     done = subprocess.run([program, *words], input=given, capture_output=True, timeout=SECONDS)
     return done.returncode, done.stdout.decode(), done.stderr.decode()
@@ -93,11 +110,11 @@ def forms(count, program, folder):
 
 
 def plain(count, program, folder):
-    """Of a file that begins otherwise nothing is said."""
+    """Of a file that begins otherwise no form is told."""
     for data in (b"", b"\x1f", b"begins otherwise\n"):
         graph = put(f"{folder}/plain", data)
         told = run(program, "tree", graph, SOURCES, "--delta", "3")
-        count.of(f"a graph that begins with {data}: {told}", told[0] == 2 and told[2].count("\n") == 1)
+        count.of(f"a graph that begins with {data}: {told}", told[0] == 2 and second(told) == f"spt: {graph}: {NO_PROBLEM}")
 
 
 def reasons(count, program, folder):
@@ -133,15 +150,217 @@ def layouts(count, program, folder):
         graph = put(f"{folder}/large.gr", f"c many vertices\np sp {vertices} 0\n".encode())
         told = run(program, "tree", graph, "--source", "1", "--delta", "3", "--pred-bits", layout)
         lines = "spt: gr: line 2: 5 OutOfRange N\n"
-        if wanted is not None:
-            lines += f"spt: {graph}: {vertices} vertices; use --pred-bits {wanted}\n"
-        count.of(f"{vertices} vertices: {told}", told == (2, "", lines))
+        ranged = f"N is a number from 1 to {2 ** int(layout) - 2}\n"
+        more = f"{vertices} vertices; use --pred-bits {wanted}\n" if wanted is not None else ranged
+        count.of(f"{vertices} vertices: {told}", told == (2, "", f"{lines}spt: {graph}: {more}"))
         told = run(program, "tree", "-", "--source", "1", "--delta", "3", "--pred-bits", layout, given=read(graph))
-        count.of(f"{vertices} vertices on standard input: {told}", told == (2, "", "spt: gr: line 2: 5 OutOfRange N\n"))
+        count.of(f"{vertices} vertices on standard input: {told}", told == (2, "", f"{lines}spt: standard input: {ranged}"))
     graph = put(f"{folder}/large.gr", b"c many vertices\n\n p  sp 268435455 0 \n")
     told = run(program, "check", graph, TREE, "--pred-bits", "20")
     wanted = f"spt: gr: line 3: 5 OutOfRange N\nspt: {graph}: 268435455 vertices; use --pred-bits 32\n"
     count.of(f"vertices between blanks: {told}", told == (2, "", wanted))
+
+
+# a list of sources or pairs for the diamond, which has 4 vertices: its text, words behind it, the number that is no vertex, and
+# what is told of the place where it stands
+NAMED = [
+    ("pairs", "p pairs 2\nq 1 4\nq 1 12\n", (), 12, "line 3: target 12; "),
+    ("pairs", "c\np pairs 3\n\nq 4 1\nq 12 13\nq 1 12\n", (), 12, "line 5: source 12; "),
+    ("pairs", "p pairs 2\n q\t1  5\r\nq 5 1\n", (), 5, "line 2: target 5; "),
+    ("pairs", "p pairs 2\nq 5 5\nq 6 1", (), 5, "line 2: source 5; "),
+    ("tree", "p aux sp ss 3\ns 4\nc s 9\ns 9\ns 9\n", (), 9, "line 4: source 9; "),
+    ("tree", "p aux sp ss 4\ns 9\ns 1\ns 7\ns 9\n", ("--sources", "2-4"), 7, "line 4: source 7; "),
+    ("tree", "p aux sp ss 4\ns 9\ns 1\ns 2\ns 9\n", ("--sources=2-9",), 9, "line 5: source 9; "),
+]
+
+
+def vertices(count, program, folder):
+    graph = put(f"{folder}/four.gr", b"c of 4 vertices\n\n" + read(GRAPH))
+    for command, text, words, vertex, place in NAMED:
+        first = f"spt: source {vertex}: no such vertex\n"
+        path = put(f"{folder}/list", text.encode())
+        told = run(program, command, graph, path, "--delta", "3", *words)
+        count.of(f"{command}, {text}: {told}", told == (2, "", f"{first}spt: {path}: {place}the graph has 4 vertices\n"))
+        told = run(program, command, graph, "-", "--delta", "3", *words, given=text.encode())
+        count.of(f"{command} on standard input, {text}: {told}", told == (2, "", f"{first}spt: the graph has 4 vertices\n"))
+        told = run(program, command, "-", path, "--delta", "3", *words, given=read(graph))
+        count_unknown = "vertices are numbered from 1 to the N of the line `p sp N M`"
+        count.of(f"{command} beside standard input, {text}: {told}", told == (2, "", f"{first}spt: {path}: {place}{count_unknown}\n"))
+    told = run(program, "tree", graph, "--source", "4", "--source", "12", "--delta", "3")
+    count.of(f"--source 12: {told}", told == (2, "", "spt: source 12: no such vertex\nspt: --source 12: the graph has 4 vertices\n"))
+
+
+# of a graph: what is wrong, its text, its fault, and what is told of that; and what is told where it comes by standard input
+GRAPHS = [
+    ("a fraction as a length", "p sp 2 1\na 1 2 3.5\n", "line 2: 2 BadLine", f"{LENGTHS}; multiply them all, as by 1000", GR),
+    ("a negative length", "p sp 2 1\na 1 2 -3\n", "line 2: 2 BadLine", LENGTHS, GR),
+    ("a negative fraction", "p sp 2 1\na 1 2 -3.5\n", "line 2: 2 BadLine", LENGTHS, GR),
+    ("a length in exponents", "p sp 2 1\na 1 2 1e3\n", "line 2: 2 BadLine", LENGTHS, GR),
+    ("a length of 0", "p sp 2 1\na 1 2 0\n", "line 2: 5 OutOfRange W", LENGTHS, LENGTHS),
+    ("a great length", "p sp 2 1\na 1 2 4294967296\n", "line 2: 5 OutOfRange W", LENGTHS, LENGTHS),
+    ("a leading 0", "p sp 2 1\na 1 2 03\n", "line 2: 2 BadLine", SPELLING, GR),
+    ("a sign", "p sp 2 1\na +1 2 3\n", "line 2: 2 BadLine", SPELLING, GR),
+    ("a vertex of 0", "p sp 2 1\na 0 1 3\n", "line 2: 5 OutOfRange U", FROM_ZERO, "vertices are numbered from 1 to the N of the line `p`"),
+    (
+        "a vertex above N",
+        "p sp 2 1\na 1 3 3\n",
+        "line 2: 5 OutOfRange V",
+        "vertices are numbered from 1 to 2",
+        "vertices are numbered from 1 to the N of the line `p`",
+    ),
+    ("a negative vertex", "p sp 2 1\na -1 2 3\n", "line 2: 2 BadLine", "vertices are numbered from 1 to 2", GR),
+    ("a fraction as a vertex", "p sp 2 1\na 1.0 2 3\n", "line 2: 2 BadLine", "vertices are numbered from 1 to 2", GR),
+    ("a name as a vertex", "p sp 2 1\na 1 home 3\n", "line 2: 2 BadLine", "vertices are numbered from 1 to 2", GR),
+    ("a comment with #", "# roads\np sp 1 0\n", "line 1: 2 BadLine", COMMENT, GR),
+    ("a comment with %", "p sp 1 0\n  %% roads\n", "line 2: 2 BadLine", COMMENT, GR),
+    ("a comment with //", "p sp 1 0\n//roads\n", "line 2: 2 BadLine", COMMENT, GR),
+    ("a comment whose c stands at a word", "crossings\np sp 1 0\n", "line 1: 2 BadLine", COMMENT, GR),
+    ("an edge list", "1 2 5\n2 3 1\n", "line 1: 2 BadLine", NO_PROBLEM, GR),
+    ("an edge list without lengths", "1 2\n2 3\n", "line 1: 2 BadLine", NO_PROBLEM, GR),
+    ("a table with commas", "from,to,length\n1,2,5\n", "line 1: 2 BadLine", NO_PROBLEM, GR),
+    ("arcs alone", "a 1 2 5\n", "line 1: 3 NoProblem", NO_PROBLEM, NO_PROBLEM),
+    ("nothing", "", "line 1: 3 NoProblem", NO_PROBLEM, NO_PROBLEM),
+    ("arcs without their letter", "p sp 2 1\n1 2 5\n", "line 2: 2 BadLine", GR, GR),
+    ("arcs without lengths", "p sp 2 1\na 1 2\n", "line 2: 2 BadLine", GR, GR),
+    ("half of a problem line", "p sp 2\n", "line 1: 2 BadLine", GR, GR),
+    ("two problem lines", "p sp 1 0\np sp 1 0\n", "line 2: 4 SecondProblem", GR, GR),
+    ("too few arcs", "p sp 2 2\na 1 2 5\n", "line 3: 7 TooFew", *["M of the line `p sp N M` is the number of `a` lines"] * 2),
+    ("too many arcs", "p sp 2 0\na 1 2 5\n", "line 2: 6 TooMany", *["M of the line `p sp N M` is the number of `a` lines"] * 2),
+    ("a long line", "c" + 1024 * " ", "line 1: 1 LongLine", *["a line has at most 1024 bytes, and ends with an LF"] * 2),
+    ("text that is no UTF-8", "p sp 1 0\n\xff\n", "line 2: 2 BadLine", GR, GR),
+    ("a list of sources", "c\np aux sp ss 1\ns 1\n", "line 2: 2 BadLine", "a line of a .ss file, where a .gr file is wanted; see spt tree --help", GR),
+    ("sources alone", "s 1\n", "line 1: 2 BadLine", "a line of a .ss file, where a .gr file is wanted; see spt tree --help", GR),
+    ("a tree", "p spt 1 1\nv 1 0 0\ne 1\n", "line 1: 2 BadLine", "a line of a tree file, where a .gr file is wanted; see spt tree --help", GR),
+    ("pairs", "p pairs 1\nq 1 1\n", "line 1: 2 BadLine", "a line of a file of pairs, where a .gr file is wanted; see spt tree --help", GR),
+]
+
+# of another file, beside the diamond's graph: the command, the name of its file, and the same
+OTHERS = [
+    ("tree", "ss", "p aux sp ss 1\ns 0\n", "line 2: 5 OutOfRange V", FROM_ZERO),
+    ("tree", "ss", "p aux sp ss 1\ns 1.5\n", "line 2: 2 BadLine", "vertices are numbered from 1 to the N of the line `p`"),
+    ("tree", "ss", "p aux sp ss 1\ns 01\n", "line 2: 2 BadLine", SPELLING),
+    ("tree", "ss", "1\n4\n", "line 1: 2 BadLine", f"no `p aux sp ss K` line; {SS}"),
+    ("tree", "ss", "s 1\n", "line 1: 3 NoProblem", f"no `p aux sp ss K` line; {SS}"),
+    ("tree", "ss", "p aux sp ss 2\ns 1\n", "line 3: 7 TooFew", "K of the line `p aux sp ss K` is the number of `s` lines"),
+    ("tree", "ss", "p aux sp ss 1048577\n", "line 1: 5 OutOfRange K", "K is a number from 0 to 1048576"),
+    ("tree", "ss", "p sp 1 0\n", "line 1: 2 BadLine", "a line of a .gr file, where a .ss file is wanted; see spt tree --help"),
+    ("tree", "ss", "c\na 1 2 3\n", "line 2: 2 BadLine", "a line of a .gr file, where a .ss file is wanted; see spt tree --help"),
+    ("pairs", "pairs", "p aux sp ss 1\ns 1\n", "line 1: 2 BadLine", "a line of a .ss file, where a file of pairs is wanted; see spt pairs --help"),
+    ("pairs", "pairs", "p pairs 1\nq 0 1\n", "line 2: 5 OutOfRange S", FROM_ZERO),
+    ("pairs", "pairs", "p pairs 1\nq 1 2 # home\n", "line 2: 2 BadLine", PAIRS),
+    ("pairs", "pairs", "p pairs 2\nq 1 2\n", "line 3: 7 TooFew", "K of the line `p pairs K` is the number of `q` lines"),
+    ("check", "tree", "p spt 4 1\nv 1 0 0\ne 1\np spt 4 2\nv 2 0 0\ne 1\n", "line 4: 6 TooMany", "the file has several blocks; use --all"),
+    ("check", "tree", "p spt 4 1\nv 1 0 0\ne 1\n\n", "line 4: 6 TooMany", BLOCK),
+    ("check", "tree", "p spt 4 1\nv 1 0 0\nv 1 0 0\ne 2\n", "line 3: 5 OutOfRange V", "V is from 1 to N, and greater than in the `v` line before"),
+    ("check", "tree", "p spt 4 1\nv 1 0 0\ne 2\n", "line 3: 5 OutOfRange R", "R of the line `e R` is the number of `v` lines"),
+    ("check", "tree", "p spt 4 1\nv 1 0 0\n", "line 3: 7 TooFew", "the file ends before the line `e R`: it is cut off"),
+    ("check", "tree", "p spt 4 1\nv 1 68719476735 0\n", "line 2: 5 OutOfRange D", "D is a number from 0 to 68719476734"),
+    ("check", "tree", "p spt  4 1\n", "line 1: 2 BadLine", BLOCK),
+    ("check", "tree", "c of the diamond\n", "line 1: 2 BadLine", f"no `p spt N S` line; {BLOCK}"),
+    ("check", "tree", "# of the diamond\n", "line 1: 2 BadLine", "a tree file has no comments"),
+    ("check", "tree", "x 1 4\n", "line 1: 2 BadLine", f"{TOO_FAR}; --pred-bits 20 reaches farther"),
+    ("check", "tree", "p spt 4 1\nv 1 0 0\ne 1\nx 2 4\n", "line 4: 6 TooMany", f"{TOO_FAR}; --pred-bits 20 reaches farther"),
+    ("check", "tree", "p sp 1 0\n", "line 1: 2 BadLine", "a line of a .gr file, where a tree file is wanted; see spt check --help"),
+]
+
+
+def lines(count, program, folder):
+    for name, text, fault, wanted, unread_wanted in GRAPHS:
+        graph = put(f"{folder}/graph", text.encode("latin-1"))
+        told = run(program, "tree", graph, SOURCES, "--delta", "3")
+        count.of(f"{name}: {told}", told == (2, "", f"spt: gr: {fault}\nspt: {graph}: {wanted}\n"))
+        told = run(program, "tree", "-", SOURCES, "--delta", "3", given=read(graph))
+        count.of(f"{name} on standard input: {told}", told == (2, "", f"spt: gr: {fault}\nspt: standard input: {unread_wanted}\n"))
+    for command, file, text, fault, wanted in OTHERS:
+        path = put(f"{folder}/other", text.encode())
+        told = run(program, command, GRAPH, path, *([] if command == "check" else ["--delta", "3"]))
+        count.of(f"{command}, {text}: {told}", told == (2, "", f"spt: {file}: {fault}\nspt: {path}: {wanted}\n"))
+    for layout, vertices, wanted in (("20", 4, "no layout reaches farther"), ("28", 1048575, "--pred-bits 24 reaches farther")):
+        graph = put(f"{folder}/graph", f"p sp {vertices} 0\n".encode())
+        tree = put(f"{folder}/tree", b"x 1 4\n")
+        told = run(program, "check", graph, tree, "--all", "--pred-bits", layout)
+        count.of(f"an x line in layout {layout}: {told}", told[0] == 2 and second(told) == f"spt: {tree}: {TOO_FAR}; {wanted}")
+    path = put(f"{folder}/offers", b"p off 1 2\no 3 1 1 1\n")
+    told = run(program, "offers", path)
+    count.of(f"an actor above K: {told}", told == (2, "", f"spt: offers: line 2: 5 OutOfRange A\nspt: {path}: {OFFERS}\n"))
+    within = "vertices are numbered from 1 to the N of the line `p`"
+    runs = [
+        ("o 1 2 5 0", "V", within),
+        ("o 1 0 5 1", "V", FROM_ZERO),
+        ("a 1 0 1 3", "U", FROM_ZERO),
+        ("a 1 1 2 3", "V", within),
+        ("a 1 1 1 0", "L", LENGTHS),
+        ("i 1 5 1\ni 1 4 1", "V", RUN),
+    ]
+    for text, field, wanted in runs:
+        path = put(f"{folder}/run.rep", f"p rep 1 1\n{text}\n".encode())
+        told = run(program, "replay", path)
+        line = 2 + text.count("\n")
+        count.of(f"replay, {text}: {told}", told == (2, "", f"spt: replay: line {line}: 5 OutOfRange {field}\nspt: {path}: {wanted}\n"))
+    path = put(f"{folder}/offers", b"p off 1 2\no 1 1 1\n")
+    told = run(program, "offers", path)
+    count.of(f"an offer of nothing: {told}", told == (2, "", f"spt: offers: line 2: 2 BadLine\nspt: {path}: {OFFERS}\n"))
+
+
+def words(count, program, folder):
+    """Of places that are none, and of deltas that a layout doesn't have."""
+    spelled = "two numbers and a `-` between them are needed, as in 1-100"
+    cases = [
+        ("2-1", "the last place is before the first"),
+        ("2-0", "the last place is before the first"),
+        ("0-3", "places are counted from 1"),
+        ("x", spelled),
+        ("1-", spelled),
+        ("1-2-3", spelled),
+        ("2-1\x1b[31m\nx", spelled),
+    ]
+    for word, wanted in cases:
+        told = run(program, "tree", GRAPH, SOURCES, "--delta", "3", f"--sources={word}")
+        shown = word.replace("\x1b", "?").replace("\n", "?")
+        count.of(f"places {word!r}: {told}", told == (1, "", f"spt: sources are not A-B\nspt: --sources {shown}: {wanted}\n"))
+    for layout, most in (("32", 4294967294), ("28", 68719476734), ("24", 1099511627774)):
+        for command in ("tree", "pairs"):
+            told = run(program, command, GRAPH, SOURCES, "--delta", str(most + 1), "--pred-bits", layout)
+            wanted = f"spt: delta out of range\nspt: with --pred-bits {layout} delta is from 1 to {most}, or mean\n"
+            count.of(f"delta {most + 1} in layout {layout}: {told}", told == (1, "", wanted))
+
+
+# a name, how a line shows it, and how the shell has it
+NAMES = [
+    ("it's; rm -rf x.gz", "it's; rm -rf x.gz", "'it'\\''s; rm -rf x.gz'"),
+    ("two words", "two words", "'two words'"),
+    ("$HOME", "$HOME", "'$HOME'"),
+    ("a~`b*?", "a~`b*?", "'a~`b*?'"),
+    ("Straße", "Straße", "'Straße'"),
+    ("plain-1.2_3,4+5:6@7%8=9", "plain-1.2_3,4+5:6@7%8=9", "plain-1.2_3,4+5:6@7%8=9"),
+    ("a\x1b[31mb\n\tc\x7f", "a?[31mb??c?", None),
+    ("a\u0085b\u202ec\u2066d", "a?b?c?d", None),
+]
+
+
+def names(count, program, folder):
+    for name, shown, word in NAMES:
+        inner = tempfile.mkdtemp(dir=folder)
+        put(f"{inner}/{name}", gzip.compress(read(GRAPH)))
+        done = subprocess.run([program, "tree", name, SOURCES, "--delta", "3"], cwd=inner, capture_output=True, timeout=SECONDS)
+        told = done.returncode, done.stdout.decode(), done.stderr.decode()
+        tool = "zcat" if word is None else f"zcat {word}"
+        wanted = f"spt: gr: line 1: 2 BadLine\nspt: {shown}: compressed by gzip; use {tool} | spt tree - ..\n"
+        count.of(f"a file {name!r}: {told}", told == (2, "", wanted))
+        if word is not None:
+            given = subprocess.run(f"zcat {word}", shell=True, cwd=inner, capture_output=True, timeout=SECONDS).stdout
+            count.of(f"what the shell reads of {word}", given == read(GRAPH))
+        told = run(program, "tree", f"{inner}/none/{name}", SOURCES, "--delta", "3")
+        wanted = f"spt: gr: cannot open\nspt: {inner}/none/{shown}: No such file or directory (os error 2)\n"
+        count.of(f"no file {name!r}: {told}", told == (6, "", wanted))
+    inner = tempfile.mkdtemp(dir=folder)
+    put(f"{inner}/-x.gz", gzip.compress(read(GRAPH)))
+    done = subprocess.run([program, "tree", "--delta", "3", "--", "-x.gz", SOURCES], cwd=inner, capture_output=True, timeout=SECONDS)
+    wanted = "spt: gr: line 1: 2 BadLine\nspt: -x.gz: compressed by gzip; use zcat ./-x.gz | spt tree - ..\n"
+    count.of(f"a file -x.gz: {done}", done.stderr.decode() == wanted)
+    done = subprocess.run([os.fsencode(program), b"replay", b"\xff.rep"], capture_output=True, timeout=SECONDS)
+    wanted = b"spt: an argument is not UTF-8\nspt: use - and a redirection, as in spt tree - SS .. < GR > OUT\n"
+    count.of(f"a name that is no UTF-8: {done}", (done.returncode, done.stdout, done.stderr) == (1, b"", wanted))
 
 
 def unread(count, program, folder):
@@ -158,4 +377,4 @@ def unread(count, program, folder):
 
 
 if __name__ == "__main__":
-    sys.exit(try_all(__doc__, (forms, plain, reasons, layouts, unread)))
+    sys.exit(try_all(__doc__, (forms, plain, reasons, layouts, vertices, lines, words, names, unread)))

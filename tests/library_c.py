@@ -6,8 +6,9 @@ Usage: python3 tests/library_c.py [--archive ARCHIVE] [--program PROGRAM]
 The library is installed below a folder by .ci/libraries, and found there by pkg-config where that is there. The programs try
 every refusal, memory refused at each request, and the trees of the example and of a graph of 100,000 vertices, which must be the
 bytes of `spt tree`, by one thread and by four at once; and a graph that is kept and shared by four threads. They run under the
-sanitizers of addresses and of undefined behaviour, that of the kept graph also under the one of threads. The
-library must show `spt_*` alone, take nothing but memory from outside, and have no data that is written. The examples of
+sanitizers of addresses and of undefined behaviour, that of the kept graph also under the one of threads. What the header gives is
+tried in C and in C++. The library must show `spt_*` alone, each by the version that brought it, also to a program that was linked
+with a library without versions; take nothing but memory from outside, and have no data that is written. The examples of
 docs/EMBEDDING.md must print what stands below them there. A tool that isn't there is left out, and said so; with SPT_ALL=1 it
 counts as failed, and so does it where there is no compiler at all. The last line is 'N passed, M failed'.
 """
@@ -26,12 +27,25 @@ from trees import HOME, Count  # noqa: E402
 import graphs  # noqa: E402
 import parts  # noqa: E402
 
-COMPILERS = ("gcc", "clang")
+COMPILERS = {"gcc": "g++", "clang": "clang++"}
 STRICT = ["-std=c11", "-D_GNU_SOURCE", "-O1", "-g", "-pthread", "-Wall", "-Wextra", "-Werror"]
+STRICT_CXX = ["-x", "c++", "-std=c++11", "-O1", "-g", "-Wall", "-Wextra", "-Werror"]
 SANITIZED = ["-fsanitize=address,undefined", "-fno-sanitize-recover=all"]
 WRAPPED = ["-Wl,--wrap=malloc,--wrap=realloc,--wrap=free"]
 # what the library takes from the C library
 TAKEN = {"malloc", "realloc", "free", "memcpy", "memmove", "memset"}
+# which version of the library had each function first
+BROUGHT = {"SPT_1.0": {"spt_check", "spt_gr", "spt_graph_free", "spt_graph_new", "spt_graph_share", "spt_graph_trees", "spt_pair",
+                       "spt_reach", "spt_tree", "spt_trees"},
+           "SPT_1.1": {"spt_graph_counts", "spt_graph_pair", "spt_version"}}
+# a program that is linked with a library whose symbols have no versions, as that of 1.0.0 was
+OLD = """#include <spt.h>
+int main(void) {
+    const spt_arc arcs[] = {{1, 2, 7}, {2, 3, 1}};
+    spt_found told = spt_pair(arcs, 2, 3, 1, 3, 0);
+    return told.status == SPT_OK && told.dist == 8 && spt_reach(1) == 17592186044414 ? 0 : 1;
+}
+"""
 VERTICES, SOURCES, SEED = 100_000, 4, 1
 SECONDS = 300
 
@@ -56,7 +70,9 @@ def flags(prefix, static):
 def build(count, compiler, folder, name, link, *more):
     """The program of a file of tests/c, or None where the compiler refuses it."""
     program = f"{folder}/{name}.{compiler}"
-    words = [compiler, *STRICT, *more, "-o", program, f"{HOME}/tests/c/{name}.c", *link]
+    strict = STRICT_CXX if compiler in COMPILERS.values() else STRICT
+    link = ["-x", "none", *link] if strict is STRICT_CXX else link
+    words = [compiler, *strict, *more, "-o", program, f"{HOME}/tests/c/{name}.c", *link]
     status, out, err = told(words)
     count.of(f"{compiler} {name}.c: {(out + err).decode()}", status == 0)
     return program if status == 0 else None
@@ -92,10 +108,11 @@ def great_graph(folder, program):
 
 def try_compiler(count, compiler, prefix, folder, great, wanted):
     static, shared = flags(prefix, True), flags(prefix, False)
-    for name, more in (("refusals", []), ("memory", WRAPPED)):
+    for name, more in (("refusals", []), ("memory", WRAPPED), ("header", [])):
         program = build(count, compiler, folder, name, static, *SANITIZED, *more)
         if program:
             add_counts(count, f"{compiler} {name}", [program])
+    try_cxx(count, COMPILERS[compiler], static, folder)
     # what threads do to a graph that they share, seen by two sanitizers
     for watched in (SANITIZED, ["-fsanitize=thread"]):
         program = build(count, compiler, folder, "graph", static, *watched)
@@ -108,25 +125,66 @@ def try_compiler(count, compiler, prefix, folder, great, wanted):
                 diamond = [f"{HOME}/examples/diamond.{ending}" for ending in ("gr", "ss")] + [3]
                 same_trees(count, f"{compiler}, {kind}, the diamond", program, diamond, it.read())
             same_trees(count, f"{compiler}, {kind}, {VERTICES} vertices", program, great, wanted)
-    header = ["-Wall", "-Wextra", "-Werror", "-pedantic", "-fsyntax-only", f"{prefix}/include/spt.h"]
+    header = ["-Wall", "-Wextra", "-Werror", "-pedantic", "-fsyntax-only", "-include", f"{prefix}/include/spt.h", "/dev/null"]
     for words in (["-x", "c", "-std=c99"], ["-x", "c++", "-std=c++11"]):
         status, _, err = told([compiler, *words, *header])
         count.of(f"{compiler} {' '.join(words)} spt.h: {err.decode()}", status == 0)
 
 
+def try_cxx(count, compiler, link, folder):
+    """What the header gives, in C++."""
+    if shutil.which(compiler) is None:
+        print(f"left out: {compiler} isn't installed")
+        count.failed += os.environ.get("SPT_ALL") == "1"
+        return
+    program = build(count, compiler, folder, "header", link, *SANITIZED)
+    if program:
+        add_counts(count, f"{compiler} header", [program])
+
+
 def symbols(words, path):
+    """The names that nm tells, without the versions themselves."""
     status, out, _ = told(["nm", *words, path])
-    return set(re.findall(r" [A-Za-z] (\w+)", out.decode())) if status == 0 else None
+    return set(re.findall(r" [B-Zb-z] (\w+)", out.decode())) if status == 0 else None
+
+
+def versions(path):
+    """The functions of each version that a library shows."""
+    status, out, _ = told(["nm", "-D", "--defined-only", path])
+    found = {}
+    for name, version in re.findall(r" T (\w+)@@(\S+)$", out.decode(), re.M):
+        found.setdefault(version, set()).add(name)
+    return found if status == 0 else None
+
+
+def try_old_program(count, compiler, prefix, folder):
+    """A program that was linked with a library without versions runs with this one."""
+    old = f"{folder}/old"
+    os.makedirs(old, exist_ok=True)
+    with open(f"{old}/old.c", "w") as it:
+        it.write(OLD)
+    shared = ["-shared", "-nostdlib", "-Wl,-soname,libspt.so.1", "-o", f"{old}/libspt.so"]
+    made = told([compiler, *shared, "-Wl,--whole-archive", f"{prefix}/lib/libspt.a", "-Wl,--no-whole-archive", "-lc"])
+    count.of(f"a library without versions: {made[2].decode()}", made[0] == 0 and versions(f"{old}/libspt.so") == {})
+    made = told([compiler, *STRICT, "-o", f"{old}/old", f"{old}/old.c", f"-I{prefix}/include", f"-L{old}", "-lspt"])
+    count.of(f"a program of it: {made[2].decode()}", made[0] == 0)
+    if made[0] == 0:
+        known = dict(os.environ, LD_LIBRARY_PATH=f"{prefix}/lib", LD_BIND_NOW="1")
+        count.of("it runs with the library", told([f"{old}/old"], env=known) == (0, b"", b""))
 
 
 def inspect(count, prefix):
     """What the library shows and takes, and that it has no data that is written."""
     with open(f"{prefix}/include/spt.h") as it:
-        declared = set(re.findall(r"^\w+ (spt_\w+)\(", it.read(), re.M))
+        text = it.read()
+    declared = set(re.findall(r"^\w+ (spt_\w+)\(", text, re.M))
     archive, shared = f"{prefix}/lib/libspt.a", f"{prefix}/lib/libspt.so"
     for words, path in ((["-g", "--defined-only"], archive), (["-D", "--defined-only"], shared)):
         shown = symbols(words, path)
         count.of(f"{path} shows what the header declares: {shown}", shown == declared)
+    count.of(f"{shared} shows each by its version: {versions(shared)}", versions(shared) == BROUGHT)
+    number = re.search(r'^#define SPT_VERSION "([0-9.]+)"$', text, re.M)
+    count.of("the file has the header's version", number and os.path.exists(f"{shared}.{number[1]}"))
     for words, path in ((["-g", "-u"], archive), (["-D", "-u"], shared)):
         taken = symbols(words, path)
         count.of(f"{path} takes memory alone: {taken}", taken is not None and taken <= TAKEN)
@@ -168,6 +226,7 @@ def try_all(count, chosen, folder):
         if compiler not in missing:
             try_compiler(count, compiler, prefix, folder, great, wanted)
             try_page(count, compiler, prefix, folder)
+            try_old_program(count, compiler, prefix, folder)
     count.of("a C compiler", not set(COMPILERS) <= set(missing))
 
 

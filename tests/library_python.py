@@ -3,9 +3,10 @@
 
 Usage: python3 tests/library_python.py [--archive ARCHIVE]
 
-The library is made by .ci/libraries. Tests that need SciPy or NetworkX are left out where these aren't installed (Debian:
-python3-scipy, python3-networkx), and said so; with SPT_ALL=1 what no Python ran counts as failed. The last line is 'N passed,
-M failed'.
+The library is made by .ci/libraries. The tests of Dijkstra's algorithm that SciPy and NetworkX ship are run against the package
+too (tests/python/theirs.py); those of which are left out, and why, is printed. Tests that need SciPy or NetworkX are left out
+where these aren't installed (Debian: python3-scipy, python3-networkx), and said so; with SPT_ALL=1 what no Python ran counts as
+failed. The last line is 'N passed, M failed'.
 """
 
 import argparse
@@ -41,7 +42,8 @@ def run(python, prefix, *words):
 def add_tests(count, python, prefix):
     """Counts the tests, and answers which were left out and which weren't."""
     text = run(python, prefix, "-m", "unittest", "discover", "-v")
-    outcomes = re.findall(r"^(\w+) \(.*\) \.\.\. (.*)$", text, re.M)
+    told = re.findall(r"^(\w+) \(\w+\.(\w+)[\w.]*\) \.\.\. (.*)$", text, re.M)
+    outcomes = [(f"{kind}.{name}", outcome) for name, kind, outcome in told]
     for name, outcome in outcomes:
         if not outcome.startswith("skipped"):
             count.of(f"{name}, by {python}", outcome == "ok")
@@ -49,19 +51,36 @@ def add_tests(count, python, prefix):
     for outcome in sorted(set(left_out.values())):
         print(f"left out by {python}: {outcome}: {', '.join(name for name in left_out if left_out[name] == outcome)}")
     whole = re.search(r"^Ran (\d+) tests", text, re.M)
-    if not whole or int(whole[1]) != len(outcomes) or not re.search(r"^OK\b", text, re.M):
+    # (some versions of unittest don't count those of a class that is left out)
+    counts = (len(outcomes), len(outcomes) - len(left_out))
+    if not whole or int(whole[1]) not in counts or not re.search(r"^OK\b", text, re.M):
         count.of(f"tests/python by {python}:\n{text}", False)
     return set(left_out), {name for name, _ in outcomes} - set(left_out)
 
 
-def add_examples(count, python, prefix):
-    text = run(python, prefix, "-c", EXAMPLES, f"{HOME}/python/README.md", f"{HOME}/docs/EMBEDDING.md")
+def add_last_line(count, text):
+    """Adds the counts of a text's last line, and answers how many passed; None where it has no such line."""
     last = re.search(r"^(\d+) passed, (\d+) failed\n\Z", text, re.M)
     if last:
         count.passed, count.failed = count.passed + int(last[1]), count.failed + int(last[2])
     if not last or int(last[2]):
         print(text)
-    count.of(f"examples by {python}", bool(last) and int(last[1]) > 0)
+    return int(last[1]) if last else None
+
+
+def add_examples(count, python, prefix):
+    text = run(python, prefix, "-c", EXAMPLES, f"{HOME}/python/README.md", f"{HOME}/docs/EMBEDDING.md")
+    count.of(f"examples by {python}", add_last_line(count, text))
+
+
+def add_theirs(count, python, prefix):
+    """Counts the tests that SciPy and NetworkX ship, and answers whose were run and whose weren't."""
+    text = run(python, prefix, "theirs.py")
+    count.of(f"tests that others ship, by {python}", add_last_line(count, text) is not None)
+    counts = re.findall(r"^tests of (\w+) [\d.]+\w*: (\d+) ran", text, re.M)
+    ran = {f"tests that {name} ships" for name, of in counts if int(of)}
+    print(f"tests that others ship, by {python}:\n{text[: text.rstrip().rfind(chr(10))]}")
+    return {f"tests that {name} ships" for name in ("SciPy", "NetworkX")} - ran, ran
 
 
 def main():
@@ -76,8 +95,9 @@ def main():
         pythons = {os.path.realpath(it): it for it in (sys.executable, SYSTEM) if os.path.exists(it)}
         missing, ran = set(), set()
         for python in pythons.values() if made.returncode == 0 else ():
-            skipped, done = add_tests(count, python, prefix)
-            missing, ran = missing | skipped, ran | done
+            for add in (add_tests, add_theirs):
+                skipped, done = add(count, python, prefix)
+                missing, ran = missing | skipped, ran | done
             add_examples(count, python, prefix)
         if os.environ.get("SPT_ALL") == "1":
             count.of(f"run by no Python: {', '.join(missing - ran)}", missing <= ran)

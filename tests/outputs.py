@@ -5,16 +5,25 @@ Usage: python3 tests/outputs.py [--program PROGRAM]
 
 FILE takes the text of a command that was done, with status 0, 3 or 4, and standard output stays empty. Where a command is refused,
 the disk is full, or a signal ends the program, FILE holds what it held. No other file is left there but by a signal, and that one
-keeps no later run from its work. Links lead to the file that is replaced; devices and pipes are written to. The last line is
-'N passed, M failed'.
+keeps no later run from its work. Links lead to the file that is replaced; devices and pipes are written to. A file that is replaced
+hands on its mode. However many runs have the same FILE, each status is true, FILE has the whole text of one of them at each moment,
+and no file of the user's is touched. What the system is asked for, and what follows where it refuses, is seen by strace, where that
+is there. The last line is 'N passed, M failed'.
 """
 
+import glob
 import os
+import random
+import re
 import resource
+import shutil
 import signal
+import stat
 import subprocess
 import sys
 import tempfile
+import threading
+import time
 
 sys.dont_write_bytecode = True
 from trees import HOME, try_all  # noqa: E402
@@ -120,30 +129,263 @@ def straight(count, program, folder):
 
 
 def links(count, program, folder):
+    """A link stays; the file that it leads to is replaced, or made where it is missing."""
     with tempfile.TemporaryDirectory(dir=folder) as inner:
         put(f"{inner}/out", HELD)
         os.symlink("out", f"{inner}/link")
         told = run(program, *tree(f"{inner}/link"))
         names = sorted(os.listdir(inner)) == ["link", "out"] and os.path.islink(f"{inner}/link")
         count.of(f"a link to a file: {told}", told == (0, "", "") and names and read(f"{inner}/out") == read(TREE))
+    with tempfile.TemporaryDirectory(dir=folder) as inner:
+        os.mkdir(f"{inner}/sub")
+        os.symlink("sub/next", f"{inner}/link")
+        os.symlink("../out", f"{inner}/sub/next")
+        told = run(program, *tree(f"{inner}/link"))
+        stay = os.path.islink(f"{inner}/link") and os.path.islink(f"{inner}/sub/next")
+        names = sorted(os.listdir(inner)) == ["link", "out", "sub"] and os.listdir(f"{inner}/sub") == ["next"]
+        whole = told == (0, "", "") and os.path.isfile(f"{inner}/out") and read(f"{inner}/out") == read(TREE)
+        count.of(f"links whose end is missing: {told}", whole and stay and names)
+    with tempfile.TemporaryDirectory(dir=folder) as inner:
+        os.symlink("link", f"{inner}/link")
+        told = run(program, *tree(f"{inner}/link"))
+        stays = os.path.islink(f"{inner}/link") and os.listdir(inner) == ["link"]
+        count.of(f"a link to itself: {told}", told == (6, "", CANNOT_WRITE) and stays)
+
+
+def parts(folder, pid):
+    """The files that the process of this number is writing there."""
+    return [path for path in glob.glob(f"{folder}/.spt-{pid}-*.part") if re.search(r"-[0-9a-f]{16}\.part$", path)]
+
+
+class Waiting:
+    """A run into a file that waits for the end of its graph, once it has begun its own file."""
+
+    def __init__(self, program, path, source="1", before=(), **more):
+        words = [*before, program, "tree", "-", "--source", source, "--delta", "3", "-o", path]
+        self.run = subprocess.Popen(words, stdin=subprocess.PIPE, stdout=subprocess.DEVNULL, stderr=subprocess.DEVNULL, **more)
+        self.run.stdin.write(b"p sp 2 1\n")
+        self.run.stdin.flush()
+        self.parts, begin = [], time.monotonic()
+        while not self.parts and self.run.poll() is None and time.monotonic() < begin + 20:
+            self.parts = parts(os.path.dirname(path), self.run.pid)
+
+    def end(self):
+        self.run.stdin.write(b"a 1 2 7\n")
+        self.run.stdin.close()
+        return self.run.wait(timeout=SECONDS)
+
+    def kill(self, number):
+        self.run.send_signal(number)
+        self.run.wait(timeout=SECONDS)
+        self.run.stdin.close()
+        return self.run.returncode == -number
+
+
+# the texts of a run that waits, by its source
+TWO = {"1": "p spt 2 1\nv 1 0 0\nv 2 7 1\ne 2\n", "2": "p spt 2 2\nv 2 0 0\ne 1\n"}
 
 
 def killed(count, program, folder):
     """A run that a signal ends while it waits for its graph; and the next one."""
-    with tempfile.TemporaryDirectory(dir=folder) as inner:
-        path = put(f"{inner}/out", HELD)
-        words = [program, "tree", "-", SOURCES, "--delta", "3", "-o", path]
-        with subprocess.Popen(words, stdin=subprocess.PIPE, stdout=subprocess.DEVNULL) as waiting:
-            waiting.stdin.write(b"p sp 4 5\n")
-            waiting.stdin.flush()
-            while not os.path.exists(f"{path}.part") and waiting.poll() is None:
-                pass
+    for number in (signal.SIGKILL, signal.SIGTERM, signal.SIGINT):
+        with tempfile.TemporaryDirectory(dir=folder) as inner:
+            path = put(f"{inner}/out", HELD)
+            waiting = Waiting(program, path)
             held = read(path)
-            waiting.kill()
-        count.of("a run that is killed", waiting.returncode == -signal.SIGKILL and held == HELD and read(path) == HELD)
-        told = run(program, *tree(path))
-        count.of(f"the run after it: {told}", told == (0, "", "") and os.listdir(inner) == ["out"] and read(path) == read(TREE))
+            ended = waiting.kill(number)
+            count.of(f"a run that is ended by {number.name}", ended and len(waiting.parts) == 1 and held == HELD and read(path) == HELD)
+            told = run(program, *tree(path))
+            left = [name for name in os.listdir(inner) if f"{inner}/{name}" not in waiting.parts]
+            count.of(f"the run after it: {told}", told == (0, "", "") and left == ["out"] and read(path) == read(TREE))
+
+
+def two_at_once(count, program, folder):
+    """Both have written the whole text; the one that ends later has the file."""
+    for first, last in (("1", "2"), ("2", "1")):
+        with tempfile.TemporaryDirectory(dir=folder) as inner:
+            path = put(f"{inner}/out", HELD)
+            runs = {source: Waiting(program, path, source) for source in TWO}
+            told = []
+            for source in (first, last):
+                told.append((runs[source].end(), read(path) == TWO[source]))
+            count.of(f"two runs at once, {first} first: {told}", told == [(0, True)] * 2 and os.listdir(inner) == ["out"])
+
+
+def own_names(count, program, folder):
+    """Files of the user's that are called as parts of others are stay."""
+    with tempfile.TemporaryDirectory(dir=folder) as inner:
+        names = ["out.part", ".out.part", ".spt-1-0123456789abcdef.part", "out~"]
+        for name in names:
+            put(f"{inner}/{name}", name)
+        told = run(program, *tree(f"{inner}/out"))
+        kept = all(os.path.exists(f"{inner}/{name}") and read(f"{inner}/{name}") == name for name in names)
+        there = sorted(os.listdir(inner)) == sorted([*names, "out"])
+        count.of(f"files of the user's beside it: {told}", told == (0, "", "") and kept and there and read(f"{inner}/out") == read(TREE))
+
+
+def mode_of(path):
+    return stat.S_IMODE(os.stat(path).st_mode)
+
+
+def modes(count, program, folder):
+    """A file that is replaced hands on its mode, and nobody else may read what is to replace it; a new file has that of any."""
+    old = os.umask(0o022)
+    try:
+        for mode in (0o600, 0o640, 0o755, 0o664, 0o400):
+            with tempfile.TemporaryDirectory(dir=folder) as inner:
+                path = put(f"{inner}/out", HELD)
+                os.chmod(path, mode)
+                waiting = Waiting(program, path)
+                now = [mode_of(part) for part in waiting.parts]
+                kept = waiting.end() == 0 and mode_of(path) == mode and read(path) == TWO["1"]
+                count.of(f"a file of mode {mode:o}", kept and len(now) == 1 and now[0] & ~mode == 0)
+        with tempfile.TemporaryDirectory(dir=folder) as inner:
+            told = run(program, *tree(f"{inner}/out"))
+            count.of(f"a new file: {told}", told == (0, "", "") and mode_of(f"{inner}/out") == 0o644)
+        if os.getuid() == 0:
+            with tempfile.TemporaryDirectory(dir=folder) as inner:
+                path = put(f"{inner}/out", HELD)
+                os.chown(path, 12345, 12346)
+                os.chmod(path, 0o640)
+                told = run(program, *tree(path))
+                found = os.stat(path)
+                kept = (found.st_uid, found.st_gid, mode_of(path)) == (12345, 12346, 0o640)
+                count.of(f"the owner of a file: {told}", told == (0, "", "") and kept)
+    finally:
+        os.umask(old)
+
+
+# A ring of so many vertices, whose trees take several writes.
+RING = 4000
+
+
+def ring_tree(source):
+    """Along arcs of length 1 each vertex is one farther than the one before it, and the one before the source the farthest."""
+    rows = "".join(f"v {v} {(v - source) % RING} {0 if v == source else (v - 2) % RING + 1}\n" for v in range(1, RING + 1))
+    return f"p spt {RING} {source}\n{rows}e {RING}\n".encode()
+
+
+class Reader(threading.Thread):
+    """Reads a file again and again, and keeps what is none of the texts."""
+
+    def __init__(self, path, texts):
+        super().__init__()
+        self.path, self.texts, self.strange, self.times, self.is_over = path, texts, [], 0, False
+
+    def run(self):
+        while not self.is_over:
+            try:
+                with open(self.path, "rb") as it:
+                    text = it.read()
+            except OSError as error:
+                text = str(error).encode()
+            if text not in self.texts:
+                self.strange.append(text[:40])
+            self.times += 1
+
+
+def round_of(program, path, graph, draw, sources):
+    """Runs one writer for each source, and ends some of them by signals. Statuses by source, and the processes that were ended."""
+    words = [program, "tree", graph, "--delta", "1", "-o", path, "--source"]
+    runs = [subprocess.Popen([*words, str(source)], stdout=subprocess.DEVNULL, stderr=subprocess.DEVNULL) for source in sources]
+    for it in draw.sample(runs, draw.randrange(len(runs) + 1)):
+        time.sleep(draw.random() * 0.01)
+        it.send_signal(draw.choice((signal.SIGKILL, signal.SIGTERM, signal.SIGINT)))
+    for it in runs:
+        it.wait(timeout=SECONDS)
+    done = [source for source, it in zip(sources, runs) if it.returncode == 0]
+    true = all(it.returncode in (0, -signal.SIGKILL, -signal.SIGTERM, -signal.SIGINT) for it in runs)
+    return true, done, [it.pid for it in runs if it.returncode != 0]
+
+
+def writers(count, program, folder):
+    """Two and twenty writers of one file, some ended by signals, a hundred times in all: it has an old or a new text, whole."""
+    draw = random.Random(7)
+    graph = put(f"{folder}/ring.gr", f"p sp {RING} {RING}\n" + "".join(f"a {v} {v % RING + 1} 1\n" for v in range(1, RING + 1)))
+    texts = {ring_tree(source): source for source in range(1, 61)}
+    own = {"out.part": "mine", "notes": "mine too"}
+    for several, rounds in ((2, 60), (20, 40)):
+        with tempfile.TemporaryDirectory(dir=folder) as inner:
+            for name, text in own.items():
+                put(f"{inner}/{name}", text)
+            path, before, ended, wrong, done_in_all = f"{inner}/out", 1, [], [], 0
+            with open(path, "wb") as it:
+                it.write(ring_tree(1))
+            reader = Reader(path, texts)
+            reader.start()
+            for number in range(rounds):
+                sources = draw.sample(range(1, 61), several)
+                true, done, more = round_of(program, path, graph, draw, sources)
+                with open(path, "rb") as it:
+                    now = texts.get(it.read())
+                may = sources if done else [*sources, before]
+                if not true or now not in may:
+                    wrong.append((number, now, done))
+                before, ended, done_in_all = now, ended + more, done_in_all + len(done)
+            reader.is_over = True
+            reader.join()
+            count.of(f"{several} writers, {rounds} times: {wrong[:3]}", wrong == [])
+            count.of(f"{several} writers, some ended: {len(ended)}, {done_in_all}", len(ended) > rounds // 4 and done_in_all > rounds // 4)
+            count.of(f"{several} writers, read meanwhile: {reader.strange[:3]}", reader.strange == [] and reader.times > rounds)
+            left = {f"{inner}/{name}" for name in os.listdir(inner)} - {path} - {part for pid in ended for part in parts(inner, pid)}
+            kept = all(os.path.exists(f"{inner}/{name}") and read(f"{inner}/{name}") == text for name, text in own.items())
+            count.of(f"{several} writers, what lies beside: {left}", left == {f"{inner}/{name}" for name in own} and kept)
+
+
+def signals(count, program, folder):
+    """Run as ./spt does it, a signal leaves nothing behind: one for the run alone, and one for all that the terminal runs."""
+    before = ("sh", "-c", 'run=$1; shift; . "$run"; run "$@"', "sh", f"{HOME}/share/run.sh")
+    for number in (signal.SIGTERM, signal.SIGINT, signal.SIGHUP):
+        for to_all in (False, True):
+            with tempfile.TemporaryDirectory(dir=folder) as inner:
+                path = put(f"{inner}/out", HELD)
+                waiting = Waiting(program, path, before=before, start_new_session=True)
+                begun = [name for name in os.listdir(inner) if name.startswith(".spt-")]
+                (os.killpg if to_all else os.kill)(waiting.run.pid, number)
+                status = waiting.run.wait(timeout=SECONDS)
+                waiting.run.stdin.close()
+                end = time.monotonic() + 20
+                while os.listdir(inner) != ["out"] and time.monotonic() < end:
+                    time.sleep(0.01)
+                told = status in (-number, 128 + number) and len(begun) == 1
+                count.of(f"{number.name}, to all: {to_all}: {status}", told and os.listdir(inner) == ["out"] and read(path) == HELD)
+
+
+def calls(folder, program, path, *more):
+    """Status and first line of a run under strace, and the calls that keep its text, in order. None where strace isn't there."""
+    if shutil.which("strace") is None:
+        return None
+    log = f"{folder}/calls"
+    traced = ["strace", "-f", "-o", log, "-e", "trace=fsync,fdatasync,rename,renameat,renameat2", *more, program]
+    told = run(traced[0], *traced[1:], *tree(path))
+    if not os.path.exists(log) or "strace:" in told[2] or not (text := read(log)):
+        return None
+    names = re.findall(r"^\d+ +(fsync|fdatasync|rename)(?:at2?)?\(", text, re.M)
+    os.remove(log)
+    return told, names
+
+
+def asked(count, program, folder):
+    """What was written is on the disk before it takes its name, and what the disk refuses is told."""
+    done, none = (0, "", ""), (6, "", CANNOT_WRITE)
+    cases = [
+        ("in order", (), done, ["fsync", "rename"]),
+        ("a disk that fails", ("-e", "inject=fsync:error=EIO"), none, ["fsync"]),
+        ("a disk that is full", ("-e", "inject=fsync:error=ENOSPC"), none, ["fsync"]),
+        ("a file system without the call", ("-e", "inject=fsync:error=EINVAL"), done, ["fsync", "rename"]),
+        ("a name that can't be had", ("-e", "inject=rename,renameat,renameat2:error=EACCES"), none, ["fsync", "rename"]),
+    ]
+    for name, more, wanted, order in cases:
+        with tempfile.TemporaryDirectory(dir=folder) as inner:
+            path = put(f"{inner}/out", HELD)
+            seen = calls(folder, program, path, *more)
+            if seen is None:
+                print("strace isn't there, or may not look: what the system is asked for is not seen")
+                return
+            text = read(TREE) if wanted == done else HELD
+            count.of(f"{name}: {seen}", seen == (wanted, order) and os.listdir(inner) == ["out"] and read(path) == text)
 
 
 if __name__ == "__main__":
-    sys.exit(try_all(__doc__, (done, undone, unmade, straight, links, killed)))
+    tests = (done, undone, unmade, straight, links, killed, signals, two_at_once, own_names, modes, writers, asked)
+    sys.exit(try_all(__doc__, tests))

@@ -1,89 +1,214 @@
 #!/usr/bin/env python3
-"""Runs the program with `--progress`, and compares what it tells on standard error, and that its output stays as it is without.
+"""Runs the program with `--progress`, looks at what it tells on standard error, and that its output stays as it is without.
 
 Usage: python3 tests/progress.py [--program PROGRAM]
 
-Files are told by their bytes: each 16 MiB, and at their end. The last line is 'N passed, M failed'.
+On a terminal, a pseudo terminal here, one line is written over, at most some ten times a second, and ended before other text and at
+the end. Elsewhere there is a line every five seconds, and the last one. A line tells what is done, how much of it in percent where
+that is known, the time passed, and the time left. The last line is 'N passed, M failed'.
 """
 
 import os
+import pty
 import re
 import subprocess
 import sys
+import threading
+import time
 
 sys.dont_write_bytecode = True
 from trees import HOME, try_all  # noqa: E402
 
 SECONDS = 60
 GRAPH, SOURCES, PAIRS = (f"{HOME}/examples/diamond.{ending}" for ending in ("gr", "ss", "pairs"))
-STRETCH = 1 << 24
+PASSED = r"\d+:\d\d"
+# a pause between lines where standard error is no terminal, and some more
+PAUSE = 5.3
 
 
-def run(program, *words):
-    done = subprocess.run([program, *words], capture_output=True, text=True, timeout=SECONDS)
+def run(program, *words, **more):
+    done = subprocess.run([program, *words], capture_output=True, text=True, timeout=SECONDS, **more)
     return done.returncode, done.stdout, done.stderr
 
 
-def small(count, program, folder):
-    """A tree's run, and what is told of it, in order."""
-    words = ("tree", GRAPH, SOURCES, "--delta", "3")
-    told, plain = run(program, *words, "--progress"), run(program, *words)
-    lines = [
-        f"spt: gr: {os.path.getsize(GRAPH)} bytes read",
-        f"spt: ss: {os.path.getsize(SOURCES)} bytes read",
-        "spt: graph of 4 vertices and 5 arcs",
-        "spt: 0 of 1 sources, 0 bytes written",
-        f"spt: 1 of 1 sources, {len(plain[1])} bytes written",
-    ]
-    count.of(f"a tree: {told}", told[:2] == plain[:2] and told[2].splitlines() == lines)
-    count.of(f"nothing without it: {plain}", plain[0] == 0 and plain[2] == "")
+def on_terminal(program, *words, take=None, **more):
+    """Status, output, what a terminal takes as standard error, and the seconds. `take` reads the output."""
+    above, below = pty.openpty()
+    begin = time.monotonic()
+    done = subprocess.Popen([program, *words], stdout=subprocess.PIPE, stderr=below, **more)
+    os.close(below)
+    told = []
+
+    def listen():
+        try:
+            while piece := os.read(above, 1 << 16):
+                told.append(piece)
+        except OSError:
+            pass
+
+    listener = threading.Thread(target=listen)
+    listener.start()
+    text = (take or (lambda out: out.read()))(done.stdout)
+    status = done.wait(timeout=SECONDS)
+    seconds = time.monotonic() - begin
+    listener.join()
+    os.close(above)
+    done.stdout.close()
+    return status, text.decode(), b"".join(told).decode(), seconds
 
 
-def sources_in_turn(count, program, folder):
-    """How many sources are done of all, and the bytes written for them, which rise up to all that were written."""
-    told = run(program, "tree", GRAPH, "--source", "1", "--source", "4", "--source", "2", "--delta", "mean", "--progress")
-    written = [int(number) for number in re.findall(r"^spt: \d of 3 sources, (\d+) bytes written$", told[2], re.M)]
-    rises = written == sorted(set(written)) and written[:1] == [0] and written[-1:] == [len(told[1])]
-    count.of(f"three sources: {told[2]!r}", told[0] == 0 and rises and "\nspt: 3 of 3 sources" in told[2])
+def lines_over(told):
+    """The lines that were written over one another, and what follows them. None: they aren't of that form."""
+    form = re.fullmatch(r"((?:\rspt: [^\r\n\x1b]+\x1b\[K)*)(.*)", told, re.S)
+    return re.findall(r"\r(spt: [^\r\n\x1b]+)\x1b\[K", form[1]), form[2]
 
 
-def pairs_in_turn(count, program, folder):
-    """How many pairs are found before each source is run from."""
-    words = ("pairs", GRAPH, PAIRS, "--delta", "mean")
-    told, plain = run(program, *words, "--progress"), run(program, *words)
-    lines = [
-        f"spt: gr: {os.path.getsize(GRAPH)} bytes read",
-        f"spt: pairs: {os.path.getsize(PAIRS)} bytes read",
-        "spt: graph of 4 vertices and 5 arcs",
-        "spt: 0 of 3 pairs",
-        "spt: 2 of 3 pairs",
-        "spt: 3 of 3 pairs",
-    ]
-    count.of(f"three pairs: {told}", told[:2] == plain[:2] and told[2].splitlines() == lines and plain[2] == "")
-
-
-def long_file(count, program, folder):
-    """A file of more than 16 MiB is told of on the way; the numbers rise, and the last is its size."""
-    path = f"{folder}/long.gr"
+def put(path, text):
     with open(path, "w") as it:
-        it.write("p sp 4 1\na 1 2 3\n")
-        it.write(("c " + "x" * 997 + "\n") * (2 * STRETCH // 1000 + 10))
-    told = run(program, "tree", path, "--source", "1", "--delta", "1", "--progress")
-    read = [int(number) for number in re.findall(r"^spt: gr: (\d+) bytes read$", told[2], re.M)]
-    rises = len(read) == 3 and STRETCH <= read[0] < read[1] and read[2] == os.path.getsize(path)
-    count.of(f"a long file: {read}", told[0] == 0 and rises)
+        it.write(text)
+    return path
+
+
+def long_file(folder, stretches, last=""):
+    """A graph of two vertices and one arc, with comments of so many MiB."""
+    line = "c " + "x" * 1021 + "\n"
+    return put(f"{folder}/long.gr", "p sp 2 1\na 1 2 3\n" + line * (1024 * stretches) + last)
+
+
+def ring(folder, vertices):
+    """The graph of a ring, and the tree of its vertex 1."""
+    arcs = "".join(f"a {v} {v % vertices + 1} 1\n" for v in range(1, vertices + 1))
+    tree = "".join(f"v {v} {v - 1} {v - 1}\n" for v in range(1, vertices + 1))
+    return put(f"{folder}/ring.gr", f"p sp {vertices} {vertices}\n{arcs}"), f"p spt {vertices} 1\n{tree}e {vertices}\n"
+
+
+def slowly(seconds, most):
+    """Reads so many bytes of an output in so many seconds, and then the rest."""
+
+    def take(out):
+        pieces = [out.read1(1 << 12)]
+        begin, taken = time.monotonic(), len(pieces[0])
+        while (passed := time.monotonic() - begin) < seconds:
+            if taken < most * passed / seconds:
+                pieces.append(out.read1(1 << 12))
+                taken += len(pieces[-1])
+            else:
+                time.sleep(0.002)
+        return b"".join([*pieces, out.read()])
+
+    return take
+
+
+def last_lines(count, program, folder):
+    """A short run tells one line where no terminal is: that all is done."""
+    cases = [
+        ("a tree", ("tree", GRAPH, SOURCES, "--delta", "3"), r"1 of 1 sources, {} bytes written"),
+        ("three sources", ("tree", GRAPH, "--source", "1", "--source", "4", "--source", "2", "--delta", "mean"), r"3 of 3 sources, {} bytes written"),
+        ("three pairs", ("pairs", GRAPH, PAIRS, "--delta", "mean"), r"3 of 3 pairs"),
+    ]
+    for name, words, line in cases:
+        told, plain = run(program, *words, "--progress"), run(program, *words)
+        wanted = f"spt: {line.format(len(plain[1]))}, 100 %, {PASSED}\n"
+        count.of(f"{name}: {told}", told[:2] == plain[:2] and re.fullmatch(wanted, told[2]) is not None)
+        count.of(f"{name}, nothing without it: {plain}", plain[0] == 0 and plain[2] == "")
+        status, text, over, _ = on_terminal(program, *words, "--progress")
+        shown, rest = lines_over(over)
+        whole = (status, text) == plain[:2] and rest == "\r\n" and re.fullmatch(wanted, shown[-1] + "\n") is not None
+        count.of(f"{name}, on a terminal: {over!r}", bool(shown) and whole)
+
+
+def many_sources(count, program, folder):
+    """20,000 sources of a tiny graph: a handful of lines."""
+    sources = put(f"{folder}/many.ss", "p aux sp ss 20000\n" + "s 1\n" * 20000)
+    words = ("tree", GRAPH, sources, "--delta", "3")
+    begin = time.monotonic()
+    told = run(program, *words, "--progress")
+    seconds, plain = time.monotonic() - begin, run(program, *words)
+    shown = told[2].splitlines()
+    few = 1 <= len(shown) <= 1 + seconds / 5 and re.fullmatch(rf"spt: 20000 of 20000 sources, \d+ bytes written, 100 %, {PASSED}", shown[-1])
+    count.of(f"many sources: {len(shown)} lines, {shown[-1:]}", told[:2] == plain[:2] and bool(few))
+    status, text, over, seconds = on_terminal(program, *words, "--progress")
+    shown, rest = lines_over(over)
+    few = 1 <= len(shown) <= 2 + seconds * 11
+    count.of(f"many sources on a terminal: {len(shown)} in {seconds:.1f} s", (status, text) == plain[:2] and few and rest == "\r\n")
+
+
+def reading(count, program, folder):
+    """How much of a file is read, in percent where its size is known, and the time left."""
+    path = long_file(folder, 40)
+    size = os.path.getsize(path)
+    words = ("--source", "1", "--delta", "1", "--progress")
+    with open(path, "rb") as it:
+        cases = [("a file", on_terminal(program, "tree", path, *words)), ("redirected", on_terminal(program, "tree", "-", *words, stdin=it))]
+    for name, (status, _, over, _) in cases:
+        shown = re.findall(rf"spt: gr: (\d+) bytes read, (\d+) %, {PASSED}(, {PASSED} left)?\x1b", over)
+        true = [int(percent) == int(number) * 100 // size and (left != "") == (int(number) < size) for number, percent, left in shown]
+        count.of(f"{name}: {shown}", status == 0 and len(shown) > 0 and all(true))
+    with subprocess.Popen(["cat", path], stdout=subprocess.PIPE) as cat:
+        status, _, over, _ = on_terminal(program, "tree", "-", *words, stdin=cat.stdout)
+    shown = re.findall(r"spt: gr: \d+ bytes read[^\x1b]*", over)
+    count.of(f"a pipe: {shown}", status == 0 and len(shown) > 0 and all(re.fullmatch(rf"[^%,]*, {PASSED}", line) for line in shown))
+
+
+def slow_reading(count, program, folder):
+    """Where standard error is no terminal, a line comes after five seconds."""
+    words = [program, "tree", "-", "--source", "1", "--delta", "1", "--progress"]
+    with subprocess.Popen(words, stdin=subprocess.PIPE, stdout=subprocess.PIPE, stderr=subprocess.PIPE) as it:
+        line = b"c " + b"x" * 1021 + b"\n"
+        it.stdin.write(b"p sp 2 1\na 1 2 3\n" + line * 1200)
+        it.stdin.flush()
+        time.sleep(PAUSE)
+        out, err = it.communicate(line * 1200, timeout=SECONDS)
+    shown = err.decode().splitlines()
+    first = len(shown) == 2 and re.fullmatch(r"spt: gr: \d+ bytes read, 0:0[5-9]", shown[0])
+    count.of(f"a slow pipe: {shown}", it.returncode == 0 and out == b"p spt 2 1\nv 1 0 0\nv 2 3 1\ne 2\n" and bool(first))
+
+
+def long_tree(count, program, folder):
+    """Within one tree the line moves on, with percent of the vertices, whether there is a terminal or not."""
+    graph, tree = ring(folder, 400_000)
+    words = ("tree", graph, "--source", "1", "--delta", "1", "--progress")
+    form = rf"spt: 0 of 1 sources, (\d+) bytes written, writing, (\d+) %, {PASSED}, {PASSED} left"
+    status, text, over, seconds = on_terminal(program, *words, take=slowly(2, len(tree) // 2))
+    shown, rest = lines_over(over)
+    steps = [(int(found[1]), int(found[2])) for line in shown if (found := re.fullmatch(form, line))]
+    moves = len({percent for _, percent in steps}) > 2 and steps == sorted(steps)
+    # Of these lines, each of some 20 bytes, so many bytes are as many vertices as percent tells.
+    near = all(abs(number * 100 / len(tree) - percent) < 8 for number, percent in steps)
+    count.of(f"a long tree on a terminal: {shown}", status == 0 and text == tree and moves and near and len(shown) <= 3 + seconds * 11 and rest == "\r\n")
+    with subprocess.Popen([program, *words], stdout=subprocess.PIPE, stderr=subprocess.PIPE) as it:
+        text = slowly(PAUSE, len(tree) // 2)(it.stdout)
+        err = it.stderr.read().decode()
+    shown = err.splitlines()
+    between = [line for line in shown if re.fullmatch(form, line)]
+    count.of(f"a long tree elsewhere: {shown}", it.returncode == 0 and text.decode() == tree and 1 <= len(between) <= 2 and len(shown) <= 4)
+
+
+def faults(count, program, folder):
+    """The text of a fault begins a line of its own, and nothing follows it."""
+    path = long_file(folder, 2, "a 1 1 0\n")
+    wanted = f"spt: gr: line {2 * 1024 + 3}: 5 OutOfRange W"
+    words = ("tree", path, "--source", "1", "--delta", "1")
+    plain = run(program, *words)
+    status, text, over, _ = on_terminal(program, *words, "--progress")
+    shown, rest = lines_over(over)
+    ends = rest.startswith("\r\n") and rest[2:] == plain[2].replace("\n", "\r\n")
+    count.of(f"a fault on a terminal: {over!r}", (status, text) == plain[:2] == (2, "") and plain[2].startswith(wanted) and bool(shown) and ends)
+    told = run(program, *words, "--progress")
+    count.of(f"a fault elsewhere: {told}", told == plain)
 
 
 def closed(count, program, folder):
     """Where standard error can't be written, the run goes on."""
+    words = ("tree", GRAPH, SOURCES, "--delta", "3")
+    wanted = run(program, *words)
     with open("/dev/full", "w") as full:
-        done = subprocess.run(
-            [program, "tree", GRAPH, SOURCES, "--delta", "3", "--progress"],
-            stdout=subprocess.PIPE, stderr=full, text=True, timeout=SECONDS,
-        )
-    wanted = run(program, "tree", GRAPH, SOURCES, "--delta", "3")
+        done = subprocess.run([program, *words, "--progress"], stdout=subprocess.PIPE, stderr=full, text=True, timeout=SECONDS)
     count.of(f"standard error that is full: {done.returncode}", (done.returncode, done.stdout) == wanted[:2])
+    done = subprocess.run(["sh", "-c", '"$@" 2>&-', "sh", program, *words, "--progress"], stdout=subprocess.PIPE, text=True, timeout=SECONDS)
+    count.of(f"standard error that is closed: {done.returncode}", (done.returncode, done.stdout) == wanted[:2])
 
 
 if __name__ == "__main__":
-    sys.exit(try_all(__doc__, (small, sources_in_turn, pairs_in_turn, long_file, closed)))
+    tests = (last_lines, many_sources, reading, slow_reading, long_tree, faults, closed)
+    sys.exit(try_all(__doc__, tests))

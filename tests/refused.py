@@ -31,6 +31,7 @@ SECONDS = 60
 OUTSIDE = 9
 
 FAULT = re.compile(r"(line [1-9][0-9]*: 8 Memory\n)?")
+MORE = "M of the line `p sp N M` is the number of `a` lines"
 MEMORY = re.compile(r"spt: (memory|(gr|ss|pairs|tree|replay|offers): line [1-9][0-9]*: 8 Memory)\n")
 
 
@@ -149,7 +150,7 @@ def commands(folder):
             (4, f"x 1 18\n{one}", ""), says_nothing_else)
     # a reader takes no memory by what is announced
     yield ["tree", f"{folder}/announced.gr", f"{folder}/long.ss", "--delta", far], (
-        (2, "", "spt: gr: line 2: 7 TooFew\n"), words_end_short)
+        (2, "", f"spt: gr: line 2: 7 TooFew\nspt: {folder}/announced.gr: {MORE}\n"), words_end_short)
     yield ["check", "examples/diamond.gr", "examples/diamond.tree"], ((0, "yes\n", ""), says_nothing_else)
     yield ["check", f"{folder}/long.gr", f"{folder}/long.tree"], ((3, "no 18 5\n", ""), says_nothing_else)
     yield ["check", "--all", "examples/diamond.gr", f"{folder}/two.tree"], ((3, "yes\nno 1 0 1\n", ""), says_nothing_else)

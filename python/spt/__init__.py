@@ -10,7 +10,7 @@
 
 Vertices are numbered from 1; vertex v stands at place v - 1 of a list. Lengths are 1 to 4294967295, in any unit. Where several
 walks are shortest, the predecessor is the smallest-numbered vertex before the last on one of them, so each answer is the only
-right one.
+right one. Where no walk leads the distance is UNREACHED, 2^64 - 1, which wraps around in sums (`Tree.masked`, `Tree.floats`).
 
 The library is taken from $SPT_LIBRARY, beside this package's files, or where the system's loader looks.
 """
@@ -20,7 +20,7 @@ from ._faults import BadArc, BadDelta, Fault, NoSuchVertex, SptError, TooFar
 from ._graph import UNREACHED, Graph, Pair, Tree
 from ._library import LibraryNotFound, reach
 
-__version__ = "1.0.0"
+__version__ = "1.1.0"
 __all__ = [
     "UNREACHED",
     "BadArc",

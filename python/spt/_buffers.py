@@ -32,6 +32,8 @@ _release = ctypes.pythonapi.PyBuffer_Release
 _release.argtypes, _release.restype = [ctypes.POINTER(_Buffer)], None
 # where a list of no items stands, since no pointer is null
 _NOTHING = ctypes.c_uint64()
+# bytes of a number of each format
+_BYTES = {"I": 4, "Q": 8}
 
 
 def address(view: memoryview) -> int:
@@ -65,17 +67,48 @@ def words(numbers: Any) -> memoryview:
     if not is_buffer(numbers):
         return _copied(numbers)
     view = memoryview(numbers)
-    kind = view.format.lstrip("@=<")
+    kind = _kind(view)
     if kind not in list("bBhHiIlLqQ"):
         raise TypeError(f"numbers of format {view.format!r}: integers are needed, best of unsigned 32 bits")
     if not view.nbytes:
         return zeros("I", 0)
-    flat = view.cast("B") if view.c_contiguous else memoryview(view.tobytes())
+    flat = _bytes(view, view.itemsize)
     signed = flat.cast({1: "b", 2: "h", 4: "i", 8: "q"}[view.itemsize])
     if kind.islower():
         return _copied(signed)
     unsigned = flat.cast(signed.format.upper())
     return unsigned if unsigned.format == "I" else _copied(unsigned)
+
+
+def column(numbers: Any, format: str) -> memoryview:
+    """A flat list of this format ('I' or 'Q') that is only read: the one given, where it is only read, and else a copy.
+
+    Unsigned numbers of as many bits are taken under any name of C's: NumPy calls those of 64 bits 'L'. ValueError: it has several
+    dimensions. TypeError: it isn't a list of such numbers.
+    """
+    view = memoryview(numbers)
+    if _kind(view) not in ("I", "L", "Q") or view.itemsize != _BYTES[format]:
+        raise TypeError(f"numbers of format {view.format!r}: unsigned numbers of {8 * _BYTES[format]} bits are needed")
+    if view.ndim != 1:
+        raise ValueError(f"a list of shape {view.shape}: one number for each vertex is needed")
+    return in_bytes(view if view.readonly else view.tobytes(), format)
+
+
+def in_bytes(given: Any, format: str) -> memoryview:
+    """The numbers of this format ('I' or 'Q') whose bytes are given."""
+    view = memoryview(given)
+    return _bytes(view, _BYTES[format]).cast(format) if view.nbytes else zeros(format, 0).toreadonly()
+
+
+def _kind(view: memoryview) -> str:
+    """C's letter of the numbers; those that are turned around keep their sign of it."""
+    return view.format.lstrip("@=<")
+
+
+def _bytes(view: memoryview, size: int) -> memoryview:
+    """The bytes of a list, where they stand if they have no gaps and begin where numbers of this size may, and else a copy."""
+    is_plain = view.c_contiguous and len(view.format) == 1 and address(view) % size == 0
+    return view.cast("B") if is_plain else memoryview(view.tobytes())
 
 
 def _copied(numbers: Iterable[int]) -> memoryview:

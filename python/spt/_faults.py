@@ -2,13 +2,21 @@
 
 from __future__ import annotations
 
-from typing import Optional
+from typing import Any, Optional
 
 KINDS = ("", "LongLine", "BadLine", "NoProblem", "SecondProblem", "OutOfRange", "TooMany", "TooFew", "Memory")
 
 
 class SptError(Exception):
-    """Any refusal of the library. Memory that is wanting is a MemoryError."""
+    """Any refusal of the library. Memory that is wanting is a MemoryError. It can be pickled, with its fields."""
+
+    def __reduce__(self) -> tuple[Any, ...]:
+        return _again, (type(self), self.args), self.__dict__
+
+
+def _again(kind: type[SptError], told: tuple[Any, ...]) -> SptError:
+    """The exception that said this; its fields come after."""
+    return kind.__new__(kind, *told)
 
 
 class Fault(SptError, ValueError):

@@ -6,6 +6,7 @@ import gzip
 import itertools
 import operator
 import os
+import pickle
 
 from collections import deque
 from concurrent.futures import Future, ThreadPoolExecutor
@@ -13,18 +14,25 @@ from dataclasses import dataclass
 from typing import Any, BinaryIO, Iterable, Iterator, List, NamedTuple, Optional, Tuple, Union
 
 from . import _convert
-from ._buffers import address, is_buffer, words, zeros
+from ._buffers import address, column, in_bytes, is_buffer, words, zeros
 from ._faults import BadArc, BadDelta, Fault, NoSuchVertex, SptError, TooFar
 from ._kept import Kept
 from ._library import (
-    BAD_ARC, BAD_TEXT, MEMORY, MOST_VERTICES, OK, TOO_FAR, WRONG, library, reach,
+    BAD_ARC, BAD_TEXT, HAS_PAIR, MEMORY, MOST_VERTICES, OK, TOO_FAR, WRONG, library, reach,
 )
 
 UNREACHED = 2**64 - 1
-"""The distance of a vertex that no walk leads to."""
+"""The distance of a vertex that no walk leads to.
+
+It is the greatest number of 64 bits, so in sums of NumPy's uint64 it wraps around: with 1 it is 0. `Tree.masked` and
+`Tree.floats` have no such number.
+"""
 
 # places of the trees that one call of the library answers, unless one tree has more
 _MOST_PLACES = 1 << 22
+# places of a tree that its repr tells
+_SHOWN = 8
+_FORMS = "arcs are triples of tail, head and length, an array of shape (m, 3), or their numbers in one flat list"
 
 
 class Pair(NamedTuple):
@@ -34,17 +42,73 @@ class Pair(NamedTuple):
     predecessor: int
 
 
-@dataclass(frozen=True)
+@dataclass(frozen=True, eq=False, repr=False)
 class Tree:
     """The shortest-path tree from a source.
 
     `distances` and `predecessors` are lists of unsigned numbers of 64 and of 32 bits, vertex v at place v - 1: UNREACHED and 0
-    where no walk leads to it, 0 and 0 for the source. `numpy.asarray` takes them without a copy.
+    where no walk leads to it, 0 and 0 for the source. UNREACHED is 2^64 - 1, which wraps around in sums: `masked` and `floats`
+    answer the distances without it. They can only be read, and `numpy.asarray` takes them without a copy. A tree that is made of
+    other lists copies those that can be written.
+
+    Trees are equal where source, distances and predecessors are, and can be keys of a dict, pickled and copied.
+
+    >>> tree = Graph(3, [(1, 2, 7)]).tree(1)
+    >>> tree
+    Tree from 1 over 3 vertices: distances 0, 7, unreached; predecessors 0, 1, 0
+    >>> tree == Graph(3, [(1, 2, 7), (1, 2, 8)]).tree(1)
+    True
     """
 
     source: int
     distances: memoryview
     predecessors: memoryview
+
+    def __post_init__(self) -> None:
+        object.__setattr__(self, "distances", column(self.distances, "Q"))
+        object.__setattr__(self, "predecessors", column(self.predecessors, "I"))
+
+    def __repr__(self) -> str:
+        distances = _shown(self.distances, {UNREACHED: "unreached"})
+        told = f"distances {distances}; predecessors {_shown(self.predecessors, {})}"
+        return f"Tree from {self.source} over {len(self.distances)} vertices: {told}"
+
+    def __eq__(self, other: object) -> bool:
+        if not isinstance(other, Tree):
+            return NotImplemented
+        alike = self.source == other.source and self.distances == other.distances
+        return alike and self.predecessors == other.predecessors
+
+    def __hash__(self) -> int:
+        return hash((self.source, self.distances.tobytes(), self.predecessors.tobytes()))
+
+    def __reduce_ex__(self, protocol: Any) -> tuple[Any, ...]:
+        return type(self)._again, (self.source, _pickled(self.distances, protocol), _pickled(self.predecessors, protocol))
+
+    @classmethod
+    def _again(cls, source: int, distances: Any, predecessors: Any) -> Tree:
+        return cls(source, in_bytes(distances, "Q"), in_bytes(predecessors, "I"))
+
+    def masked(self) -> Any:
+        """The distances as a masked array of NumPy (uint64), without a copy, masked where no walk leads.
+
+        Its sums and means pass over these places, and `filled()` puts UNREACHED there.
+        """
+        import numpy
+
+        distances = numpy.asarray(self.distances)
+        return numpy.ma.MaskedArray(distances, distances == UNREACHED, fill_value=numpy.uint64(UNREACHED))
+
+    def floats(self) -> Any:
+        """The distances as a new array of NumPy (float64), `inf` where no walk leads.
+
+        Each that the library tells is exact, since none is above `reach(n)`, which is below 2^44, and a float tells whole numbers
+        up to 2^53. Sums above that are rounded: to even numbers up to 2^54, to multiples of 4 up to 2^55, and so on.
+        """
+        import numpy
+
+        distances = numpy.asarray(self.distances)
+        return numpy.where(distances == UNREACHED, numpy.inf, distances)
 
     def _place(self, vertex: int) -> int:
         if not 1 <= vertex <= len(self.distances):
@@ -73,6 +137,19 @@ class Tree:
         return path[::-1]
 
 
+def _shown(numbers: memoryview, names: dict[int, str]) -> str:
+    """The numbers, where there are many the first and the last of them."""
+    if len(numbers) > _SHOWN:
+        ends = _shown(numbers[: _SHOWN // 2], names), _shown(numbers[-(_SHOWN // 2) :], names)
+        return ", ..., ".join(ends)
+    return ", ".join(names.get(number, str(number)) for number in numbers)
+
+
+def _pickled(numbers: memoryview, protocol: int) -> Any:
+    """A list as pickle takes it: from protocol 5 on where it stands."""
+    return pickle.PickleBuffer(numbers) if protocol >= 5 else numbers.tobytes()
+
+
 # the trees of a block of sources, up to the first that has none, and why that has none
 _Solved = Tuple[List[Tree], Optional[Exception]]
 
@@ -84,13 +161,37 @@ def _each(solved: _Solved) -> Iterator[Tree]:
         raise refused
 
 
+def _shaped(view: memoryview) -> memoryview:
+    """The numbers of arcs, where their shape says that they are."""
+    is_rows = view.ndim == 2 and view.shape[1] == 3
+    if not is_rows and not (view.ndim == 1 and view.shape[0] % 3 == 0):
+        raise ValueError(f"an array of shape {view.shape}: {_FORMS}")
+    return view
+
+
+def _triples(arcs: Iterable[Any]) -> list[Any]:
+    """The arcs, where each has three numbers."""
+    listed = list(arcs)
+    try:
+        sizes = list(map(len, listed))
+    except TypeError as error:
+        raise TypeError(f"{error}: {_FORMS}") from error
+    if not set(sizes) <= {3}:
+        index = next(at for at, size in enumerate(sizes) if size != 3)
+        raise ValueError(f"arc {index} is {listed[index]!r}, of {sizes[index]} numbers: {_FORMS}")
+    return listed
+
+
 class Graph:
     """A graph of the vertices 1 to n.
 
-    `arcs` are triples of tail, head and length, or all their numbers in one list: an array('I'), a memoryview, a NumPy array of
-    shape (m, 3). The library keeps the graph in its own form, ready for each tree. A list of unsigned numbers of 32 bits without
-    gaps is kept beside it as it is, for `arcs` and `check`, and must not change. Several threads may use one graph. BadArc: an arc is none. ValueError: there are no or too many vertices, or a number isn't one of 32
-    bits. TypeError: what is given are no whole numbers.
+    `arcs` are triples of tail, head and length, a NumPy array of shape (m, 3), or all their numbers in one flat list: an
+    array('I'), a memoryview. The library keeps the graph in its own form, ready for each tree. A list of unsigned numbers of 32
+    bits without gaps is kept beside it as it is, for `arcs` and `check`, and must not change. Several threads may use one graph.
+    It can be pickled, by the numbers of its arcs, and copied.
+
+    BadArc: an arc is none. ValueError: there are no or too many vertices, a number isn't one of 32 bits, or an array has another
+    shape. TypeError: what is given are no whole numbers.
 
     >>> graph = Graph(3, [(1, 2, 7), (2, 3, 1), (1, 3, 9)])
     >>> graph.n, graph.m
@@ -104,10 +205,8 @@ class Graph:
         n = operator.index(n)
         if not 1 <= n <= MOST_VERTICES:
             raise ValueError(f"a graph has 1 to {MOST_VERTICES} vertices, not {n}")
-        numbers = words(arcs if is_buffer(arcs) else itertools.chain.from_iterable(arcs))
-        if len(numbers) % 3:
-            raise ValueError("an arc has three numbers: tail, head, length")
-        self._keep(n, numbers)
+        given = _shaped(memoryview(arcs)) if is_buffer(arcs) else itertools.chain.from_iterable(_triples(arcs))
+        self._keep(n, words(given))
 
     def _keep(self, n: int, numbers: memoryview) -> None:
         self._n, self._arcs, self._kept = n, numbers, Kept(n, numbers)
@@ -132,6 +231,20 @@ class Graph:
 
     def __repr__(self) -> str:
         return f"Graph of {self.n} vertices and {self.m} arcs"
+
+    def __copy__(self) -> Graph:
+        twin = type(self).__new__(type(self))
+        twin.__dict__.update(self.__dict__)
+        return twin
+
+    def __reduce_ex__(self, protocol: Any) -> tuple[Any, ...]:
+        return type(self)._again, (self.n, _pickled(self._arcs, protocol))
+
+    @classmethod
+    def _again(cls, n: int, arcs: Any) -> Graph:
+        graph = cls.__new__(cls)
+        graph._keep(n, in_bytes(arcs, "I"))
+        return graph
 
     @classmethod
     def read(cls, file: Union[str, "os.PathLike[str]", BinaryIO]) -> Graph:
@@ -170,15 +283,23 @@ class Graph:
 
     @classmethod
     def from_scipy(cls, matrix: Any) -> Graph:
-        """The graph of a sparse matrix of SciPy, whose row i is vertex i + 1; its entries are whole numbers from 1."""
+        """The graph of a matrix as `scipy.sparse.csgraph` reads it, whose row i is vertex i + 1; its lengths are whole from 1.
+
+        Entries of a COO matrix that are given twice are summed. In a dense matrix 0, `inf` and NaN are no arcs, in a masked one
+        what is masked, in a sparse one `inf` and NaN. ValueError: an entry is no length. A 0 that a sparse matrix stores would be
+        one of length 0, so it is refused too, but from a vertex to itself, where it changes nothing.
+        """
         return cls(*_convert.arcs_of_matrix(matrix))
 
     @classmethod
-    def from_networkx(cls, graph: Any, weight: str = "weight") -> tuple[Graph, list[Any]]:
+    def from_networkx(cls, graph: Any, weight: Any = "weight") -> tuple[Graph, list[Any]]:
         """The graph of one of NetworkX, and its nodes, that of vertex v at place v - 1.
 
-        The attribute `weight` of an edge is its length, a whole number from 1, and 1 where it has none. An edge of an undirected
-        graph is two arcs.
+        The attribute `weight` of an edge is its length, a whole number from 1. Where `weight` is a function, it is called with
+        the two ends of an edge and the dict of its attributes (of a multigraph that of all edges between the two, by their keys),
+        and answers the length, or None to leave the edge out: as NetworkX calls it, also both ways along an undirected edge.
+        Where it is None each length is 1. An edge of an undirected graph is two arcs. ValueError: an edge has no such attribute,
+        or one that is no length.
         """
         nodes, arcs = _convert.arcs_of_networkx(graph, weight)
         return cls(len(nodes), arcs), nodes
@@ -190,7 +311,8 @@ class Graph:
     def tree(self, source: int, *, delta: Optional[int] = None) -> Tree:
         """The tree from a source.
 
-        `delta`, the width of a bucket, changes how long it takes and never the tree; None is the mean length of an arc.
+        `delta`, the width of a bucket, changes how long it takes and never the tree; None is the mean length of an arc. Where no
+        walk leads, the distance is UNREACHED, 2^64 - 1, which wraps around in sums (`Tree.masked`, `Tree.floats`).
         NoSuchVertex, BadDelta: what is asked for is refused. TooFar: a distance is above `reach(n)`. MemoryError: memory is
         wanting.
 
@@ -205,8 +327,8 @@ class Graph:
     def trees(self, sources: Iterable[int], *, workers: int = 1, delta: Optional[int] = None) -> Iterator[Tree]:
         """The trees from several sources, in their order, by so many threads.
 
-        Each is answered as by `tree`, and an exception comes in its place. Trees that are kept may share their memory with some
-        beside them. Nothing is begun before the first is asked for.
+        Each is answered as by `tree`, UNREACHED (2^64 - 1) where no walk leads, and an exception comes in its place. Trees that
+        are kept may share their memory with some beside them. Nothing is begun before the first is asked for.
 
         >>> [tree.distances[2] for tree in Graph(3, [(1, 2, 7), (2, 3, 1)]).trees([1, 2], workers=2)]
         [8, 1]
@@ -218,16 +340,23 @@ class Graph:
         return self._in_order([asked[at : at + size] for at in range(0, len(asked), size)], workers, delta)
 
     def pair(self, source: int, target: int) -> Optional[Pair]:
-        """Distance and predecessor of a target, None where no walk leads to it.
+        """Distance and predecessor of a target, None where no walk leads to it. The search ends once they are known.
 
         >>> Graph(3, [(1, 2, 7), (2, 3, 1)]).pair(1, 3)
         Pair(distance=8, predecessor=2)
         """
-        ends = [self._vertex(source), self._vertex(target)]
-        return self.tree(ends[0]).pair(ends[1])
+        begin, end = self._vertex(source), self._vertex(target)
+        if not HAS_PAIR:
+            return self.tree(begin).pair(end)
+        told = self._kept.pair(begin, end)
+        if told.status != OK:
+            raise self._refused(told.status, told.pred, told.index, begin)
+        return None if told.dist == UNREACHED else Pair(told.dist, told.pred)
 
     def path(self, source: int, target: int) -> Optional[list[int]]:
         """The vertices of a shortest walk, its predecessors the smallest-numbered; None where no walk leads to the target.
+
+        It takes as long as the tree: of several targets of one source ask its `tree`.
 
         >>> Graph(3, [(1, 2, 7), (2, 3, 1)]).path(1, 3)
         [1, 2, 3]
@@ -238,16 +367,16 @@ class Graph:
     def check(self, tree: Tree) -> Optional[int]:
         """None where this is the tree from its source, else the lowest vertex whose distance or predecessor is another.
 
+        ValueError: it has more or fewer places than the graph has vertices. TypeError: its distances aren't unsigned numbers of
+        64 bits, or its predecessors of 32.
+
         >>> graph = Graph(2, [(1, 2, 7)])
         >>> graph.check(graph.tree(1)) is None
         True
         """
-        source, distances, predecessors = self._vertex(tree.source), memoryview(tree.distances), memoryview(tree.predecessors)
+        source, distances, predecessors = self._vertex(tree.source), column(tree.distances, "Q"), column(tree.predecessors, "I")
         if len(distances) != self.n or len(predecessors) != self.n:
             raise ValueError(f"a tree of {self.n} vertices has as many distances and predecessors")
-        formats = (distances.format, predecessors.format)
-        if formats != ("Q", "I") or not (distances.contiguous and predecessors.contiguous):
-            raise TypeError(f"distances have the format 'Q' and predecessors 'I', without gaps, not {formats}")
         told = library.spt_check(
             address(self._arcs), self.m, self.n, source, address(distances), self.n, address(predecessors), self.n
         )
@@ -279,6 +408,7 @@ class Graph:
             raise BadDelta(n, delta)
         distances, predecessors = zeros("Q", k * n), zeros("I", k * n)
         done, refused = self._call(sources, delta or 0, distances, predecessors)
+        distances, predecessors = distances.toreadonly(), predecessors.toreadonly()
         found = zip(sources, range(0, done * n, n))
         return [Tree(source, distances[low : low + n], predecessors[low : low + n]) for source, low in found], refused
 

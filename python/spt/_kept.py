@@ -5,10 +5,12 @@ from __future__ import annotations
 import threading
 import weakref
 
+from contextlib import contextmanager
 from ctypes import byref
+from typing import Iterator, Tuple
 
 from ._buffers import address
-from ._library import OK, Batch, Place, library
+from ._library import OK, Batch, Found, Place, library
 
 
 class Kept:
@@ -24,16 +26,30 @@ class Kept:
 
     def trees(self, sources: memoryview, delta: int, distances: memoryview, predecessors: memoryview) -> Batch:
         """Puts the trees of the sources, up to the first that has none."""
-        own = Place()
-        with self._lock:
-            shared = library.spt_graph_share(byref(self._place), byref(own))
-        if shared.status != OK:
-            return Batch(shared.status)
-        try:
+        with self._shared() as (own, status):
+            if status != OK:
+                return Batch(status)
             told: Batch = library.spt_graph_trees(
                 byref(own), address(sources), len(sources), delta,
                 address(distances), len(distances), address(predecessors), len(predecessors),
             )
+        return told
+
+    def pair(self, source: int, target: int) -> Found:
+        """One target of a source. The search ends where that is found."""
+        with self._shared() as (own, status):
+            if status != OK:
+                return Found(status)
+            told: Found = library.spt_graph_pair(byref(own), source, target, 0)
+        return told
+
+    @contextmanager
+    def _shared(self) -> Iterator[Tuple[Place, int]]:
+        """A place of its own for one call, and whether it could be made."""
+        own = Place()
+        with self._lock:
+            shared = library.spt_graph_share(byref(self._place), byref(own))
+        try:
+            yield own, shared.status
         finally:
             library.spt_graph_free(byref(own))
-        return told

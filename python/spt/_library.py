@@ -28,6 +28,12 @@ class Batch(ctypes.Structure):
     _fields_ = [("status", c_uint32), ("vertex", c_uint32), ("index", c_uint64), ("done", c_uint64)]
 
 
+class Found(ctypes.Structure):
+    """spt_found"""
+
+    _fields_ = [("status", c_uint32), ("pred", c_uint32), ("dist", c_uint64), ("index", c_uint64)]
+
+
 class Place(ctypes.Structure):
     """spt_graph"""
 
@@ -57,6 +63,8 @@ _FUNCTIONS = {
     "spt_check": ([*_SLICE, c_uint32, c_uint32, *_SLICE, *_SLICE], Answer),
     "spt_gr": ([*_SLICE, *_SLICE], Text),
 }
+# those that a library of version 1.0 lacks
+_LATER = {"spt_graph_pair": ([POINTER(Place), c_uint32, c_uint32, c_uint64], Found)}
 
 
 def _path() -> str:
@@ -68,7 +76,8 @@ def _load() -> ctypes.CDLL:
     path = _path()
     try:
         library = ctypes.CDLL(path)
-        for name, (given, told) in _FUNCTIONS.items():
+        later = {name: types for name, types in _LATER.items() if hasattr(library, name)}
+        for name, (given, told) in {**_FUNCTIONS, **later}.items():
             function = getattr(library, name)
             function.argtypes, function.restype = given, told
     except (OSError, AttributeError) as error:
@@ -77,6 +86,7 @@ def _load() -> ctypes.CDLL:
 
 
 library = _load()
+HAS_PAIR = hasattr(library, "spt_graph_pair")
 
 
 def reach(n: int) -> int:

@@ -81,6 +81,78 @@ static void refusals(void) {
     spt_graph_free(&graph);
 }
 
+/* Whether a target is refused so. */
+static int refuses_pair(const spt_graph *graph, uint32_t source, uint32_t target, uint64_t delta, uint32_t status, uint64_t index) {
+    spt_found told = spt_graph_pair(graph, source, target, delta);
+    return told.status == status && told.index == index && told.dist == 0 && told.pred == 0;
+}
+
+/* Pairs of the kept graph are those of its trees, by each width of a bucket. */
+static void pairs(void) {
+    spt_graph graph = {0};
+    count("none is kept", refuses_pair(&graph, 1, 1, 0, SPT_NO_GRAPH, 0));
+    count("new", spt_graph_new(arcs, M, N, &graph).status == SPT_OK);
+    const uint64_t deltas[] = {0, 1, 40, spt_reach(N)};
+    for (size_t d = 0; d < 4; d++)
+        for (size_t k = 0; k < K; k++) {
+            int right = 1;
+            for (uint32_t t = 1; t <= N; t++) {
+                spt_found told = spt_graph_pair(&graph, sources[k], t, deltas[d]);
+                size_t at = k * N + t - 1;
+                right = right && told.status == SPT_OK && told.dist == right_dist[at] && told.pred == right_pred[at] && !told.index;
+            }
+            count("pairs of a source", right);
+        }
+    count("delta before ends", refuses_pair(&graph, 0, 0, spt_reach(N) + 1, SPT_BAD_DELTA, 0));
+    count("source 0", refuses_pair(&graph, 0, 0, 0, SPT_NO_SUCH_VERTEX, 0));
+    count("source above n", refuses_pair(&graph, N + 1, 1, 0, SPT_NO_SUCH_VERTEX, 0));
+    count("target 0", refuses_pair(&graph, 1, 0, 0, SPT_NO_SUCH_VERTEX, 1));
+    count("target above n", refuses_pair(&graph, 1, N + 1, 0, SPT_NO_SUCH_VERTEX, 1));
+    count("it is kept", has_trees(&graph, 0));
+    count("diamond", spt_graph_new(diamond, 5, 4, &graph).status == SPT_OK);
+    spt_found none = spt_graph_pair(&graph, 4, 1, 0);
+    count("no walk", none.status == SPT_OK && none.dist == SPT_UNREACHED && none.pred == 0 && none.index == 0);
+    spt_graph_free(&graph);
+}
+
+static int has_counts(const spt_graph *graph, uint32_t status, uint32_t n, uint64_t m) {
+    spt_counts told = spt_graph_counts(graph);
+    return told.status == status && told.n == n && told.m == m;
+}
+
+static void counts(void) {
+    const spt_arc twice[] = {{1, 1, 2}, {1, 2, 7}, {1, 2, 7}};
+    spt_graph graph = {0};
+    count("counts of none", has_counts(&graph, SPT_NO_GRAPH, 0, 0));
+    count("new", spt_graph_new(diamond, 5, 4, &graph).status == SPT_OK && has_counts(&graph, SPT_OK, 4, 5));
+    count("fewer", spt_graph_new(diamond, 2, 9, &graph).status == SPT_OK && has_counts(&graph, SPT_OK, 9, 2));
+    count("twice", spt_graph_new(twice, 3, 2, &graph).status == SPT_OK && has_counts(&graph, SPT_OK, 2, 3));
+    spt_graph_free(&graph);
+    count("counts after free", has_counts(&graph, SPT_NO_GRAPH, 0, 0));
+}
+
+/* A place where nothing is kept may stand where nobody can write; another is as it was. */
+static void constants(void) {
+    static const spt_graph none = {0};
+    spt_graph graph = {0}, other = {0};
+    uint32_t one = 1;
+    uint64_t dist[4];
+    uint32_t pred[4];
+    count("pair of none", spt_graph_pair(&none, 1, 1, 0).status == SPT_NO_GRAPH);
+    count("counts of none", spt_graph_counts(&none).status == SPT_NO_GRAPH);
+    count("trees of none", spt_graph_trees(&none, &one, 1, 0, dist, 4, pred, 4).status == SPT_NO_GRAPH);
+    count("share of none", spt_graph_share(&none, &other).status == SPT_OK && !other.full);
+    count("new", spt_graph_new(diamond, 5, 4, &graph).status == SPT_OK);
+    const spt_graph *seen = &graph;
+    void *at = graph.at;
+    count("pair", spt_graph_pair(seen, 1, 4, 0).dist == 5 && graph.at == at && graph.full);
+    count("counts", spt_graph_counts(seen).m == 5 && graph.at == at && graph.full);
+    count("trees", spt_graph_trees(seen, &one, 1, 0, dist, 4, pred, 4).done == 1 && graph.at == at && graph.full);
+    count("share", spt_graph_share(seen, &other).status == SPT_OK && graph.at == at && graph.full && other.full);
+    spt_graph_free(&graph);
+    spt_graph_free(&other);
+}
+
 static void places(void) {
     spt_graph graph = {0}, other = {0}, moved;
     count("new", spt_graph_new(arcs, M, N, &graph).status == SPT_OK);
@@ -131,6 +203,9 @@ static void threads(void) {
 int main(void) {
     make_arcs();
     refusals();
+    pairs();
+    counts();
+    constants();
     places();
     threads();
     return finish();

@@ -1,5 +1,5 @@
 /* Each allocation of each call refused in turn: the call tells SPT_MEMORY and leaves what isn't done, or went on without and is
- * right; and no block is left. Link with -Wl,--wrap=malloc,--wrap=realloc,--wrap=free. */
+ * right; and no block is left. And how many blocks a call for a near target takes. Link with -Wl,--wrap=malloc,--wrap=realloc,--wrap=free. */
 #include "count.h"
 #include "spt.h"
 
@@ -17,10 +17,11 @@ void *__wrap_malloc(size_t bytes);
 void *__wrap_realloc(void *at, size_t bytes);
 void __wrap_free(void *at);
 
-/* How many allocations come before the one that is refused, below 0 for none; blocks taken and not given back. */
-static long before_refusal = -1, blocks;
+/* How many allocations come before the one that is refused, below 0 for none; blocks taken and not given back; allocations. */
+static long before_refusal = -1, blocks, requests;
 
 static int refused(void) {
+    requests++;
     return before_refusal >= 0 && before_refusal-- == 0;
 }
 
@@ -106,6 +107,42 @@ static uint32_t a_kept_graph(int *right) {
     return status;
 }
 
+static uint32_t a_kept_pair(int *right) {
+    spt_graph graph = {0};
+    spt_found told = {0};
+    uint32_t status = spt_graph_new(arcs, M, N, &graph).status;
+    if (status == SPT_OK) {
+        told = spt_graph_pair(&graph, sources[1], N, 50);
+        status = told.status;
+    }
+    int found = told.dist == right_dist[2 * N - 1] && told.pred == right_pred[2 * N - 1];
+    *right = status == SPT_OK ? found && spt_graph_counts(&graph).m == M : told.dist == 0 && told.pred == 0;
+    spt_graph_free(&graph);
+    return status;
+}
+
+/* On a path with a bucket for each vertex a tree takes a block for each; a target that lies near, few. */
+static void near_targets(void) {
+    enum { FEW = 50 };
+    static spt_arc path[N - 1];
+    for (uint32_t v = 1; v < N; v++) path[v - 1] = (spt_arc){v, v + 1, 1000};
+    spt_graph graph = {0};
+    count("a path", spt_graph_new(path, N - 1, N, &graph).status == SPT_OK);
+    long start = requests;
+    spt_batch tree = spt_graph_trees(&graph, sources, 1, 1, dist, N, pred, N);
+    count("a block for each vertex", tree.status == SPT_OK && requests - start >= N);
+    start = requests;
+    spt_found near = spt_graph_pair(&graph, 1, 3, 1);
+    count("few for a near target of a kept graph", near.dist == 2000 && near.pred == 2 && requests - start < FEW);
+    start = requests;
+    near = spt_pair(path, N - 1, N, 1, 3, 1);
+    count("few for a near target", near.dist == 2000 && near.pred == 2 && requests - start < FEW);
+    start = requests;
+    spt_found last = spt_graph_pair(&graph, 1, N, 1);
+    count("all for the last", last.dist == (N - 1) * 1000 && last.pred == N - 1 && requests - start >= N);
+    spt_graph_free(&graph);
+}
+
 static uint32_t a_text(int *right) {
     spt_text told = spt_gr((const uint8_t *)text, bytes, read_arcs, M);
     *right = !memcmp(read_arcs, told.status == SPT_OK ? arcs : no_arcs, sizeof arcs);
@@ -139,6 +176,8 @@ int main(void) {
     refuse_each("spt_pair", one_pair);
     refuse_each("spt_check", a_check);
     refuse_each("spt_graph_new, share and trees", a_kept_graph);
+    refuse_each("spt_graph_new and spt_graph_pair", a_kept_pair);
     refuse_each("spt_gr", a_text);
+    near_targets();
     return finish();
 }

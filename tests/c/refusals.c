@@ -104,8 +104,14 @@ static void far_vertices(void) {
     count("too far: unchanged", far_dist[0] == 0x0707070707070707 && far_pred[0] == 0 && far_dist[n - 1] == far_dist[0]);
     spt_answer check = spt_check(path, LENGTH, n, 1, far_dist, n, far_pred, n);
     count("too far to check", check.status == SPT_TOO_FAR && check.vertex == vertex && check.index == 0);
-    spt_found pair = spt_pair(path, LENGTH, n, 1, 2, 0);
-    count("a pair too far", pair.status == SPT_TOO_FAR && pair.pred == vertex && pair.dist == 0 && pair.index == 0);
+    spt_found near = spt_pair(path, LENGTH, n, 1, 2, 0), last = spt_pair(path, LENGTH, n, 1, vertex - 1, 0);
+    count("a near pair", near.status == SPT_OK && near.pred == 1 && near.dist == UINT32_MAX && near.index == 0);
+    uint64_t last_dist = (uint64_t)(vertex - 2) * UINT32_MAX;
+    count("the last within reach", last.status == SPT_OK && last.pred == vertex - 2 && last.dist == last_dist && last.index == 0);
+    for (uint32_t target = vertex; target <= n; target += n - vertex) {
+        spt_found pair = spt_pair(path, LENGTH, n, 1, target, 0);
+        count("a pair too far", pair.status == SPT_TOO_FAR && pair.pred == vertex && pair.dist == 0 && pair.index == 0);
+    }
     spt_batch trees = spt_trees(path, LENGTH, n, sources, 2, 0, far_dist, 2 * n, far_pred, 2 * n);
     count("the second too far", trees.status == SPT_TOO_FAR && trees.vertex == vertex && trees.done == 1);
     count("the first tree stands", far_dist[n - 1] == 0 && far_dist[0] == SPT_UNREACHED && far_pred[n - 2] == 0);

@@ -128,7 +128,6 @@ SOURCES_BY_HAND_AND_BY_PLACE = [
     ("g.gr g.ss --sources 3-9", LAST),
     ("g.gr g.ss --sources 3-4294967295", LAST),
     ("g.gr g.ss --sources 4-9", ""),
-    ("g.gr g.ss --sources 3-2", ""),
     ("g.gr none.ss --sources 1-1", ""),
 ]
 
@@ -153,6 +152,9 @@ REFUSED_CHOICES = [
     ("no.gr no.ss --sources 1", 1, "sources are not A-B"),
     ("no.gr no.ss --sources 1-", 1, "sources are not A-B"),
     ("no.gr no.ss --sources 1-2-3", 1, "sources are not A-B"),
+    ("g.gr g.ss --sources 3-2", 1, "sources are not A-B"),
+    ("g.gr g.ss --sources 4294967295-1", 1, "sources are not A-B"),
+    ("g.gr g.ss --sources 2-0", 1, "sources are not A-B"),
 ]
 
 # no file is opened: there is none

@@ -6,38 +6,76 @@ REPLAY = {"f.rep": "p rep 1 1\n"}
 HELP = "\nFor more information, try '--help'.\n"
 BITS = "  [possible values: 20, 24, 28, 32]\n"
 
-# name, line, text on standard error
+DELTA = "spt: D is a whole number from 1 to 17592186044414, or mean\n"
+
+# name, line, text on standard error, what stands below the line on help
 TOLD = [
-    ("unknown command", "solve f.rep", "error: unrecognized subcommand 'solve'\n\nUsage: spt <COMMAND>\n"),
-    ("no file", "replay", "error: the following required arguments were not provided:\n  <FILE>\n\nUsage: spt replay <FILE>\n"),
-    ("one file too many", "replay f.rep g.rep", "error: unexpected argument 'g.rep' found\n\nUsage: spt replay [OPTIONS] <FILE>\n"),
-    ("other pred bits", "replay f.rep --pred-bits 21", f"error: invalid value '21' for '--pred-bits <P>'\n{BITS}"),
-    ("no pred bits", "replay f.rep --pred-bits", f"error: a value is required for '--pred-bits <P>' but none was supplied\n{BITS}"),
+    ("unknown command", "solve f.rep", "error: unrecognized subcommand 'solve'\n\nUsage: spt <COMMAND>\n", ""),
+    ("no file", "replay", "error: the following required arguments were not provided:\n  <FILE>\n\nUsage: spt replay <FILE>\n", ""),
+    ("one file too many", "replay f.rep g.rep", "error: unexpected argument 'g.rep' found\n\nUsage: spt replay [OPTIONS] <FILE>\n", ""),
+    ("other pred bits", "replay f.rep --pred-bits 21", f"error: invalid value '21' for '--pred-bits <P>'\n{BITS}", ""),
+    ("no pred bits", "replay f.rep --pred-bits", f"error: a value is required for '--pred-bits <P>' but none was supplied\n{BITS}", ""),
     (
         "no delta",
         "tree f.rep f.rep",
         "error: the following required arguments were not provided:\n  --delta <D>\n\nUsage: spt tree --delta <D> <GR> <SS>\n",
+        "",
     ),
     (
         "delta beyond every layout",
         "tree f.rep f.rep --delta 17592186044415 --pred-bits=20",
         "error: invalid value '17592186044415' for '--delta <D>': 17592186044415 is not in 1..=17592186044414\n",
+        DELTA,
     ),
-    ("delta of none", "tree f.rep f.rep --delta 0", "error: invalid value '0' for '--delta <D>': 0 is not in 1..=17592186044414\n"),
+    ("delta of none", "tree f.rep f.rep --delta 0", "error: invalid value '0' for '--delta <D>': 0 is not in 1..=17592186044414\n", DELTA),
     (
         "delta that is no number",
         "pairs f.rep f.rep --delta means",
         "error: invalid value 'means' for '--delta <D>': invalid digit found in string\n",
+        DELTA,
     ),
     (
         "delta that looks like an option",
         "tree f.rep f.rep --delta=-1",
         "error: invalid value '-1' for '--delta <D>': invalid digit found in string\n",
+        DELTA,
     ),
     (
         "delta beyond every number",
         "tree f.rep f.rep --delta 18446744073709551616",
         "error: invalid value '18446744073709551616' for '--delta <D>': number too large to fit in target type\n",
+        DELTA,
+    ),
+    (
+        "no sources",
+        "tree f.rep --delta 3",
+        "error: the following required arguments were not provided:\n  <SS>\n\nUsage: spt tree --delta <D> <GR> <SS>\n",
+        "spt: SS, or --source V, says where trees begin\n",
+    ),
+    (
+        "no pairs",
+        "pairs f.rep --delta 3",
+        "error: the following required arguments were not provided:\n  <PAIRS>\n\nUsage: spt pairs --delta <D> <GR> <PAIRS>\n",
+        "",
+    ),
+    (
+        "delta of a word",
+        "tree f.rep f.rep --delta auto",
+        "error: invalid value 'auto' for '--delta <D>': invalid digit found in string\n",
+        DELTA,
+    ),
+    (
+        "other option of a word",
+        "tree f.rep f.rep --delta 3 --workers auto",
+        "error: invalid value 'auto' for '--workers <W>': invalid digit found in string\n",
+        "",
+    ),
+    # what a terminal would do as it is told
+    (
+        "control characters",
+        "replay f.rep g\x1b[31m\x07\x7f\r\t.rep",
+        "error: unexpected argument 'g?[31m????.rep' found\n\nUsage: spt replay [OPTIONS] <FILE>\n",
+        "",
     ),
 ]
 
@@ -102,7 +140,7 @@ FILES_IN_ORDER = [
 
 
 def cases():
-    made = [Case(name, line, REPLAY, 1, text + HELP, is_whole=True) for name, line, text in TOLD]
+    made = [Case(name, line, REPLAY, 1, text + HELP + more, is_whole=True) for name, line, text, more in TOLD]
     made += [Case("refused words", line, REPLAY, 1, None) for line in REFUSED]
     made += [Case("files in order", line, FILES, status, fault) for line, status, fault in FILES_IN_ORDER]
     made += [Case(f"version by {word}", word, {}, 0, "spt 0.2.0\n") for word in ("--version", "-V")]

@@ -5,10 +5,16 @@ import copy
 import gzip
 import io
 import os
+import pickle
+import signal
+import subprocess
 import sys
 import tempfile
 import threading
+import types
 import unittest
+
+from unittest import mock
 
 import samples
 import spt
@@ -18,6 +24,34 @@ def example_rows():
     """The rows of examples/diamond.tree, by vertex."""
     with open(f"{samples.HOME}/examples/diamond.tree") as it:
         return {int(v): (int(d), int(p)) for v, d, p in (line.split()[1:] for line in it if line.startswith("v "))}
+
+
+# what a Pool gives back of each refusal: its class, its text and its fields
+POOL = """
+import multiprocessing, sys
+import spt
+
+def refused(number):
+    n = 4201
+    graph = spt.Graph(n, [(tail, tail + 1, 2**32 - 1) for tail in range(1, n)])
+    calls = [lambda: spt.Graph(2, [(1, 3, 1)]), lambda: graph.tree(0), lambda: graph.tree(1, delta=2**64), lambda: graph.tree(1)]
+    return calls[number]()
+
+if __name__ == "__main__":
+    with multiprocessing.get_context(sys.argv[1]).Pool(2) as pool:
+        for number in range(4):
+            try:
+                pool.map(refused, [number])
+            except spt.SptError as told:
+                print(type(told).__name__, told, sorted(vars(told)))
+"""
+FROM_POOL = """BadArc arc 0: (1, 3, 1) is no arc of a graph of 2 vertices ['arc', 'index']
+NoSuchVertex 0 is no vertex of a graph of 4201 ['vertex']
+BadDelta delta 18446744073709551616 is out of range for a graph of 4201 vertices ['delta']
+TooFar from 1, vertex 4098 is too far ['source', 'vertex']
+"""
+# a Pool that can't take an exception back waits for ever
+SECONDS = 60
 
 
 class Trees(unittest.TestCase):
@@ -91,9 +125,81 @@ class Trees(unittest.TestCase):
             self.assertEqual(self.graph.check(spt.Tree(1, memoryview(distances), right.predecessors)), place + 1)
         with self.assertRaises(ValueError):
             self.graph.check(spt.Graph(5).tree(1))
-        with self.assertRaises(TypeError):
-            self.graph.check(spt.Tree(1, memoryview(array.array("q", [0] * 4)), right.predecessors))
+        for distances in (array.array("q", [0] * 4), array.array("I", [0] * 4), array.array("d", [0] * 4)):
+            with self.assertRaises(TypeError):
+                self.graph.check(spt.Tree(1, memoryview(distances), right.predecessors))
         self.assertIsNone(self.graph.check(spt.Tree(1, array.array("Q", right.distances), array.array("I", right.predecessors))))
+
+    def test_check_of_any_name_of_the_numbers(self):
+        right = self.graph.tree(1)
+        for format in "LQ":
+            distances = memoryview(array.array(format, right.distances))
+            if distances.itemsize == 8:
+                self.assertIsNone(self.graph.check(spt.Tree(1, distances, right.predecessors)))
+        gaps = memoryview(array.array("Q", (it for one in right.distances for it in (one, 9))))[::2]
+        self.assertIsNone(self.graph.check(spt.Tree(1, gaps, right.predecessors)))
+        rows = memoryview(right.distances.tobytes()).cast("Q", (2, 2))
+        with self.assertRaises(ValueError):
+            spt.Tree(1, rows, right.predecessors)
+
+    def test_pairs_are_the_trees(self):
+        for seed, longest in ((4, 1000), (5, 2), (6, samples.LONGEST)):
+            graph = spt.Graph(120, samples.by_lot(120, 300, seed, longest))
+            for tree in graph.trees([1, 60]):
+                told = [graph.pair(tree.source, target) for target in range(1, 121)]
+                self.assertEqual(told, [tree.pair(target) for target in range(1, 121)])
+
+    def test_pairs_ask_for_no_tree(self):
+        # the library's function for one target is asked where there is one, and what it tells is told
+        asked, library = [], spt._library.library
+
+        def told(**fields):
+            def pair(graph, *numbers):
+                asked.append(numbers)
+                return spt._library.Found(**fields)
+
+            calls = {"spt_graph_share": library.spt_graph_share, "spt_graph_free": library.spt_graph_free}
+            return mock.patch.object(spt._kept, "library", types.SimpleNamespace(**calls, spt_graph_pair=pair))
+
+        with mock.patch.object(spt._graph, "HAS_PAIR", True):
+            with told(status=spt._library.OK, dist=9, pred=3):
+                self.assertEqual(self.graph.pair(1, 4), spt.Pair(9, 3))
+            with told(status=spt._library.OK, dist=spt.UNREACHED, pred=0):
+                self.assertIsNone(self.graph.pair(2, 1))
+            for status, kind in ((spt._library.TOO_FAR, spt.TooFar), (spt._library.MEMORY, MemoryError)):
+                with told(status=status, pred=2), self.assertRaises(kind) as refused:
+                    self.graph.pair(3, 4)
+                self.assertEqual(vars(refused.exception), {"source": 3, "vertex": 2} if kind is spt.TooFar else {})
+        self.assertEqual(asked, [(1, 4, 0), (2, 1, 0), (3, 4, 0), (3, 4, 0)])
+        with mock.patch.object(spt._graph, "HAS_PAIR", False):
+            self.assertEqual(self.graph.pair(1, 4), spt.Pair(5, 2))
+
+    def test_only_read(self):
+        given = array.array("Q", [0, 1])
+        made = spt.Tree(1, given, array.array("I", [0, 1]))
+        for tree in (self.graph.tree(1), next(self.graph.trees([1])), made):
+            for numbers in (tree.distances, tree.predecessors):
+                with self.assertRaises(TypeError):
+                    numbers[0] = 1
+        given[1] = 7
+        self.assertEqual(list(made.distances), [0, 1])
+
+    def test_repr(self):
+        self.assertEqual(repr(self.graph.tree(4)), "Tree from 4 over 4 vertices: distances unreached, unreached, unreached, 0; "
+                         "predecessors 0, 0, 0, 0")
+        chain = spt.Graph(1000, [(tail, tail + 1, 2) for tail in range(1, 1000)])
+        told = repr(chain.tree(1))
+        self.assertEqual(told, "Tree from 1 over 1000 vertices: distances 0, 2, 4, 6, ..., 1992, 1994, 1996, 1998; "
+                         "predecessors 0, 1, 2, 3, ..., 996, 997, 998, 999")
+
+    def test_equal_trees(self):
+        one, other = self.graph.tree(1), spt.Graph(4, samples.DIAMOND[::-1]).tree(1)
+        self.assertEqual((one, hash(one)), (other, hash(other)))
+        self.assertEqual({one: 1, other: 2}, {one: 2})
+        self.assertNotEqual(one, self.graph.tree(2))
+        self.assertNotEqual(one, spt.Tree(1, one.distances, array.array("I", [0, 1, 1, 3])))
+        self.assertNotEqual(one, spt.Tree(2, one.distances, one.predecessors))
+        self.assertNotEqual(one, 1)
 
 
 class Arcs(unittest.TestCase):
@@ -109,6 +215,38 @@ class Arcs(unittest.TestCase):
         gapped = array.array("I", (number for one in flat for number in (one, 0)))
         self.assertDiamond(memoryview(gapped)[::2])
         self.assertEqual(list(spt.Graph(2).tree(2).distances), [spt.UNREACHED, 0])
+
+    def test_shapes(self):
+        rows = [(1, 2, 7), (2, 3, 1), (3, 4, 2)]
+        numbers = memoryview(array.array("I", sum(rows, ()))).cast("B")
+        self.assertEqual(list(spt.Graph(4, numbers.cast("I", (3, 3))).tree(1).distances), [0, 7, 8, 10])
+        self.assertEqual(list(spt.Graph(4, rows).tree(1).distances), [0, 7, 8, 10])
+        pairs, many = array.array("I", [1, 2, 2, 3, 3, 4]), array.array("I", [1] * 12)
+        for given, shape in (
+            (memoryview(pairs).cast("B").cast("I", (3, 2)), "(3, 2)"),
+            (memoryview(pairs).cast("B").cast("I", (2, 1, 3)), "(2, 1, 3)"),
+            (memoryview(many).cast("B").cast("I", (3, 4)), "(3, 4)"),
+            (memoryview(many).cast("B").cast("I", (6, 2)), "(6, 2)"),
+            (array.array("I", [1, 2, 3, 4]), "(4,)"),
+        ):
+            with self.assertRaises(ValueError) as told:
+                spt.Graph(4, given)
+            self.assertIn(f"an array of shape {shape}: arcs are triples", str(told.exception))
+            self.assertIn("of shape (m, 3)", str(told.exception))
+
+    def test_triples_alone(self):
+        for arcs, index in (
+            ([(1, 2), (2, 3), (3, 4)], 0),
+            ([(1, 2, 7), (1, 2), (1, 2, 3, 4)], 1),
+            ([(1, 2, 7, 9), (2, 3, 1, 9), (3, 4, 1, 9)], 0),
+            ({(1, 2): 7, (2, 3): 1, (3, 4): 2}, 0),
+        ):
+            with self.assertRaises(ValueError) as told:
+                spt.Graph(4, arcs)
+            self.assertRegex(str(told.exception), rf"^arc {index} is .*arcs are triples")
+        for arcs in ([1, 2, 3], [(1, 2, 3), 4], 7, None):
+            with self.assertRaises(TypeError):
+                spt.Graph(4, arcs)
 
     def test_no_copy(self):
         flat = array.array("I", [1, 2, 3])
@@ -164,8 +302,9 @@ class Refusals(unittest.TestCase):
         graph = spt.Graph(n, [(tail, tail + 1, samples.LONGEST) for tail in range(1, n)])
         vertex = spt.reach(n) // samples.LONGEST + 2
         near = graph.tree(n).distances, graph.tree(n).predecessors
-        for call in (graph.tree, lambda it: graph.pair(it, 2), lambda it: graph.check(spt.Tree(it, *near))):
+        for call in (graph.tree, lambda it: graph.path(it, 2), lambda it: graph.check(spt.Tree(it, *near))):
             self.refused(spt.TooFar, lambda: call(1), source=1, vertex=vertex)
+        self.refused(spt.TooFar, lambda: graph.pair(1, n), source=1)
         for workers in (1, 2):
             trees = graph.trees([n, n - 1, 1, n], workers=workers)
             self.assertEqual([next(trees).source, next(trees).source], [n, n - 1])
@@ -174,6 +313,71 @@ class Refusals(unittest.TestCase):
     def test_base(self):
         for kind in (spt.BadArc, spt.BadDelta, spt.Fault, spt.NoSuchVertex, spt.TooFar):
             self.assertTrue(issubclass(kind, spt.SptError))
+
+
+class Copies(unittest.TestCase):
+    """What pickle, copy and another process give back."""
+
+    def again(self, it):
+        """Copies, by each protocol of pickle too."""
+        told = [pickle.loads(pickle.dumps(it, protocol)) for protocol in range(pickle.HIGHEST_PROTOCOL + 1)]
+        buffers = []
+        text = pickle.dumps(it, 5, buffer_callback=buffers.append)
+        return [*told, copy.copy(it), copy.deepcopy(it), pickle.loads(text, buffers=[bytes(one) for one in buffers])]
+
+    def test_graphs(self):
+        for arcs in (samples.DIAMOND, [], array.array("I", samples.DIAMOND[0])):
+            graph = spt.Graph(4, arcs)
+            for twin in self.again(graph):
+                self.assertEqual((type(twin), twin.n, twin.arcs.tolist()), (spt.Graph, 4, graph.arcs.tolist()))
+                self.assertEqual(list(twin.trees([1, 4])), list(graph.trees([1, 4])))
+
+    def test_deep_copies_stand_alone(self):
+        arcs = array.array("I", [1, 2, 3])
+        graph = spt.Graph(2, arcs)
+        alone, beside = copy.deepcopy(graph), copy.copy(graph)
+        arcs[2] = 9
+        self.assertEqual((alone.arcs[2], beside.arcs[2]), (3, 9))
+
+    def test_trees(self):
+        trees = list(spt.Graph(4, samples.DIAMOND).trees([1, 4]))
+        for tree in trees:
+            for twin in self.again(tree):
+                self.assertEqual((twin, hash(twin), repr(twin)), (tree, hash(tree), repr(tree)))
+                self.assertEqual((twin.distances.readonly, twin.pair(4)), (True, tree.pair(4)))
+
+    def test_exceptions(self):
+        calls = [
+            lambda: spt.Graph(4, [(1, 5, 1)]),
+            lambda: spt.Graph(4).tree(9),
+            lambda: spt.Graph(4).tree(1, delta=0),
+            lambda: spt.Graph.read(io.BytesIO(b"p sp 2 1\na 1 2 0\n")),
+            lambda: spt.Graph(4201, [(tail, tail + 1, samples.LONGEST) for tail in range(1, 4201)]).tree(1),
+        ]
+        kinds = [spt.BadArc, spt.NoSuchVertex, spt.BadDelta, spt.Fault, spt.TooFar]
+        for kind, call in zip(kinds, calls):
+            with self.assertRaises(kind) as told:
+                call()
+            for twin in self.again(told.exception):
+                self.assertEqual((type(twin), str(twin), vars(twin)), (kind, str(told.exception), vars(told.exception)))
+                self.assertEqual(twin.args, told.exception.args)
+        for twin in self.again(spt.LibraryNotFound("nowhere")):
+            self.assertEqual((type(twin), str(twin)), (spt.LibraryNotFound, "nowhere"))
+
+    def test_pools(self):
+        for way in ("fork", "spawn"):
+            with tempfile.TemporaryDirectory() as folder:
+                program = os.path.join(folder, "program.py")
+                with open(program, "w") as it:
+                    it.write(POOL)
+                known = {**os.environ, "PYTHONPATH": os.pathsep.join(sys.path)}
+                ways = {"stdout": subprocess.PIPE, "stderr": subprocess.STDOUT, "text": True, "start_new_session": True}
+                with subprocess.Popen([sys.executable, program, way], env=known, **ways) as pool:
+                    try:
+                        self.assertEqual(pool.communicate(timeout=SECONDS)[0], FROM_POOL)
+                    except subprocess.TimeoutExpired:
+                        os.killpg(pool.pid, signal.SIGKILL)
+                        self.fail(f"a pool of {way} waits for ever")
 
 
 class Texts(unittest.TestCase):
@@ -214,8 +418,6 @@ class Texts(unittest.TestCase):
 
 class Loading(unittest.TestCase):
     def test_no_library(self):
-        import subprocess
-
         known = {**os.environ, "SPT_LIBRARY": "/no/such/libspt.so", "PYTHONPATH": os.pathsep.join(sys.path)}
         told = subprocess.run([sys.executable, "-c", "import spt"], env=known, capture_output=True, text=True)
         self.assertIn("LibraryNotFound: spt: /no/such/libspt.so", told.stderr)

@@ -49,7 +49,7 @@ fn files_that_fail(rt: HostRuntime) -> Result<(), Fail> {
         (
             "tree --delta 1 failing.gr begun.ss",
             2,
-            "gr: line 1: 3 NoProblem",
+            "gr: line 1: 3 NoProblem\nspt: failing.gr: no `p sp N M` line; a .gr file has one `p sp N M`, and `a U V W` for each of its M arcs",
         ),
         ("tree --delta 1 alone.gr begun.ss", 6, "ss: line 3: 9 Read"),
         (
@@ -78,7 +78,11 @@ fn files_that_fail(rt: HostRuntime) -> Result<(), Fail> {
         ("check --all diamond.gr none", 6, "tree: line 1: 9 Read"),
         ("replay none", 6, "replay: line 1: 9 Read"),
         ("replay begun.rep", 6, "replay: line 3: 9 Read"),
-        ("replay bad.rep", 2, "replay: line 1: 3 NoProblem"),
+        (
+            "replay bad.rep",
+            2,
+            "replay: line 1: 3 NoProblem\nspt: bad.rep: no `p rep N K` line; a replay file has one `p rep N K`, and lines i, o, r, a and s: see spt replay --help",
+        ),
         ("offers begun.off", 6, "offers: line 3: 9 Read"),
     ] {
         let line = format!(in rt.alloc(); "spt {line}")?;

@@ -20,9 +20,10 @@ use std::sync::Wait;
 use std::thread::Threads;
 
 const WORKERS_LONG: &str = "\
-Threads that may work at once, from 1 to 64, the main thread counted. As many as there are processors
-is a good choice, where they are free. No more threads are started than there are processors, nor any
-for a small graph. Any number gives the same bytes";
+Threads that may work at once, from 1 to 64, the main thread counted.
+As many as there are processors is a good choice, where they are free.
+No more threads are started than there are processors, nor any for a
+small graph. Any number gives the same bytes";
 
 /// What `pairs` is given, with the names of its files.
 #[derive(Drop)]
@@ -40,30 +41,35 @@ impl<'a> Command<'a> for Pairs<'a> {
     const LONG_ABOUT: &'static str = "\
 Write the distance of each pair of a source and a target
 
-A distance is the least length of a walk from the source to the target. The predecessor is the vertex
-before the target on a shortest walk, the one with the smallest number where there are several. Each
-source is run from once, wherever its pairs stand, and no further than its targets ask for. The same
-bytes are written for each delta and each number of workers.";
+A distance is the least length of a walk from the source to the target. The
+predecessor is the vertex before the target on a shortest walk, the one with the
+smallest number where there are several. Each source is run from once, wherever
+its pairs stand, and no further than its targets ask for. The same bytes are
+written for each delta and each number of workers.";
 
     const AFTER_HELP: &'static str = after_help!(
         "\
-The graph is a .gr file, as `spt tree --help` tells. The pairs are a file of their own, its fields
-parted by blanks:
+The graph is a .gr file, as `spt tree --help` tells. The pairs are a file of
+their own, its fields parted by blanks:
   p pairs K     there are K pairs, at most 1048576; it stands first, and once
   q S T         a pair of source S and target T; there are K of these lines
   c ...         a comment; so is a line without a field
-Both are read, the graph first, all numbers are tested, and all answers are found, before anything is
-written.
+Both are read, the graph first, all numbers are tested, and all answers are
+found, before anything is written.
 
 For each pair, in the order of its file, one line is written:
-  d S T D P     target T has distance D and predecessor P from source S; S itself has 0 and 0
-  x S V         T has no distance within the greatest of a word, and V is the smallest vertex beyond
-                that with an arc from one within it (exit status 4 at the end)
-  n S T         T has no distance, and there is no such V: no walk leads from S to T
+  d S T D P     target T has distance D and predecessor P from source S; S
+                itself has 0 and 0
+  x S V         T has no distance within the greatest of a word, and V is the
+                smallest vertex beyond that with an arc from one within it (exit
+                status 4 at the end)
+  n S T         T has no distance, and there is no such V: no walk leads from S
+                to T
 
 It takes as much memory as `spt tree` does for one source, and 28 bytes a pair.
 
-Example: where diamond.gr is the graph of the example there, and diamond.pairs has the lines
+Example: where diamond.gr is the graph of the example there, and diamond.pairs
+has the lines
   p pairs 3
   q 1 4
   q 1 1
@@ -73,7 +79,8 @@ the output of `spt pairs diamond.gr diamond.pairs --delta 3` is
   d 1 1 0 0
   n 4 1
 
-A fault of a file is told with its line, as in `spt: pairs: line 2: 7 TooFew`; FILE is gr or pairs:
+A fault of a file is told with its line, as in `spt: pairs: line 2: 7 TooFew`;
+FILE is gr or pairs:
 ",
         faults: "  6 TooMany        more than M arcs or K pairs
   7 TooFew         fewer than M arcs or K pairs
@@ -81,18 +88,21 @@ A fault of a file is told with its line, as in `spt: pairs: line 2: 7 TooFew`; F
         others: "\
 Others are
   spt: FILE: cannot open             (exit status 6)
-  spt: delta out of range            a word of this layout has no such distance (exit status 1)
+  spt: delta out of range            a word of this layout has no such distance
+                                     (exit status 1)
   spt: standard input twice          both files are `-` (exit status 1)
-  spt: source V: no such vertex      the first number of a pair above N, S before T; nothing is
-                                     written (exit status 2)
+  spt: source V: no such vertex      the first number of a pair above N, S
+                                     before T; nothing is written
+                                     (exit status 2)
   spt: memory                        nothing is written (exit status 5)
-  spt: write failed                  a beginning of the output may stand (exit status 6)
+  spt: write failed                  a beginning of the output may stand
+                                     (exit status 6)
 ",
         statuses:
             0 "done"
             1 "the command line is wrong, or delta is out of range"
             2 "a file is refused, or a source or a target is no vertex"
-            4 "for some pair a vertex is too far, without --far-ok; all answers are written";
+            4 "for some pair a vertex is too far, without --far-ok; all is written";
             "a file" "the output"
     );
 

@@ -20,10 +20,11 @@ use std::sync::Wait;
 use std::thread::Threads;
 
 const WORKERS_LONG: &str = "\
-Threads that may work at once, from 1 to 64, the main thread counted. As many as there are processors
-is a good choice, where they are free: all work on one tree, or each on a tree of its own where there
-are several sources. No more threads are started than there are processors, nor any for a small graph.
-Any number gives the same bytes";
+Threads that may work at once, from 1 to 64, the main thread counted.
+As many as there are processors is a good choice, where they are free:
+all work on one tree, or each on a tree of its own where there are
+several sources. No more threads are started than there are
+processors, nor any for a small graph. Any number gives the same bytes";
 
 /// What `tree` is given, with the names of its files.
 #[derive(Drop)]
@@ -41,35 +42,41 @@ impl<'a> Command<'a> for Tree<'a> {
     const LONG_ABOUT: &'static str = "\
 Write the shortest-path tree of each source
 
-A distance is the least length of a walk from the source. The predecessor of a vertex is the vertex
-before it on a shortest walk, the one with the smallest number where there are several. So a source
-has one tree, and the same bytes are written for each delta and each number of workers.";
+A distance is the least length of a walk from the source. The predecessor of a
+vertex is the vertex before it on a shortest walk, the one with the smallest
+number where there are several. So a source has one tree, and the same bytes are
+written for each delta and each number of workers.";
 
     const AFTER_HELP: &'static str = after_help!(
         "\
-The graph is a .gr file of the Ninth DIMACS Implementation Challenge, its fields parted by blanks:
-  p sp N M      there are N vertices, numbered from 1, and M arcs, M at most 1073741824; it stands
-                first, and once. N is at most the greatest predecessor of a word
-  a U V W       an arc from U to V of length W, 1 to 4294967295; there are M of these lines
+The graph is a .gr file of the Ninth DIMACS Implementation Challenge, its fields
+parted by blanks:
+  p sp N M      there are N vertices, numbered from 1, and M arcs, M at most
+                1073741824; it stands first, and once. N is at most the greatest
+                predecessor of a word
+  a U V W       an arc from U to V of length W, 1 to 4294967295; there are M of
+                these lines
   c ...         a comment; so is a line without a field
 The sources are a .ss file:
   p aux sp ss K there are K sources, at most 1048576; it stands first, and once
   s V           a source; there are K of these lines
   c ...         a comment; so is a line without a field
-Both are read, the graph first, and all sources are tested, before anything is written. One of them
-may be `-` for standard input.
+Both are read, the graph first, and all sources are tested, before anything is
+written. One of them may be `-` for standard input.
 
 For each source, in the order of its file, a block is written:
   p spt N S     the tree of source S, of N vertices
-  v V D P       vertex V has distance D and predecessor P, the source 0 and 0; by rising V. A vertex
-                that no walk leads to has no line
+  v V D P       vertex V has distance D and predecessor P, the source 0 and 0;
+                by rising V. A vertex that no walk leads to has no line
   e R           there were R lines of this kind
-or, where a vertex with an arc from one within the greatest distance of a word lies beyond it, one
-line that names the smallest such V (exit status 4 at the end):
+or, where a vertex with an arc from one within the greatest distance of a word
+lies beyond it, one line that names the smallest such V (exit status 4 at the
+end):
   x S V
 
-It takes at most 28 bytes of memory a vertex, 24 an arc, 8 a source, and 3 MB; where several workers
-run several sources, 48 bytes a vertex more for each worker.
+It takes at most 28 bytes of memory a vertex, 24 an arc, 8 a source, and 3 MB;
+where several workers run several sources, 48 bytes a vertex more for each
+worker.
 
 Example: where diamond.gr and diamond.ss have the lines
   p sp 4 5
@@ -89,7 +96,8 @@ the output of `spt tree diamond.gr diamond.ss --delta 3` is
   v 4 5 2
   e 4
 
-A fault of a file is told with its line, as in `spt: gr: line 2: 5 OutOfRange V`; FILE is gr or ss:
+A fault of a file is told with its line, as in
+`spt: gr: line 2: 5 OutOfRange V`; FILE is gr or ss:
 ",
         faults: "  6 TooMany        more than M arcs or K sources
   7 TooFew         fewer than M arcs or K sources
@@ -97,18 +105,23 @@ A fault of a file is told with its line, as in `spt: gr: line 2: 5 OutOfRange V`
         others: "\
 Others are
   spt: FILE: cannot open             (exit status 6)
-  spt: delta out of range            a word of this layout has no such distance (exit status 1)
+  spt: delta out of range            a word of this layout has no such distance
+                                     (exit status 1)
   spt: standard input twice          both files are `-` (exit status 1)
-  spt: sources are not A-B           two numbers, the first at least 1 (exit status 1)
-  spt: source V: no such vertex      the first source above N; nothing is written (exit status 2)
-  spt: memory                        a beginning of the output may stand (exit status 5)
-  spt: write failed                  a beginning of the output may stand (exit status 6)
+  spt: sources are not A-B           two numbers, the first at least 1
+                                     (exit status 1)
+  spt: source V: no such vertex      the first source above N; nothing is
+                                     written (exit status 2)
+  spt: memory                        a beginning of the output may stand
+                                     (exit status 5)
+  spt: write failed                  a beginning of the output may stand
+                                     (exit status 6)
 ",
         statuses:
             0 "done"
             1 "the command line is wrong, or delta is out of range"
             2 "a file is refused, or a source is no vertex"
-            4 "for some source a vertex is too far, without --far-ok; all answers are written";
+            4 "for some source a vertex is too far, without --far-ok; all is written";
             "a file" "the output"
     );
 

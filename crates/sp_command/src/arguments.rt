@@ -2,6 +2,9 @@
 use clap::{Arg, ArgAction};
 use std::alloc::Global;
 
+/// What `clap` knows the option by that names places of sources.
+pub const PLACES: &str = "sources";
+
 /// A file that a command needs.
 pub fn file<'a>(alloc: Global, name: &'a str, about: &'a str) -> Arg<'a> {
     Arg::new(alloc, name).help(about).required(true)

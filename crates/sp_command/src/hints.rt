@@ -1,8 +1,10 @@
 //! Second lines of faults: what the system said, or what to do.
+use crate::advice::Advice;
 use crate::commands::Commands;
 use crate::faults::{Fault, FileKind};
 use crate::inputs::Inputs;
 use crate::layout::PredBits;
+use crate::names::{Quoted, Shown};
 use sp_text::Kind;
 use std::{fmt, io};
 
@@ -62,6 +64,40 @@ impl fmt::Display for Form {
     }
 }
 
+/// What is wrong with the places of sources that a command line names.
+#[derive(Clone, Copy, Debug, PartialEq, Eq)]
+pub enum PlacesFault {
+    /// They are not two numbers.
+    Spelling,
+    /// The first place is 0.
+    FromZero,
+    /// The last place is before the first.
+    Backwards,
+}
+
+impl fmt::Display for PlacesFault {
+    fn fmt<W: fmt::Write>(&self, f: &mut fmt::Formatter<W>) -> fmt::Result {
+        f.write_str(match self {
+            PlacesFault::Spelling => "two numbers and a `-` between them are needed, as in 1-100",
+            PlacesFault::FromZero => "places are counted from 1",
+            PlacesFault::Backwards => "the last place is before the first",
+        })
+    }
+}
+
+/// Where a number stands that is no vertex of its graph.
+#[derive(Clone, Copy, Debug)]
+pub enum Naming<'a> {
+    /// At the option `--source`.
+    Option,
+    /// On a line of a file, as a source.
+    Source { path: &'a str, line: u64 },
+    /// On a line of a file, as a target.
+    Target { path: &'a str, line: u64 },
+    /// In a file that can't be read again.
+    Unseen,
+}
+
 /// The second line of a fault. It displays with its end.
 #[derive(Clone, Copy, Debug)]
 pub enum Hint<'a> {
@@ -83,36 +119,112 @@ pub enum Hint<'a> {
         vertices: u64,
         pred_bits: PredBits,
     },
+    /// What to do about a line of the file of this path.
+    Advice {
+        path: &'a str,
+        advice: Advice<'a>,
+    },
+    /// Where a number stands that is no vertex, and how many there are, as far as that can be told.
+    Vertex {
+        naming: Naming<'a>,
+        vertex: u32,
+        vertices: Option<u64>,
+    },
+    /// What is wrong with a word for places of sources.
+    Places {
+        word: &'a str,
+        why: PlacesFault,
+    },
+    /// The deltas of a layout.
+    Delta(PredBits),
+    /// What a delta is.
+    AnyDelta,
+    /// What stands for a file of sources.
+    NoSources,
 }
 
 impl fmt::Display for Hint<'_> {
     fn fmt<W: fmt::Write>(&self, f: &mut fmt::Formatter<W>) -> fmt::Result {
+        f.write_str("spt: ")?;
         match self {
-            Hint::Reason { name, reason } => writeln!(f, "spt: {name}: {reason}"),
+            Hint::Reason { name, reason } => write!(f, "{}: {reason}", Shown(name))?,
             Hint::Form {
                 command,
                 file,
                 path,
                 form,
-            } => {
-                let name = name_of(path);
-                let tool = form.tool();
-                write!(f, "spt: {name}: {form}; use {tool}")?;
-                if *path != "-" {
-                    write!(f, " {path}")?;
-                }
-                let place = file.place();
-                writeln!(f, " | spt {command} {place}")
-            }
+            } => write_form(f, command, *file, path, *form)?,
             Hint::Layout {
                 path,
                 vertices,
                 pred_bits,
-            } => writeln!(
+            } => write!(
                 f,
-                "spt: {path}: {vertices} vertices; use --pred-bits {pred_bits}"
-            ),
+                "{}: {vertices} vertices; use --pred-bits {pred_bits}",
+                Shown(path)
+            )?,
+            Hint::Advice { path, advice } => write!(f, "{}: {advice}", Shown(name_of(path)))?,
+            Hint::Vertex {
+                naming,
+                vertex,
+                vertices,
+            } => write_vertex(f, *naming, *vertex, *vertices)?,
+            Hint::Places { word, why } => write!(f, "--sources {}: {why}", Shown(word))?,
+            Hint::Delta(pred_bits) => {
+                let most = pred_bits.max_dist();
+                write!(
+                    f,
+                    "with --pred-bits {pred_bits} delta is from 1 to {most}, or mean"
+                )?;
+            }
+            Hint::AnyDelta => {
+                let most = PredBits::Bits20.max_dist();
+                write!(f, "D is a whole number from 1 to {most}, or mean")?;
+            }
+            Hint::NoSources => f.write_str("SS, or --source V, says where trees begin")?,
         }
+        f.write_str("\n")
+    }
+}
+
+// Where a shell shows all of the path, the command names it.
+fn write_form<W: fmt::Write>(
+    f: &mut fmt::Formatter<W>,
+    command: &str,
+    file: FileKind,
+    path: &str,
+    form: Form,
+) -> fmt::Result {
+    let tool = form.tool();
+    write!(f, "{}: {form}; use {tool}", Shown(name_of(path)))?;
+    if path != "-"
+        && let Some(word) = Quoted::new(path)
+    {
+        write!(f, " {word}")?;
+    }
+    let place = file.place();
+    write!(f, " | spt {command} {place}")
+}
+
+fn write_vertex<W: fmt::Write>(
+    f: &mut fmt::Formatter<W>,
+    naming: Naming<'_>,
+    vertex: u32,
+    vertices: Option<u64>,
+) -> fmt::Result {
+    match naming {
+        Naming::Option => write!(f, "--source {vertex}: ")?,
+        Naming::Source { path, line } => {
+            write!(f, "{}: line {line}: source {vertex}; ", Shown(path))?;
+        }
+        Naming::Target { path, line } => {
+            write!(f, "{}: line {line}: target {vertex}; ", Shown(path))?;
+        }
+        Naming::Unseen => {}
+    }
+    match vertices {
+        Some(count) => write!(f, "the graph has {count} vertices"),
+        None => f.write_str("vertices are numbered from 1 to the N of the line `p sp N M`"),
     }
 }
 

@@ -3,8 +3,8 @@ ghost use Rattle.std.specs.Prelude.{ℕ, List, Option, None, IfSome};
 ghost use Rattle.sp_command.specs.Scene.{IsOpened};
 
 use crate::hints::Form;
+use crate::report::Report;
 use sp_device::Read;
-use std::fmt::Display;
 use std::io;
 
 /// The files that a command line names.
@@ -20,8 +20,8 @@ pub trait Inputs {
     fn open_input(&self, path: &str) -> Option<Self::File>
         ensures { IfSome result (λ file. IsOpened (text self.now path.now) (Self.File.left file)) };
 
-    /// Tells the user how far a command is, in a line. Where it can't be told nothing else changes.
-    fn tell<D: Display>(&self, _progress: &D) {}
+    /// Tells the user how far a command is. Where it can't be told nothing else changes.
+    fn tell(&self, _report: Report) {}
 
     /// Opens a file once more, or answers `None` where it can't be read twice, as standard input or a pipe.
     fn open_again(&self, _path: &str) -> Option<Self::File> {

@@ -1,7 +1,7 @@
 //! The layouts of a word, and the option that picks one. All that lists them stands here.
 ghost use denote.Param.Send.{IsSync};
 ghost use Rattle.std.specs.Prelude.{◌≡◌, ◌<◌, ◌≤◌, true, IfNone, IfOk, IfErr, IfSome};
-ghost use Rattle.sp_word.specs.Word.{is_layout, max_pred};
+ghost use Rattle.sp_word.specs.Word.{is_layout, max_dist, max_pred};
 ghost use Rattle.sp_command.specs.Faults.{code_of, is_done, status_of};
 ghost use Rattle.sp_command.specs.Scene.{Meaning, scene};
 ghost use Rattle.sp_command.specs.Words.{ReadsSpelling, bits_in};
@@ -19,8 +19,8 @@ use std::sync::Wait;
 use std::thread::Threads;
 
 const HELP: &str = "\
-Bits of a word that hold the predecessor; the others of its 64 hold the distance. So distances D
-and predecessors P range
+Bits of a word that hold the predecessor; the others of its 64 hold
+the distance. So distances D and predecessors P range
   with 20 from 0 to 17592186044414 and from 0 to 1048574
   with 24 from 0 to 1099511627774 and from 0 to 16777214
   with 28 from 0 to 68719476734 and from 0 to 268435454
@@ -63,10 +63,34 @@ impl PredBits {
 
     /// The option that says how many.
     pub fn option<'a>(alloc: Global) -> Arg<'a> {
-        let about = "Bits of a word that hold the predecessor";
+        let about = "Bits of a word that hold the predecessor\n";
         valued(alloc, Self::ID, "P", about, HELP)
             .value_parser(SPELLINGS.as_slice())
             .default_value("28")
+    }
+
+    /// The greatest distance of a word of this layout.
+    pub fn max_dist(self) -> u64
+        ensures { result ≡ max_dist (bits_in self) }
+    {
+        match self {
+            PredBits::Bits20 => Word::<20>::max_dist(),
+            PredBits::Bits24 => Word::<24>::max_dist(),
+            PredBits::Bits28 => Word::<28>::max_dist(),
+            PredBits::Bits32 => Word::<32>::max_dist(),
+        }
+    }
+
+    /// The greatest predecessor, and vertex, of a word of this layout.
+    pub fn max_pred(self) -> u32
+        ensures { result ≡ max_pred (bits_in self) }
+    {
+        match self {
+            PredBits::Bits20 => Word::<20>::max_pred(),
+            PredBits::Bits24 => Word::<24>::max_pred(),
+            PredBits::Bits28 => Word::<28>::max_pred(),
+            PredBits::Bits32 => Word::<32>::max_pred(),
+        }
     }
 
     /// The fewest bits that hold every vertex of a graph of so many, if some do.

@@ -2,9 +2,11 @@
 //!
 //! A command has its words, its help and its run (`commands`, `help`), in words of several layouts (`layout`), over the files that a
 //! command line names (`inputs`, `outputs`). What keeps it from being done is a fault, with its line on standard error and its exit status
-//! (`faults`), and often a second line, which says why, or what to do (`hints`).
+//! (`faults`), and often a second line, which says why, or what to do (`hints`, `advice`), with the names of files as a terminal shows them
+//! (`names`).
 #![tactic(auto)]
 
+mod advice;
 mod arguments;
 mod commands;
 mod faults;
@@ -12,15 +14,19 @@ mod help;
 mod hints;
 mod inputs;
 mod layout;
+mod names;
 mod outputs;
+mod report;
 mod text;
 
-pub use arguments::{file, flag, valued};
+pub use advice::Advice;
+pub use arguments::{PLACES, file, flag, valued};
 pub use commands::{Command, Commands, OneOf, Words};
 pub use faults::{Fault, FileKind, Status};
 pub use help::GRAPH_FILE;
-pub use hints::{Form, Hint, hint_of, output_hint};
+pub use hints::{Form, Hint, Naming, PlacesFault, hint_of, output_hint};
 pub use inputs::Inputs;
 pub use layout::{NoPredBits, PredBits, Run, run_in};
 pub use outputs::{OUTPUT, Outputs};
+pub use report::Report;
 pub use text::print;

@@ -8,9 +8,12 @@ use std::alloc::{AllocError, Global};
 pub const OUTPUT: &str = "output";
 
 const HELP: &str = "\
-Write the output to the file OUT, in place of standard output. It stands in OUT.part until the
-command has ended with exit status 0, 3 or 4, and then takes the name OUT; else it is removed, and
-what OUT held stays. What is no regular file, as a device or a pipe, is written to straight";
+Write the output to the file OUT, in place of standard output. Until
+the command has ended with exit status 0, 3 or 4 it stands in a new
+file in the folder of OUT, with a name of its own (.spt-PID-*.part),
+and then takes the name OUT; else the new file is removed, and what
+OUT held stays. What is no regular file, as a device or a pipe, is
+written to straight";
 
 /// Where files of output stand.
 pub trait Outputs {

@@ -1,4 +1,5 @@
 //! Text on a device.
+use crate::names::is_unprintable;
 use sp_device::{Write, WriteFault, write_all};
 use std::fmt;
 use std::fmt::Write as _;
@@ -18,9 +19,34 @@ impl<W: Write> fmt::Write for TextWriter<'_, W> {
     }
 }
 
-/// Writes what a value shows. It takes no memory.
+/// A writer of lines, which writes `?` for what a terminal doesn't show.
+#[derive(Drop)]
+struct LineWriter<'a, W> {
+    inner: TextWriter<'a, W>,
+}
+
+impl<W: Write> fmt::Write for LineWriter<'_, W> {
+    fn write_str(&mut self, text: &str) -> fmt::Result {
+        if !text.chars().any(is_hidden) {
+            return self.inner.write_str(text);
+        }
+        for c in text.chars() {
+            self.inner.write_char(if is_hidden(c) { '?' } else { c })?;
+        }
+        Ok(())
+    }
+}
+
+// Whether a terminal shows no such character in lines.
+fn is_hidden(c: char) -> bool {
+    c != '\n' && is_unprintable(c)
+}
+
+/// Writes what a value shows, with `?` for what a terminal doesn't show. It takes no memory.
 pub fn print<W: Write, D: fmt::Display>(out: &mut W, shown: &D) -> Result<(), WriteFault> {
-    let mut writer = TextWriter { device: out };
+    let mut writer = LineWriter {
+        inner: TextWriter { device: out },
+    };
     match write!(writer, "{shown}") {
         Ok(()) => Ok(()),
         Err(fmt::Error) => Err(WriteFault),

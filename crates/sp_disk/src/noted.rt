@@ -1,13 +1,16 @@
 //! What is noted of files and streams of the system while they are read and written.
+use crate::screen::Told;
 use sp_command::Form;
 use std::cell::Cell;
 use std::io;
 
-/// What went wrong last, and what the file is whose reading began last.
+/// What went wrong last, what the file is whose reading began last, and what was told of the run.
 #[derive(Drop)]
 pub struct Notes {
     reason: Cell<Option<io::Error>>,
     form: Cell<Option<Form>>,
+    size: Cell<Option<u64>>,
+    pub(crate) told: Told,
 }
 
 impl Notes {
@@ -16,6 +19,8 @@ impl Notes {
         Notes {
             reason: Cell::new(None),
             form: Cell::new(None),
+            size: Cell::new(None),
+            told: Told::new(),
         }
     }
 
@@ -24,10 +29,15 @@ impl Notes {
         match answer {
             Ok(value) => Some(value),
             Err(error) => {
-                self.reason.set(Some(error));
+                self.failed(error);
                 None
             }
         }
+    }
+
+    /// Notes why something failed.
+    pub fn failed(&self, error: io::Error) {
+        self.reason.set(Some(error));
     }
 
     /// What the system said last of what failed.
@@ -39,6 +49,11 @@ impl Notes {
     pub fn form(&self) -> Option<Form> {
         self.form.get()
     }
+
+    /// How many bytes the file has whose reading began last, if that is known.
+    pub fn size(&self) -> Option<u64> {
+        self.size.get()
+    }
 }
 
 /// A file or a stream of which is noted why it fails, and how it begins.
@@ -46,15 +61,17 @@ impl Notes {
 pub struct Noted<'a, T> {
     inner: T,
     notes: &'a Notes,
+    size: Option<u64>,
     has_begun: bool,
 }
 
 impl<'a, T> Noted<'a, T> {
-    /// Before its first byte.
-    pub fn new(inner: T, notes: &'a Notes) -> Self {
+    /// Before its first byte, of so many where that is known.
+    pub fn new(inner: T, notes: &'a Notes, size: Option<u64>) -> Self {
         Noted {
             inner,
             notes,
+            size,
             has_begun: false,
         }
     }
@@ -67,11 +84,12 @@ impl<T: io::Read> io::Read for Noted<'_, T> {
                 if !self.has_begun {
                     self.has_begun = true;
                     self.notes.form.set(Form::of(&buf[..n]));
+                    self.notes.size.set(self.size);
                 }
                 Ok(n)
             }
             Err(error) => {
-                self.notes.reason.set(Some(error));
+                self.notes.failed(error);
                 Err(error)
             }
         }
@@ -83,13 +101,19 @@ impl<T: io::Write> io::Write for Noted<'_, T> {
         match self.inner.write(bytes) {
             Ok(n) => Ok(n),
             Err(error) => {
-                self.notes.reason.set(Some(error));
+                self.notes.failed(error);
                 Err(error)
             }
         }
     }
 
     fn flush(&mut self) -> io::Result<()> {
-        self.inner.flush()
+        match self.inner.flush() {
+            Ok(()) => Ok(()),
+            Err(error) => {
+                self.notes.failed(error);
+                Err(error)
+            }
+        }
     }
 }

@@ -2,33 +2,20 @@
 ghost use Rattle.std.specs.Prelude.{◌≡◌};
 
 use crate::running::Teller;
-use sp_command::{FileKind, Inputs};
+use sp_command::{FileKind, Inputs, Report};
 use sp_device::{Failed, Read};
-use std::fmt;
 
 // It is told each time that so many bytes more were read.
-const STRETCH: u64 = 1 << 24;
-
-/// How much of a file was read.
-#[derive(Clone, Copy)]
-struct BytesRead {
-    file: FileKind,
-    bytes: u64,
-}
-
-impl fmt::Display for BytesRead {
-    fn fmt<W: fmt::Write>(&self, f: &mut fmt::Formatter<W>) -> fmt::Result {
-        let BytesRead { file, bytes } = self;
-        write!(f, "{file}: {bytes} bytes read")
-    }
-}
+const STRETCH: u64 = 1 << 20;
 
 /// A device of which is told how much was read, now and then and at its end.
 #[derive(Drop)]
 pub struct Watched<'t, 'f, D, F> {
     device: D,
+    file: FileKind,
     teller: &'t Teller<'f, F>,
-    read: BytesRead,
+    // How many bytes were read.
+    bytes: u64,
     // It is told next when so many were read.
     next: u64,
 }
@@ -40,8 +27,9 @@ impl<'t, 'f, D: Read, F: Inputs> Watched<'t, 'f, D, F> {
     {
         Watched {
             device,
+            file,
             teller,
-            read: BytesRead { file, bytes: 0 },
+            bytes: 0,
             next: STRETCH,
         }
     }
@@ -50,10 +38,13 @@ impl<'t, 'f, D: Read, F: Inputs> Watched<'t, 'f, D, F> {
     fn count(&mut self, bytes: usize)
         ensures { self.new.device ≡ self.old.device }
     {
-        self.read.bytes = self.read.bytes.saturating_add(bytes as u64);
-        if bytes == 0 || self.read.bytes >= self.next {
-            self.next = self.read.bytes.saturating_add(STRETCH);
-            self.teller.tell(&self.read);
+        self.bytes = self.bytes.saturating_add(bytes as u64);
+        if bytes == 0 || self.bytes >= self.next {
+            self.next = self.bytes.saturating_add(STRETCH);
+            self.teller.tell(Report::Read {
+                file: self.file,
+                bytes: self.bytes,
+            });
         }
     }
 }

@@ -7,11 +7,10 @@ ghost use Rattle.sp_command.specs.declared.faults.Fault.TheVariants.{DeltaOutOfR
 
 use crate::width::Width;
 use clap::{Arg, ArgMatches, Command, Error, value_parser};
-use sp_command::{Fault, FileKind, Inputs, Status, Words, flag, valued};
+use sp_command::{Fault, FileKind, Inputs, Report, Status, Words, flag, valued};
 use sp_job::{BatchError, BucketWidth, Listener, Progress, Summary};
 use sp_word::Workers;
 use std::alloc::Global;
-use std::fmt::Display;
 
 /// How runs are made.
 #[derive(Drop)]
@@ -124,17 +123,35 @@ impl<F> Drop for Teller<'_, F> {
 }
 
 impl<F: Inputs> Teller<'_, F> {
-    /// Tells a line, where that was asked for.
-    pub fn tell<D: Display>(&self, line: &D) {
+    /// Tells it, where that was asked for.
+    pub fn tell(&self, report: Report) {
         if self.is_asked {
-            self.files.tell(line);
+            self.files.tell(report);
         }
     }
 }
 
 impl<F: Inputs> Listener for Teller<'_, F> {
     fn hear(&self, progress: Progress) {
-        self.tell(&progress);
+        self.tell(report_of(progress));
+    }
+}
+
+fn report_of(progress: Progress) -> Report {
+    match progress {
+        Progress::Graph { vertices, arcs } => Report::Graph {
+            vertices,
+            arcs: arcs as u64,
+        },
+        Progress::Sources { written, count } => Report::Sources {
+            done: written.sources,
+            count: count as u64,
+            bytes: written.bytes,
+        },
+        Progress::Pairs { found, count } => Report::Pairs {
+            done: found as u64,
+            count: count as u64,
+        },
     }
 }
 

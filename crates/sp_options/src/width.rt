@@ -16,8 +16,9 @@ const MAX_DELTA: i64 = 17_592_186_044_414;
 const MEAN: &str = "mean";
 
 const LONG: &str = "\
-The width of a bucket of tentative distances, from 1 to the greatest distance of a word, or `mean` for
-the mean length of an arc, rounded down. The mean is a good choice, and so are a third of it and thirty
+The width of a bucket of tentative distances, from 1 to the greatest
+distance of a word, or `mean` for the mean length of an arc, rounded
+down. The mean is a good choice, and so are a third of it and thirty
 times as much. Any delta gives the same bytes";
 
 /// The width of a bucket.

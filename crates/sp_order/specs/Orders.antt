@@ -19,5 +19,5 @@ said_with with_20 with_24 with_28 with_32 Bits32 = with_32
 -- A text is shown; or a command answers so, in the layout that is ordered; or its output goes to a file, and nothing to standard output.
 abbrev pub Obeys : {Command : Type 0} → (with_20 with_24 with_28 with_32 : Meaning Command) → Order Command → Scene → Result Status Fault → Type 0
 Obeys with_20 with_24 with_28 with_32 (Show text) s result = IfOk result (λ end. end ≡ status.Done)
-Obeys with_20 with_24 with_28 with_32 (Run command pred_bits None) s result = said_with with_20 with_24 with_28 with_32 pred_bits command s result
-Obeys with_20 with_24 with_28 with_32 (Run command pred_bits (Some path)) s result = IsUnwritten s
+Obeys with_20 with_24 with_28 with_32 (Run command pred_bits None places) s result = said_with with_20 with_24 with_28 with_32 pred_bits command s result
+Obeys with_20 with_24 with_28 with_32 (Run command pred_bits (Some path) places) s result = IsUnwritten s

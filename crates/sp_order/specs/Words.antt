@@ -14,4 +14,4 @@ is_text _ = false
 -- its output goes to a file
 abbrev pub names_output : {C : Type 0} → Order C → Bool
 names_output (Show error) = false
-names_output (Run command pred_bits output) = is_some output
+names_output (Run command pred_bits output places) = is_some output

@@ -7,17 +7,18 @@ pub const PROGRAM: &str = "A shortest-path tree engine";
 /// How a run of the program ends, and how to begin.
 pub const PROGRAM_MORE: &str = after_help!(
     "\
-A command reads its files, one of which may be `-` for standard input, and writes its result to
-standard output. What keeps it from being done is told on standard error, in a line that scripts may
-read; where more can be said, as the system's reason or what makes plain text of a file, a second line
-says it. `spt COMMAND --help` tells all of a command.
+A command reads its files, one of which may be `-` for standard input, and
+writes its result to standard output. What keeps it from being done is told on
+standard error, in a line that scripts may read; where more can be said, as the
+system's reason or what makes plain text of a file, a second line says it.
+`spt COMMAND --help` tells all of a command.
 ",
     statuses:
         0 "done"
         1 "the command line is wrong"
         2 "a file is refused"
         3 "check: the tree is not the one of its source"
-        4 "tree, pairs: for some source a vertex is too far, without --far-ok; all answers are written";
+        4 "tree, pairs: a vertex is too far, without --far-ok; all else is written";
         "a file" "the output",
     example: "
 

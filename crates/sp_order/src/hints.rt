@@ -1,13 +1,16 @@
 //! How a fault is told, and the layout that a graph needs.
 ghost use Rattle.std.specs.Prelude.{◌≡◌};
 
+use crate::fields::Fields;
+use crate::line_hints::{Refused, advice_in, advice_without};
+use crate::usage_hints::{places_hint, usage_hint};
+use crate::vertex_hints::{vertex_hint, vertices_in};
 use crate::words::Order;
 use sp_command::{Commands, Fault, FileKind, Hint, Inputs, PredBits, hint_of, output_hint, print};
 use sp_device::{Read, Write};
 use sp_dimacs::Lines;
 use sp_text::{DimacsError, Kind};
 use std::io::ErrorKind;
-use std::str::from_utf8;
 
 /// What is told of a fault.
 #[derive(Clone, Copy)]
@@ -53,9 +56,13 @@ impl From<Fault> for Refusal<'_> {
     ghost from_gives = { λ fault refusal. refusal.fault ≡ fault };
 
     fn from(fault: Fault) -> Self {
+        let hint = told_of_words(&fault);
         Refusal {
             fault,
-            telling: Telling::Line,
+            telling: match hint {
+                Some(hint) => Telling::Lines(hint),
+                None => Telling::Line,
+            },
         }
     }
 }
@@ -68,6 +75,14 @@ fn is_unread<C>(fault: &Fault, order: &Order<'_, C>, hint: &Hint<'_>) -> bool {
     reason.kind() == ErrorKind::BrokenPipe && order.output().is_none()
 }
 
+// The second line of a fault of the words, if it has one.
+fn told_of_words<'a>(fault: &Fault) -> Option<Hint<'a>> {
+    match fault {
+        Fault::Usage(error) => usage_hint(error),
+        _ => None,
+    }
+}
+
 // The second line of a fault, if it has one.
 fn second_line<'a, C: Commands<'a>, F: Inputs>(
     fault: &Fault,
@@ -76,36 +91,73 @@ fn second_line<'a, C: Commands<'a>, F: Inputs>(
 ) -> Option<Hint<'a>> {
     let Order::Run {
         command,
+        pred_bits,
         output,
-        ..
+        places,
     } = order
     else {
         return output_hint(None, files);
     };
-    match layout_hint(fault, command.path(FileKind::Graph), files) {
-        Some(hint) => Some(hint),
-        None => hint_of(fault, command, *output, files),
+    match fault {
+        Fault::DeltaOutOfRange => Some(Hint::Delta(*pred_bits)),
+        Fault::NoPlaces => Some(places_hint((*places)?)),
+        Fault::NoSuchVertex(vertex) => Some(vertex_hint(*vertex, command, *places, files)),
+        Fault::Input { file, error } => input_hint(
+            fault, *file, *error, command, *pred_bits, files,
+        ),
+        _ => hint_of(fault, command, *output, files),
     }
+}
+
+// The second line of a fault of a file's text, if it has one: how to unpack the file, the layout that its graph needs, or what
+// to do about its line.
+fn input_hint<'a, C: Commands<'a>, F: Inputs>(
+    fault: &Fault,
+    file: FileKind,
+    error: DimacsError,
+    command: &C,
+    pred_bits: PredBits,
+    files: &F,
+) -> Option<Hint<'a>> {
+    if let Some(hint) = hint_of(fault, command, None, files) {
+        return Some(hint);
+    }
+    let path = command.path(file)?;
+    if let Some(hint) = layout_hint(file, error, path, files) {
+        return Some(hint);
+    }
+    let refused = Refused {
+        command: command.name(),
+        file,
+        kind: error.kind,
+        pred_bits,
+        vertices: vertices_in(command.path(FileKind::Graph), files),
+    };
+    let advice = match files.open_again(path) {
+        Some(opened) => advice_in(refused, opened, error.line)?,
+        None => advice_without(refused)?,
+    };
+    Some(Hint::Advice { path, advice })
 }
 
 // What to do where a graph has too many vertices for the layout, if another holds them. The graph is read again, up to its line `p`.
 fn layout_hint<'a, F: Inputs>(
-    fault: &Fault,
-    graph: Option<&'a str>,
+    file: FileKind,
+    error: DimacsError,
+    path: &'a str,
     files: &F,
 ) -> Option<Hint<'a>> {
-    let Fault::Input {
-        file: FileKind::Graph,
-        error: DimacsError {
-            line,
-            kind: Kind::OutOfRange(b'N'),
-        },
-    } = fault
+    let DimacsError {
+        line,
+        kind: Kind::OutOfRange(b'N'),
+    } = error
     else {
         return None;
     };
-    let path = graph?;
-    let vertices = vertices_of(files.open_again(path)?, *line)?;
+    if file != FileKind::Graph {
+        return None;
+    }
+    let vertices = vertices_on(files.open_again(path)?, line)?;
     if vertices == 0 {
         return None;
     }
@@ -118,16 +170,10 @@ fn layout_hint<'a, F: Inputs>(
 }
 
 // The number N of the line `p sp N M`, which is the line of this number.
-fn vertices_of<R: Read + Drop>(file: R, line: u64) -> Option<u64> {
+fn vertices_on<R: Read + Drop>(file: R, line: u64) -> Option<u64> {
     let mut lines = Lines::new(file);
     for _ in 1..line {
         lines.next().ok()??;
     }
-    third_number(lines.next().ok()??)
-}
-
-// The third field of a line, where it is a number.
-fn third_number(line: &[u8]) -> Option<u64> {
-    let text = from_utf8(line).ok()?;
-    text.split_ascii_whitespace().nth(2)?.parse().ok()
+    Fields::of(lines.next().ok()??).number(2)
 }

@@ -4,9 +4,13 @@
 //! done by its impls of `Commands` and `Run`.
 #![tactic(auto)]
 
+mod fields;
 mod help;
 mod hints;
+mod line_hints;
 mod run;
+mod usage_hints;
+mod vertex_hints;
 mod words;
 
 pub use run::run_line;

@@ -88,11 +88,13 @@ where
             command,
             pred_bits,
             output: None,
+            ..
         } => run_in(command, *pred_bits, rt, alloc, files, out),
         Order::Run {
             command,
             pred_bits,
             output: Some(path),
+            ..
         } => run_into(rt, alloc, command, *pred_bits, files, path),
     }
 }

@@ -8,7 +8,7 @@ ghost use Rattle.sp_order.specs.declared.words.Order.TheVariants.{Show};
 use crate::help;
 use clap::error::ErrorKind;
 use clap::{ArgMatches, Command, Error};
-use sp_command::{Commands, Fault, OUTPUT, PredBits};
+use sp_command::{Commands, Fault, OUTPUT, PLACES, PredBits};
 use std::alloc::Global;
 
 /// What a command line orders.
@@ -17,11 +17,12 @@ pub enum Order<'a, C> {
     /// To show a text of help, or the version.
     Show(Error),
     /// To run a command, in words with so many bits of predecessor. Its output goes to a file where one is named, else to
-    /// standard output.
+    /// standard output. The word for places of its sources stands here too, where there is one, for what is told of it.
     Run {
         command: C,
         pred_bits: PredBits,
         output: Option<&'a str>,
+        places: Option<&'a str>,
     },
 }
 
@@ -88,6 +89,7 @@ fn order_of<'a, C: Commands<'a>>(
             command,
             pred_bits,
             output: output_of(given),
+            places: given.get_str(PLACES),
         })),
         _ => Ok(None),
     }

@@ -1,4 +1,4 @@
-//! The bars of calls, and their texts.
+//! The bars of calls.
 
 use crate::layout::Layout;
 use crate::shown::{CallShown, reply_name};
@@ -22,8 +22,8 @@ fn draw_bar<const P: u32>(
     let shown = CallShown { call: *call };
     let actor = call.ended.actor;
     let (first, last) = (call.first, call.last);
-    let left = layout.across(first) - 20;
-    let width = (layout.across(last) + 20).saturating_sub(left);
+    let left = layout.across(first) - 13;
+    let width = (layout.across(last) + 13).saturating_sub(left);
     let top = layout.actor_lane(actor) - 13;
     let kind = kind_of(call);
     write!(
@@ -44,30 +44,6 @@ pub(crate) fn draw_bars<const P: u32>(
 ) -> Result<(), AllocError> {
     for call in calls {
         draw_bar(text, layout, call)?;
-    }
-    Ok(())
-}
-
-// The text of a call, below its bar.
-fn draw_text<const P: u32>(
-    text: &mut String,
-    layout: &Layout,
-    call: &Finished<P>,
-) -> Result<(), AllocError> {
-    let shown = CallShown { call: *call };
-    let x = (layout.across(call.first) + layout.across(call.last)) / 2;
-    let y = layout.actor_lane(call.ended.actor) + 27;
-    writeln!(text, "<text class='text' x='{x}' y='{y}'>{shown}</text>")
-}
-
-/// The texts of the calls.
-pub(crate) fn draw_texts<const P: u32>(
-    text: &mut String,
-    layout: &Layout,
-    calls: &[Finished<P>],
-) -> Result<(), AllocError> {
-    for call in calls {
-        draw_text(text, layout, call)?;
     }
     Ok(())
 }

@@ -1,39 +1,9 @@
 //! The axis of steps, and the lanes of actors and words.
 
-use crate::layout::{Layout, text_width};
-use crate::marks::Mark;
-use crate::shown::WordShown;
-use sp_machine::Programme;
-use sp_word::Word;
-use std::alloc::{AllocError, Global};
-
-/// A word that has a lane.
-#[derive(Clone, Copy)]
-pub(crate) struct Lane<const P: u32> {
-    /// Whose word it is.
-    pub vertex: u32,
-    /// The word at the start.
-    pub opening: Word<P>,
-}
-
-/// The words that a step looked at, by rising vertex.
-pub(crate) fn lanes_of<const P: u32>(
-    alloc: Global,
-    programme: &Programme<P>,
-    marks: &[Mark<P>],
-) -> Result<Vec<Lane<P>>, AllocError> {
-    let machine = programme.machine(alloc)?;
-    let mut lanes = Vec::new(alloc);
-    for vertex in 1..=programme.words() {
-        let word = machine.words().get((vertex - 1) as usize);
-        let is_seen = marks.iter().any(|mark| mark.vertex == vertex);
-        if let (Some(word), true) = (word, is_seen) {
-            let opening = *word;
-            lanes.push(Lane { vertex, opening })?;
-        }
-    }
-    Ok(lanes)
-}
+use crate::layout::Layout;
+use crate::stretches::{Lane, Stretch};
+use crate::texts::draw_lines;
+use std::alloc::AllocError;
 
 // A step's number, and a line below it.
 fn draw_step(text: &mut String, layout: &Layout, step: u64) -> Result<(), AllocError> {
@@ -53,8 +23,30 @@ pub(crate) fn draw_axis(text: &mut String, layout: &Layout) -> Result<(), AllocE
         text,
         "<text class='note' x='{x}' y='20' text-anchor='end'>step</text>"
     )?;
-    for step in 0..layout.steps {
-        draw_step(text, layout, step + 1)?;
+    for step in 0..layout.steps() {
+        draw_step(text, layout, step.saturating_add(1))?;
+    }
+    Ok(())
+}
+
+// The name of a lane left of it, and again along it.
+fn draw_name(
+    text: &mut String,
+    layout: &Layout,
+    (middle, names): (u64, u64),
+    (kind, number): (&str, u32),
+) -> Result<(), AllocError> {
+    let (x, base) = (layout.across(0) - 12, middle.saturating_add(4));
+    writeln!(
+        text,
+        "<text class='name' x='{x}' y='{base}'>{kind} {number}</text>"
+    )?;
+    for time in 0..layout.repeats() {
+        let x = layout.again(time.saturating_add(1));
+        writeln!(
+            text,
+            "<text class='name again' x='{x}' y='{names}'>{kind} {number}</text>"
+        )?;
     }
     Ok(())
 }
@@ -63,11 +55,8 @@ pub(crate) fn draw_axis(text: &mut String, layout: &Layout) -> Result<(), AllocE
 fn draw_actor(text: &mut String, layout: &Layout, actor: u32) -> Result<(), AllocError> {
     let y = layout.actor_lane(actor);
     let (start, end) = (layout.across(0), layout.end());
-    let (x, base) = (start - 12, y + 4);
-    writeln!(
-        text,
-        "<text class='name' x='{x}' y='{base}'>actor {actor}</text>"
-    )?;
+    let heights = (y, layout.actor_names(actor));
+    draw_name(text, layout, heights, ("actor", actor))?;
     writeln!(
         text,
         "<line class='lane' x1='{start}' y1='{y}' x2='{end}' y2='{y}'/>"
@@ -86,108 +75,57 @@ pub(crate) fn draw_actors(
     Ok(())
 }
 
-// What a word holds from one step to another.
-#[derive(Clone, Copy)]
-struct Stretch<const P: u32> {
-    word: Word<P>,
-    since: u64,
-    until: u64,
-}
-
 // A stretch in the lane of this place.
 fn draw_stretch<const P: u32>(
     text: &mut String,
-    alloc: Global,
     layout: &Layout,
     place: usize,
     stretch: &Stretch<P>,
 ) -> Result<(), AllocError> {
-    let word = stretch.word;
-    let shown = WordShown { word };
-    let (left, right) = (layout.across(stretch.since), layout.across(stretch.until));
-    let (width, y) = (right.saturating_sub(left), layout.word_lane(place));
-    let top = y - 12;
-    let kind = if word.is_unreached() {
+    let shown = &stretch.text.whole;
+    let left = layout.across(stretch.text.from);
+    let width = layout.across(stretch.text.until).saturating_sub(left);
+    let (middle, height) = (layout.word_lane(place), layout.cell());
+    let top = middle.saturating_sub(height / 2);
+    let kind = if stretch.word.is_unreached() {
         "unreached"
     } else {
         "word"
     };
     write!(
         text,
-        "<rect class='{kind}' x='{left}' y='{top}' width='{width}' height='24'>"
+        "<rect class='{kind}' x='{left}' y='{top}' width='{width}' height='{height}'>"
     )?;
     writeln!(text, "<title>{shown}</title></rect>")?;
-    let value = format!(in alloc; "{shown}")?;
-    if text_width(value.len()).saturating_add(8) <= width {
-        let (x, base) = (left + 8, y + 4);
-        writeln!(
-            text,
-            "<text class='value' x='{x}' y='{base}'>{value}</text>"
-        )?;
-    }
-    Ok(())
-}
-
-// What the step stored to the word of the vertex.
-fn stored_to<const P: u32>(mark: &Mark<P>, vertex: u32) -> Option<Word<P>> {
-    if mark.vertex == vertex {
-        mark.stored()
-    } else {
-        None
-    }
-}
-
-fn draw_word_name(
-    text: &mut String,
-    layout: &Layout,
-    place: usize,
-    vertex: u32,
-) -> Result<(), AllocError> {
-    let x = layout.across(0) - 12;
-    let y = layout.word_lane(place) + 4;
-    writeln!(
-        text,
-        "<text class='name' x='{x}' y='{y}'>word {vertex}</text>"
-    )
+    let lines = &stretch.text.lines;
+    let more = (lines.len() as u64).saturating_sub(1);
+    let base = (middle + 4).saturating_sub(more.saturating_mul(6));
+    draw_lines(text, "value", (left + 4, base), lines)
 }
 
 // The lane of a word: what it holds, from each store to the next.
 fn draw_word<const P: u32>(
     text: &mut String,
-    alloc: Global,
     layout: &Layout,
     place: usize,
     lane: &Lane<P>,
-    marks: &[Mark<P>],
 ) -> Result<(), AllocError> {
-    draw_word_name(text, layout, place, lane.vertex)?;
-    let mut stretch = Stretch {
-        word: lane.opening,
-        since: 0,
-        until: 0,
-    };
-    for (index, mark) in marks.iter().enumerate() {
-        stretch.until = (index as u64).saturating_add(1);
-        if let Some(word) = stored_to(mark, lane.vertex) {
-            draw_stretch(text, alloc, layout, place, &stretch)?;
-            stretch.word = word;
-            stretch.since = stretch.until;
-        }
+    let heights = (layout.word_lane(place), layout.word_names(place));
+    draw_name(text, layout, heights, ("word", lane.vertex))?;
+    for stretch in &lane.stretches {
+        draw_stretch(text, layout, place, stretch)?;
     }
-    stretch.until = layout.steps.saturating_add(1);
-    draw_stretch(text, alloc, layout, place, &stretch)
+    Ok(())
 }
 
 /// The lanes of the words.
 pub(crate) fn draw_words<const P: u32>(
     text: &mut String,
-    alloc: Global,
     layout: &Layout,
     lanes: &[Lane<P>],
-    marks: &[Mark<P>],
 ) -> Result<(), AllocError> {
     for (place, lane) in lanes.iter().enumerate() {
-        draw_word(text, alloc, layout, place, lane, marks)?;
+        draw_word(text, layout, place, lane)?;
     }
     Ok(())
 }

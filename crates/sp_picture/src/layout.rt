@@ -1,30 +1,38 @@
 //! Where things stand in a picture, in pixels from its left upper corner.
 ghost use Rattle.std.specs.Prelude.{◌≡◌, ◌≤◌, ◌+◌, IfOk};
 
-use crate::shown::CallShown;
-use sp_machine::Finished;
+use crate::labels::{Label, Side, most_lines};
+use crate::texts::LINE;
 use std::alloc::{AllocError, Global};
 
 // What stands left of all steps: the names of lanes.
-const LEFT: u64 = 92;
+const LEFT: u64 = 100;
 
 // What stands above all lanes: the numbers of steps.
 const TOP: u64 = 34;
 
-// The height of a word's lane.
-const WORD_LANE: u64 = 32;
+// Between two lanes of words.
+const BETWEEN: u64 = 8;
 
-// The height of an actor's lane.
-const ACTOR_LANE: u64 = 84;
+// Between the lanes of words and those of actors.
+const GAP: u64 = 12;
+
+// Of an actor's lane, what stands above its middle and below it, but for texts.
+const ABOVE: u64 = 24;
+
+const BELOW: u64 = 24;
 
 // No coordinate is beyond this one and the height of the legend.
 const FARTHEST: u64 = 1 << 20;
 
-// A step is never narrower.
-const NARROWEST_STEP: u64 = 64;
+// Names of lanes are written again after so many pixels.
+const AGAIN: u64 = 600;
 
-// About as wide as a character of a text.
-const CHARACTER: u64 = 7;
+// About as wide as a name is.
+const NAME: u64 = 80;
+
+// The height of a line of names.
+const NAMES: u64 = 14;
 
 /// The least width of a picture: that of its legend.
 pub(crate) const LEGEND_WIDTH: u64 = 780;
@@ -32,26 +40,76 @@ pub(crate) const LEGEND_WIDTH: u64 = 780;
 /// The height of the legend.
 pub(crate) const LEGEND_HEIGHT: u64 = 140;
 
-/// Where things stand.
+// Where the lane of an actor stands, from the top of all lanes.
 #[derive(Clone, Copy)]
+struct Band {
+    // The line of its names that are written again.
+    names: u64,
+    middle: u64,
+}
+
+/// Where things stand.
+#[derive(Drop)]
 pub(crate) struct Layout {
-    /// How wide a step is.
-    pub step: u64,
-    /// How many steps there are.
-    pub steps: u64,
-    /// How many words have a lane.
-    pub words: u64,
-    /// How many actors have a lane.
-    pub actors: u64,
+    // Where the lanes begin, the middles of steps, and where the lanes end, from where the lanes begin.
+    places: Vec<u64>,
+    // The lanes of actors.
+    actors: Vec<Band>,
+    // Where the lanes end below, from the top of all lanes.
+    height: u64,
+    // The height of what a word's lane shows.
+    cell: u64,
+}
+
+// How often names are written again in lanes that are as long.
+fn repeats_in(length: u64) -> u64 {
+    length.saturating_sub(NAME).min(FARTHEST) / AGAIN
+}
+
+// The height of the line of names above each lane, if there is one.
+fn names_height(repeats: u64) -> u64
+    ensures { result ≤ NAMES }
+{
+    if repeats == 0 { 0 } else { NAMES }
 }
 
 impl Layout {
+    /// The layout of a picture whose steps stand at these places, and whose lanes of words, so many, show things of this height.
+    pub(crate) fn new(
+        alloc: Global,
+        places: Vec<u64>,
+        cell: u64,
+        words: usize,
+        actors: u32,
+        labels: &[Label],
+    ) -> Result<Layout, AllocError> {
+        let head = names_height(repeats_in(places.last().copied().unwrap_or(0)));
+        let lane = head.saturating_add(cell).saturating_add(BETWEEN);
+        let mut height = lane.saturating_mul(words as u64).saturating_add(GAP);
+        let mut bands = Vec::new(alloc);
+        for actor in 1..=actors {
+            let above = LINE.saturating_mul(most_lines(labels, actor, Side::Above));
+            let below = LINE.saturating_mul(most_lines(labels, actor, Side::Below));
+            let names = height.saturating_add(head);
+            let middle = names.saturating_add(above).saturating_add(ABOVE);
+            bands.push(Band { names, middle })?;
+            height = middle.saturating_add(BELOW).saturating_add(below);
+        }
+        Ok(Layout {
+            places,
+            actors: bands,
+            height,
+            cell,
+        })
+    }
+
     /// The middle of a step, numbered from 1; that of 0 is where the lanes begin.
     pub(crate) fn across(&self, step: u64) -> u64
         ensures low { LEFT ≤ result }
         ensures high { result ≤ LEFT + FARTHEST }
     {
-        LEFT + self.step.saturating_mul(step).min(FARTHEST)
+        let place = self.places.get(step as usize).copied().unwrap_or(0);
+        LEFT + place.min(FARTHEST)
     }
 
     /// Where the lanes end.
@@ -59,57 +117,85 @@ impl Layout {
         ensures low { LEFT ≤ result }
         ensures high { result ≤ LEFT + FARTHEST }
     {
-        self.across(self.steps.saturating_add(1))
+        let place = self.places.last().copied().unwrap_or(0);
+        LEFT + place.min(FARTHEST)
     }
 
-    /// The middle of the lane of a word, by its place among those that have one.
-    pub(crate) fn word_lane(&self, place: usize) -> u64
-        ensures low { 50 ≤ result }
-        ensures high { result ≤ 50 + FARTHEST }
+    /// How many steps there are.
+    pub(crate) fn steps(&self) -> u64 {
+        (self.places.len() as u64).saturating_sub(2)
+    }
+
+    /// How often the names of lanes are written again.
+    pub(crate) fn repeats(&self) -> u64 {
+        repeats_in(self.end() - LEFT)
+    }
+
+    /// Where the names of lanes are written again, the first time for 1.
+    pub(crate) fn again(&self, time: u64) -> u64 {
+        AGAIN.saturating_mul(time).saturating_add(LEFT)
+    }
+
+    // The height of the line of names above each lane, if there is one.
+    fn head(&self) -> u64
+        ensures { result ≤ NAMES }
     {
-        TOP + WORD_LANE / 2 + WORD_LANE.saturating_mul(place as u64).min(FARTHEST)
+        names_height(self.repeats())
+    }
+
+    /// The height of what the lane of a word shows.
+    pub(crate) fn cell(&self) -> u64
+        ensures { result ≤ FARTHEST }
+    {
+        self.cell.min(FARTHEST)
+    }
+
+    /// The middle of what the lane of a word shows, by its place among those that have one.
+    pub(crate) fn word_lane(&self, place: usize) -> u64
+        ensures low { TOP ≤ result }
+        ensures high { result ≤ TOP + NAMES + FARTHEST + FARTHEST }
+    {
+        let lane = self.head() + self.cell() + BETWEEN;
+        let start = lane.saturating_mul(place as u64).min(FARTHEST);
+        TOP + start + self.head() + self.cell() / 2
+    }
+
+    /// Where the names of a word's lane are written again.
+    pub(crate) fn word_names(&self, place: usize) -> u64 {
+        self.word_lane(place).saturating_sub(self.cell() / 2 + 4)
+    }
+
+    // The lane of an actor, numbered from 1.
+    fn band(&self, actor: u32) -> Band {
+        let place = actor.saturating_sub(1) as usize;
+        match self.actors.get(place) {
+            Some(band) => *band,
+            None => Band {
+                names: 0,
+                middle: 0,
+            },
+        }
     }
 
     /// The middle of the lane of an actor, numbered from 1.
     pub(crate) fn actor_lane(&self, actor: u32) -> u64
-        ensures low { 100 ≤ result }
-        ensures high { result ≤ 100 + FARTHEST + FARTHEST }
+        ensures low { TOP ≤ result }
+        ensures high { result ≤ TOP + FARTHEST }
     {
-        let place = u64::from(actor).saturating_sub(1);
-        let words = WORD_LANE.saturating_mul(self.words).min(FARTHEST);
-        TOP + words + 66 + ACTOR_LANE.saturating_mul(place).min(FARTHEST)
+        TOP + self.band(actor).middle.min(FARTHEST)
+    }
+
+    /// Where the names of an actor's lane are written again.
+    pub(crate) fn actor_names(&self, actor: u32) -> u64
+        ensures { result ≤ TOP + FARTHEST }
+    {
+        TOP - 4 + self.band(actor).names.min(FARTHEST)
     }
 
     /// Where the lanes end below.
     pub(crate) fn bottom(&self) -> u64
-        ensures { result ≤ 200 + FARTHEST + FARTHEST }
+        ensures { result ≤ TOP + FARTHEST }
     {
-        let words = WORD_LANE.saturating_mul(self.words).min(FARTHEST);
-        TOP + words + 36 + ACTOR_LANE.saturating_mul(self.actors).min(FARTHEST)
+        TOP + self.height.min(FARTHEST)
     }
-}
-
-/// About as wide as a text is.
-pub(crate) fn text_width(characters: usize) -> u64 {
-    (characters as u64).saturating_mul(CHARACTER)
-}
-
-// How wide a step has to be for the text of a call to fit its bar's width.
-fn width_for<const P: u32>(alloc: Global, call: &Finished<P>) -> Result<u64, AllocError> {
-    let shown = CallShown { call: *call };
-    let text = format!(in alloc; "{shown}")?;
-    let steps = call.last.saturating_sub(call.first).saturating_add(1);
-    Ok(text_width(text.len()).saturating_add(12) / steps)
-}
-
-/// How wide steps have to be for the texts of these calls.
-pub(crate) fn step_width<const P: u32>(
-    alloc: Global,
-    calls: &[Finished<P>],
-) -> Result<u64, AllocError> {
-    let mut width = NARROWEST_STEP;
-    for call in calls {
-        width = width.max(width_for(alloc, call)?);
-    }
-    Ok(width)
 }

@@ -3,15 +3,20 @@
 #![tactic(auto)]
 
 mod bars;
+mod columns;
 mod drawing;
 mod faults;
+mod headings;
+mod labels;
 mod lanes;
 mod layout;
 mod marks;
 mod picture;
 mod shapes;
 mod shown;
+mod stretches;
 mod styles;
+mod texts;
 mod ties;
 
 pub use drawing::{Drawing, MOST_STEPS, draw_run};

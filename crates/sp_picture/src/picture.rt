@@ -8,12 +8,16 @@ ghost use Rattle.sp_picture.specs.declared.faults.NoPicture.TheVariants.{TooMany
 ghost use Rattle.sp_picture.specs.Marks.{marks_from};
 ghost use Rattle.sp_picture.specs.Ties.{IsTie, lost_from};
 
-use crate::bars::{draw_bars, draw_texts};
+use crate::bars::draw_bars;
+use crate::columns::places_of;
 use crate::drawing::{Drawing, MOST_STEPS, draw_run};
 use crate::faults::NoPicture;
-use crate::lanes::{Lane, draw_actors, draw_axis, draw_words, lanes_of};
-use crate::layout::{LEGEND_HEIGHT, LEGEND_WIDTH, Layout, step_width};
+use crate::headings::{write_description, write_title};
+use crate::labels::{Label, add_label_spans, draw_labels, labels_of, wrap_labels};
+use crate::lanes::{draw_actors, draw_axis, draw_words};
+use crate::layout::{LEGEND_HEIGHT, LEGEND_WIDTH, Layout};
 use crate::shapes::{draw_marks, draw_stores, draw_ties};
+use crate::stretches::{Lane, add_word_spans, cell_height, lanes_of, wrap_words};
 use crate::styles::{LEGEND, STYLE};
 use sp_device::{Write, WriteFault, write_all};
 use sp_machine::Programme;
@@ -28,6 +32,14 @@ pub struct Picture<const P: u32> {
     pub text: String,
 }
 
+// What is drawn of a run, and where.
+#[derive(Drop)]
+struct Plan<const P: u32> {
+    lanes: Vec<Lane<P>>,
+    labels: Vec<Label>,
+    layout: Layout,
+}
+
 // The beginning of a picture, and its ground.
 fn draw_ground(text: &mut String, layout: &Layout) -> Result<(), AllocError> {
     let width = (layout.end() + 16).max(LEGEND_WIDTH);
@@ -36,9 +48,8 @@ fn draw_ground(text: &mut String, layout: &Layout) -> Result<(), AllocError> {
         text,
         "<svg xmlns='http://www.w3.org/2000/svg' viewBox='0 0 {width} {height}' "
     )?;
-    writeln!(text, "width='{width}' height='{height}' role='img'>")?;
-    text.push_str(STYLE)?;
-    text.push_str("<rect width='100%' height='100%' fill='#fff'/>\n")
+    write!(text, "width='{width}' height='{height}' role='img' ")?;
+    text.push_str("aria-labelledby='run-title' aria-describedby='run-desc'>\n")
 }
 
 // What the marks and lines mean, and the end of a picture.
@@ -49,18 +60,28 @@ fn draw_legend(text: &mut String, layout: &Layout) -> Result<(), AllocError> {
     text.push_str("</g>\n</svg>\n")
 }
 
-// Where the things of a drawing stand.
-fn layout_of<const P: u32>(
+// Where the things of a drawing stand: first how wide columns have to be, and then the lines of texts between them.
+fn plan_of<const P: u32>(
     alloc: Global,
     programme: &Programme<P>,
     drawing: &Drawing<P>,
-    lanes: &[Lane<P>],
-) -> Result<Layout, AllocError> {
-    Ok(Layout {
-        step: step_width(alloc, &drawing.bars)?,
-        steps: drawing.marks.len() as u64,
-        words: lanes.len() as u64,
-        actors: u64::from(programme.actors()),
+) -> Result<Plan<P>, AllocError> {
+    let marks = drawing.marks.as_slice();
+    let steps = marks.len() as u64;
+    let mut lanes = lanes_of(alloc, programme, marks)?;
+    let mut labels = labels_of(alloc, &drawing.bars, steps.saturating_add(1))?;
+    let mut spans = Vec::new(alloc);
+    add_label_spans(&mut spans, &labels)?;
+    add_word_spans(&mut spans, &lanes)?;
+    let places = places_of(alloc, steps, &spans)?;
+    wrap_labels(alloc, &mut labels, &places)?;
+    wrap_words(alloc, &mut lanes, &places)?;
+    let (cell, words) = (cell_height(&lanes), lanes.len());
+    let layout = Layout::new(alloc, places, cell, words, programme.actors(), &labels)?;
+    Ok(Plan {
+        lanes,
+        labels,
+        layout,
     })
 }
 
@@ -70,20 +91,28 @@ fn text_of<const P: u32>(
     programme: &Programme<P>,
     drawing: &Drawing<P>,
 ) -> Result<String, AllocError> {
+    let plan = plan_of(alloc, programme, drawing)?;
+    let (layout, lanes) = (&plan.layout, plan.lanes.as_slice());
     let marks = drawing.marks.as_slice();
-    let lanes = lanes_of(alloc, programme, marks)?;
-    let layout = layout_of(alloc, programme, drawing, &lanes)?;
     let mut text = String::new(alloc);
-    draw_ground(&mut text, &layout)?;
-    draw_axis(&mut text, &layout)?;
-    draw_stores(&mut text, &layout, &lanes, marks)?;
-    draw_words(&mut text, alloc, &layout, &lanes, marks)?;
-    draw_actors(&mut text, &layout, programme.actors())?;
-    draw_bars(&mut text, &layout, &drawing.bars)?;
-    draw_ties(&mut text, &layout, marks, &drawing.ties)?;
-    draw_texts(&mut text, &layout, &drawing.bars)?;
-    draw_marks(&mut text, &layout, marks)?;
-    draw_legend(&mut text, &layout)?;
+    draw_ground(&mut text, layout)?;
+    write_title(
+        &mut text,
+        layout.steps(),
+        programme.actors(),
+        lanes.len() as u64,
+    )?;
+    write_description(&mut text, drawing)?;
+    text.push_str(STYLE)?;
+    draw_axis(&mut text, layout)?;
+    draw_stores(&mut text, layout, lanes, marks)?;
+    draw_words(&mut text, layout, lanes)?;
+    draw_actors(&mut text, layout, programme.actors())?;
+    draw_bars(&mut text, layout, &drawing.bars)?;
+    draw_ties(&mut text, layout, marks, &drawing.ties)?;
+    draw_labels(&mut text, layout, &plan.labels)?;
+    draw_marks(&mut text, layout, marks)?;
+    draw_legend(&mut text, layout)?;
     Ok(text)
 }
 

@@ -1,9 +1,9 @@
 //! The marks of steps, and the lines between them.
 
-use crate::lanes::Lane;
 use crate::layout::Layout;
 use crate::marks::{Deed, Mark};
 use crate::shown::WordShown;
+use crate::stretches::Lane;
 use crate::ties::Tie;
 use std::alloc::AllocError;
 
@@ -122,7 +122,7 @@ fn draw_store<const P: u32>(
     };
     let at = point_of(layout, place, mark);
     let (x, y) = (at.x, at.y);
-    let top = layout.word_lane(lane) + 12;
+    let top = layout.word_lane(lane) + layout.cell() / 2;
     writeln!(
         text,
         "<line class='stores' x1='{x}' y1='{top}' x2='{x}' y2='{y}'/>"
@@ -147,7 +147,7 @@ pub(crate) fn draw_stores<const P: u32>(
 // From a lost exchange back to the load whose word it expected.
 fn draw_expected(text: &mut String, lost: Point, load: Point) -> Result<(), AllocError> {
     let (x, start) = (lost.x, load.x);
-    let (y, top) = (lost.y.saturating_sub(11), lost.y.saturating_sub(34));
+    let (y, top) = (lost.y.saturating_sub(11), lost.y.saturating_sub(26));
     write!(
         text,
         "<path class='expected' d='M{x} {y} C{x} {top} {start} {top} {start} {y}'>"

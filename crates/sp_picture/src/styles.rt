@@ -1,13 +1,16 @@
 //! The parts of a picture that are the same in each.
 
-/// How things look. All colours are given, so that a dark page around the picture changes none.
+/// How things look, on a light page and on a dark one.
 pub(crate) const STYLE: &str = "\
 <style>
 text { font: 12px sans-serif; fill: #222 }
+.ground { fill: #fff }
 .number, .note { fill: #555 }
 .number { text-anchor: middle }
 .name { font-weight: bold; text-anchor: end }
-.text { font: 11px monospace; text-anchor: middle; paint-order: stroke; stroke: #fff; stroke-width: 3px }
+.again { font-size: 11px; text-anchor: start; fill: #555 }
+.text, .value { font: 11px monospace }
+.text, .again { paint-order: stroke; stroke: #fff; stroke-width: 3px }
 .grid { stroke: #eee }
 .lane { stroke: #ccc }
 .word { fill: #dcebdc; stroke: #999 }
@@ -18,13 +21,34 @@ text { font: 12px sans-serif; fill: #222 }
 .kept { fill: #e3e3e3 }
 .read { fill: #d5e3f5 }
 .dot { fill: #222 }
-.cross { fill: none; stroke: #c33; stroke-width: 3 }
-.dash { stroke: #888; stroke-width: 3 }
+.cross { fill: none; stroke: #b71c1c; stroke-width: 3 }
+.dash { stroke: #767676; stroke-width: 3 }
 .ring { fill: none; stroke: #222; stroke-width: 1.5 }
-.stores { stroke: #2a7; stroke-width: 1.5 }
-.beaten { stroke: #c33; stroke-width: 1.5 }
-.expected { fill: none; stroke: #777; stroke-width: 1.2; stroke-dasharray: 4 3 }
+.stores { stroke: #17774b; stroke-width: 1.5 }
+.beaten { stroke: #b71c1c; stroke-width: 1.5 }
+.expected { fill: none; stroke: #666; stroke-width: 1.2; stroke-dasharray: 4 3 }
+@media (prefers-color-scheme: dark) {
+text { fill: #e6e6e6 }
+.ground { fill: #16181c }
+.number, .note, .again { fill: #b4b8be }
+.text, .again { stroke: #16181c }
+.grid { stroke: #26292f }
+.lane { stroke: #4a4e57 }
+.word { fill: #1d3a28; stroke: #70757d }
+.unreached { fill: #24272d; stroke: #70757d }
+.bar { stroke: #8a8f98 }
+.shorter { fill: #1f4d30 }
+.smaller { fill: #54420f }
+.kept { fill: #3a3d44 }
+.read { fill: #1f3d5f }
+.dot { fill: #f2f2f2 }
+.cross, .beaten { stroke: #ff8a80 }
+.dash, .expected { stroke: #aab0b8 }
+.ring { stroke: #f2f2f2 }
+.stores { stroke: #5fd39b }
+}
 </style>
+<rect class='ground' width='100%' height='100%'/>
 ";
 
 /// What the marks and lines mean.

@@ -13,5 +13,5 @@ mod plain;
 mod random;
 
 pub use lowering::{open_table, relax};
-pub use plain::{Answer, finish_table, plain_tree};
+pub use plain::{Answer, close_table, finish_table, plain_tree};
 pub use random::{GraphKind, Random, random_graph};

@@ -47,8 +47,19 @@ pub fn finish_table<const P: u32>(graph: &Graph, source: u32, mut words: Vec<Wor
     ensures answer { IsAnswer graph.now source (max_dist P) result }
     ensures predecessors { ArePredsWithin graph.now.n result }
 {
-    relax_all(&mut words, graph.arcs());
+    close_table(graph, source, &mut words);
     answer_of(graph, words)
+}
+
+/// Relaxes the arcs until no word changes, in a table that whatever program has lowered before.
+pub fn close_table<const P: u32>(graph: &Graph, source: u32, words: &mut Vec<Word<P>>)
+    requires layout { is_layout P ≡ true }
+    requires source { IsVertex graph.now.n source }
+    requires room { graph.now.n ≤ max_pred P }
+    requires table { IsTableOfWalks graph.now source (max_dist P) words.old.items }
+    ensures { IsFinishedTable graph.now source (max_dist P) words.new.items }
+{
+    relax_all(words, graph.arcs());
 }
 
 // What is told by the words of a table in which every arc is relaxed.

@@ -1,1 +1,2 @@
 pub mod RowWalks
+pub mod Targets

@@ -2,10 +2,13 @@
 //!
 //! The words are lowered bucket by bucket, as in delta-stepping (Meyer and Sanders, "Delta-stepping: a parallelizable shortest
 //! path algorithm", Journal of Algorithms 49 (2003)), and then the plain program passes over all arcs until no word changes:
-//! once, where nothing was missed. So the answer rests on those passes alone, whatever stands in buckets.
+//! once, where nothing was missed. So the answer rests on those passes alone, whatever stands in buckets. For one target the words
+//! are lowered up to its bucket, and a look at the arcs within its distance shows that its word is final.
 #![tactic(auto)]
 
 mod run;
 mod search;
+mod target;
 
 pub use run::solve_alone;
+pub use target::{TargetAnswer, solve_target};

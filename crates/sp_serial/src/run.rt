@@ -27,6 +27,6 @@ pub fn solve_alone<const P: u32>(
     ensures predecessors { IfOk result (ArePredsWithin graph.now.n) }
 {
     let mut words = open_table(alloc, graph, source)?;
-    search(alloc, graph, delta, source, &mut words)?;
+    search(alloc, graph, delta, source, None, &mut words)?;
     Ok(finish_table(graph, source, words))
 }

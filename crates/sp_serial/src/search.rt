@@ -1,5 +1,5 @@
 //! Words lowered bucket by bucket.
-ghost use Rattle.std.specs.Prelude.{◌≡◌, ℕ, ◌≤◌, true, vec_len};
+ghost use Rattle.std.specs.Prelude.{◌≡◌, ℕ, ◌≤◌, true, length, vec_len, IfSome};
 ghost use Rattle.sp_word.specs.Word.{is_layout, max_dist, max_pred};
 ghost use Rattle.sp_paths.specs.Paths.{IsVertex};
 ghost use Rattle.sp_plain.specs.Passing.{IsTableOfWalks};
@@ -59,16 +59,31 @@ fn relax_rows<const P: u32>(
     Ok(())
 }
 
-/// Lowers words from the source on, until no entry waits.
+// Whether the target has a distance in a bucket before this one.
+fn is_before<const P: u32>(words: &[Word<P>], target: Option<u32>, bins: &Bins, bucket: u64) -> bool
+    requires { IfSome target (IsVertex (length words.now)) }
+{
+    match target {
+        Some(vertex) => match look_up(words, vertex).dist() {
+            Some(dist) => bins.bucket_of(dist) < bucket,
+            None => false,
+        },
+        None => false,
+    }
+}
+
+/// Lowers words from the source on, until no entry waits; or, where there is a target, none in its bucket or before it.
 pub(crate) fn search<const P: u32>(
     alloc: Global,
     graph: &Graph,
     delta: Delta<P>,
     source: u32,
+    target: Option<u32>,
     words: &mut Vec<Word<P>>,
 ) -> Result<(), AllocError>
     requires layout { is_layout P ≡ true }
     requires source { IsVertex graph.now.n source }
+    requires target { IfSome target (IsVertex graph.now.n) }
     requires room { graph.now.n ≤ max_pred P }
     requires walks { IsTableOfWalks graph.now source (max_dist P) words.old.items }
     ensures walks { IsTableOfWalks graph.now source (max_dist P) words.new.items }
@@ -83,8 +98,11 @@ pub(crate) fn search<const P: u32>(
     for _ in 0..u64::MAX {
         if bins.refill(&mut entries) {
             relax_rows(graph, source, &entries, words, &mut bins)?;
-        } else if bins.advance()?.is_none() {
-            break;
+            continue;
+        }
+        match bins.advance()? {
+            Some(bucket) if !is_before(words, target, &bins, bucket) => {}
+            _ => break,
         }
     }
     Ok(())

@@ -41,39 +41,46 @@ impl<'a> Command<'a> for Check<'a> {
     const LONG_ABOUT: &'static str = "\
 Check a tree against its graph
 
-The answer is `yes` where the file holds the shortest-path tree of its source and no vertex is too
-far for a word, whoever made the file. Else it is `no V R`, with the lowest vertex V at which a rule
-fails and the number R of its lowest such rule:
-  1  the tree's number of vertices is not the graph's (V is 0, and nothing else is looked at)
+The answer is `yes` where the file holds the shortest-path tree of its source
+and no vertex is too far for a word, whoever made the file. Else it is `no V R`,
+with the lowest vertex V at which a rule fails and the number R of its lowest
+such rule:
+  1  the tree's number of vertices is not the graph's (V is 0, and nothing else
+     is looked at)
   2  the source's line has another distance or predecessor than 0
-  3  an arc from a vertex of the tree offers V a shorter distance, or the same one with a smaller
-     predecessor, within the greatest distance of a word
-  4  V is not the source, and its predecessor is not a vertex of the tree with an arc to V of
-     exactly the difference of the two distances
-  5  V has no line, and an arc leads to it from a vertex of the tree, beyond the greatest distance
+  3  an arc from a vertex of the tree offers V a shorter distance, or the same
+     one with a smaller predecessor, within the greatest distance of a word
+  4  V is not the source, and its predecessor is not a vertex of the tree with
+     an arc to V of exactly the difference of the two distances
+  5  V has no line, and an arc leads to it from a vertex of the tree, beyond the
+     greatest distance
 
-With --all the file has one block or more, as `spt tree` writes for several sources. Each is checked,
-and has a line of its own: `yes`, or `no S V R` with its source S.";
+With --all the file has one block or more, as `spt tree` writes for several
+sources. Each is checked, and has a line of its own: `yes`, or `no S V R` with
+its source S.";
 
     const AFTER_HELP: &'static str = after_help!(
         "\
-The graph is a .gr file, as `spt tree --help` tells. The tree file has one block as `spt tree` writes
-it for a source, with one space between fields and an LF at the end of each line:
+The graph is a .gr file, as `spt tree --help` tells. The tree file has one block
+as `spt tree` writes it for a source, with one space between fields and an LF at
+the end of each line:
   p spt N S, then v V D P by rising V, then e R
 
-It takes as much memory as `spt tree` does for one source, and 16 bytes a vertex more; with --all 32
-bytes a block besides.
+It takes as much memory as `spt tree` does for one source, and 16 bytes a vertex
+more; with --all 32 bytes a block besides.
 
-Example: for the graph and the tree of the example there, `spt check diamond.gr diamond.tree` writes
-`yes`. With `v 4 5 3` for `v 4 5 2` it writes `no 4 3`, since vertex 2 offers the same distance.
+Example: for the graph and the tree of the example there,
+`spt check diamond.gr diamond.tree` writes `yes`. With `v 4 5 3` for `v 4 5 2`
+it writes `no 4 3`, since vertex 2 offers the same distance.
 
-A fault is told with its line, as in `spt: tree: line 3: 5 OutOfRange V`, FILE being gr or tree; the
-kinds are those of `spt tree --help`. In a tree file
-  2 BadLine        a line is none of these, or is spelled in another way; so is an x line
-  5 OutOfRange     also a V that is not greater than the one before, and an R that is not the number
-                   of v lines
-  6 TooMany        something stands after the e line; with --all a further block may, and anything
-                   else is told as what is wrong with that
+A fault is told with its line, as in `spt: tree: line 3: 5 OutOfRange V`, FILE
+being gr or tree; the kinds are those of `spt tree --help`. In a tree file
+  2 BadLine        a line is none of these, or is spelled in another way; so is
+                   an x line
+  5 OutOfRange     also a V that is not greater than the one before, and an R
+                   that is not the number of v lines
+  6 TooMany        something stands after the e line; with --all a further block
+                   may, and anything else is told as what is wrong with that
   7 TooFew         the file ends before the e line
 ",
         statuses:

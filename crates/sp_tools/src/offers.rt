@@ -27,25 +27,29 @@ impl<'a> Command<'a> for Offers<'a> {
     const NAME: &'static str = "offers";
 
     const ABOUT: &'static str =
-        "Make the offers of several actors at once, and write the words that are left";
+        "Make the offers of several actors at once, and write the words left";
 
     const LONG_ABOUT: &'static str = "\
-Make the offers of several actors at once, and write the words that are left
+Make the offers of several actors at once, and write the words left
 
-A word of the table is unreached, or holds a distance and a predecessor. An offer of a pair leaves
-the lesser of the two, by distance, then by predecessor. Each actor has a thread of its own, and no
-thread waits for another's offers. Whatever their order, the words that are left are the same.";
+A word of the table is unreached, or holds a distance and a predecessor. An
+offer of a pair leaves the lesser of the two, by distance, then by predecessor.
+Each actor has a thread of its own, and no thread waits for another's offers.
+Whatever their order, the words that are left are the same.";
 
     const AFTER_HELP: &'static str = after_help!(
         "\
 The file has a line for each of these, its fields parted by blanks:
-  p off N K    there are N words, 1 to 65536, and K actors, 1 to 64; it stands first, and once
-  o A V D P    actor A, 1 to K, offers distance D and predecessor P to word V, 1 to N
+  p off N K    there are N words, 1 to 65536, and K actors, 1 to 64; it stands
+               first, and once
+  o A V D P    actor A, 1 to K, offers distance D and predecessor P to word V, 1
+               to N
   c ...        a comment; so is a line without a field
-An actor makes its offers in the order of the file. There are at most 1048576 offers. All words are
-unreached before.
+An actor makes its offers in the order of the file. There are at most 1048576
+offers. All words are unreached before.
 
-The output has a line for each word that is reached, by rising V, and then their number:
+The output has a line for each word that is reached, by rising V, and then their
+number:
   w V D P      word V holds distance D and predecessor P
   e R          there are R lines of this kind
 

@@ -30,40 +30,48 @@ pub struct Replay<'a> {
 impl<'a> Command<'a> for Replay<'a> {
     const NAME: &'static str = "replay";
 
-    const ABOUT: &'static str =
-        "Run the steps of several actors on one table in a given order, and report each call";
+    const ABOUT: &'static str = "Run the steps of several actors in a given order, and report them";
 
     const LONG_ABOUT: &'static str = "\
-Run the steps of several actors on one table in a given order, and report each call
+Run the steps of several actors in a given order, and report them
 
-A word of the table is unreached, or holds a distance and a predecessor. A call of an actor reads a
-word, or offers a pair to a word, which keeps the lesser of the two, or relaxes an arc: it reads the
-tail's word, and offers the sum to the head. One step is one load of a word, or one exchange. An
-exchange is lost where another actor has changed the word since it was loaded.";
+The actors share one table of words. A word of the table is unreached, or holds
+a distance and a predecessor. A call of an actor reads a word, or offers a pair
+to a word, which keeps the lesser of the two, or relaxes an arc: it reads the
+tail's word, and offers the sum to the head. One step is one load of a word, or
+one exchange. An exchange is lost where another actor has changed the word since
+it was loaded.";
 
     const AFTER_HELP: &'static str = after_help!(
         "\
 The file has a line for each of these, its fields parted by blanks:
-  p rep N K    there are N words, 1 to 65536, and K actors, 1 to 64; it stands first, and once
-  i V D P      word V, 1 to N, begins as distance D and predecessor P; the others begin unreached
-  o A V D P    a call: actor A, 1 to K, offers distance D and predecessor P to word V
+  p rep N K    there are N words, 1 to 65536, and K actors, 1 to 64; it stands
+               first, and once
+  i V D P      word V, 1 to N, begins as distance D and predecessor P; the
+               others begin unreached
+  o A V D P    a call: actor A, 1 to K, offers distance D and predecessor P to
+               word V
   r A V        a call: actor A reads word V
-  a A U V L    a call: actor A relaxes an arc from U to V of length L, 1 to 4294967295
+  a A U V L    a call: actor A relaxes an arc from U to V of length L, 1 to
+               4294967295
   s A          a step of actor A
   c ...        a comment; so is a line without a field
-An actor makes its calls in the order of the file. The steps are made in the order of the s lines,
-whatever stands between them. There are at most 1048576 calls and 16777216 steps.
+An actor makes its calls in the order of the file. The steps are made in the
+order of the s lines, whatever stands between them. There are at most 1048576
+calls and 16777216 steps.
 
-The report has a line for each call that ended, F and L being the numbers of its first and last
-step, and then the words at the end. The read and the offer of a relaxation have a line each.
-  o A V D P REPLY F L    shorter: the distance became less; smaller: the predecessor alone did;
-                         kept: the word was no greater than the offer
+The report has a line for each call that ended, F and L being the numbers of its
+first and last step, and then the words at the end. The read and the offer of a
+relaxation have a line each.
+  o A V D P REPLY F L    shorter: the distance became less; smaller: the
+                         predecessor alone did; kept: the word was no greater
+                         than the offer
   r A V D P F L          the read found distance D and predecessor P
   r A V none F L         the read found unreached
   w V D P                word V at the end, unless it is unreached
   t WINS LOSSES          how many exchanges were won and how many were lost
-  closed yes             each arc of an a line whose tail is reached was relaxed from the tail's
-                         last distance; else closed no
+  closed yes             each arc of an a line whose tail is reached was relaxed
+                         from the tail's last distance; else closed no
 
 Example: where the file lost_exchange.rep has the lines
   p rep 1 2
@@ -74,18 +82,19 @@ Example: where the file lost_exchange.rep has the lines
   s 1
   s 2
   s 2
-both actors load the word, actor 1 wins its exchange, actor 2 loses one and then wins one. The
-report of `spt replay lost_exchange.rep` is
+both actors load the word, actor 1 wins its exchange, actor 2 loses one and then
+wins one. The report of `spt replay lost_exchange.rep` is
   o 1 1 5 3 shorter 1 3
   o 2 1 5 2 smaller 2 5
   w 1 5 2
   t 2 1
   closed yes
 
-With --svg a picture of the run, in SVG, is written in place of the report: a lane for each word that
-a step looks at and for each actor, a bar for each call that ended, and a mark for each step. A lost
-exchange is tied to the store that beat it, and to the load whose word it expected. A picture shows
-60 steps at most.
+With --svg a picture of the run, in SVG, is written in place of the report: a
+lane for each word that a step looks at and for each actor, a bar for each call
+that ended, and a mark for each step. A lost exchange is tied to the store that
+beat it, and to the load whose word it expected. A picture shows 60 steps at
+most.
 
 A fault is told with its line, as in `spt: replay: line 2: 5 OutOfRange V`:
 ",
@@ -93,7 +102,8 @@ A fault is told with its line, as in `spt: replay: line 2: 5 OutOfRange V`:
         others: "\
 Others are
   spt: replay: cannot open           (exit status 6)
-  spt: replay: more than 60 steps    with --svg; nothing is written (exit status 2)
+  spt: replay: more than 60 steps    with --svg; nothing is written
+                                     (exit status 2)
 ",
         statuses:
             0 "done"

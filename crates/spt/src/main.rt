@@ -5,7 +5,8 @@ use sp_cli::run_command;
 use sp_device::{OfWrite, Write};
 use sp_disk::{Disk, Notes};
 use std::process::ExitCode;
-use std::rt::{Env, Files};
+use std::random::RandomSource;
+use std::rt::{Clock, Env, Files};
 use std::sync::Wait;
 use std::thread::Threads;
 use std::{env, io};
@@ -23,11 +24,10 @@ fn take_stack(one: usize, other: usize) -> bool {
 }
 
 /// Runs the command that the program's arguments order, and answers the exit status.
-fn run<R: AllocGlobal + Env + Eprint + Files + Threads + Wait + Sync, W: Write, E: Write>(
-    disk: &Disk<'_, R>,
-    out: &mut W,
-    err: &mut E,
-) -> io::Result<u8> {
+fn run<R, W: Write, E: Write>(disk: &Disk<'_, R>, out: &mut W, err: &mut E) -> io::Result<u8>
+where
+    R: AllocGlobal + Clock + Env + Eprint + Files + RandomSource + Threads + Wait + Sync,
+{
     let rt = disk.rt;
     let alloc = rt.alloc();
     let arguments: Vec<String> = env::args(rt)?.collect(alloc)?;
@@ -43,11 +43,15 @@ fn main(rt: HostRuntime) -> ExitCode {
     let disk = Disk {
         rt: &rt,
         stdin: rt.stdin(),
+        stderr: rt.stderr(),
+        process: rt.process(),
         notes: &notes,
     };
     let mut out = disk.standard_output(rt.stdout());
-    let mut err = OfWrite::new(rt.stderr());
-    match run(&disk, &mut out, &mut err) {
+    let mut err = OfWrite::new(disk.standard_error());
+    let ended = run(&disk, &mut out, &mut err);
+    disk.screen().end();
+    match ended {
         Ok(status) => ExitCode::from(status),
         Err(error) if error.kind() == io::ErrorKind::OutOfMemory => {
             let _ = eprintln!(rt; "spt: memory");
@@ -55,6 +59,9 @@ fn main(rt: HostRuntime) -> ExitCode {
         }
         Err(_) => {
             let _ = eprintln!(rt; "spt: an argument is not UTF-8");
+            let _ = eprintln!(rt;
+                "spt: use - and a redirection, as in spt tree - SS .. < GR > OUT"
+            );
             ExitCode::from(1)
         }
     }

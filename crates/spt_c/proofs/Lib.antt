@@ -1,3 +1,4 @@
 mod Blocks
 mod Same
 mod OneSource
+pub mod Pairs

@@ -1,15 +1,18 @@
 -- What is told of one target.
-use Rattle.std.specs.Prelude.{◌⊎◌, ℕ, List, [], ◌∷◌, None}
-use Rattle.sp_word.specs.History.{Table}
-use Rattle.sp_paths.specs.Paths.{Graph, IsTree, IsFar}
+use Rattle.std.specs.Prelude.{◌≡◌, ◌⊎◌, ℕ, List, [], ◌∷◌}
+use Rattle.std.specs.declared.option.Option.{Option}
+use Rattle.std.specs.declared.option.Option.TheVariants.{None, Some}
+use Rattle.sp_paths.specs.Paths.{Graph, IsPair, PairAnswer}
+use Rattle.sp_paths.specs.Paths.{Found as FoundPair, TooFar as FarVertex, NoWalk as NoWay}
 use Rattle.spt_c.specs.declared.arcs.SptArc.{SptArc}
+use Rattle.spt_c.specs.declared.answers.Told.{Told}
+use Rattle.spt_c.specs.declared.answers.Told.TheVariants.{TooFar, Memory, NoGraph}
 use Rattle.spt_c.specs.declared.found.SptFound.{SptFound}
 use Rattle.spt_c.specs.declared.found.Found.{Found}
 use Rattle.spt_c.specs.declared.found.Found.TheVariants.{Cell, Not}
 use Rattle.spt_c.specs.Arcs.{graph_of}
 use Rattle.spt_c.specs.Limits.{reach}
-use Rattle.spt_c.specs.Asked.{asked, IsGood, IsRefused}
-use Rattle.spt_c.specs.Blocks.{IsCell, HasNone}
+use Rattle.spt_c.specs.Asked.{Asked, asked, IsGood, IsRefused}
 use Rattle.spt_c.specs.Told.{answer_of}
 
 -- the numbers of the header: where there is no cell, what a tree's call tells
@@ -17,18 +20,42 @@ abbrev pub found_of : Found → SptFound
 found_of (Cell d p) = record { status = 0; pred = p; dist = d; index = 0 }
 found_of (Not told) = record { status = (answer_of told).status; pred = (answer_of told).vertex; dist = 0; index = (answer_of told).index }
 
--- the word of t in the tree from s, where no vertex is too far
+-- the distance and the predecessor of an answer; the greatest number and 0 where no walk leads there
+abbrev pub IsPairCell : PairAnswer → (d p : ℕ) → Type 0
+IsPairCell (FoundPair e q) d p = (d ≡ e) × (p ≡ q)
+IsPairCell (FarVertex v) d p = ⊥
+IsPairCell NoWay d p = (d ≡ 18446744073709551615) × (p ≡ 0)
+
+-- those of t's answer from s
 pub record HasCell (max : ℕ) (g : Graph) (s t d p : ℕ) : Type 0 where
-  pub words : Table
-  pub tree : IsTree g s words
-  pub far : IsFar g s max None
-  pub cell : IsCell (words t) d p
+  pub answer : PairAnswer
+  pub pair : IsPair g s t max answer
+  pub cell : IsPairCell answer d p
+
+-- why it has none: it is too far or no walk leads there, and this is the smallest vertex that is too far; or there is no memory
+abbrev pub HasNoCell : (max : ℕ) → Graph → (s t : ℕ) → Told → Type 0
+HasNoCell max g s t (TooFar v) = IsPair g s t max (FarVertex v)
+HasNoCell max g s t Memory = Unit {0}
+HasNoCell max g s t told = ⊥
+
+abbrev pub IsFoundIn : (max : ℕ) → Graph → (s t : ℕ) → Found → Type 0
+IsFoundIn max g s t (Cell d p) = HasCell max g s t d p
+IsFoundIn max g s t (Not told) = HasNoCell max g s t told
 
 -- nothing is written, so no slice is too short
 abbrev pub unlimited : ℕ
 unlimited = 18446744073709551615
 
+-- something is wrong with the call; or nothing is, and it is found
+abbrev pub IsFoundBy : Asked → Graph → (s t : ℕ) → Found → Type 0
+IsFoundBy q g s t (Cell d p) = IsGood q unlimited × HasCell (reach q.n) g s t d p
+IsFoundBy q g s t (Not told) = IsRefused q unlimited told ⊎ (IsGood q unlimited × HasNoCell (reach q.n) g s t told)
+
 -- the source and the target are tested as two sources are
 abbrev pub IsFound : (n : ℕ) → List SptArc → (s t delta : ℕ) → Found → Type 0
-IsFound n arcs s t delta (Cell d p) = IsGood (asked arcs n (s ∷ t ∷ []) delta) unlimited × HasCell (reach n) (graph_of n arcs) s t d p
-IsFound n arcs s t delta (Not told) = IsRefused (asked arcs n (s ∷ t ∷ []) delta) unlimited told ⊎ (IsGood (asked arcs n (s ∷ t ∷ []) delta) unlimited × HasNone (reach n) (graph_of n arcs) s told)
+IsFound n arcs s t delta found = IsFoundBy (asked arcs n (s ∷ t ∷ []) delta) (graph_of n arcs) s t found
+
+-- the same in a graph that is kept, where one is; no arcs are passed
+abbrev pub IsFoundOfKept : Option Graph → (s t delta : ℕ) → Found → Type 0
+IsFoundOfKept None s t delta found = found ≡ Not NoGraph
+IsFoundOfKept (Some g) s t delta found = IsFoundBy (asked [] g.n (s ∷ t ∷ []) delta) g s t found

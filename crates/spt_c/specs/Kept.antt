@@ -1,5 +1,5 @@
 -- What a call tells C of a graph that is kept between calls.
-use Rattle.std.specs.Prelude.{◌≡◌, ◌⊎◌, ℕ, List, [], All}
+use Rattle.std.specs.Prelude.{◌≡◌, ◌⊎◌, ℕ, List, [], All, length}
 use Rattle.std.specs.declared.option.Option.{Option}
 use Rattle.std.specs.declared.option.Option.TheVariants.{None, Some}
 use Rattle.sp_paths.specs.Paths.{Graph}
@@ -7,6 +7,7 @@ use Rattle.sp_paths.specs.Bags.{AreSame}
 use Rattle.spt_c.specs.declared.arcs.SptArc.{SptArc}
 use Rattle.spt_c.specs.declared.answers.SptAnswer.{SptAnswer}
 use Rattle.spt_c.specs.declared.answers.Batch.{Batch}
+use Rattle.spt_c.specs.declared.counts.SptCounts.{SptCounts}
 use Rattle.spt_c.specs.declared.answers.Told.TheVariants.{NoGraph}
 use Rattle.spt_c.specs.declared.making.Made.{Made}
 use Rattle.spt_c.specs.declared.making.Made.TheVariants.{Kept, BadSize, BadArc, Memory}
@@ -25,10 +26,10 @@ made_of BadSize = record { status = 1; vertex = 0; index = 0 }
 made_of (BadArc place) = record { status = 3; vertex = 0; index = place }
 made_of Memory = record { status = 6; vertex = 0; index = 0 }
 
--- the graph of n vertices with these arcs is kept
+-- the graph of n vertices with these arcs is kept, as many of them
 abbrev pub Keeps : (n : ℕ) → List SptArc → Option Graph → Type 0
 Keeps n arcs None = ⊥
-Keeps n arcs (Some graph) = AreSame graph (graph_of n arcs)
+Keeps n arcs (Some graph) = AreSame graph (graph_of n arcs) × (length graph.arcs ≡ length arcs)
 
 -- there may be n vertices, and all are arcs
 abbrev pub HasGraph : (n : ℕ) → List SptArc → Type 0
@@ -46,6 +47,11 @@ abbrev pub IsShared : (first old new : Option Graph) → Made → Type 0
 IsShared first old new Kept = new ≡ first
 IsShared first old new Memory = new ≡ old
 IsShared first old new made = ⊥
+
+-- its n vertices and m arcs, where there is one
+abbrev pub counts_of : Option Graph → SptCounts
+counts_of None = record { status = 10; n = 0; m = 0 }
+counts_of (Some g) = record { status = 0; n = g.n; m = length g.arcs }
 
 -- ## Its trees
 

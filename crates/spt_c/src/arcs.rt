@@ -1,5 +1,5 @@
 //! Arcs as C has them.
-ghost use Rattle.std.specs.Prelude.{◌≡◌, ◌≤◌, ◌↔◌, IsTrue, IfSome, IfNone, IfOk, All, map};
+ghost use Rattle.std.specs.Prelude.{◌≡◌, ◌≤◌, ◌↔◌, IsTrue, IfSome, IfNone, IfOk, All, length, map};
 ghost use Rattle.sp_paths.specs.Paths.{IsArc};
 ghost use Rattle.sp_paths.specs.Bags.{AreSame};
 ghost use Rattle.spt_c.specs.Arcs.{arc_of, graph_of};
@@ -55,7 +55,8 @@ fn converted(alloc: Global, arcs: &[SptArc]) -> Result<Vec<Arc>, AllocError>
 pub(crate) fn graph_of(alloc: Global, n: u32, arcs: &[SptArc]) -> Result<Graph, AllocError>
     requires some { 1 ≤ n }
     requires arcs { All (IsArcOf n) arcs.now }
-    ensures { IfOk result (λ graph. AreSame graph (graph_of n arcs.now)) }
+    ensures same { IfOk result (λ graph. AreSame graph (graph_of n arcs.now)) }
+    ensures count { IfOk result (λ graph. length graph.arcs ≡ length arcs.now) }
 {
     let own = converted(alloc, arcs)?;
     Ok(Graph::from_arcs(alloc, n, own)?)

@@ -7,9 +7,9 @@ ghost use Rattle.spt_c.specs.Asked.{asked};
 ghost use Rattle.spt_c.specs.Blocks.{slices};
 ghost use Rattle.spt_c.specs.Told.{IsTold, answer_of, batch_of};
 ghost use Rattle.spt_c.specs.Checked.{IsChecked};
-ghost use Rattle.spt_c.specs.Found.{IsFound, found_of};
+ghost use Rattle.spt_c.specs.Found.{IsFound, IsFoundOfKept, found_of};
 ghost use Rattle.spt_c.specs.Texts.{IsRead, text_of};
-ghost use Rattle.spt_c.specs.Kept.{made_of, IsMade, IsShared, IsToldOfKept};
+ghost use Rattle.spt_c.specs.Kept.{made_of, IsMade, IsShared, counts_of, IsToldOfKept};
 ghost use Rattle.spt_c.specs.declared.answers.Batch.{Batch};
 ghost use Rattle.spt_c.specs.declared.answers.Told.{Told};
 ghost use Rattle.spt_c.specs.declared.found.Found.{Found};
@@ -20,13 +20,22 @@ use crate::answers::{SptAnswer, SptBatch};
 use crate::arcs::SptArc;
 use crate::calls::solve;
 use crate::checking::check;
-use crate::found::{SptFound, find};
+use crate::counts::{SptCounts, counts};
+use crate::found::{SptFound, find, find_kept};
 use crate::kept_trees::solve_kept;
 use crate::limits::{is_count, reach};
 use crate::making::{make, share};
 use crate::texts::{SptText, read_graph};
 use sp_kept::KeptGraph;
 use std::alloc::Global;
+
+/// The library's version: the second part counts hundreds, the first ten thousands.
+#[unsafe(no_mangle)]
+pub extern "C" fn spt_version() -> u32
+    ensures { result ≡ 10100 }
+{
+    10_100
+}
 
 /// The greatest distance in a graph of n vertices, 0 where no graph has so many.
 #[unsafe(no_mangle)]
@@ -87,8 +96,8 @@ pub extern "C" fn spt_gr(alloc: Global, text: &[u8], arcs: &mut [SptArc]) -> Spt
     read.told()
 }
 
-/// The distance and the predecessor of a target in the shortest-path tree from a source, or why there are none. A delta
-/// of 0 stands for the mean length of an arc.
+/// The distance and the predecessor of a target in the shortest-path tree from a source, or why there are none. It ends as
+/// soon as they are known. A delta of 0 stands for the mean length of an arc.
 #[unsafe(no_mangle)]
 pub extern "C" fn spt_pair(
     alloc: Global,
@@ -180,4 +189,31 @@ pub extern "C" fn spt_graph_trees(
 {
     let batch = solve_kept(alloc, graph, sources, delta, dist, pred);
     batch.answer()
+}
+
+/// The distance and the predecessor of a target in the shortest-path tree of the graph that is kept from a source, or why
+/// there are none. It ends as soon as they are known. A delta of 0 stands for the mean length of an arc.
+#[unsafe(no_mangle)]
+pub extern "C" fn spt_graph_pair(
+    alloc: Global,
+    graph: &mut KeptGraph,
+    source: u32,
+    target: u32,
+    delta: u64,
+) -> SptFound
+    ensures told { (found : Found) × (result ≡ found_of found)
+        × IsFoundOfKept (kept graph.old) source target delta found }
+    ensures same { kept graph.new ≡ kept graph.old }
+{
+    let found = find_kept(alloc, graph, source, target, delta);
+    found.told()
+}
+
+/// How many vertices and arcs the graph has that is kept.
+#[unsafe(no_mangle)]
+pub extern "C" fn spt_graph_counts(alloc: Global, graph: &mut KeptGraph) -> SptCounts
+    ensures counts { result ≡ counts_of (kept graph.old) }
+    ensures same { kept graph.new ≡ kept graph.old }
+{
+    counts(alloc, graph)
 }

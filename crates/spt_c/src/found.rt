@@ -1,11 +1,21 @@
 //! One target of a source.
-ghost use Rattle.std.specs.Prelude.{◌≡◌};
-ghost use Rattle.spt_c.specs.Found.{found_of, IsFound};
+ghost use Rattle.std.specs.Prelude.{◌≡◌, ◌≤◌, ◌∷◌, [], ℕ, true};
+ghost use Rattle.sp_word.specs.Word.{is_layout, max_dist, max_pred};
+ghost use Rattle.sp_paths.specs.Paths.{Graph as Network, IsVertex};
+ghost use Rattle.sp_kept.specs.Kept.{kept};
+ghost use Rattle.sp_serial.specs.Target.{IsAnswerFor};
+ghost use Rattle.spt_c.specs.Asked.{asked};
+ghost use Rattle.spt_c.specs.Limits.{IsCount, reach};
+ghost use Rattle.spt_c.specs.Found.{found_of, IsFoundIn, IsFoundBy, IsFound, IsFoundOfKept};
 
 use crate::answers::Told;
-use crate::arcs::SptArc;
-use crate::own::own_tree;
+use crate::arcs::{SptArc, graph_of};
 use crate::refusals::refusal;
+use crate::solving::width_for;
+use sp_alone::{TargetAnswer, run_target_alone};
+use sp_graph::Graph;
+use sp_kept::KeptGraph;
+use sp_word::Delta;
 use std::alloc::Global;
 
 /// What a call for a target tells: a status; its distance and its predecessor; and the place of the arc that is
@@ -24,7 +34,7 @@ pub struct SptFound {
 pub(crate) enum Found {
     /// The target's distance and predecessor.
     Cell(u64, u32),
-    /// Why there is no tree.
+    /// Why there are none.
     Not(Told),
 }
 
@@ -53,7 +63,59 @@ impl Found {
     }
 }
 
-/// The distance and the predecessor of a target in the tree of a source.
+// What is told of an answer: no distance is as great as the greatest number, which stands for no walk.
+fn of_answer(answer: TargetAnswer) -> Found
+    ensures { (g : Network) (s t max : ℕ) → IsAnswerFor g s t max answer
+        → IsFoundIn max g s t result }
+{
+    match answer {
+        TargetAnswer::Found { dist, pred } => Found::Cell(dist, pred),
+        TargetAnswer::TooFar(vertex) => Found::Not(Told::TooFar(vertex)),
+        TargetAnswer::NoWalk => Found::Cell(u64::MAX, 0),
+    }
+}
+
+// The answer for a target in a graph.
+fn find_by<const P: u32>(
+    alloc: Global,
+    graph: &Graph,
+    source: u32,
+    target: u32,
+    width: Delta<P>,
+) -> Found
+    requires layout { is_layout P ≡ true }
+    requires n { graph.now.n ≤ max_pred P }
+    requires source { IsVertex graph.now.n source }
+    requires target { IsVertex graph.now.n target }
+    ensures { IsFoundIn (max_dist P) graph.now source target result }
+{
+    match run_target_alone(alloc, graph, width, source, target) {
+        Ok(answer) => of_answer(answer),
+        Err(_) => Found::Not(Told::Memory),
+    }
+}
+
+// The same by the layout with the greatest distances that holds the vertices.
+fn find_in(alloc: Global, graph: &Graph, source: u32, target: u32, delta: u64) -> Found
+    requires n { IsCount graph.now.n }
+    requires source { IsVertex graph.now.n source }
+    requires target { IsVertex graph.now.n target }
+    requires delta { delta ≤ reach graph.now.n }
+    ensures { IsFoundIn (reach graph.now.n) graph.now source target result }
+{
+    let n = graph.n();
+    if n <= 1_048_574 {
+        find_by::<20>(alloc, graph, source, target, width_for(graph, delta))
+    } else if n <= 16_777_214 {
+        find_by::<24>(alloc, graph, source, target, width_for(graph, delta))
+    } else if n <= 268_435_454 {
+        find_by::<28>(alloc, graph, source, target, width_for(graph, delta))
+    } else {
+        find_by::<32>(alloc, graph, source, target, width_for(graph, delta))
+    }
+}
+
+/// The distance and the predecessor of a target in the tree of a source. The run ends as soon as these are known.
 pub(crate) fn find(
     alloc: Global,
     arcs: &[SptArc],
@@ -68,11 +130,41 @@ pub(crate) fn find(
     if let Some(told) = refusal(arcs, n, &ends, delta, usize::MAX) {
         return Found::Not(told);
     }
-    match own_tree(alloc, arcs, n, source, delta) {
-        Ok(own) => {
-            let at = target as usize - 1;
-            Found::Cell(own.dist[at], own.pred[at])
+    match graph_of(alloc, n, arcs) {
+        Ok(graph) => find_in(alloc, &graph, source, target, delta),
+        Err(_) => Found::Not(Told::Memory),
+    }
+}
+
+// Tests all that is passed with a graph, and finds the target there.
+fn find_known(alloc: Global, graph: &Graph, source: u32, target: u32, delta: u64) -> Found
+    ensures { IsFoundBy (asked [] graph.now.n (source ∷ target ∷ []) delta)
+        graph.now source target result }
+{
+    let ends = [source, target];
+    if let Some(told) = refusal(&[], graph.n(), &ends, delta, usize::MAX) {
+        return Found::Not(told);
+    }
+    find_in(alloc, graph, source, target, delta)
+}
+
+/// The same with the graph that a place keeps, and keeps on.
+pub(crate) fn find_kept(
+    alloc: Global,
+    graph: &mut KeptGraph,
+    source: u32,
+    target: u32,
+    delta: u64,
+) -> Found
+    ensures found { IsFoundOfKept (kept graph.old) source target delta result }
+    ensures same { kept graph.new ≡ kept graph.old }
+{
+    match graph.take(alloc) {
+        Some(held) => {
+            let found = find_known(alloc, held.graph(), source, target, delta);
+            graph.put(alloc, held);
+            found
         }
-        Err(told) => Found::Not(told),
+        None => Found::Not(Told::NoGraph),
     }
 }

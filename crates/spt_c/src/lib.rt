@@ -6,6 +6,7 @@ mod arcs;
 mod calls;
 mod cells;
 mod checking;
+mod counts;
 mod exports;
 mod found;
 mod kept_trees;
@@ -18,5 +19,6 @@ mod texts;
 
 pub use answers::{SptAnswer, SptBatch};
 pub use arcs::SptArc;
+pub use counts::SptCounts;
 pub use found::SptFound;
 pub use texts::SptText;

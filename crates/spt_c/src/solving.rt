@@ -12,8 +12,8 @@ use sp_graph::Graph;
 use sp_word::{Delta, Word};
 use std::alloc::Global;
 
-// The width that is asked for; for 0 the mean length of an arc, but no more than the greatest distance.
-fn width_for<const P: u32>(graph: &Graph, delta: u64) -> Delta<P>
+/// The width that is asked for; for 0 the mean length of an arc, but no more than the greatest distance.
+pub(crate) fn width_for<const P: u32>(graph: &Graph, delta: u64) -> Delta<P>
     requires layout { is_layout P ≡ true }
     requires most { delta ≤ max_dist P }
 {

@@ -49,12 +49,15 @@ impl KeptGraph {
         }
     }
 
-    /// Takes out what is kept, where something is.
+    /// Takes out what is kept, where something is; a place that keeps none isn't written.
     pub fn take(&mut self, alloc: Global) -> Option<HeldGraph>
         ensures rest { kept self.new ≡ None }
         ensures some { IfSome result (λ out. kept self.old ≡ Some (held out)) }
         ensures none { IfNone result (kept self.old ≡ None) }
     {
+        if !self.full {
+            return None;
+        }
         replace(self, KeptGraph::none()).into_held(alloc)
     }
 

@@ -1,5 +1,4 @@
 use Rattle.sp_picture.specs.Marks.{IsStoreTo}
-use Rattle.std.proofs.Common.{◌≡◌}
 use Rattle.sp_picture.proofs.Lasts.{IsLastBelow}
 use Rattle.sp_picture.proofs.ties.last_store.Given as goal
 

@@ -1,4 +1,3 @@
-use Rattle.std.proofs.Common.{ℕ}
 use Rattle.sp_word.specs.Word.{max_dist}
 use Rattle.sp_paths.specs.declared.arc.Arc.{Arc}
 use Rattle.sp_serial.proofs.RowWalks.{row_keeps}

@@ -1,6 +1,8 @@
-use Rattle.std.proofs.Common.{◌≡◌, List, subst, sym}
+use Rattle.std.proofs.Common.{◌≡◌, List, ◌∙◌, subst, sym}
 use Rattle.std.specs.Prelude.{All, map, IsPermutation}
+use Rattle.std.proofs.lemmas.List.{length-map}
 use Rattle.std.proofs.lemmas.List.Elements.{All-map}
+use Rattle.std.proofs.lemmas.List.Sorted.{length_permutation}
 use Rattle.sp_paths.specs.declared.arc.Arc.{Arc}
 use Rattle.sp_paths.specs.Paths.{IsArc}
 use Rattle.spt_c.specs.Arcs.{arc_of}
@@ -16,5 +18,11 @@ from_arcs-requires-clause-arcs c =
 pub returns : goal.returns
 returns c =
     let own : c.in_ok-own.own.items ≡ map arc_of c.args.arcs.now = c.in_ok-own.ensures in
-    let I : List Arc → Type 0 = λ xs. IsPermutation xs c.in_ok-from_arcs.field-0.arcs in
-    same_graph c.args.n (map arc_of c.args.arcs.now) c.in_ok-from_arcs.field-0 c.in_ok-from_arcs.ensures.n (subst I own c.in_ok-from_arcs.ensures.arcs)
+    let arcs = map arc_of c.args.arcs.now in
+    let graph = c.in_ok-from_arcs.field-0 in
+    let I : List Arc → Type 0 = λ xs. IsPermutation xs graph.arcs in
+    let is : IsPermutation arcs graph.arcs = subst I own c.in_ok-from_arcs.ensures.arcs in
+    record {
+      same = same_graph c.args.n arcs graph c.in_ok-from_arcs.ensures.n is;
+      count = length_permutation arcs graph.arcs is ∙ length-map c.args.arcs.now arc_of;
+    }

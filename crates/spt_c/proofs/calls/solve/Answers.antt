@@ -13,6 +13,6 @@ returns-in-Ok c =
     let S : ℕ → Type 0 = λ n. AreSolved (reach n) c.in-Ok.graph c.args.sources.now old new c.solve_graph.result in
     inr (record {
       good = subst (IsGood (asked c.args.arcs.now c.args.n c.args.sources.now c.args.delta)) c.min-places.ensures c.in_default.ensures.good;
-      solved = same_solved (reach c.args.n) c.in-Ok.graph (graph_of c.args.n c.args.arcs.now) c.args.sources.now old new c.solve_graph.result c.in-Ok.ensures
-          (subst S c.in-Ok.ensures.n c.solve_graph.ensures);
+      solved = same_solved (reach c.args.n) c.in-Ok.graph (graph_of c.args.n c.args.arcs.now) c.args.sources.now old new c.solve_graph.result c.in-Ok.ensures.same
+          (subst S c.in-Ok.ensures.same.n c.solve_graph.ensures);
     })

@@ -1,0 +1,36 @@
+//! A run for one target of a source, by the calling thread alone.
+ghost use Rattle.std.specs.Prelude.{◌≡◌, ◌≤◌, true, IfOk, IfErr};
+ghost use Rattle.sp_word.specs.Word.{is_layout, max_dist, max_pred};
+ghost use Rattle.sp_serial.specs.Target.{IsAnswerFor};
+ghost use Rattle.sp_alone.specs.Target.{AreEnds, IsTargetRefusal};
+
+use sp_answer::RunError;
+use sp_graph::Graph;
+use sp_serial::{TargetAnswer, solve_target};
+use sp_word::Delta;
+use std::alloc::Global;
+
+/// What is to be told of a target of the source, as `run_targets` answers it, without another thread and without waiting: it
+/// returns. It ends as soon as the target's word is final, so a near one takes little time.
+pub fn run_target_alone<const P: u32>(
+    alloc: Global,
+    graph: &Graph,
+    delta: Delta<P>,
+    source: u32,
+    target: u32,
+) -> Result<TargetAnswer, RunError>
+    requires layout { is_layout P ≡ true }
+    requires n { graph.now.n ≤ max_pred P }
+    ensures ends { IfOk result (λ _. AreEnds graph.now.n source target) }
+    ensures answer { IfOk result (IsAnswerFor graph.now source target (max_dist P)) }
+    ensures refused { IfErr result (IsTargetRefusal graph.now.n source target) }
+{
+    let n = graph.n();
+    if source < 1 || source > n || target < 1 || target > n {
+        return Err(RunError::NoSuchVertex);
+    }
+    match solve_target(alloc, graph, delta, source, target) {
+        Ok(answer) => Ok(answer),
+        Err(_) => Err(RunError::Memory),
+    }
+}

@@ -1,0 +1,167 @@
+//! What to do about a line that a reader refused.
+use crate::faults::FileKind;
+use crate::layout::PredBits;
+use std::fmt;
+
+/// What to do about a line that a reader refused. It displays without an end.
+#[derive(Clone, Copy, Debug)]
+pub enum Advice<'a> {
+    /// A comment begins otherwise.
+    Comment,
+    /// A file of this kind has no comments.
+    NoComments(FileKind),
+    /// The line is of a file of another kind than the command wants.
+    OtherFile {
+        command: &'a str,
+        found: FileKind,
+        wanted: FileKind,
+    },
+    /// The file has no problem line, or not at its beginning.
+    NoProblem(FileKind),
+    /// What lines the file has.
+    Lines(FileKind),
+    /// What the number of arcs, of sources or of pairs is.
+    Count(FileKind),
+    /// A line has its most bytes.
+    LongLine,
+    /// A vertex is numbered from 1, up to this number where it is known.
+    Vertex(Option<u64>),
+    /// Vertices may be numbered from 0.
+    FromZero,
+    /// A length is a whole number in range.
+    Length,
+    /// Lengths may have fractions.
+    FractionOfLength,
+    /// How a number is spelled.
+    Spelling,
+    /// A field is a number from a first one to a last.
+    Range {
+        field: u8,
+        first: u64,
+        last: u64,
+    },
+    /// The vertex of a line of a tree is greater than the one before.
+    Rising,
+    /// The number of the last line of a tree.
+    Rows,
+    /// The file of trees has several blocks.
+    Blocks,
+    /// The file of a tree ends too early.
+    CutTree,
+    /// A source was too far for its layout, and this one reaches farther, if one does.
+    TooFar(Option<PredBits>),
+}
+
+impl fmt::Display for Advice<'_> {
+    fn fmt<W: fmt::Write>(&self, f: &mut fmt::Formatter<W>) -> fmt::Result {
+        match self {
+            Advice::OtherFile {
+                command,
+                found,
+                wanted,
+            } => write!(
+                f,
+                "a line of {}, where {} is wanted; see spt {command} --help",
+                of_kind(*found),
+                of_kind(*wanted)
+            ),
+            Advice::NoComments(file) => write!(f, "{} has no comments", of_kind(*file)),
+            Advice::NoProblem(file) => { write!(f, "no {} line; {}", problem(*file), Lines(*file)) }
+            Advice::Lines(file) => write!(f, "{}", Lines(*file)),
+            Advice::Vertex(Some(last)) => write!(f, "vertices are numbered from 1 to {last}"),
+            Advice::Range { field, first, last } => {
+                write!(
+                    f,
+                    "{} is a number from {first} to {last}",
+                    char::from(*field)
+                )
+            }
+            Advice::TooFar(Some(pred_bits)) => {
+                write!(f, "{TOO_FAR}; --pred-bits {pred_bits} reaches farther")
+            }
+            Advice::TooFar(None) => write!(f, "{TOO_FAR}; no layout reaches farther"),
+            other => f.write_str(other.words()),
+        }
+    }
+}
+
+const TOO_FAR: &str = "an x line, of a source for which a vertex was too far";
+
+impl Advice<'_> {
+    // The words of one that has no more to tell.
+    fn words(&self) -> &'static str {
+        match self {
+            Advice::Comment => "comments begin with `c`, and a blank parts it from the rest",
+            Advice::Count(file) => count(*file),
+            Advice::LongLine => "a line has at most 1024 bytes, and ends with an LF",
+            Advice::FromZero => {
+                "vertices are numbered from 1; where yours begin with 0, add 1 to each"
+            }
+            Advice::Length => "lengths are whole numbers from 1 to 4294967295",
+            Advice::FractionOfLength => {
+                "lengths are whole numbers from 1 to 4294967295; multiply them all, as by 1000"
+            }
+            Advice::Spelling => {
+                "numbers are digits alone, with no sign, no point and no 0 before them"
+            }
+            Advice::Rising => "V is from 1 to N, and greater than in the `v` line before",
+            Advice::Rows => "R of the line `e R` is the number of `v` lines",
+            Advice::Blocks => "the file has several blocks; use --all",
+            Advice::CutTree => "the file ends before the line `e R`: it is cut off",
+            _ => "vertices are numbered from 1 to the N of the line `p`",
+        }
+    }
+}
+
+// What a file is, in a sentence.
+fn of_kind(file: FileKind) -> &'static str {
+    match file {
+        FileKind::Graph => "a .gr file",
+        FileKind::Sources => "a .ss file",
+        FileKind::Pairs => "a file of pairs",
+        FileKind::Tree => "a tree file",
+        FileKind::Replay => "a replay file",
+        FileKind::Offers => "a file of offers",
+    }
+}
+
+// The problem line of a file.
+fn problem(file: FileKind) -> &'static str {
+    match file {
+        FileKind::Graph => "`p sp N M`",
+        FileKind::Sources => "`p aux sp ss K`",
+        FileKind::Pairs => "`p pairs K`",
+        FileKind::Tree => "`p spt N S`",
+        FileKind::Replay => "`p rep N K`",
+        FileKind::Offers => "`p off N K`",
+    }
+}
+
+// What the counted lines of a file are as many as.
+fn count(file: FileKind) -> &'static str {
+    match file {
+        FileKind::Graph => "M of the line `p sp N M` is the number of `a` lines",
+        FileKind::Sources => "K of the line `p aux sp ss K` is the number of `s` lines",
+        FileKind::Pairs => "K of the line `p pairs K` is the number of `q` lines",
+        FileKind::Tree | FileKind::Replay | FileKind::Offers => "the file has too many lines",
+    }
+}
+
+/// The lines of a file of a kind, as a sentence says them.
+#[derive(Clone, Copy)]
+struct Lines(FileKind);
+
+impl fmt::Display for Lines {
+    fn fmt<W: fmt::Write>(&self, f: &mut fmt::Formatter<W>) -> fmt::Result {
+        let Lines(file) = *self;
+        let rest = match file {
+            FileKind::Graph => "and `a U V W` for each of its M arcs",
+            FileKind::Sources => "and `s V` for each of its K sources",
+            FileKind::Pairs => "and `q S T` for each of its K pairs",
+            FileKind::Tree => "`v V D P` for each vertex, and `e R`, parted by one space",
+            FileKind::Replay => "and lines i, o, r, a and s: see spt replay --help",
+            FileKind::Offers => "and `o A V D P` for each offer",
+        };
+        write!(f, "{} has one {}, {rest}", of_kind(file), problem(file))
+    }
+}

@@ -1,0 +1,141 @@
+//! Files of output.
+use crate::disk::Disk;
+use crate::noted::Noted;
+use crate::place::{Part, Place};
+use crate::screen::Screen;
+use either::Either;
+use sp_command::Outputs;
+use sp_device::{Failed, OfWrite, Write, WriteFault};
+use std::alloc::{AllocError, Global};
+use std::fs::{OpenFile, OpenOptions};
+use std::io;
+use std::io::{ErrorKind, Stdout};
+use std::random::RandomSource;
+use std::rt::{Clock, Files};
+
+/// A file whose flush waits until the disk holds what was written.
+#[derive(Drop)]
+struct Lasting<F>(F);
+
+impl<F: io::Write + OpenFile> io::Write for Lasting<F> {
+    fn write(&mut self, bytes: &[u8]) -> io::Result<usize> {
+        self.0.write(bytes)
+    }
+
+    fn flush(&mut self) -> io::Result<()> {
+        self.0.flush()?;
+        match self.0.sync_all() {
+            Err(error) if is_unknown_there(&error) => Ok(()),
+            done => done,
+        }
+    }
+}
+
+// Whether a file system has no such call.
+fn is_unknown_there(error: &io::Error) -> bool {
+    matches!(
+        error.kind(),
+        ErrorKind::InvalidInput | ErrorKind::Unsupported
+    )
+}
+
+// A file or standard output, as a device.
+type Device<'a, F> = OfWrite<Noted<'a, Either<Lasting<F>, Stdout>>>;
+
+/// A file of output that is being written, or standard output. Both are of one type, so that the commands are compiled once.
+pub struct Output<'a, R: Files> {
+    device: Device<'a, R::File>,
+    // None: it is written to straight.
+    part: Option<Part>,
+    screen: Screen<'a, R>,
+}
+
+impl<R: Files> Drop for Output<'_, R> {
+    fn drop(self) {
+        let Output {
+            device: _,
+            part: _,
+            screen: _,
+        } = self;
+    }
+}
+
+impl<'a, R: Files + Eprint + Clock> Write for Output<'a, R> {
+    ghost written = { λ d. ⟦<Device<'a, R::File> as Write>⟧.written d.device };
+
+    ghost passed = { λ d. ⟦<Device<'a, R::File> as Write>⟧.passed d.device };
+
+    ghost has_failed = { λ d. ⟦<Device<'a, R::File> as Write>⟧.has_failed d.device };
+
+    fn write(&mut self, bytes: &[u8]) -> Result<usize, Failed> {
+        let count = self.device.write(bytes)?;
+        self.screen.see_written(&bytes[..count]);
+        Ok(count)
+    }
+}
+
+impl<'a, R: Files + AllocGlobal + RandomSource + Clock + Eprint> Outputs for Disk<'a, R> {
+    type Output = Output<'a, R>;
+
+    fn create(&self, alloc: Global, path: &str) -> Result<Option<Self::Output>, AllocError> {
+        let Some(place) = Place::of(self.rt, alloc, path)? else {
+            return Ok(self.straight(path));
+        };
+        match place.begin(self.rt, alloc, self.process) {
+            Ok((file, part)) => Ok(Some(self.output(Either::Left(Lasting(file)), Some(part)))),
+            Err(error) if error.kind() == ErrorKind::OutOfMemory => Err(AllocError),
+            Err(error) => {
+                self.notes.failed(error);
+                Ok(None)
+            }
+        }
+    }
+
+    fn keep(&self, output: Self::Output) -> Result<(), WriteFault> {
+        let mut output = output;
+        let Some(part) = output.part.take() else {
+            return Ok(());
+        };
+        // Else a crash of the system could leave a file of this name that lacks some of its text.
+        let is_whole = output.device.flush().is_ok();
+        if is_whole && self.notes.checked(part.keep(self.rt)).is_some() {
+            return Ok(());
+        }
+        part.remove(self.rt);
+        Err(WriteFault)
+    }
+
+    fn discard(&self, output: Self::Output) {
+        let mut output = output;
+        if let Some(part) = output.part.take() {
+            part.remove(self.rt);
+        }
+    }
+}
+
+impl<'a, R: Files + Eprint + Clock> Disk<'a, R> {
+    /// Standard output, before its first byte.
+    pub fn standard_output(&self, stdout: Stdout) -> Output<'a, R> {
+        self.output(Either::Right(stdout), None)
+    }
+
+    // What can have no other file in its stead, as a device or a pipe.
+    fn straight(&self, path: &str) -> Option<Output<'a, R>> {
+        let mut options = OpenOptions::new();
+        options.write(true).truncate(true);
+        let file = self.notes.checked(options.open(self.rt, path))?;
+        Some(self.output(Either::Left(Lasting(file)), None))
+    }
+
+    fn output(
+        &self,
+        device: Either<Lasting<R::File>, Stdout>,
+        part: Option<Part>,
+    ) -> Output<'a, R> {
+        Output {
+            device: OfWrite::new(Noted::new(device, self.notes, None)),
+            part,
+            screen: self.screen(),
+        }
+    }
+}

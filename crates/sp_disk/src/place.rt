@@ -1,0 +1,199 @@
+//! Where a file of output is to stand, and the file that is written in its stead until it is whole.
+use std::alloc::{AllocError, Global};
+use std::fs::{Metadata, OpenFile, OpenOptions};
+use std::io::ErrorKind;
+use std::os::unix::fs::{MetadataExt, OpenOptionsExt, PermissionsExt, lchown};
+use std::path::PathBuf;
+use std::process::{self, Process};
+use std::random::RandomSource;
+use std::rt::{Clock, Files};
+use std::{fs, io};
+
+// As many links as the system follows.
+const MOST_LINKS: usize = 40;
+
+// How many names are tried before it is given up.
+const MOST_NAMES: usize = 16;
+
+// The bits of a mode that say who may read, write and run a file; a file that is new has all but those for running, as far as the
+// user lets it have them.
+const RIGHTS: u32 = 0o777;
+
+const NEW_RIGHTS: u32 = 0o666;
+
+const OWN_RIGHTS: u32 = 0o700;
+
+/// Where a file is to stand, and what stands there.
+#[derive(Drop)]
+pub struct Place {
+    path: String,
+    replaced: Option<Metadata>,
+}
+
+/// A file that has a name of its own until it is whole.
+#[derive(Drop)]
+pub struct Part {
+    path: String,
+    place: String,
+}
+
+impl Place {
+    /// The place that a path leads to. None: what is there is no regular file, or nothing can stand there.
+    pub fn of<R: Files + AllocGlobal>(
+        rt: &R,
+        alloc: Global,
+        path: &str,
+    ) -> Result<Option<Self>, AllocError> {
+        match fs::metadata(rt, path) {
+            Ok(found) if found.is_file() => Self::of_file(rt, alloc, path, found),
+            Err(error) if error.kind() == ErrorKind::NotFound => Self::missing(rt, alloc, path),
+            _ => Ok(None),
+        }
+    }
+
+    // The place of a file that is there, at the end of links.
+    fn of_file<R: Files + AllocGlobal>(
+        rt: &R,
+        alloc: Global,
+        path: &str,
+        found: Metadata,
+    ) -> Result<Option<Self>, AllocError> {
+        let path = match fs::canonicalize(rt, path) {
+            Ok(path) => path.into_string(),
+            Err(error) if error.kind() == ErrorKind::OutOfMemory => return Err(AllocError),
+            Err(_) if is_link(rt, path) => return Ok(None),
+            Err(_) => String::from_str(alloc, path)?,
+        };
+        let replaced = Some(found);
+        Ok(Some(Place { path, replaced }))
+    }
+
+    // The place of a file that is missing: where links lead that end there, so that they stay.
+    fn missing<R: Files + AllocGlobal>(
+        rt: &R,
+        alloc: Global,
+        path: &str,
+    ) -> Result<Option<Self>, AllocError> {
+        let mut place = PathBuf::from_str(alloc, path)?;
+        for _ in 0..MOST_LINKS {
+            match fs::read_link(rt, place.as_str()) {
+                Ok(next) => {
+                    place.pop();
+                    place.push(next)?;
+                }
+                Err(error) if error.kind() == ErrorKind::OutOfMemory => return Err(AllocError),
+                Err(_) => break,
+            }
+        }
+        let path = place.into_string();
+        if path.is_empty() || path.ends_with('/') || is_link(rt, &path) {
+            return Ok(None);
+        }
+        let replaced = None;
+        Ok(Some(Place { path, replaced }))
+    }
+
+    /// Makes a file in the folder of the place, by a name that nothing has there. Nobody may read it who may not read the file that
+    /// it is to replace.
+    pub fn begin<R: Files + AllocGlobal + RandomSource + Clock>(
+        self,
+        rt: &R,
+        alloc: Global,
+        process: Process,
+    ) -> io::Result<(R::File, Part)> {
+        let mode = match &self.replaced {
+            Some(replaced) => replaced.mode() & OWN_RIGHTS,
+            None => NEW_RIGHTS,
+        };
+        let mut options = OpenOptions::new();
+        options.write(true).create_new(true).mode(mode);
+        for _ in 0..MOST_NAMES {
+            let path = self.name(rt, alloc, process)?;
+            match options.open(rt, path.as_str()) {
+                Ok(file) => {
+                    if let Some(replaced) = &self.replaced {
+                        take_after(rt, &file, &path, replaced);
+                    }
+                    let place = self.path;
+                    return Ok((file, Part { path, place }));
+                }
+                Err(error) if error.kind() == ErrorKind::AlreadyExists => {}
+                Err(error) => return Err(error),
+            }
+        }
+        Err(ErrorKind::AlreadyExists.into())
+    }
+
+    // A name beside the place, with the number of the process, by which it can be told from those of others.
+    fn name<R: RandomSource + Clock>(
+        &self,
+        rt: &R,
+        alloc: Global,
+        process: Process,
+    ) -> io::Result<String> {
+        let (folder, slash) = match self.path.rsplit_once('/') {
+            Some((folder, _)) => (folder, "/"),
+            None => ("", ""),
+        };
+        let id = process::id(process);
+        let digits = digits(rt)?;
+        Ok(format!(in alloc; "{folder}{slash}.spt-{id}-{digits:016x}.part")?)
+    }
+}
+
+impl Part {
+    /// Gives the file its place.
+    pub fn keep<R: Files>(&self, rt: &R) -> io::Result<()> {
+        fs::rename(rt, self.path.as_str(), self.place.as_str())
+    }
+
+    /// Removes the file.
+    pub fn remove<R: Files>(&self, rt: &R) {
+        let _ = fs::remove_file(rt, self.path.as_str());
+    }
+}
+
+// Whether a path is a link itself.
+fn is_link<R: Files>(rt: &R, path: &str) -> bool {
+    match fs::symlink_metadata(rt, path) {
+        Ok(found) => found.is_symlink(),
+        Err(_) => false,
+    }
+}
+
+// A number that no other run has but by chance.
+fn digits<R: RandomSource + Clock>(rt: &R) -> io::Result<u64> {
+    let mut bytes = [0u8; 8];
+    if rt.fill_bytes(&mut bytes).is_ok() {
+        return Ok(u64::from_le_bytes(bytes));
+    }
+    let time = rt.since_1970()?;
+    Ok(time.as_secs() ^ u64::from(time.subsec_nanos()) << 32)
+}
+
+// Gives a new file the owner, the group and the rights of the one that it is to replace, as far as the user may, and no more rights.
+fn take_after<R: Files>(rt: &R, file: &R::File, path: &str, replaced: &Metadata) {
+    let mut rights = replaced.mode() & RIGHTS;
+    if !has_group_of(rt, file, path, replaced) {
+        // Who was in the group is now one of all others, and who is in the new group was that.
+        let shared = rights >> 3 & rights & 0o007;
+        rights = rights & OWN_RIGHTS | shared << 3 | shared;
+    }
+    if let Ok(own) = file.metadata() {
+        let mut permissions = own.permissions();
+        permissions.set_mode(rights);
+        let _ = file.set_permissions(permissions);
+    }
+}
+
+// Whether a new file has the group of another, once it was given that group and its owner as far as the user may.
+fn has_group_of<R: Files>(rt: &R, file: &R::File, path: &str, replaced: &Metadata) -> bool {
+    let (owner, group) = (Some(replaced.uid()), Some(replaced.gid()));
+    if lchown(rt, path, owner, group).is_err() {
+        let _ = lchown(rt, path, None, group);
+    }
+    match file.metadata() {
+        Ok(own) => own.gid() == replaced.gid(),
+        Err(_) => false,
+    }
+}

@@ -1,0 +1,64 @@
+//! What is told of words that are no order, below what `clap` tells.
+use clap::Error;
+use clap::error::ErrorKind;
+use sp_command::{Hint, PlacesFault};
+use std::fmt;
+use std::fmt::Write as _;
+
+/// What is told of words that `clap` refuses, if more is to be said.
+pub fn usage_hint<'a>(error: &Error) -> Option<Hint<'a>> {
+    match error.kind() {
+        ErrorKind::ValueValidation if tells(error, "for '--delta <D>'") => Some(Hint::AnyDelta),
+        ErrorKind::MissingRequiredArgument if tells(error, "\n  <SS>\n") => Some(Hint::NoSources),
+        _ => None,
+    }
+}
+
+/// What is wrong with a word for places of sources, which was refused.
+pub fn places_hint(word: &str) -> Hint<'_> {
+    Hint::Places {
+        word,
+        why: places_fault(word),
+    }
+}
+
+fn places_fault(word: &str) -> PlacesFault {
+    match numbers_of(word) {
+        None => PlacesFault::Spelling,
+        Some((0, _)) => PlacesFault::FromZero,
+        Some(_) => PlacesFault::Backwards,
+    }
+}
+
+// The numbers of `A-B`.
+fn numbers_of(word: &str) -> Option<(u32, u32)> {
+    let (first, last) = word.split_once('-')?;
+    Some((first.parse().ok()?, last.parse().ok()?))
+}
+
+/// A writer that looks for some words in a text.
+struct Finder<'w> {
+    words: &'w str,
+    has_found: bool,
+}
+
+impl fmt::Write for Finder<'_> {
+    fn write_str(&mut self, text: &str) -> fmt::Result {
+        self.has_found = self.has_found || text.contains(self.words);
+        Ok(())
+    }
+}
+
+// Whether the text of a fault has these words. It shows it in one piece.
+fn tells(error: &Error, words: &str) -> bool {
+    let mut finder = Finder {
+        words,
+        has_found: false,
+    };
+    let _ = write!(finder, "{error}");
+    let Finder {
+        words: _,
+        has_found,
+    } = finder;
+    has_found
+}

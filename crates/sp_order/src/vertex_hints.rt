@@ -1,0 +1,98 @@
+//! Where a number stands that is no vertex of its graph.
+use crate::fields::Fields;
+use sp_command::{Commands, FileKind, Hint, Inputs, Naming};
+use sp_device::Read;
+use sp_dimacs::Lines;
+
+/// What is told of a vertex that a graph doesn't have. The sources may be those at the places of a word.
+pub fn vertex_hint<'a, C: Commands<'a>, F: Inputs>(
+    vertex: u32,
+    command: &C,
+    places: Option<&str>,
+    files: &F,
+) -> Hint<'a> {
+    Hint::Vertex {
+        naming: naming_of(vertex, command, places, files),
+        vertex,
+        vertices: vertices_in(command.path(FileKind::Graph), files),
+    }
+}
+
+/// The number of vertices that the line `p sp N M` of a graph tells, if it can be read again.
+pub fn vertices_in<F: Inputs>(graph: Option<&str>, files: &F) -> Option<u64> {
+    let mut lines = Lines::new(files.open_again(graph?)?);
+    for _ in 0..u64::MAX {
+        let fields = Fields::of(lines.next().ok()??);
+        match (fields.at(0), fields.at(1)) {
+            ("p", "sp") => return fields.number(2),
+            ("c" | "", _) => {}
+            _ => return None,
+        }
+    }
+    None
+}
+
+// Where a command is given the number.
+fn naming_of<'a, C: Commands<'a>, F: Inputs>(
+    vertex: u32,
+    command: &C,
+    places: Option<&str>,
+    files: &F,
+) -> Naming<'a> {
+    if let Some(path) = command.path(FileKind::Pairs) {
+        return naming_pair(vertex, path, files).unwrap_or(Naming::Unseen);
+    }
+    match command.path(FileKind::Sources) {
+        Some(path) => {
+            let first = places.and_then(first_place).unwrap_or(1);
+            naming_source(vertex, path, first, files).unwrap_or(Naming::Unseen)
+        }
+        None => Naming::Option,
+    }
+}
+
+// The first place of `A-B`.
+fn first_place(word: &str) -> Option<u64> {
+    word.split_once('-')?.0.parse().ok()
+}
+
+// The first line of a file of pairs that names the number: it is that of the pair that is refused first. In a pair the source is
+// judged before the target.
+fn naming_pair<'a, F: Inputs>(vertex: u32, path: &'a str, files: &F) -> Option<Naming<'a>> {
+    let mut lines = Lines::new(files.open_again(path)?);
+    for line in 1..u64::MAX {
+        let fields = Fields::of(lines.next().ok()??);
+        if fields.at(0) != "q" {
+            continue;
+        }
+        if fields.number(1) == Some(u64::from(vertex)) {
+            return Some(Naming::Source { path, line });
+        }
+        if fields.number(2) == Some(u64::from(vertex)) {
+            return Some(Naming::Target { path, line });
+        }
+    }
+    None
+}
+
+// The first line of a file of sources that names the number, from this place of the list on.
+fn naming_source<'a, F: Inputs>(
+    vertex: u32,
+    path: &'a str,
+    first: u64,
+    files: &F,
+) -> Option<Naming<'a>> {
+    let mut lines = Lines::new(files.open_again(path)?);
+    let mut place = 0u64;
+    for line in 1..u64::MAX {
+        let fields = Fields::of(lines.next().ok()??);
+        if fields.at(0) != "s" {
+            continue;
+        }
+        place = place.saturating_add(1);
+        if place >= first && fields.number(1) == Some(u64::from(vertex)) {
+            return Some(Naming::Source { path, line });
+        }
+    }
+    None
+}

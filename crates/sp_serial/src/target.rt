@@ -1,0 +1,101 @@
+//! One target of a source.
+ghost use Rattle.std.specs.Prelude.{◌≡◌, ◌≤◌, true, vec_len, IfOk, IfSome};
+ghost use Rattle.sp_word.specs.Word.{is_layout, max_dist, max_pred};
+ghost use Rattle.sp_paths.specs.Paths.{IsVertex};
+ghost use Rattle.sp_plain.specs.Passing.{IsTableOfWalks, IsFinishedTable};
+ghost use Rattle.sp_serial.specs.Target.{IsAnswerFor, answer_of, answer_by};
+
+use crate::search::search;
+use sp_graph::{Graph, left_out, look_up};
+use sp_plain::{close_table, open_table};
+use sp_scan::is_relaxed_up_to;
+use sp_word::{Delta, Word};
+use std::alloc::{AllocError, Global};
+
+/// What is to be told of a target.
+#[derive(Clone, Copy, Debug, PartialEq, Eq)]
+pub enum TargetAnswer {
+    /// Its word of the tree: its least length, and the smallest-numbered vertex before it on a walk of that length.
+    Found { dist: u64, pred: u32 },
+    /// Its least length is no word's, and this is the smallest vertex that is too far.
+    TooFar(u32),
+    /// No walk leads to it.
+    NoWalk,
+}
+
+// What a word of the tree tells of its vertex, or, where it is none, the vertex that is too far.
+fn answer_by<const P: u32>(word: Word<P>, far: Option<u32>) -> TargetAnswer
+    ensures { answer_of result ≡ answer_by word.entry far }
+{
+    if let (Some(dist), Some(pred)) = (word.dist(), word.pred()) {
+        return TargetAnswer::Found { dist, pred };
+    }
+    match far {
+        Some(vertex) => TargetAnswer::TooFar(vertex),
+        None => TargetAnswer::NoWalk,
+    }
+}
+
+// The target's answer, where the words show it: it has one, and all arcs within its distance are relaxed.
+fn near_answer<const P: u32>(
+    graph: &Graph,
+    source: u32,
+    target: u32,
+    words: &[Word<P>],
+) -> Option<TargetAnswer>
+    requires layout { is_layout P ≡ true }
+    requires source { IsVertex graph.now.n source }
+    requires target { IsVertex graph.now.n target }
+    requires room { graph.now.n ≤ max_pred P }
+    requires walks { IsTableOfWalks graph.now source (max_dist P) words.now }
+    ensures { IfSome result (IsAnswerFor graph.now source target (max_dist P)) }
+{
+    let word = look_up(words, target);
+    let far = word.dist()?;
+    let _ = graph.n();
+    if is_relaxed_up_to(words, graph, far) {
+        Some(answer_by(word, None))
+    } else {
+        None
+    }
+}
+
+// The target's answer by words in which every arc is relaxed.
+fn whole_answer<const P: u32>(
+    graph: &Graph,
+    source: u32,
+    target: u32,
+    words: &[Word<P>],
+) -> TargetAnswer
+    requires target { IsVertex graph.now.n target }
+    requires table { IsFinishedTable graph.now source (max_dist P) words.now }
+    ensures { IsAnswerFor graph.now source target (max_dist P) result }
+{
+    answer_by(look_up(words, target), left_out(words, graph.arcs()))
+}
+
+/// What is to be told of a target of `source`, found by this thread alone. It ends as soon as the target's word is final, so a
+/// near one takes little time.
+///
+/// `delta` and memory are as `solve_alone` has them.
+pub fn solve_target<const P: u32>(
+    alloc: Global,
+    graph: &Graph,
+    delta: Delta<P>,
+    source: u32,
+    target: u32,
+) -> Result<TargetAnswer, AllocError>
+    requires layout { is_layout P ≡ true }
+    requires source { IsVertex graph.now.n source }
+    requires target { IsVertex graph.now.n target }
+    requires room { graph.now.n ≤ max_pred P }
+    ensures { IfOk result (IsAnswerFor graph.now source target (max_dist P)) }
+{
+    let mut words = open_table(alloc, graph, source)?;
+    search(alloc, graph, delta, source, Some(target), &mut words)?;
+    if let Some(answer) = near_answer(graph, source, target, &words) {
+        return Ok(answer);
+    }
+    close_table(graph, source, &mut words);
+    Ok(whole_answer(graph, source, target, &words))
+}

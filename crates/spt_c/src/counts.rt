@@ -1,0 +1,39 @@
+//! The sizes of a graph that is kept.
+ghost use Rattle.std.specs.Prelude.{◌≡◌};
+ghost use Rattle.sp_kept.specs.Kept.{kept};
+ghost use Rattle.spt_c.specs.Kept.{counts_of};
+
+use sp_kept::KeptGraph;
+use std::alloc::Global;
+
+/// How many vertices and arcs a graph has, or a status that there is none.
+#[repr(C)]
+#[derive(Clone, Copy, Debug, PartialEq, Eq)]
+pub struct SptCounts {
+    pub status: u32,
+    pub n: u32,
+    pub m: u64,
+}
+
+/// Those of the graph that a place keeps, and keeps on.
+pub(crate) fn counts(alloc: Global, graph: &mut KeptGraph) -> SptCounts
+    ensures counts { result ≡ counts_of (kept graph.old) }
+    ensures same { kept graph.new ≡ kept graph.old }
+{
+    match graph.take(alloc) {
+        Some(held) => {
+            let counts = SptCounts {
+                status: 0,
+                n: held.graph().n(),
+                m: held.graph().m() as u64,
+            };
+            graph.put(alloc, held);
+            counts
+        }
+        None => SptCounts {
+            status: 10,
+            n: 0,
+            m: 0,
+        },
+    }
+}

@@ -1,0 +1,229 @@
+#!/usr/bin/env python3
+"""Makes the package for Debian, installs it below a folder, runs what is in it, and removes it; and compares the sums of a release.
+
+Usage: python3 tests/deb.py
+
+dpkg knows the C library of this system there, and nothing else, and so tests what the package depends on. Without dpkg-deb, or where
+this isn't root, what can't be done is left out, and said so; with SPT_ALL=1 that counts as failed, and the package is installed on this
+system too, where it has none of that name, and removed again. The last line is 'N passed, M failed'.
+"""
+
+import gzip
+import hashlib
+import os
+import re
+import shutil
+import subprocess
+import sys
+import tempfile
+
+sys.dont_write_bytecode = True
+from share import below, is_library_made  # noqa: E402
+from trees import HOME, Count  # noqa: E402
+
+SECONDS = 300
+ALL = os.environ.get("SPT_ALL") == "1"
+WANTED = [
+    "bin/spt",
+    "lib/spt/spt",
+    "lib/spt/run.sh",
+    "share/man/man1/spt.1.gz",
+    "share/doc/spt/copyright",
+    "share/doc/spt/changelog.gz",
+    "share/bash-completion/completions/spt",
+    "share/zsh/vendor-completions/_spt",
+    "share/fish/vendor_completions.d/spt.fish",
+    "include/spt.h",
+    "lib/libspt.a",
+    "lib/libspt.so",
+    "lib/libspt.so.1",
+    "lib/pkgconfig/spt.pc",
+    "lib/python3/dist-packages/spt/__init__.py",
+    "lib/python3/dist-packages/spt/py.typed",
+]
+# A program in C over the library, and what it prints.
+C = r"""
+#include <spt.h>
+#include <stdio.h>
+int main(void) {
+    spt_arc arcs[] = {{1, 2, 7}, {2, 3, 1}};
+    uint64_t dist[3];
+    uint32_t pred[3];
+    if (spt_tree(arcs, 2, 3, 1, 0, dist, 3, pred, 3).status != SPT_OK) return 1;
+    printf("%d\n", (int)dist[2]);
+    return 0;
+}
+"""
+PYTHON = "import spt; print(spt.__file__, list(spt.Graph(3, [(1, 2, 7), (2, 3, 1)]).tree(1).distances))"
+
+
+def run(*words, **known):
+    """Status, and output with errors."""
+    told = {"stdout": subprocess.PIPE, "stderr": subprocess.STDOUT, "text": True, "timeout": SECONDS}
+    done = subprocess.run(words, **told, **known)
+    return done.returncode, done.stdout
+
+
+def left_out(count, why):
+    print(f"left out: {why}")
+    count.failed += ALL
+
+
+def build(count, folder):
+    """The package, which is the same however and whenever it is made, and leaves nothing in the checkout."""
+    before, made = below(HOME), []
+    for name, known in (("one", {}), ("other", {"TZ": "Asia/Tokyo", "LC_ALL": "C.UTF-8"})):
+        place = f"{folder}/{name}"
+        os.mkdir(place)
+        words = ["sh", "-c", 'umask "$0" && "$@"', "022" if name == "one" else "077", f"{HOME}/build/deb", place]
+        told = run(*words, cwd="/", env={**os.environ, **known})
+        count.of(f"the package: {told}", told[0] == 0 and os.listdir(place) == [os.path.basename(told[1].strip())])
+        made.append(told[1].strip().split("\n")[-1])
+    with open(made[0], "rb") as one, open(made[1], "rb") as other:
+        count.of("the same bytes twice", one.read() == other.read())
+    later = run(f"{HOME}/build/deb", f"{folder}/other", env={**os.environ, "SOURCE_DATE_EPOCH": "1000000000"})
+    listed = run("dpkg-deb", "-c", made[1], env={**os.environ, "TZ": "UTC"})[1]
+    count.of(f"the day that is asked for: {later}", later[0] == 0 and set(re.findall(r"\d{4}-\d\d-\d\d", listed)) == {"2001-09-09"})
+    count.of(f"left in the checkout: {below(HOME) ^ before}", below(HOME) == before)
+    return made[0]
+
+
+def needed_libc(*files):
+    """The newest version of the C library that the symbols of these files have, as objdump tells."""
+    found = []
+    for file in files:
+        found += re.findall(r"GLIBC_([\d.]+)", subprocess.run(["objdump", "-T", file], check=True, capture_output=True, text=True).stdout)
+    return max(found, key=lambda it: [int(part) for part in it.split(".")])
+
+
+def control(count, package, folder):
+    """What the package says of itself."""
+    told = dict(line.split(": ", 1) for line in run("dpkg-deb", "-f", package)[1].split("\n") if ": " in line and line[0] != " ")
+    version = run(f"{HOME}/spt", "--version")[1].strip()
+    count.of(f"name and version: {told}", f"{told['Package']} {told['Version']}" == version and told["Architecture"] == "amd64")
+    unpacked = f"{folder}/unpacked"
+    subprocess.run(["dpkg-deb", "-x", package, unpacked], check=True)
+    if shutil.which("objdump"):
+        wanted = needed_libc(f"{unpacked}/usr/lib/spt/spt", f"{unpacked}/usr/lib/libspt.so")
+        count.of(f"the C library: {told['Depends']}", told["Depends"] == f"libc6 (>= {wanted})")
+    else:
+        left_out(count, "objdump isn't installed (Debian: binutils)")
+    size = int(run("du", "-sk", "--apparent-size", unpacked)[1].split()[0])
+    count.of(f"size: {told['Installed-Size']}, {size}", abs(int(told["Installed-Size"]) - size) < 100)
+    with gzip.open(f"{unpacked}/usr/share/man/man1/spt.1.gz") as it, open(f"{HOME}/share/spt.1", "rb") as page:
+        count.of("the manual page", it.read() == page.read())
+    count.of("who owns it", set(re.findall(r"^\S+ (\S+)", run("dpkg-deb", "-c", package)[1], re.M)) == {"root/root"})
+
+
+def works(count, root, known):
+    """What stands below a root runs: the program, the manual page, the library for C and the package of Python."""
+    files = [f"{HOME}/examples/diamond.{ending}" for ending in ("gr", "ss", "tree")]
+    with open(files[2]) as it:
+        told = run(f"{root}/usr/bin/spt", "tree", *files[:2], "--delta", "mean", env=known)
+        count.of(f"spt tree: {told}", told == (0, it.read()))
+    if shutil.which("man"):
+        told = run("man", "-l", f"{root}/usr/share/man/man1/spt.1.gz", env={**known, "MANWIDTH": "80", "LC_ALL": "C.UTF-8"})
+        count.of("the manual page", told[0] == 0 and "EXIT STATUS" in told[1] and "--sources <A-B>" in told[1])
+    else:
+        left_out(count, "man isn't installed (Debian: man-db)")
+    with tempfile.TemporaryDirectory() as folder:
+        with open(f"{folder}/short.c", "w") as it:
+            it.write(C)
+        if shutil.which("cc") and shutil.which("pkg-config"):
+            asked = {**known, "PKG_CONFIG_PATH": f"{root}/usr/lib/pkgconfig"}
+            flags = run("pkg-config", "--cflags", "--libs", "spt", env=asked)[1].split()
+            told = run("cc", "-o", f"{folder}/short", f"{folder}/short.c", *flags)
+            count.of(f"a program in C: {told}", told == (0, ""))
+            told = run(f"{folder}/short", env={**known, "LD_LIBRARY_PATH": f"{root}/usr/lib"})
+            count.of(f"which runs: {told}", told == (0, "8\n"))
+        else:
+            left_out(count, "cc or pkg-config isn't installed")
+    python = "/usr/bin/python3" if os.path.exists("/usr/bin/python3") else sys.executable
+    asked = {**known, "PYTHONPATH": f"{root}/usr/lib/python3/dist-packages"} if root else known
+    told = run(python, "-c", PYTHON, env=asked, cwd="/")
+    count.of(f"import spt: {told}", told == (0, f"{root}/usr/lib/python3/dist-packages/spt/__init__.py [0, 7, 8]\n"))
+
+
+def install_below(count, package, root):
+    """Installs it below a root, runs it there, and removes it: nothing but dpkg's own lists is left."""
+    os.makedirs(f"{root}/var/lib/dpkg/updates")
+    os.makedirs(f"{root}/var/lib/dpkg/info")
+    with open(f"{root}/var/lib/dpkg/status", "w") as it:
+        it.write(run("dpkg-query", "-s", "libc6")[1] + "\n")
+    dpkg = ["dpkg", f"--root={root}", "--force-script-chrootless"]
+    for _ in range(2):
+        told = run(*dpkg, "-i", package)
+        count.of(f"dpkg -i: {told}", told[0] == 0 and all(os.path.isfile(f"{root}/usr/{name}") for name in WANTED))
+        count.of("the sums that dpkg compares", run(*dpkg, "-V", "spt") == (0, ""))
+        works(count, root, {"PATH": os.environ["PATH"]})
+        told = run(*dpkg, "-r", "spt")
+        count.of(f"dpkg -r: {told}, {os.listdir(root)}", told[0] == 0 and not os.path.exists(f"{root}/usr"))
+
+
+def install_here(count, package):
+    """The same on this system, where it has no such package and nothing in its places."""
+    places = [f"/usr/{name}" for name in WANTED]
+    if run("dpkg-query", "-s", "spt")[0] == 0 or any(map(os.path.exists, places)):
+        return left_out(count, "this system has an spt already")
+    told = run("dpkg", "-i", package)
+    try:
+        count.of(f"dpkg -i on this system: {told}", told[0] == 0 and all(map(os.path.isfile, places)))
+        works(count, "", {"PATH": "/usr/bin:/bin"})
+        told = run("sh", "-c", "cd / && spt --version && man -w spt", env={"PATH": "/usr/bin:/bin"})
+        count.of(f"spt and its manual by their names: {told}", told[0] == 0)
+    finally:
+        told = run("dpkg", "--purge", "spt")
+    count.of(f"dpkg --purge: {told}", told[0] == 0 and not any(map(os.path.exists, [*places, "/usr/lib/spt", os.path.dirname(places[-1])])))
+
+
+def packages(count, folder):
+    if not shutil.which("dpkg-deb") or not is_library_made():
+        return left_out(count, "dpkg-deb isn't installed, or the library isn't made")
+    package = build(count, folder)
+    control(count, package, folder)
+    count.of("no folder", run(f"{HOME}/build/deb", f"{folder}/none")[0] == 1)
+    if os.geteuid() != 0 or not shutil.which("dpkg"):
+        return left_out(count, "installing a package, which root does by dpkg")
+    install_below(count, package, f"{folder}/root")
+    if ALL:
+        install_here(count, package)
+
+
+def sums(count, folder):
+    """The sums of a folder, and those of the release: of each file there, and right."""
+    place = f"{folder}/a folder"
+    os.makedirs(f"{place}/inner")
+    for name in ("two", "inner/one", "-x"):
+        with open(f"{place}/{name}", "w") as it:
+            it.write(name)
+    for _ in range(2):
+        told = run(f"{HOME}/build/sums", place)
+        count.of(f"build/sums: {told}", told == (0, "") and os.listdir(place).count("SHA256SUMS") == 1)
+    with open(f"{place}/SHA256SUMS") as it:
+        wanted = "".join(f"{hashlib.sha256(name.encode()).hexdigest()}  {name}\n" for name in ("-x", "inner/one", "two"))
+        count.of("what they are", it.read() == wanted)
+    count.of("sha256sum -c", run("sha256sum", "-c", "--strict", "SHA256SUMS", cwd=place)[0] == 0)
+    with open(f"{place}/two", "a") as it:
+        it.write("more")
+    count.of("sha256sum -c of another file", run("sha256sum", "-c", "SHA256SUMS", cwd=place)[0] == 1)
+    told = run("sha256sum", "-c", "--strict", "--quiet", "SHA256SUMS", cwd=f"{HOME}/dist")
+    count.of(f"the sums of the release: {told}", told == (0, ""))
+    listed = set()
+    if os.path.exists(f"{HOME}/dist/SHA256SUMS"):
+        with open(f"{HOME}/dist/SHA256SUMS") as it:
+            listed = {line.rstrip("\n").split("  ", 1)[1] for line in it}
+    there = {name for name in below(f"{HOME}/dist") if os.path.isfile(f"{HOME}/dist/{name}")} - {"SHA256SUMS"}
+    count.of(f"each file of the release has its sum: {there ^ listed}", there == listed)
+
+
+def main():
+    count = Count()
+    with tempfile.TemporaryDirectory() as folder:
+        packages(count, folder)
+        sums(count, folder)
+    print(f"{count.passed} passed, {count.failed} failed")
+    return 1 if count.failed else 0
+
+
+if __name__ == "__main__":
+    sys.exit(main())
