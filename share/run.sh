@@ -110,7 +110,8 @@ tidy_after() {
     set -- "$folder".spt-$$-*.part
     session=
     if command -v setsid > /dev/null; then session=setsid; fi
-    eval "{ trap '' INT TERM HUP QUIT; exec \$session sh -c \"\$tidier\" sh \"\$pipes\" \"\$folder\" $$ \"\$@\" <&$number $number<&- $writing>&- > /dev/null 2>&1; } &"
+    # Answered once nobody holds the pipe of `$()` any more: the tidier is deaf to signals by then, or gone.
+    : "$(eval "{ trap '' INT TERM HUP QUIT; exec \$session sh -c \"\$tidier\" sh \"\$pipes\" \"\$folder\" $$ \"\$@\" <&$number $number<&- $writing>&- > /dev/null 2>&1; } &")"
     eval "exec $number<&-"
 }
 

@@ -284,18 +284,35 @@ class Reader(threading.Thread):
             self.times += 1
 
 
-def round_of(program, path, graph, draw, sources):
-    """Runs one writer for each source, and ends some of them by signals. Statuses by source, and the processes that were ended."""
-    words = [program, "tree", graph, "--delta", "1", "-o", path, "--source"]
-    runs = [subprocess.Popen([*words, str(source)], stdout=subprocess.DEVNULL, stderr=subprocess.DEVNULL) for source in sources]
-    for it in draw.sample(runs, draw.randrange(len(runs) + 1)):
-        time.sleep(draw.random() * 0.01)
-        it.send_signal(draw.choice((signal.SIGKILL, signal.SIGTERM, signal.SIGINT)))
+def round_of(words, draw, sources, span):
+    """Runs one writer for each source, and ends some of them by signals, each within most of the span that one takes alone.
+
+    Whether no writer fails, the sources of those that ended well, and the processes of the others."""
+    runs, ends = [], []
+    for source in sources:
+        it = subprocess.Popen([*words, str(source)], stdout=subprocess.DEVNULL, stderr=subprocess.DEVNULL)
+        runs.append(it)
+        if draw.random() < 0.75:
+            number = draw.choice((signal.SIGKILL, signal.SIGTERM, signal.SIGINT))
+            ends.append(threading.Timer(draw.random() * 0.8 * span, it.send_signal, [number]))
+            ends[-1].start()
     for it in runs:
         it.wait(timeout=SECONDS)
+    for it in ends:
+        it.join()
     done = [source for source, it in zip(sources, runs) if it.returncode == 0]
     true = all(it.returncode in (0, -signal.SIGKILL, -signal.SIGTERM, -signal.SIGINT) for it in runs)
     return true, done, [it.pid for it in runs if it.returncode != 0]
+
+
+def span_of(words):
+    """How long a writer takes alone, in seconds: the shortest time of a few."""
+    spans = []
+    for _ in range(5):
+        begun = time.monotonic()
+        subprocess.run([*words, "1"], check=True, stdout=subprocess.DEVNULL)
+        spans.append(time.monotonic() - begun)
+    return min(spans)
 
 
 def writers(count, program, folder):
@@ -311,11 +328,13 @@ def writers(count, program, folder):
             path, before, ended, wrong, done_in_all = f"{inner}/out", 1, [], [], 0
             with open(path, "wb") as it:
                 it.write(ring_tree(1))
+            words = [program, "tree", graph, "--delta", "1", "-o", path, "--source"]
+            span = span_of(words)
             reader = Reader(path, texts)
             reader.start()
             for number in range(rounds):
                 sources = draw.sample(range(1, 61), several)
-                true, done, more = round_of(program, path, graph, draw, sources)
+                true, done, more = round_of(words, draw, sources, span)
                 with open(path, "rb") as it:
                     now = texts.get(it.read())
                 may = sources if done else [*sources, before]
