@@ -5,6 +5,7 @@ ghost use Rattle.sp_command.specs.Scene.{IsOpened};
 use crate::hints::Form;
 use crate::report::Report;
 use sp_device::Read;
+use sp_word::Meter;
 use std::io;
 
 /// The files that a command line names.
@@ -22,6 +23,11 @@ pub trait Inputs {
 
     /// Tells the user how far a command is. Where it can't be told nothing else changes.
     fn tell(&self, _report: Report) {}
+
+    /// Where the workers of a run count what they have relaxed, if anybody looks at that while they work.
+    fn meter(&self) -> Option<&Meter> {
+        None
+    }
 
     /// Opens a file once more, or answers `None` where it can't be read twice, as standard input or a pipe.
     fn open_again(&self, _path: &str) -> Option<Self::File> {

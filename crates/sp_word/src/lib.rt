@@ -1,16 +1,20 @@
 //! The packed word of a vertex, and what a table of least offers replies to an offer; the width of a bucket and the number
-//! of workers, in their ranges.
+//! of workers, in their ranges, which a run takes; and how much of its work a run has done.
 //!
 //! A word is unreached, or a pair of a distance and a predecessor. Contracts see it so; the code keeps
 //! 64 bits, with the distance above `P` bits of predecessor, so that the order of words is the order of numbers.
 #![tactic(auto)]
 
 mod delta;
+mod meter;
 mod reply;
+mod team;
 mod word;
 mod workers;
 
 pub use delta::Delta;
+pub use meter::Meter;
 pub use reply::{Reply, decide};
+pub use team::Team;
 pub use word::{Word, bits_are_exact, bits_are_ordered};
 pub use workers::{MOST_WORKERS, Workers};
