@@ -9,11 +9,11 @@ use Rattle.sp_paths.specs.Paths.{Graph}
 use Rattle.sp_text.specs.declared.faults.DimacsError.{DimacsError}
 use Rattle.sp_table.specs.Table.{TreeTable, IsTable}
 use Rattle.sp_tree.specs.TreeText.{tree_text}
-use Rattle.sp_blocks.specs.declared.blocks.TreeBlocks.{TreeBlocks}
-use Rattle.sp_blocks.specs.Block.{lines_in}
-use Rattle.sp_blocks.specs.Stream.{IsFaultOf}
-use Rattle.sp_blocks.specs.Giving.{left_of, IsFresh, IsGoing, Gives, in_file, lines_before}
-use Rattle.sp_blocks.specs.Whole.{trees_text, lines_of, IsFileFault}
+use Rattle.sp_tree.specs.declared.blocks.TreeBlocks.{TreeBlocks}
+use Rattle.sp_tree.specs.Block.{lines_in}
+use Rattle.sp_tree.specs.Stream.{IsFaultOf}
+use Rattle.sp_tree.specs.Giving.{left_of, IsFresh, IsGoing, Gives, in_file, lines_before}
+use Rattle.sp_tree.specs.Whole.{trees_text, lines_of, IsFileFault}
 use Rattle.sp_tools.specs.declared.check_all.Judged.{Judged}
 use Rattle.sp_tools.specs.Verdict.{IsVerdict}
 use Rattle.sp_tools.specs.Verdicts.{AreJudged, FileJudged}

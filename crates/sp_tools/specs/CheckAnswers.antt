@@ -6,7 +6,7 @@ use Rattle.sp_dimacs.specs.declared.graphs.GrFile.{GrFile}
 use Rattle.sp_dimacs.specs.Graph.{graph_of, SpellsGraph}
 use Rattle.sp_table.specs.Table.{TreeTable, IsTable}
 use Rattle.sp_tree.specs.TreeText.{tree_text}
-use Rattle.sp_blocks.specs.Whole.{IsFileFault}
+use Rattle.sp_tree.specs.Whole.{IsFileFault}
 use Rattle.sp_command.specs.declared.faults.Fault.{Fault}
 use Rattle.sp_command.specs.declared.faults.Status.{Status}
 use Rattle.sp_command.specs.declared.faults.FileKind.{FileKind}

@@ -4,3 +4,7 @@ pub mod Fields
 pub mod Taking
 pub mod Silence
 pub mod Reading
+pub mod Block
+pub mod Stream
+pub mod Giving
+pub mod Whole

@@ -1,12 +1,16 @@
 //! The file of a shortest-path tree: one text for each tree, written and read.
 #![tactic(auto)]
 
+mod blocks;
 mod laws;
 mod lines;
+mod place;
 mod reading;
+mod stream;
 mod taking;
 mod writing;
 
+pub use blocks::TreeBlocks;
 pub use laws::{tree_text_is_exact, tree_texts_are_accepted};
 pub use reading::{TreeReader, read_tree};
 pub use sp_table::Tree;

@@ -1,6 +1,6 @@
 //! Files of several trees, however their device cuts them.
 use crate::answers::fault;
-use sp_blocks::TreeBlocks;
+use sp_tree::TreeBlocks;
 use sp_device::UpTo;
 use sp_text::Kind;
 use std::test::Fail;

@@ -9,7 +9,7 @@ use Rattle.sp_tree.specs.TreeText.{tree_text}
 use Rattle.sp_tree.specs.Spelling.{tree_judge}
 use Rattle.sp_tree.specs.declared.reading.TreeReader.{TreeReader}
 use Rattle.sp_tree.specs.Reading.{IsBehindTree}
-use Rattle.sp_blocks.specs.Block.{IsWithinBlock, IsBlock}
+use Rattle.sp_tree.specs.Block.{IsWithinBlock, IsBlock}
 
 -- A device, and the bytes of it that wait to be read.
 pub record Stream (R : Type 0) : Type 0 where

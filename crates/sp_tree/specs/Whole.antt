@@ -4,9 +4,9 @@ use Rattle.std.specs.List.{flat_map}
 use Rattle.sp_text.specs.declared.faults.DimacsError.{DimacsError}
 use Rattle.sp_table.specs.Table.{TreeTable, IsTable}
 use Rattle.sp_tree.specs.TreeText.{tree_text}
-use Rattle.sp_blocks.specs.Block.{IsWithinBlock, lines_in}
-use Rattle.sp_blocks.specs.Stream.{IsFaultOf}
-use Rattle.sp_blocks.specs.Giving.{in_file}
+use Rattle.sp_tree.specs.Block.{IsWithinBlock, lines_in}
+use Rattle.sp_tree.specs.Stream.{IsFaultOf}
+use Rattle.sp_tree.specs.Giving.{in_file}
 
 -- The texts of trees, one behind the other.
 abbrev pub trees_text : List TreeTable → List ℕ

@@ -2,13 +2,13 @@
 ghost use Rattle.std.specs.Prelude.{◌≡◌, ◌+◌, ◌-◌, ◌^◌, Err, Some, min, true};
 ghost use Rattle.sp_word.specs.Word.{is_layout};
 ghost use Rattle.sp_text.specs.declared.faults.DimacsError.{DimacsError};
-ghost use Rattle.sp_blocks.specs.Block.{lines_in};
+ghost use Rattle.sp_tree.specs.Block.{lines_in};
 
 use crate::stream::{feed_block, is_over};
 use sp_device::Read;
 use sp_dimacs::Piece;
 use sp_text::DimacsError;
-use sp_tree::{Tree, TreeReader};
+use crate::{Tree, TreeReader};
 use std::alloc::Global;
 
 /// Reads the trees of a file of one or more blocks, one after the other, from one device. It keeps no more than the
@@ -32,8 +32,8 @@ fn lines_behind<const P: u32>(before: u64, tree: &Tree<P>) -> u64
 }
 
 impl<const P: u32> TreeBlocks<P> {
-    ghost use Rattle.sp_blocks.specs.Stream.{stream, IsShort, BlockRead};
-    ghost use Rattle.sp_blocks.specs.Giving.{IsFresh, IsGoing, IsSpent, Gives, in_file};
+    ghost use Rattle.sp_tree.specs.Stream.{stream, IsShort, BlockRead};
+    ghost use Rattle.sp_tree.specs.Giving.{IsFresh, IsGoing, IsSpent, Gives, in_file};
 
     /// Before the first tree.
     pub fn new(alloc: Global) -> Self

@@ -4,7 +4,7 @@ use Rattle.sp_text.specs.declared.faults.DimacsError.{DimacsError}
 use Rattle.sp_table.specs.Table.{TreeTable}
 use Rattle.sp_tree.specs.declared.reading.TreeReader.{TreeReader}
 use Rattle.sp_tree.specs.Reading.{IsBehindTree, TreeFinished}
-use Rattle.sp_blocks.specs.Stream.{Stream, BlockFed, BlockRead}
+use Rattle.sp_tree.specs.Stream.{Stream, BlockFed, BlockRead}
 
 -- A block was fed, and its text has ended.
 pub block_read : {P : ℕ} {R U : Type 0} (left : R → Option (List ℕ)) (passed : R → ℕ) (has_failed : R → Bool) (old new : Stream R) (u : U) (tree again : TreeReader P) (result : Result TreeTable DimacsError)

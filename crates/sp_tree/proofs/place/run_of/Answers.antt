@@ -1,8 +1,8 @@
 use Rattle.std.proofs.Common.{rules, ◌≢◌, take, get_or}
 use Rattle.std.proofs.lemmas.List.{take_more}
-use Rattle.sp_blocks.specs.declared.place.Place.TheVariants.{Over}
-use Rattle.sp_blocks.proofs.Places.{runs_on}
-use Rattle.sp_blocks.proofs.place.run_of.Goals as goal
+use Rattle.sp_tree.specs.declared.place.Place.TheVariants.{Over}
+use Rattle.sp_tree.proofs.Places.{runs_on}
+use Rattle.sp_tree.proofs.place.run_of.Goals as goal
 
 pub loop-end-preserved : goal.loop-end-preserved
 loop-end-preserved c =

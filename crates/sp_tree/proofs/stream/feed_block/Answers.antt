@@ -5,11 +5,11 @@ use Rattle.std.specs.Io.KnownBytes.{Consumes, Keeps, IsAtEnd}
 use Rattle.sp_text.specs.Lines.{ended}
 use Rattle.sp_text.proofs.Behind.{refused_earlier}
 use Rattle.sp_tree.specs.Spelling.{tree_judge}
-use Rattle.sp_blocks.specs.declared.place.Place.TheVariants.{Over}
-use Rattle.sp_blocks.specs.Stream.{stream}
-use Rattle.sp_blocks.proofs.LeftBytes.{none_left}
-use Rattle.sp_blocks.proofs.BlockSteps.{run_fed, piece_fed, fed_whole, fed_all, fed_refused, fed_failed}
-use Rattle.sp_blocks.proofs.stream.feed_block.Goals as goal
+use Rattle.sp_tree.specs.declared.place.Place.TheVariants.{Over}
+use Rattle.sp_tree.specs.Stream.{stream}
+use Rattle.sp_tree.proofs.LeftBytes.{none_left}
+use Rattle.sp_tree.proofs.BlockSteps.{run_fed, piece_fed, fed_whole, fed_all, fed_refused, fed_failed}
+use Rattle.sp_tree.proofs.stream.feed_block.Goals as goal
 
 pub returns-in_err-fed : goal.returns-in_err-fed
 returns-in_err-fed g c = λ short begins.

@@ -1,6 +1,6 @@
 //! Where in a block some bytes end.
 ghost use Rattle.std.specs.Prelude.{◌≡◌, ◌≢◌, ◌≤◌, length, take};
-ghost use Rattle.sp_blocks.specs.Block.{after, Runs};
+ghost use Rattle.sp_tree.specs.Block.{after, Runs};
 
 /// Where in a block the bytes so far end.
 #[derive(Clone, Copy, Debug, PartialEq, Eq)]

@@ -1,8 +1,8 @@
 -- The bytes of a block: those up to the LF of the first line that begins with `e`.
 use Rattle.std.specs.Prelude.{◌≡◌, ℕ, ◌+◌, ◌==◌, if◌then◌else◌, List, [], ◌∷◌, length}
 use Rattle.sp_table.specs.Table.{TreeTable}
-use Rattle.sp_blocks.specs.declared.place.Place.{Place}
-use Rattle.sp_blocks.specs.declared.place.Place.TheVariants.{Fresh, Last, Within, Over}
+use Rattle.sp_tree.specs.declared.place.Place.{Place}
+use Rattle.sp_tree.specs.declared.place.Place.TheVariants.{Fresh, Last, Within, Over}
 
 -- Where one byte more ends.
 abbrev pub after : Place → ℕ → Place

@@ -9,12 +9,12 @@ use Rattle.sp_text.specs.Feeding.{Refused}
 use Rattle.sp_tree.specs.Spelling.{tree_judge}
 use Rattle.sp_tree.specs.declared.reading.TreeReader.{TreeReader}
 use Rattle.sp_tree.specs.Reading.{IsBehindTree}
-use Rattle.sp_blocks.specs.declared.place.Place.{Place}
-use Rattle.sp_blocks.specs.declared.place.Place.TheVariants.{Fresh, Over}
-use Rattle.sp_blocks.specs.Block.{Runs}
-use Rattle.sp_blocks.specs.Stream.{Stream, left_in, IsShort, BlockFed, BlockRefused}
-use Rattle.sp_blocks.proofs.Places.{runs_both}
-use Rattle.sp_blocks.proofs.LeftBytes.{taken, refilled, kept, at_end, and_nothing}
+use Rattle.sp_tree.specs.declared.place.Place.{Place}
+use Rattle.sp_tree.specs.declared.place.Place.TheVariants.{Fresh, Over}
+use Rattle.sp_tree.specs.Block.{Runs}
+use Rattle.sp_tree.specs.Stream.{Stream, left_in, IsShort, BlockFed, BlockRefused}
+use Rattle.sp_tree.proofs.Places.{runs_both}
+use Rattle.sp_tree.proofs.LeftBytes.{taken, refilled, kept, at_end, and_nothing}
 
 -- These bytes of a block came since `old`.
 pub record IsFed {R : Type 0} (left : R → Option (List ℕ)) (passed : R → ℕ) (old : Stream R) (front : List ℕ) (place : Place) (new : Stream R) : Type 0 where

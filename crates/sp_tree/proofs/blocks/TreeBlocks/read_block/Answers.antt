@@ -1,6 +1,6 @@
-use Rattle.sp_blocks.specs.Stream.{stream}
-use Rattle.sp_blocks.proofs.GivenTrees.{block_read}
-use Rattle.sp_blocks.proofs.blocks.TreeBlocks.read_block.Goals as goal
+use Rattle.sp_tree.specs.Stream.{stream}
+use Rattle.sp_tree.proofs.GivenTrees.{block_read}
+use Rattle.sp_tree.proofs.blocks.TreeBlocks.read_block.Goals as goal
 
 pub returns-clause-read : goal.returns-clause-read
 returns-clause-read g c = λ short.

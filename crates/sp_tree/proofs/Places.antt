@@ -1,8 +1,8 @@
 -- How places follow on one another.
 use Rattle.std.proofs.Common.{◌≢◌, ℕ, List, [], ◌∷◌, ◌++◌, refl, subst}
-use Rattle.sp_blocks.specs.declared.place.Place.{Place}
-use Rattle.sp_blocks.specs.declared.place.Place.TheVariants.{Fresh, Last, Within, Over}
-use Rattle.sp_blocks.specs.Block.{after, Runs}
+use Rattle.sp_tree.specs.declared.place.Place.{Place}
+use Rattle.sp_tree.specs.declared.place.Place.TheVariants.{Fresh, Last, Within, Over}
+use Rattle.sp_tree.specs.Block.{after, Runs}
 
 -- Some bytes and then others lead on.
 pub runs_both : (p q r : Place) (a b : List ℕ) → Runs p a q → Runs q b r → Runs p (a ++ b) r

@@ -4,9 +4,9 @@ use Rattle.std.specs.Io.KnownBytes.{Consumes, IsAtEnd}
 use Rattle.sp_text.specs.declared.faults.DimacsError.{DimacsError}
 use Rattle.sp_table.specs.Table.{TreeTable, IsTable}
 use Rattle.sp_tree.specs.TreeText.{tree_text}
-use Rattle.sp_blocks.specs.declared.blocks.TreeBlocks.{TreeBlocks}
-use Rattle.sp_blocks.specs.Block.{lines_in}
-use Rattle.sp_blocks.specs.Stream.{stream, left_in, IsShort, BlockRefused}
+use Rattle.sp_tree.specs.declared.blocks.TreeBlocks.{TreeBlocks}
+use Rattle.sp_tree.specs.Block.{lines_in}
+use Rattle.sp_tree.specs.Stream.{stream, left_in, IsShort, BlockRefused}
 
 -- The bytes that are left, where they are known.
 abbrev pub left_of : {P : ℕ} {R : Type 0} → (R → Option (List ℕ)) → TreeBlocks P → R → Option (List ℕ)

@@ -1,8 +1,8 @@
 use Rattle.std.proofs.Common.{◌-◌, ◌^◌, []}
 use Rattle.sp_tree.specs.Reading.{IsBehindTree}
-use Rattle.sp_blocks.specs.Stream.{stream, IsShort}
-use Rattle.sp_blocks.proofs.BlockSteps.{IsFeeding}
-use Rattle.sp_blocks.proofs.stream.feed_block.Given as goal
+use Rattle.sp_tree.specs.Stream.{stream, IsShort}
+use Rattle.sp_tree.proofs.BlockSteps.{IsFeeding}
+use Rattle.sp_tree.proofs.stream.feed_block.Given as goal
 
 abbrev pub invariant-loop-place : goal.invariant-loop-place
 invariant-loop-place g l = IsShort g.R.Read.passed (stream l.fn.piece l.fn.reader) → IsBehindTree [] l.fn.tree → IsFeeding g.R.Read.left g.R.Read.passed (stream l.fn.piece l.fn.reader) l.place (stream l.piece l.reader) l.tree

@@ -1,13 +1,13 @@
 //! The bytes of a device, block after block.
 ghost use Rattle.std.specs.Prelude.{[]};
 ghost use Rattle.sp_tree.specs.Reading.{IsBehindTree};
-ghost use Rattle.sp_blocks.specs.Stream.{stream, IsShort, IsLookedAt, BlockFed};
+ghost use Rattle.sp_tree.specs.Stream.{stream, IsShort, IsLookedAt, BlockFed};
 
 use crate::place::{Place, run_of};
 use sp_device::Read;
 use sp_dimacs::Piece;
 use sp_text::DimacsError;
-use sp_tree::TreeReader;
+use crate::TreeReader;
 
 /// Feeds the bytes of the next block, or all that are left.
 pub fn feed_block<const P: u32, R: Read>(

@@ -1,4 +1,0 @@
-pub mod Places
-pub mod LeftBytes
-pub mod BlockSteps
-pub mod GivenTrees

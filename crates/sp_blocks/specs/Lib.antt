@@ -1,4 +1,0 @@
-pub mod Block
-pub mod Stream
-pub mod Giving
-pub mod Whole
