@@ -6,7 +6,7 @@ use Rattle.std.proofs.lemmas.Option.{unwrap_or-slice_get}
 use Rattle.sp_word.specs.Word.{Word, Unreached, Pair, max_dist}
 use Rattle.sp_paths.specs.Paths.{Graph, IsVertex, IsTree, IsFar, IsTreeWord, word_at}
 use Rattle.sp_plain.specs.Answer.{IsPredWithin}
-use Rattle.sp_table.specs.Table.{TreeTable, HasPredWithin, table_of, tree_of}
+use Rattle.sp_answer.specs.Table.{TreeTable, HasPredWithin, table_of, tree_of}
 use Rattle.sp_answer.specs.Answer.{IsAnswer}
 use Rattle.sp_alone.specs.TreeWords.{AreTreeWords}
 

@@ -2,7 +2,7 @@
 use Rattle.std.specs.Prelude.{◌≡◌, ℕ, List, length, All, None}
 use Rattle.sp_word.specs.Word.{Word}
 use Rattle.sp_paths.specs.Paths.{Graph, IsTree, IsFar, word_at}
-use Rattle.sp_table.specs.Table.{HasPredWithin}
+use Rattle.sp_answer.specs.Table.{HasPredWithin}
 
 -- the words of the tree, where no vertex is too far
 pub record AreTreeWords (g : Graph) (s max : ℕ) (words : List Word) : Type 0 where

@@ -5,11 +5,10 @@ ghost use Rattle.sp_paths.specs.Paths.{IsVertex};
 ghost use Rattle.sp_answer.specs.Answer.{IsAnswer, IsRefusal};
 ghost use Rattle.sp_alone.specs.TreeWords.{AreTreeWords};
 
-use sp_answer::RunError;
+use sp_answer::{RunError, Tree};
 use sp_graph::Graph;
 use sp_plain::Answer;
 use sp_serial::solve_alone;
-use sp_table::Tree;
 use sp_word::{Delta, Word};
 use std::alloc::Global;
 

@@ -11,8 +11,8 @@ use Rattle.sp_paths.specs.Theorems.{HasTree}
 use Rattle.sp_paths.proofs.Walks.{arc_in}
 use Rattle.sp_paths.proofs.TheoremProofs.{far_is_meant}
 use Rattle.sp_paths.proofs.Existence.{trees_exist}
-use Rattle.sp_table.specs.Table.{TreeTable, tree_of, table_of, rows_from, HasPredWithin, IsTable}
-use Rattle.sp_table.proofs.RisingRows.{tree_is_table, words_are}
+use Rattle.sp_answer.specs.Table.{TreeTable, tree_of, table_of, rows_from, HasPredWithin, IsTable}
+use Rattle.sp_answer.proofs.RisingRows.{tree_is_table, words_are}
 use Rattle.sp_answer.specs.Answer.{IsAnswer}
 use Rattle.sp_batch.specs.Batch.{Answer, TreeOf, FarFrom, IsAnswerTo, AreAnswers, batch_text, HasBegun}
 use Rattle.sp_batch.specs.Steps.{HasBegunFirst}

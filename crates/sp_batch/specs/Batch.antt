@@ -4,7 +4,7 @@ use Rattle.std.specs.List.{flat_map, count_by}
 use Rattle.sp_word.specs.Word.{max_dist}
 use Rattle.sp_device.specs.Devices.{IsBegun}
 use Rattle.sp_paths.specs.Paths.{Graph, IsFar}
-use Rattle.sp_table.specs.Table.{TreeTable, IsTable}
+use Rattle.sp_answer.specs.Table.{TreeTable, IsTable}
 use Rattle.sp_tree.specs.TreeText.{tree_text, far_text}
 use Rattle.sp_answer.specs.Answer.{IsAnswer}
 use Rattle.sp_job.specs.declared.answers.Summary.{Summary}

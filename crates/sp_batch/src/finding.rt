@@ -9,7 +9,7 @@ use crate::watch::Watch;
 use sp_graph::Graph;
 use sp_job::Plan;
 use sp_solve::{RunError, run_source};
-use sp_table::Tree;
+use sp_answer::Tree;
 use std::alloc::{AllocError, Global};
 use std::sync::Wait;
 use std::thread::{Threads, join};

@@ -5,7 +5,7 @@ use Rattle.std.proofs.lemmas.Bool.{cases_eq, eq-eqb, ne_eqb, cond-true, cond-fal
 use Rattle.std.proofs.lemmas.List.{take_more, get_or-set_other, get_or-set_same}
 use Rattle.sp_word.specs.Word.{Word, Unreached, Pair, max_dist}
 use Rattle.sp_paths.specs.Paths.{IsVertex, IsWithin, word_at}
-use Rattle.sp_table.specs.Table.{TreeTable, word_in, table_of, AreRows, IsPairWithin, IsTable}
+use Rattle.sp_answer.specs.Table.{TreeTable, word_in, table_of, AreRows, IsPairWithin, IsTable}
 
 -- ## One row more
 

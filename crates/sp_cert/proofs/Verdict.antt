@@ -6,7 +6,7 @@ use Rattle.sp_word.specs.History.{Table}
 use Rattle.sp_paths.specs.declared.arc.Arc.{Arc}
 use Rattle.sp_paths.specs.Paths.{Graph, IsGraph, IsVertex, HasArc, word_at}
 use Rattle.sp_paths.proofs.Walks.{arc_in}
-use Rattle.sp_table.specs.Table.{TreeTable, IsTable, table_of}
+use Rattle.sp_answer.specs.Table.{TreeTable, IsTable, table_of}
 use Rattle.sp_cert.specs.declared.rule.Rule.{Rule}
 use Rattle.sp_cert.specs.declared.rule.Rule.TheVariants.{Size, OwnSource, NoLesserOffer, NamesPredecessor, OnlyTooFar}
 use Rattle.sp_cert.specs.declared.fault.Fault.{Fault}

@@ -2,7 +2,7 @@
 use Rattle.std.specs.Prelude.{ℕ, Option}
 use Rattle.sp_word.specs.Word.{max_dist}
 use Rattle.sp_paths.specs.Paths.{Graph}
-use Rattle.sp_table.specs.Table.{TreeTable, table_of}
+use Rattle.sp_answer.specs.Table.{TreeTable, table_of}
 use Rattle.sp_cert.specs.declared.fault.Fault.{Fault as Failure}
 use Rattle.sp_cert.specs.declared.checking.CheckError.{CheckError}
 use Rattle.sp_cert.specs.declared.checking.CheckError.TheVariants.{Fault, Memory}

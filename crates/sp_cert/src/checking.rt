@@ -9,7 +9,7 @@ use crate::rule::Rule;
 use crate::vertices::first_of_vertices;
 use crate::words::words_of;
 use sp_graph::Graph;
-use sp_table::Tree;
+use sp_answer::Tree;
 use std::alloc::{AllocError, Global};
 use std::thread::Threads;
 use thiserror::Error;

@@ -1,9 +1,9 @@
 //! The words of a tree by vertex.
 ghost use Rattle.std.specs.Prelude.{◌≡◌, ℕ, length, IfOk};
 ghost use Rattle.sp_paths.specs.Paths.{IsVertex, word_at};
-ghost use Rattle.sp_table.specs.Table.{table_of};
+ghost use Rattle.sp_answer.specs.Table.{table_of};
 
-use sp_table::Tree;
+use sp_answer::Tree;
 use sp_word::Word;
 use std::alloc::{AllocError, Global};
 

@@ -17,7 +17,7 @@ use Rattle.sp_paths.proofs.Walks.{arc_in, walk_by_parts}
 use Rattle.sp_offer.specs.Order.{IsKnownWord, IsNoMore}
 use Rattle.sp_offer.specs.Story.{Knowledge, known_table, IsCopy}
 use Rattle.sp_bins.specs.declared.entry.Entry.{Entry}
-use Rattle.sp_table.specs.Table.{TreeTable, HasPredWithin, table_of, tree_of}
+use Rattle.sp_answer.specs.Table.{TreeTable, HasPredWithin, table_of, tree_of}
 use Rattle.sp_store.specs.declared.marks.Mark.{Mark}
 use Rattle.sp_answer.specs.declared.answer.RunError.TheVariants.{TooFar}
 use Rattle.sp_store.specs.Stage.{Stage, IsStage, law_of}

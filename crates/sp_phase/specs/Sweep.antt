@@ -6,7 +6,7 @@ use Rattle.sp_paths.specs.Paths.{IsVertex, word_at}
 use Rattle.sp_paths.specs.Phase.{IsMarkedCopy, HasNoOpen}
 use Rattle.sp_offer.specs.Order.{IsKnownWord, IsNoMore}
 use Rattle.sp_offer.specs.Story.{Knowledge, known_table}
-use Rattle.sp_table.specs.Table.{TreeTable, table_of}
+use Rattle.sp_answer.specs.Table.{TreeTable, table_of}
 use Rattle.sp_bins.specs.declared.entry.Entry.{Entry}
 use Rattle.sp_store.specs.declared.marks.Mark.{Mark}
 use Rattle.sp_store.specs.Stage.{Stage, IsStage, Learns, law_of}

@@ -11,7 +11,7 @@ use sp_graph::left_out;
 use sp_offer::Caller;
 use sp_paths::swept_copy;
 use sp_store::RunError;
-use sp_table::Tree;
+use sp_answer::Tree;
 use std::alloc::AllocError;
 
 impl<'a, 'g, const P: u32> Leader<'a, 'g, P> {

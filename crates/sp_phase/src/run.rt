@@ -13,7 +13,7 @@ use crate::leader::Leader;
 use sp_claim::Claimer;
 use sp_offer::Caller;
 use sp_store::{RunError, Store};
-use sp_table::Tree;
+use sp_answer::Tree;
 use sp_task::Gate;
 use sp_word::{Word, Workers};
 use std::alloc::Global;

@@ -8,7 +8,7 @@ use sp_claim::Claimer;
 use sp_graph::Graph;
 use sp_offer::Caller;
 use sp_store::{RunError, Store};
-use sp_table::Tree;
+use sp_answer::Tree;
 use sp_task::Gate;
 use sp_word::{Delta, Workers};
 use std::alloc::Global;

@@ -11,7 +11,7 @@ use Rattle.sp_paths.specs.Theorems.{FinishedIsTree}
 use Rattle.sp_paths.proofs.Walks.{arc_in, walk_none, walk_from_by, walk_by, walk_by_parts}
 use Rattle.sp_graph.specs.LeftOut.{IsLeastLeftOut}
 use Rattle.sp_offer.specs.Order.{lawful}
-use Rattle.sp_table.specs.Table.{TreeTable, HasPredWithin, table_of, tree_of}
+use Rattle.sp_answer.specs.Table.{TreeTable, HasPredWithin, table_of, tree_of}
 use Rattle.sp_walks.specs.Walks.{WalksFrom}
 use Rattle.sp_team.specs.Law.{AllowsArcs, IsReady}
 use Rattle.sp_scan.specs.Shown.{Shows, LeadsOut}

@@ -4,9 +4,8 @@ ghost use Rattle.sp_word.specs.Word.{is_layout, max_pred};
 ghost use Rattle.sp_answer.specs.Answer.{IsAnswer, IsRefusal};
 
 use crate::whole::WholeRun;
-use sp_answer::RunError;
+use sp_answer::{RunError, Tree};
 use sp_graph::Graph;
-use sp_table::Tree;
 use sp_team::Team;
 use sp_word::{Delta, Workers};
 use std::alloc::Global;

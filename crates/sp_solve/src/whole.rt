@@ -9,10 +9,9 @@ ghost use Rattle.sp_graph.specs.LeftOut.{IsLeastLeftOut};
 ghost use Rattle.sp_answer.specs.Answer.{IsAnswer, IsRefusal};
 ghost use Rattle.sp_solve.specs.WholeRun.{IsRelaxedCopy};
 
-use sp_answer::RunError;
+use sp_answer::{RunError, Tree};
 use sp_graph::Graph;
 use sp_paths::finished_table;
-use sp_table::Tree;
 use sp_team::Team;
 use sp_word::Word;
 use std::alloc::{AllocError, Global};

@@ -7,7 +7,7 @@ use Rattle.std.proofs.lemmas.List.Elements.{All-push}
 use Rattle.std.specs.Io.KnownBytes.{Consumes, IsAtEnd}
 use Rattle.sp_paths.specs.Paths.{Graph}
 use Rattle.sp_text.specs.declared.faults.DimacsError.{DimacsError}
-use Rattle.sp_table.specs.Table.{TreeTable, IsTable}
+use Rattle.sp_answer.specs.Table.{TreeTable, IsTable}
 use Rattle.sp_tree.specs.TreeText.{tree_text}
 use Rattle.sp_tree.specs.declared.blocks.TreeBlocks.{TreeBlocks}
 use Rattle.sp_tree.specs.Block.{lines_in}

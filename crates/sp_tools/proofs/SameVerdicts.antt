@@ -10,7 +10,7 @@ use Rattle.sp_paths.specs.Bags.{AreSame}
 use Rattle.sp_paths.proofs.SameArcs.{same_arcs_same_answers}
 use Rattle.sp_dimacs.specs.declared.graphs.GrFile.{GrFile}
 use Rattle.sp_dimacs.specs.Graph.{graph_of}
-use Rattle.sp_table.specs.Table.{TreeTable, table_of}
+use Rattle.sp_answer.specs.Table.{TreeTable, table_of}
 use Rattle.sp_cert.specs.declared.rule.Rule.{Rule}
 use Rattle.sp_cert.specs.declared.rule.Rule.TheVariants.{Size, OwnSource, NoLesserOffer, NamesPredecessor, OnlyTooFar}
 use Rattle.sp_cert.specs.Rules.{IsExplained, Breaks, Fails}

@@ -7,7 +7,7 @@ use Rattle.sp_paths.specs.Paths.{Graph}
 use Rattle.sp_dimacs.specs.declared.graphs.GrFile.{GrFile}
 use Rattle.sp_dimacs.specs.Formats.{gr}
 use Rattle.sp_dimacs.specs.Graph.{SpellsGraph, GraphRead, graph_of}
-use Rattle.sp_table.specs.Table.{TreeTable, IsTable}
+use Rattle.sp_answer.specs.Table.{TreeTable, IsTable}
 use Rattle.sp_tree.specs.Reading.{TreeRead}
 use Rattle.sp_replay.specs.declared.replays.ReplayFile.{ReplayFile}
 use Rattle.sp_replay.specs.ReplayFormat.{replay}

@@ -2,7 +2,7 @@
 use Rattle.std.specs.Prelude.{ℕ, List, ◌++◌, codes, decimal}
 use Rattle.sp_word.specs.Word.{max_dist}
 use Rattle.sp_paths.specs.Paths.{Graph}
-use Rattle.sp_table.specs.Table.{TreeTable, table_of}
+use Rattle.sp_answer.specs.Table.{TreeTable, table_of}
 use Rattle.sp_cert.specs.Certificate.{IsCertified}
 use Rattle.sp_cert.specs.Rules.{number_of, IsFirstFault}
 use Rattle.sp_command.specs.declared.faults.Status.{Status}

@@ -1,7 +1,7 @@
 -- What `check --all` says of the blocks of a tree file, and how it ends.
 use Rattle.std.specs.Prelude.{◌≡◌, ℕ, Bool, true, false, List, [], ◌∷◌, ◌++◌, codes, decimal, if◌then◌else◌}
 use Rattle.sp_paths.specs.Paths.{Graph}
-use Rattle.sp_table.specs.Table.{TreeTable}
+use Rattle.sp_answer.specs.Table.{TreeTable}
 use Rattle.sp_cert.specs.Rules.{number_of}
 use Rattle.sp_tree.specs.Whole.{IsFile, IsFileFault}
 use Rattle.sp_command.specs.declared.faults.Status.{Status}

@@ -9,12 +9,12 @@ use Rattle.sp_text.specs.Feeding.{Takes}
 use Rattle.sp_tree.specs.declared.lines.Line.{Line}
 use Rattle.sp_tree.specs.declared.lines.Line.TheVariants.{Problem, Row, End}
 use Rattle.sp_tree.specs.declared.taking.TreeLines.{TreeLines}
-use Rattle.sp_table.specs.Table.{TreeTable, IsTable, last_vertex}
+use Rattle.sp_answer.specs.Table.{TreeTable, IsTable, last_vertex}
 use Rattle.sp_tree.specs.Spelling.{Spelled, Nothing, Open, Whole, next, spelled_from, spelling_state, in_range, fault, line_in, is_row, tree_judge}
 use Rattle.sp_text.specs.Numeral.{capped_value}
 use Rattle.sp_tree.specs.Fields.{capped_line}
 use Rattle.sp_tree.specs.Taking.{HasTable, IsAt, Answers}
-use Rattle.sp_table.proofs.RisingRows.{few_rows}
+use Rattle.sp_answer.proofs.RisingRows.{few_rows}
 
 -- The limits of each layout leave room.
 pub maxima_small : (P : ℕ) → is_layout P ≡ true → (max_pred P < 2 ^ 64 - 1) × (max_dist P < 2 ^ 64 - 1)

@@ -8,7 +8,7 @@ use Rattle.sp_text.specs.Feeding.{IsMemory, Finished}
 use Rattle.sp_text.specs.Whole.{AllRead, IsSpelled}
 use Rattle.sp_tree.specs.declared.taking.TreeLines.{TreeLines}
 use Rattle.sp_tree.specs.declared.reading.TreeReader.{TreeReader}
-use Rattle.sp_table.specs.Table.{TreeTable, IsTable}
+use Rattle.sp_answer.specs.Table.{TreeTable, IsTable}
 use Rattle.sp_tree.specs.Spelling.{Whole, spelling_state, tree_judge}
 use Rattle.sp_tree.specs.Taking.{IsAt}
 use Rattle.sp_tree.specs.Reading.{TreeFinished, TreeRead}

@@ -1,7 +1,7 @@
 -- How a tree is given.
 use Rattle.std.proofs.Common.{ℕ, ◌≤◌, ◌^◌, Bool, List, length, Option, Result, Ok, Err, inl, inr}
 use Rattle.sp_text.specs.declared.faults.DimacsError.{DimacsError}
-use Rattle.sp_table.specs.Table.{TreeTable}
+use Rattle.sp_answer.specs.Table.{TreeTable}
 use Rattle.sp_tree.specs.declared.reading.TreeReader.{TreeReader}
 use Rattle.sp_tree.specs.Reading.{IsBehindTree, TreeFinished}
 use Rattle.sp_tree.specs.Stream.{Stream, BlockFed, BlockRead}

@@ -11,7 +11,7 @@ use Rattle.sp_text.proofs.LineCuts.{cut-append, ended_at_lf, rest_at_lf, ended_a
 use Rattle.sp_text.proofs.Behind.{lines_whole}
 use Rattle.sp_tree.specs.declared.lines.Line.{Line}
 use Rattle.sp_tree.specs.declared.lines.Line.TheVariants.{Problem, Row, End}
-use Rattle.sp_table.specs.Table.{TreeTable, IsTable, AreRows, IsPairWithin, last_after, last_vertex}
+use Rattle.sp_answer.specs.Table.{TreeTable, IsTable, AreRows, IsPairWithin, last_after, last_vertex}
 use Rattle.sp_tree.specs.TreeText.{problem_text, reached_text, row_text, end_text, tree_text}
 use Rattle.sp_tree.specs.Spelling.{Spelled, Nothing, Open, Whole, next, spelling_state, fault, line_in, is_whole, tree_judge}
 use Rattle.sp_tree.proofs.CappedNumbers.{range_ok, open_small, spelled_push}

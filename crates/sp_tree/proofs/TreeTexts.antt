@@ -12,11 +12,11 @@ use Rattle.sp_text.proofs.Behind.{lines_whole}
 use Rattle.sp_text.proofs.FaultlessText.{at_none, kind_none, else_none}
 use Rattle.sp_tree.specs.declared.lines.Line.{Line}
 use Rattle.sp_tree.specs.declared.lines.Line.TheVariants.{Problem, Row, End}
-use Rattle.sp_table.specs.Table.{TreeTable, IsTable, last_vertex}
+use Rattle.sp_answer.specs.Table.{TreeTable, IsTable, last_vertex}
 use Rattle.sp_tree.specs.TreeText.{problem_text, row_text, end_text, tree_text}
 use Rattle.sp_tree.specs.Spelling.{Spelled, Nothing, Open, Whole, next, spelling_state, fault, line_in, missing_of, tree_judge}
 use Rattle.sp_tree.specs.Taking.{HasTable}
-use Rattle.sp_table.proofs.RisingRows.{row_added}
+use Rattle.sp_answer.proofs.RisingRows.{row_added}
 use Rattle.sp_tree.proofs.CappedNumbers.{maxima_small, range_facts, open_small, spelled_push}
 use Rattle.sp_tree.proofs.Canonical.{line_bytes, IsSmall, bytes_are, problem_is, reached_is, end_is}
 

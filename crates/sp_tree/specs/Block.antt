@@ -1,6 +1,6 @@
 -- The bytes of a block: those up to the LF of the first line that begins with `e`.
 use Rattle.std.specs.Prelude.{◌≡◌, ℕ, ◌+◌, ◌==◌, if◌then◌else◌, List, [], ◌∷◌, length}
-use Rattle.sp_table.specs.Table.{TreeTable}
+use Rattle.sp_answer.specs.Table.{TreeTable}
 use Rattle.sp_tree.specs.declared.place.Place.{Place}
 use Rattle.sp_tree.specs.declared.place.Place.TheVariants.{Fresh, Last, Within, Over}
 

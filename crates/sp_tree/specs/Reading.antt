@@ -6,7 +6,7 @@ use Rattle.sp_text.specs.First.{fault_at_failure, fault_at_end}
 use Rattle.sp_text.specs.Feeding.{IsBehind, Fed, Refused}
 use Rattle.sp_tree.specs.declared.reading.TreeReader.{TreeReader}
 use Rattle.sp_tree.specs.declared.taking.TreeLines.{TreeLines}
-use Rattle.sp_table.specs.Table.{TreeTable, IsTable}
+use Rattle.sp_answer.specs.Table.{TreeTable, IsTable}
 use Rattle.sp_tree.specs.TreeText.{tree_text}
 use Rattle.sp_tree.specs.Spelling.{spelling_state, tree_judge}
 use Rattle.sp_tree.specs.Taking.{IsAt}

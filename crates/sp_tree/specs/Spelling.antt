@@ -9,7 +9,7 @@ use Rattle.sp_text.specs.Text.{is_word}
 use Rattle.sp_text.specs.First.{Judge}
 use Rattle.sp_tree.specs.declared.lines.Line.{Line}
 use Rattle.sp_tree.specs.declared.lines.Line.TheVariants.{Problem, Row, End}
-use Rattle.sp_table.specs.Table.{TreeTable, last_vertex, with_row}
+use Rattle.sp_answer.specs.Table.{TreeTable, last_vertex, with_row}
 
 -- 1. A line by itself. Fields are parted by exactly one space.
 

@@ -4,7 +4,7 @@ use Rattle.std.specs.Io.KnownBytes.{Consumes, IsAtEnd, prepend_known}
 use Rattle.sp_text.specs.declared.faults.DimacsError.{DimacsError}
 use Rattle.sp_text.specs.First.{fault_at_failure, fault_at_end}
 use Rattle.sp_text.specs.Feeding.{Refused}
-use Rattle.sp_table.specs.Table.{TreeTable, IsTable}
+use Rattle.sp_answer.specs.Table.{TreeTable, IsTable}
 use Rattle.sp_tree.specs.TreeText.{tree_text}
 use Rattle.sp_tree.specs.Spelling.{tree_judge}
 use Rattle.sp_tree.specs.declared.reading.TreeReader.{TreeReader}

@@ -4,7 +4,7 @@ use Rattle.sp_text.specs.declared.faults.Kind.{Kind}
 use Rattle.sp_text.specs.declared.faults.Kind.TheVariants.{Memory}
 use Rattle.sp_tree.specs.declared.lines.Line.{Line}
 use Rattle.sp_tree.specs.declared.taking.TreeLines.{TreeLines}
-use Rattle.sp_table.specs.Table.{TreeTable, IsTable}
+use Rattle.sp_answer.specs.Table.{TreeTable, IsTable}
 use Rattle.sp_tree.specs.Spelling.{Spelled, Nothing, Open, Whole, next, fault, is_whole, is_row}
 
 -- the tree so far

@@ -3,7 +3,7 @@ use Rattle.std.specs.Prelude.{ℕ, List, [], ◌++◌, length, codes}
 use Rattle.std.specs.List.{flat_map}
 use Rattle.sp_word.specs.Word.{Word, Unreached, Pair}
 use Rattle.sp_text.specs.Numeral.{number_text}
-use Rattle.sp_table.specs.Table.{TreeTable}
+use Rattle.sp_answer.specs.Table.{TreeTable}
 
 -- `p spt N S`
 abbrev pub problem_text : (n source : ℕ) → List ℕ

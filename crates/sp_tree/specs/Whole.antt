@@ -2,7 +2,7 @@
 use Rattle.std.specs.Prelude.{◌≡◌, ℕ, ◌+◌, ◌<◌, Bool, List, [], ◌∷◌, ◌++◌, length, All, Some}
 use Rattle.std.specs.List.{flat_map}
 use Rattle.sp_text.specs.declared.faults.DimacsError.{DimacsError}
-use Rattle.sp_table.specs.Table.{TreeTable, IsTable}
+use Rattle.sp_answer.specs.Table.{TreeTable, IsTable}
 use Rattle.sp_tree.specs.TreeText.{tree_text}
 use Rattle.sp_tree.specs.Block.{IsWithinBlock, lines_in}
 use Rattle.sp_tree.specs.Stream.{IsFaultOf}

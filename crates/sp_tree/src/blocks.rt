@@ -4,11 +4,12 @@ ghost use Rattle.sp_word.specs.Word.{is_layout};
 ghost use Rattle.sp_text.specs.declared.faults.DimacsError.{DimacsError};
 ghost use Rattle.sp_tree.specs.Block.{lines_in};
 
+use crate::reading::TreeReader;
 use crate::stream::{feed_block, is_over};
+use sp_answer::Tree;
 use sp_device::Read;
 use sp_dimacs::Piece;
 use sp_text::DimacsError;
-use crate::{Tree, TreeReader};
 use std::alloc::Global;
 
 /// Reads the trees of a file of one or more blocks, one after the other, from one device. It keeps no more than the

@@ -2,7 +2,7 @@
 ghost use Rattle.std.specs.Prelude.{◌≡◌, ℕ, List, true, None, ◌↔◌};
 ghost use Rattle.sp_word.specs.Word.{is_layout};
 ghost use Rattle.sp_text.specs.First.{fault_at_end};
-ghost use Rattle.sp_table.specs.Table.{TreeTable, IsTable};
+ghost use Rattle.sp_answer.specs.Table.{TreeTable, IsTable};
 ghost use Rattle.sp_tree.specs.TreeText.{tree_text};
 ghost use Rattle.sp_tree.specs.Spelling.{tree_judge};
 

@@ -1,4 +1,5 @@
-//! The file of a shortest-path tree: one text for each tree, written and read.
+//! The file of a shortest-path tree: one text for each tree, written and read; and the file of several trees, read block after
+//! block in the memory of one tree.
 #![tactic(auto)]
 
 mod blocks;
@@ -13,5 +14,5 @@ mod writing;
 pub use blocks::TreeBlocks;
 pub use laws::{tree_text_is_exact, tree_texts_are_accepted};
 pub use reading::{TreeReader, read_tree};
-pub use sp_table::Tree;
+pub use sp_answer::Tree;
 pub use writing::{write_far, write_tree};

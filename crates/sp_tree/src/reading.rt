@@ -2,13 +2,13 @@
 ghost use Rattle.std.specs.Prelude.{◌≡◌, ◌≤◌, ◌^◌, ◌++◌, ℕ, List, [], length, true, Err, Some, IfOk, IfErr};
 ghost use Rattle.sp_word.specs.Word.{is_layout};
 ghost use Rattle.sp_text.specs.First.{fault_at_failure};
-ghost use Rattle.sp_table.specs.Table.{IsTable};
+ghost use Rattle.sp_answer.specs.Table.{IsTable};
 ghost use Rattle.sp_tree.specs.Spelling.{tree_judge};
 ghost use Rattle.sp_tree.specs.Reading.{IsBehindTree, IsSpentTree, TreeFed, TreeFinished, TreeRead};
 
 use crate::taking::TreeLines;
 use sp_device::Read;
-use sp_table::Tree;
+use sp_answer::Tree;
 use sp_text::{DimacsError, Feeder, Kind, read_text};
 use std::alloc::Global;
 

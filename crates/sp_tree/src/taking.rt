@@ -5,7 +5,7 @@ ghost use Rattle.sp_text.specs.declared.faults.Kind.{Kind};
 ghost use Rattle.sp_tree.specs.Spelling.{in_range};
 
 use crate::lines::{Line, read_line};
-use sp_table::Tree;
+use sp_answer::Tree;
 use sp_text::{Kind, LineTaker};
 use sp_word::Word;
 use std::alloc::Global;

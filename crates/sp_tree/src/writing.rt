@@ -5,7 +5,7 @@ ghost use Rattle.sp_device.specs.Printing.{Sends, Finished as Written, Counted};
 ghost use Rattle.sp_tree.specs.TreeText.{problem_text, reached_text, row_text, end_text, tree_text, far_text};
 
 use sp_device::{Block, Printer, Write, WriteFault, finish, make_room};
-use sp_table::Tree;
+use sp_answer::Tree;
 use sp_text::push_number;
 use sp_word::Word;
 

@@ -1,9 +1,9 @@
 //! A tree in the two slices of a caller.
 ghost use Rattle.std.specs.Prelude.{◌≡◌, ◌≤◌, ◌+◌, length};
-ghost use Rattle.sp_table.specs.Table.{table_of};
+ghost use Rattle.sp_answer.specs.Table.{table_of};
 ghost use Rattle.spt_c.specs.Blocks.{slices, IsCell, AreCells, KeepsOthers};
 
-use sp_table::Tree;
+use sp_answer::Tree;
 use sp_word::Word;
 
 // What stands for a word: its distance and predecessor, or the greatest number and 0.

@@ -2,9 +2,9 @@
 ghost use Rattle.std.specs.Prelude.{◌≡◌, Some, IfSome};
 ghost use Rattle.sp_word.specs.Word.{pred_of};
 ghost use Rattle.sp_paths.specs.Paths.{IsVertex};
-ghost use Rattle.sp_table.specs.Table.{table_of};
+ghost use Rattle.sp_answer.specs.Table.{table_of};
 
-use sp_table::Tree;
+use sp_answer::Tree;
 use std::alloc::{AllocError, Global};
 
 /// The vertex before this one on its path: none before the source, nor before a vertex that no path leads to.

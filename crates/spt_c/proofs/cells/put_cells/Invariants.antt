@@ -1,4 +1,4 @@
-use Rattle.sp_table.specs.Table.{table_of}
+use Rattle.sp_answer.specs.Table.{table_of}
 use Rattle.spt_c.specs.Blocks.{slices, AreCells, KeepsOthers}
 use Rattle.spt_c.proofs.cells.put_cells.Given as goal
 

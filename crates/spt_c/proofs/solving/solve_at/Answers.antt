@@ -1,5 +1,5 @@
 use Rattle.std.proofs.Common.{subst}
-use Rattle.sp_table.specs.Table.{table_of}
+use Rattle.sp_answer.specs.Table.{table_of}
 use Rattle.spt_c.specs.Blocks.{slices, AreCells, KeepsOthers}
 use Rattle.spt_c.proofs.solving.solve_at.Goals as goal
 

@@ -1,7 +1,7 @@
 use Rattle.std.proofs.Common.{◌≡◌, ℕ, ◌-◌, ◌≤◌, List, length, Some, ap, ◌∙◌, sym, subst, arith}
 use Rattle.std.specs.Prelude.{All, slice_get}
 use Rattle.sp_word.specs.Word.{Word, max_pred}
-use Rattle.sp_table.specs.Table.{HasPredWithin, table_of, tree_of}
+use Rattle.sp_answer.specs.Table.{HasPredWithin, table_of, tree_of}
 use Rattle.sp_phase.specs.Lead.{Lead}
 use Rattle.sp_phase.proofs.CopiedWords.{is_answer, has_words, known_words, told_tree, preds_within}
 use Rattle.sp_phase.proofs.leader.Leader.tree.Goals as goal

@@ -9,7 +9,7 @@ use Rattle.std.specs.List.Sorted.{IsBinarySearchResult}
 use Rattle.std.specs.Ordering.{ordering_index, nat_cmp}
 use Rattle.std.specs.declared.cmp.Ordering.TheVariants.{Less, Equal, Greater}
 use Rattle.sp_word.specs.Word.{Word, Unreached, Pair, Fits, dist_of, max_dist, max_pred, is_layout}
-use Rattle.sp_table.specs.Table.{word_in, table_of, AreRows, IsTable, last_after, row_of, rows_from, tree_of, HasPredWithin}
+use Rattle.sp_answer.specs.Table.{word_in, table_of, AreRows, IsTable, last_after, row_of, rows_from, tree_of, HasPredWithin}
 
 -- Looking a vertex up.
 

@@ -1,8 +1,8 @@
 use Rattle.std.proofs.Common.{rules, sym}
 use Rattle.std.proofs.lemmas.List.Sorted.{answers_always}
 use Rattle.sp_word.specs.Word.{max_dist}
-use Rattle.sp_table.proofs.RisingRows.{word_found, word_missing}
-use Rattle.sp_table.proofs.tree.Tree.word_of_row.Goals as goal
+use Rattle.sp_answer.proofs.RisingRows.{word_found, word_missing}
+use Rattle.sp_answer.proofs.tree.Tree.word_of_row.Goals as goal
 
 pub returns-in-Ok : goal.returns-in-Ok
 returns-in-Ok g c =

@@ -1,8 +1,8 @@
 use Rattle.std.proofs.Common.{refl}
 use Rattle.sp_word.specs.Word.{dist_of}
-use Rattle.sp_table.proofs.RisingRows.{row_pushed, row_passed}
-use Rattle.sp_table.proofs.rows.rows_of.Goals as goal
-use Rattle.sp_table.proofs.rows.rows_of.Goals.{then-is_reached+in_ok-push, else-is_reached}
+use Rattle.sp_answer.proofs.RisingRows.{row_pushed, row_passed}
+use Rattle.sp_answer.proofs.rows.rows_of.Goals as goal
+use Rattle.sp_answer.proofs.rows.rows_of.Goals.{then-is_reached+in_ok-push, else-is_reached}
 
 pub loop-place-preserved : goal.loop-place-preserved
 loop-place-preserved g c =

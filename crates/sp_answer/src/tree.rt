@@ -1,7 +1,7 @@
 //! Trees as tables of rows.
 ghost use Rattle.std.specs.Prelude.{◌≡◌, ◌+◌, ◌-◌, ◌<◌, ◌≤◌, ◌∷◌, [], ◌++◌, ℕ, List, length, true, All, IfOk, Some, MatchOption, slice_get};
 ghost use Rattle.sp_word.specs.Word.{Pair, Unreached, is_layout, max_dist, max_pred};
-ghost use Rattle.sp_table.specs.Table.{TreeTable, IsTable, AreRows, HasPredWithin, last_vertex, table_of, tree_of, with_row};
+ghost use Rattle.sp_answer.specs.Table.{TreeTable, IsTable, AreRows, HasPredWithin, last_vertex, table_of, tree_of, with_row};
 
 use crate::rows::rows_of;
 use sp_word::Word;

@@ -1,6 +1,6 @@
 use Rattle.std.proofs.Common.{refl, length}
-use Rattle.sp_table.proofs.RisingRows.{tree_is_table, words_are}
-use Rattle.sp_table.proofs.tree.Tree.of_words.Goals as goal
+use Rattle.sp_answer.proofs.RisingRows.{tree_is_table, words_are}
+use Rattle.sp_answer.proofs.tree.Tree.of_words.Goals as goal
 
 pub invariant_of-result : goal.invariant_of-result
 invariant_of-result g c =

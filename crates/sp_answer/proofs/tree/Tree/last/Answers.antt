@@ -1,5 +1,5 @@
-use Rattle.sp_table.proofs.RisingRows.{last_is}
-use Rattle.sp_table.proofs.tree.Tree.last.Goals as goal
+use Rattle.sp_answer.proofs.RisingRows.{last_is}
+use Rattle.sp_answer.proofs.tree.Tree.last.Goals as goal
 
 pub returns-in-Some : goal.returns-in-Some
 returns-in-Some g c =

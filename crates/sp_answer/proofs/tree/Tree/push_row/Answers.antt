@@ -1,5 +1,5 @@
-use Rattle.sp_table.proofs.RisingRows.{row_added}
-use Rattle.sp_table.proofs.tree.Tree.push_row.Goals as goal
+use Rattle.sp_answer.proofs.RisingRows.{row_added}
+use Rattle.sp_answer.proofs.tree.Tree.push_row.Goals as goal
 
 pub invariant_of-self-2 : goal.invariant_of-self-2
 invariant_of-self-2 g c =

@@ -2,7 +2,7 @@
 ghost use Rattle.std.specs.Prelude.{◌≡◌, ◌≤◌, ◌^◌, ◌<◌, length, IfOk, All};
 ghost use Rattle.std.specs.Option.{is_some};
 ghost use Rattle.sp_word.specs.Word.{Fits, dist_of};
-ghost use Rattle.sp_table.specs.Table.{rows_from};
+ghost use Rattle.sp_answer.specs.Table.{rows_from};
 
 use sp_word::Word;
 use std::alloc::{AllocError, Global};

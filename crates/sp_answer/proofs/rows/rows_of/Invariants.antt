@@ -1,8 +1,8 @@
 use Rattle.std.proofs.Common.{◌≡◌, take}
 use Rattle.std.specs.List.{All}
 use Rattle.sp_word.specs.Word.{Fits}
-use Rattle.sp_table.specs.Table.{rows_from}
-use Rattle.sp_table.proofs.rows.rows_of.Given as goal
+use Rattle.sp_answer.specs.Table.{rows_from}
+use Rattle.sp_answer.proofs.rows.rows_of.Given as goal
 
 abbrev pub invariant-loop-place : goal.invariant-loop-place
 invariant-loop-place g l = (l.rows.items ≡ rows_from 1 (take l.place l.words)) × All (Fits g.row.P) (take l.place l.words)
