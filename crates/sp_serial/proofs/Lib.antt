@@ -1,2 +1,3 @@
 pub mod RowWalks
 pub mod Targets
+pub mod WordsOfTree

@@ -1,1 +1,3 @@
 pub mod Target
+pub mod TreeWords
+pub mod Asked

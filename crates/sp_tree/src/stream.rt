@@ -4,10 +4,10 @@ ghost use Rattle.sp_tree.specs.Reading.{IsBehindTree};
 ghost use Rattle.sp_tree.specs.Stream.{stream, IsShort, IsLookedAt, BlockFed};
 
 use crate::place::{Place, run_of};
+use crate::reading::TreeReader;
 use sp_device::Read;
 use sp_dimacs::Piece;
 use sp_text::DimacsError;
-use crate::TreeReader;
 
 /// Feeds the bytes of the next block, or all that are left.
 pub fn feed_block<const P: u32, R: Read>(

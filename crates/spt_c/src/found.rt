@@ -12,7 +12,7 @@ use crate::answers::Told;
 use crate::arcs::{SptArc, graph_of};
 use crate::refusals::refusal;
 use crate::solving::width_for;
-use sp_alone::{TargetAnswer, run_target_alone};
+use sp_serial::{TargetAnswer, run_target_alone};
 use sp_graph::Graph;
 use sp_kept::KeptGraph;
 use sp_word::Delta;

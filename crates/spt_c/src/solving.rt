@@ -7,7 +7,7 @@ ghost use Rattle.spt_c.specs.Blocks.{slices, IsSolvedAt, AreSolved};
 
 use crate::answers::{Batch, Told};
 use crate::cells::put_cells;
-use sp_alone::{RunError, run_source_alone};
+use sp_serial::{RunError, run_source_alone};
 use sp_graph::Graph;
 use sp_word::{Delta, Word};
 use std::alloc::Global;

@@ -2,7 +2,7 @@ use Rattle.std.proofs.Common.{◌≤◌, sym, subst, arith}
 use Rattle.std.specs.Prelude.{All}
 use Rattle.sp_word.specs.Word.{max_pred}
 use Rattle.sp_answer.specs.Table.{HasPredWithin}
-use Rattle.sp_alone.proofs.alone.tree_of_words.Goals as goal
+use Rattle.sp_serial.proofs.alone.tree_of_words.Goals as goal
 
 pub of_words-requires : goal.of_words-requires
 of_words-requires g c =

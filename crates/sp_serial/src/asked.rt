@@ -2,11 +2,11 @@
 ghost use Rattle.std.specs.Prelude.{◌≡◌, ◌≤◌, true, IfOk, IfErr};
 ghost use Rattle.sp_word.specs.Word.{is_layout, max_dist, max_pred};
 ghost use Rattle.sp_serial.specs.Target.{IsAnswerFor};
-ghost use Rattle.sp_alone.specs.Target.{AreEnds, IsTargetRefusal};
+ghost use Rattle.sp_serial.specs.Asked.{AreEnds, IsTargetRefusal};
 
+use crate::target::{TargetAnswer, solve_target};
 use sp_answer::RunError;
 use sp_graph::Graph;
-use sp_serial::{TargetAnswer, solve_target};
 use sp_word::Delta;
 use std::alloc::Global;
 

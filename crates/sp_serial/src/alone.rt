@@ -3,12 +3,12 @@ ghost use Rattle.std.specs.Prelude.{◌≡◌, ◌≤◌, true, IfOk, IfErr};
 ghost use Rattle.sp_word.specs.Word.{is_layout, max_dist, max_pred};
 ghost use Rattle.sp_paths.specs.Paths.{IsVertex};
 ghost use Rattle.sp_answer.specs.Answer.{IsAnswer, IsRefusal};
-ghost use Rattle.sp_alone.specs.TreeWords.{AreTreeWords};
+ghost use Rattle.sp_serial.specs.TreeWords.{AreTreeWords};
 
+use crate::run::solve_alone;
 use sp_answer::{RunError, Tree};
 use sp_graph::Graph;
 use sp_plain::Answer;
-use sp_serial::solve_alone;
 use sp_word::{Delta, Word};
 use std::alloc::Global;
 

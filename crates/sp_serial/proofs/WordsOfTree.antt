@@ -8,7 +8,7 @@ use Rattle.sp_paths.specs.Paths.{Graph, IsVertex, IsTree, IsFar, IsTreeWord, wor
 use Rattle.sp_plain.specs.Answer.{IsPredWithin}
 use Rattle.sp_answer.specs.Table.{TreeTable, HasPredWithin, table_of, tree_of}
 use Rattle.sp_answer.specs.Answer.{IsAnswer}
-use Rattle.sp_alone.specs.TreeWords.{AreTreeWords}
+use Rattle.sp_serial.specs.TreeWords.{AreTreeWords}
 
 pred_within : (n : ℕ) (w : Word) → IsPredWithin n w → HasPredWithin n w
 pred_within n Unreached h = tt
