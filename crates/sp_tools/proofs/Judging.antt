@@ -3,6 +3,7 @@ use Rattle.std.proofs.Common.{◌≡◌, ℕ, ◌+◌, ◌-◌, ◌^◌, ◌<◌
 use Rattle.std.specs.Prelude.{All}
 use Rattle.std.proofs.KnownBytes.{Consumes-nil, Consumes-trans, prepend_known-nil}
 use Rattle.std.proofs.lemmas.Grind.{flat_map-append}
+use Rattle.std.proofs.lemmas.List.{append_cancel_left}
 use Rattle.std.proofs.lemmas.List.Elements.{All-push}
 use Rattle.std.specs.Io.KnownBytes.{Consumes, IsAtEnd}
 use Rattle.sp_paths.specs.Paths.{Graph}
@@ -78,13 +79,22 @@ left_behind : (P : ℕ) (text front block : List ℕ) (left : Option (List ℕ))
 left_behind P text front block None failed fault came h = absurd came
 left_behind P text front block (Some behind) failed fault came h = (behind, came, h)
 
+some_lines : (trees : List TreeTable) (most lines : ℕ) → lines ≡ min (lines_of trees) most → 0 < most → 0 < length trees → 0 < lines
+some_lines [] most lines is wide some = absurd (omega (arith, some))
+some_lines (tree ∷ trees) most lines is wide some = omega (arith, is, wide)
+
+-- Where nothing stands behind the given trees, nothing is left.
+all_given : (text front rest : List ℕ) (left : Option (List ℕ)) → Consumes (Some text) left front → text ≡ front ++ rest → rest ≡ [] → left ≡ Some []
+all_given text front rest None came parts none = absurd came
+all_given text front rest (Some more) came parts none = ap Some (append_cancel_left front more rest (sym came ∙ parts) ∙ none)
+
 told_in_file : (a lines : ℕ) (e : DimacsError) → lines ≡ min a (2 ^ 64 - 1) → in_file lines e ≡ in_file a e
 told_in_file a lines e is = ap (λ n. record { line = n; kind = e.kind }) (capped (2 ^ 64 - 1) a e.line lines is)
 
 -- A block has a fault.
 pub refused : {P : ℕ} {D : Type 0} (left : D → Option (List ℕ)) (passed : D → ℕ) (has_failed : D → Bool) (g : Graph) (start : Option (List ℕ)) (text : List ℕ) (old new : TreeBlocks P) (before after : D) (all : List Judged) (e : DimacsError)
     → start ≡ Some text → HaveVerdicts left passed g start old before all → Gives left passed has_failed old before (Err e) new after → IsFileFault P text (has_failed after) e
-refused {P = P} left passed has_failed g start text old new before after all e known h (spent, fault, told, (front, block, from, has_fault)) =
+refused {P = P} left passed has_failed g start text old new before after all e known h (spent, begun, fault, told, (front, block, from, has_fault)) =
     let came = Consumes-trans start (left_of left old before) (left_of left new after) (trees_text h.trees) front h.came from in
     let behind = left_behind P text (trees_text h.trees) front (left_of left new after) (has_failed after) fault (rw known at came) has_fault in
     record {
@@ -94,6 +104,8 @@ refused {P = P} left passed has_failed g start text old new before after all e k
       behind = behind.0;
       parts = behind.1;
       block = block;
+      begun = λ some none.
+        begun (some_lines h.trees (2 ^ 64 - 1) (lines_before old) h.lines (omega arith) some) (all_given text (trees_text h.trees) (front ++ behind.0) (left_of left old before) (rw known at h.came) behind.1 none);
       fault = fault;
       has_fault = behind.2;
       told = told ∙ told_in_file (lines_of h.trees) (lines_before old) fault h.lines;

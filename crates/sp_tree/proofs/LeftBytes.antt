@@ -1,5 +1,5 @@
 -- The bytes that are left: those that wait, and those of the device.
-use Rattle.std.proofs.Common.{◌≡◌, ℕ, List, [], ◌++◌, length, take, drop, take-append-drop, append_assoc, append-nil, Option, Some, None, ap, sym, subst, ◌∙◌}
+use Rattle.std.proofs.Common.{rules, arith, ◌≡◌, ℕ, ◌<◌, List, [], ◌∷◌, ◌++◌, length, take, drop, take-append-drop, append_assoc, append-nil, Option, Some, None, ap, sym, subst, ◌∙◌}
 use Rattle.std.proofs.KnownBytes.{Consumes-trans}
 use Rattle.std.proofs.Math.Seq.{drop-length}
 use Rattle.std.specs.Io.KnownBytes.{Consumes, Keeps, IsAtEnd, prepend_known}
@@ -27,6 +27,19 @@ at_end (Some bytes) h = h
 -- Nothing was taken behind some bytes.
 pub and_nothing : (a b c : Option (List ℕ)) (bytes : List ℕ) → Consumes a b bytes → Consumes b c [] → Consumes a c bytes
 and_nothing a b c bytes h k = subst (Consumes a c) (append-nil bytes) (Consumes-trans a b c bytes [] h k)
+
+-- Some byte waits, so one is left.
+pub one_waits : (piece : List ℕ) (known : Option (List ℕ)) → 0 < length piece → prepend_known piece known ≡ Some [] → ⊥
+one_waits [] known some none = omega (arith, some)
+one_waits (b ∷ piece) None some none = search rules
+one_waits (b ∷ piece) (Some bytes) some none = search rules
+
+-- Some byte came, so one was left.
+pub one_came : (old new : Option (List ℕ)) (piece : List ℕ) → Consumes old new piece → 0 < length piece → prepend_known [] old ≡ Some [] → ⊥
+one_came None new piece came some none = search rules
+one_came (Some bytes) None piece came some none = absurd came
+one_came (Some bytes) (Some more) [] came some none = omega (arith, some)
+one_came (Some bytes) (Some more) (b ∷ piece) came some none = search rules
 
 -- All that waited was taken.
 pub none_left : (n : ℕ) (piece : List ℕ) → n ≡ length piece → drop n piece ≡ []

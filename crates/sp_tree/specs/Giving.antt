@@ -1,5 +1,5 @@
 -- Where a reader of blocks stands, and what it gives.
-use Rattle.std.specs.Prelude.{◌≡◌, ℕ, ◌+◌, ◌-◌, ◌^◌, ◌<◌, min, Bool, List, [], Option, Some, None, Result, Ok, Err}
+use Rattle.std.specs.Prelude.{◌≡◌, ℕ, ◌+◌, ◌-◌, ◌^◌, ◌<◌, min, Bool, true, List, [], Option, Some, None, Result, Ok, Err}
 use Rattle.std.specs.Io.KnownBytes.{Consumes, IsAtEnd}
 use Rattle.sp_text.specs.declared.faults.DimacsError.{DimacsError}
 use Rattle.sp_answer.specs.Table.{TreeTable, IsTable}
@@ -34,6 +34,10 @@ lines_before blocks = blocks.lines
 abbrev pub in_file : ℕ → DimacsError → DimacsError
 in_file lines e = record { line = min (lines + e.line) (2 ^ 64 - 1); kind = e.kind }
 
+-- Where some tree was given before, a byte is left, or the device has failed: the end behind a tree is no fault.
+abbrev pub HasBegun : {P : ℕ} {R : Type 0} → (R → Option (List ℕ)) → (R → Bool) → TreeBlocks P → R → R → Type 0
+HasBegun left has_failed old before after = 0 < lines_before old → left_of left old before ≡ Some [] → has_failed after ≡ true
+
 -- The text of the next tree was read; or none is left, and some tree was given before; or this is the fault of the next block, at its line
 -- of the file.
 abbrev pub Gives : {P : ℕ} {R : Type 0} → (R → Option (List ℕ)) → (R → ℕ) → (R → Bool) → TreeBlocks P → R → Result (Option TreeTable) DimacsError → TreeBlocks P → R → Type 0
@@ -42,4 +46,4 @@ Gives {P} left passed has_failed old before (Ok (Some tree)) new after =
 Gives left passed has_failed old before (Ok None) new after =
     (0 < lines_before old) × IsAtEnd (left_of left new after) × IsGoing passed new after × Consumes (left_of left old before) (left_of left new after) [] × (lines_before new ≡ lines_before old)
 Gives {P} left passed has_failed old before (Err e) new after =
-    IsSpent e new × (fault : DimacsError) × (e ≡ in_file (lines_before old) fault) × BlockRefused P left has_failed (stream old.piece before) (stream new.piece after) fault
+    IsSpent e new × HasBegun left has_failed old before after × (fault : DimacsError) × (e ≡ in_file (lines_before old) fault) × BlockRefused P left has_failed (stream old.piece before) (stream new.piece after) fault

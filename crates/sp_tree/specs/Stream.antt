@@ -1,5 +1,5 @@
 -- The bytes of a device, block after block.
-use Rattle.std.specs.Prelude.{◌≡◌, ℕ, ◌^◌, ◌<◌, ◌≤◌, ◌⊎◌, Bool, true, List, [], length, Option, Some, Result, Ok, Err}
+use Rattle.std.specs.Prelude.{◌≡◌, ℕ, ◌^◌, ◌<◌, ◌≤◌, ◌⊎◌, Bool, true, false, List, [], length, Option, Some, Result, Ok, Err}
 use Rattle.std.specs.Io.KnownBytes.{Consumes, IsAtEnd, prepend_known}
 use Rattle.sp_text.specs.declared.faults.DimacsError.{DimacsError}
 use Rattle.sp_text.specs.First.{fault_at_failure, fault_at_end}
@@ -49,7 +49,11 @@ abbrev pub BlockRead : {R : Type 0} → (P : ℕ) → (R → Option (List ℕ)) 
 BlockRead P left passed has_failed old (Ok tree) new = IsTable P tree × IsShort passed new × Consumes (left_in left old) (left_in left new) (tree_text tree)
 BlockRead P left passed has_failed old (Err e) new = BlockRefused P left has_failed old new e
 
--- It was looked whether a byte is left. Where the device failed, that is left open.
-abbrev pub IsLookedAt : {R : Type 0} → (R → Option (List ℕ)) → (R → ℕ) → Stream R → (is_over : Bool) → Stream R → Type 0
-IsLookedAt left passed old is_over new =
-    IsShort passed new × Consumes (left_in left old) (left_in left new) [] × (is_over ≡ true → IsAtEnd (left_in left new))
+-- No byte is left; or one is; or the device has failed.
+abbrev pub IsLookedAt : {R E : Type 0} → (R → Option (List ℕ)) → (R → ℕ) → (R → Bool) → Stream R → Result Bool E → Stream R → Type 0
+IsLookedAt left passed has_failed old (Ok true) new =
+    IsShort passed new × Consumes (left_in left old) (left_in left new) [] × IsAtEnd (left_in left new)
+IsLookedAt left passed has_failed old (Ok false) new =
+    IsShort passed new × Consumes (left_in left old) (left_in left new) [] × (left_in left old ≡ Some [] → ⊥)
+IsLookedAt left passed has_failed old (Err e) new =
+    Consumes (left_in left old) (left_in left new) [] × (has_failed new.reader ≡ true)

@@ -1,5 +1,5 @@
 -- A file of trees, block after block.
-use Rattle.std.specs.Prelude.{◌≡◌, ℕ, ◌+◌, ◌<◌, Bool, List, [], ◌∷◌, ◌++◌, length, All, Some}
+use Rattle.std.specs.Prelude.{◌≡◌, ℕ, ◌+◌, ◌<◌, Bool, true, List, [], ◌∷◌, ◌++◌, length, All, Some}
 use Rattle.std.specs.List.{flat_map}
 use Rattle.sp_text.specs.declared.faults.DimacsError.{DimacsError}
 use Rattle.sp_answer.specs.Table.{TreeTable, IsTable}
@@ -22,7 +22,8 @@ pub record IsFile (P : ℕ) (text : List ℕ) (trees : List TreeTable) : Type 0 
   pub tables : All (IsTable P) trees
   pub is : text ≡ trees_text trees
 
--- Behind the blocks of some trees a block has this fault, which is told at its line of the file; or the device has failed in it.
+-- Behind the blocks of some trees a block has this fault, which is told at its line of the file; or the device has failed in it. The
+-- end behind a tree is no fault.
 pub record IsFileFault (P : ℕ) (text : List ℕ) (failed : Bool) (e : DimacsError) : Type 0 where
   pub trees : List TreeTable
   pub tables : All (IsTable P) trees
@@ -30,6 +31,7 @@ pub record IsFileFault (P : ℕ) (text : List ℕ) (failed : Bool) (e : DimacsEr
   pub behind : List ℕ
   pub parts : text ≡ trees_text trees ++ front ++ behind
   pub block : IsWithinBlock front
+  pub begun : 0 < length trees → front ++ behind ≡ [] → failed ≡ true
   pub fault : DimacsError
   pub has_fault : IsFaultOf P front (Some behind) failed fault
   pub told : e ≡ in_file (lines_of trees) fault

@@ -1,13 +1,15 @@
 //! The trees of a file, one after the other.
-ghost use Rattle.std.specs.Prelude.{◌≡◌, ◌+◌, ◌-◌, ◌^◌, Err, Some, min, true};
+ghost use Rattle.std.specs.Prelude.{◌≡◌, ◌+◌, ◌-◌, ◌^◌, [], Err, Some, min, true};
 ghost use Rattle.sp_word.specs.Word.{is_layout};
 ghost use Rattle.sp_text.specs.declared.faults.DimacsError.{DimacsError};
+ghost use Rattle.sp_text.specs.First.{fault_at_failure};
+ghost use Rattle.sp_tree.specs.Spelling.{tree_judge};
 ghost use Rattle.sp_tree.specs.Block.{lines_in};
 
 use crate::reading::TreeReader;
 use crate::stream::{feed_block, is_over};
 use sp_answer::Tree;
-use sp_device::Read;
+use sp_device::{Failed, Read};
 use sp_dimacs::Piece;
 use sp_text::DimacsError;
 use std::alloc::Global;
@@ -76,6 +78,18 @@ impl<const P: u32> TreeBlocks<P> {
         error
     }
 
+    // The device has failed before a block.
+    fn fail(&mut self) -> DimacsError
+        ensures fault { (fault : DimacsError) × (result ≡ in_file self.old.lines fault)
+            × (fault_at_failure (tree_judge P) [] ≡ Some fault) }
+        ensures spent { self.new.spent ≡ Some result }
+        ensures piece { self.new.piece ≡ self.old.piece }
+    {
+        let mut tree = TreeReader::<P>::new(self.alloc);
+        let error = tree.fail();
+        self.refuse(error)
+    }
+
     /// The next tree; None where the text has ended behind a block. Text behind the last whole block is a block with a
     /// fault, and so is an empty text. A fault is told at its line of the file, and from then on again.
     pub fn next<R: Read>(&mut self, reader: &mut R) -> Result<Option<Tree<P>>, DimacsError>
@@ -87,8 +101,12 @@ impl<const P: u32> TreeBlocks<P> {
         if let Some(error) = self.spent {
             return Err(error);
         }
-        if self.lines > 0 && is_over(reader, &mut self.piece) {
-            return Ok(None);
+        if self.lines > 0 {
+            match is_over(reader, &mut self.piece) {
+                Ok(true) => return Ok(None),
+                Ok(false) => {}
+                Err(Failed) => return Err(self.fail()),
+            }
         }
         match self.read_block(reader) {
             Ok(tree) => {

@@ -5,7 +5,7 @@ ghost use Rattle.sp_tree.specs.Stream.{stream, IsShort, IsLookedAt, BlockFed};
 
 use crate::place::{Place, run_of};
 use crate::reading::TreeReader;
-use sp_device::Read;
+use sp_device::{Failed, Read};
 use sp_dimacs::Piece;
 use sp_text::DimacsError;
 
@@ -38,18 +38,19 @@ pub fn feed_block<const P: u32, R: Read>(
     }
 }
 
-/// Whether no byte is left. A device that fails here fails again where it is read next.
-pub fn is_over<R: Read>(reader: &mut R, piece: &mut Piece) -> bool
+/// Whether no byte is left.
+#[tactic(auto, using(crate::proofs::LeftBytes::one_waits, crate::proofs::LeftBytes::one_came))]
+pub fn is_over<R: Read>(reader: &mut R, piece: &mut Piece) -> Result<bool, Failed>
     ensures { IsShort R.passed (stream piece.old reader.old)
-        → IsLookedAt R.left R.passed (stream piece.old reader.old) result
+        → IsLookedAt R.left R.passed R.has_failed (stream piece.old reader.old) result
         (stream piece.new reader.new) }
 {
     if !piece.bytes().is_empty() {
-        return false;
+        return Ok(false);
     }
-    if piece.refill(reader).is_err() {
+    if let Err(failed) = piece.refill(reader) {
         piece.clear();
-        return false;
+        return Err(failed);
     }
-    piece.bytes().is_empty()
+    Ok(piece.bytes().is_empty())
 }
