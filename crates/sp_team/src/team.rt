@@ -6,12 +6,15 @@ ghost use Rattle.sp_offer.specs.Story.{Follows, own_calls};
 ghost use Rattle.sp_team.specs.Law.{IsReady};
 ghost use Rattle.sp_team.specs.Later.{IsLater};
 
+use crate::board::Board;
+use crate::deques::{Deques, make_deques};
+use crate::entries::Block;
+use crate::hands::Hands;
 use crate::relax::{read_dist, relax, warm};
 use crate::search::{Horizon, Search};
 use crossbeam_deque::{Stealer, Worker};
 use sp_bins::Entry;
 use sp_graph::Graph;
-use sp_hands::{Block, Board, Deques, Hands, make_deques};
 use sp_offer::{Caller, Lawful, OfferTable};
 use sp_word::{Delta, Workers};
 use std::alloc::{AllocError, Global};
