@@ -1,7 +1,7 @@
 #!/usr/bin/env python3
 """Runs random graphs by teams of workers, first alone and then while other processes keep every core busy.
 
-`crates/spt_bench` runs them (its command `fire GRAPHS SEED`, whose last line is 'N passed, M failed') and compares each with
+`crates/bench_engine` runs them (its command `fire GRAPHS SEED`, whose last line is 'N passed, M failed') and compares each with
 the plain program. What it prints is passed on. A run that ends without that line, with another status or not within the
 time has failed.
 
@@ -60,7 +60,7 @@ def main():
     options.add_argument("--graphs", type=int, default=1000)
     options.add_argument("--seed", type=int, default=1)
     options.add_argument("--seconds", type=int, default=3600, help="how long a run may take")
-    options.add_argument("--built", metavar="PROGRAM", type=os.path.abspath, help="this spt_bench, as it is, in place of a build")
+    options.add_argument("--built", metavar="PROGRAM", type=os.path.abspath, help="this bench_engine, as it is, in place of a build")
     chosen = options.parse_args()
     words = [chosen.built or parts.build_ours(), "fire", str(chosen.graphs), str(chosen.seed)]
     counts = []

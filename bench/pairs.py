@@ -124,7 +124,7 @@ def main():
     options.add_argument("--only", nargs="+", choices=[job.name for job in JOBS], help="these jobs alone, beside the whole tree")
     options.add_argument("--keep", metavar="FOLDER", type=os.path.abspath, help="where graphs stay")
     options.add_argument("--built-spt", metavar="PROGRAM", type=os.path.abspath, help="this spt, as it is, in place of a build")
-    options.add_argument("--built", metavar="PROGRAM", type=os.path.abspath, help="this spt_bench, as it is, in place of a build")
+    options.add_argument("--built", metavar="PROGRAM", type=os.path.abspath, help="this bench_engine, as it is, in place of a build")
     chosen = options.parse_args()
     chosen.plain = chosen.no_parts = False
     with tempfile.TemporaryDirectory() as folder:

@@ -2,7 +2,7 @@
 """Times parts of the engine beside plain C++ programs that do the same, and prints the ratios of one run.
 
 The parts are reading a `.gr` and a tree file, making rows, writing a tree, offers from several threads, and rounds of
-tasks (ours alone), below each what starting its threads takes, and joining them, where they do nothing. Ours is `crates/spt_bench`, the other `bench/reference.cpp`; without a C++ compiler ours stands alone.
+tasks (ours alone), below each what starting its threads takes, and joining them, where they do nothing. Ours is `crates/bench_engine`, the other `bench/reference.cpp`; without a C++ compiler ours stands alone.
 Both run in turn, several times, and the best of each counts, since other programs on the machine only add to a time.
 
 Usage: python3 bench/parts.py [--small] [--runs K] [--built PROGRAM]
@@ -57,7 +57,7 @@ def program():
     return subprocess.run(words, check=True, capture_output=True, text=True).stdout.strip()
 
 
-def build_ours(name="spt_bench", *words):
+def build_ours(name="bench_engine", *words):
     """The program of a crate, proved, built and run with these words first where it isn't yet from these sources. It is kept as
     `spt` keeps its own."""
     crate = os.path.join(HOME, "crates", name)
@@ -193,7 +193,7 @@ def main():
     options = argparse.ArgumentParser(description=__doc__, formatter_class=argparse.RawDescriptionHelpFormatter)
     options.add_argument("--small", action="store_true", help="a tenth of everything")
     options.add_argument("--runs", type=int, default=5, help="how often each program runs")
-    options.add_argument("--built", metavar="PROGRAM", help="this spt_bench, as it is, in place of a build")
+    options.add_argument("--built", metavar="PROGRAM", help="this bench_engine, as it is, in place of a build")
     chosen = options.parse_args()
     with tempfile.TemporaryDirectory() as folder:
         programs = [chosen.built or build_ours(), build_plain(folder, "reference")]

@@ -2,7 +2,7 @@
 """Compares the whole job with a plain Dijkstra in C++ on one thread (`bench/dijkstra.cpp`), and prints multiples of its time.
 
 Whole times and peaks are of the program that users run (`spt tree GR SS --delta D --workers W`, its trees into a file), the
-parts (read, rows, solve, write) of `crates/spt_bench` (its command `whole`). The programs of a comparison run in turn,
+parts (read, rows, solve, write) of `crates/bench_engine` (its command `whole`). The programs of a comparison run in turn,
 several times; the median of each counts, and the least stands beside it. Each time the trees are compared byte for byte.
 
 Usage: python3 bench/whole.py [--vertices N] [--runs K] [--only NAME..] [--random-delta SHARE] [--plain] [--no-parts]
@@ -298,10 +298,10 @@ def options_of():
     options.add_argument("--only", nargs="+", choices=sorted(COMPARISONS), metavar="NAME", help="these comparisons alone")
     options.add_argument("--random-delta", type=float, default=1, metavar="SHARE", help="mean lengths that the aims of `random` are for")
     options.add_argument("--plain", action="store_true", help="the C++ program alone")
-    options.add_argument("--no-parts", action="store_true", help="without the parts of spt_bench")
+    options.add_argument("--no-parts", action="store_true", help="without the parts of bench_engine")
     options.add_argument("--keep", metavar="FOLDER", type=os.path.abspath, help="where graphs stay")
     options.add_argument("--built-spt", metavar="PROGRAM", type=os.path.abspath, help="this spt, as it is, in place of a build")
-    options.add_argument("--built", metavar="PROGRAM", type=os.path.abspath, help="this spt_bench, as it is, in place of a build")
+    options.add_argument("--built", metavar="PROGRAM", type=os.path.abspath, help="this bench_engine, as it is, in place of a build")
     return options.parse_args()
 
 

@@ -5,7 +5,7 @@ Usage: python3 tests/refused.py [--program PROGRAM] [--calls PROGRAM]
 
 A call or a command runs again and again, its request number 1, 2, .. for memory refused, until a run makes fewer requests than
 that. Each run must end as with ample memory, or tell that memory is wanting, with the status of that and with a beginning
-of the text. The graphs are the examples' and one of a path beyond the limit; crates/spt_refused makes the calls. For each
+of the text. The graphs are the examples' and one of a path beyond the limit; crates/tests_refused makes the calls. For each
 call and command it prints how many refusals were tried; the last line is 'N passed, M failed'. A C compiler is needed: it
 makes the library that refuses (tests/refuse.c).
 """
@@ -27,7 +27,7 @@ WORKERS = (1, 2)
 MOST_REQUESTS = 100_000
 SECONDS = 60
 
-# the status of crates/spt_refused where memory was refused before or after the call
+# the status of crates/tests_refused where memory was refused before or after the call
 OUTSIDE = 9
 
 FAULT = re.compile(r"(line [1-9][0-9]*: 8 Memory\n)?")
@@ -210,7 +210,7 @@ def try_calls(count, refuser, program):
 def main():
     options = argparse.ArgumentParser(description=__doc__, formatter_class=argparse.RawDescriptionHelpFormatter)
     options.add_argument("--program", help="this spt, as it is, in place of a build")
-    options.add_argument("--calls", metavar="PROGRAM", help="this spt_refused, as it is, in place of a build")
+    options.add_argument("--calls", metavar="PROGRAM", help="this tests_refused, as it is, in place of a build")
     chosen = options.parse_args()
     count = Count()
     with tempfile.TemporaryDirectory() as folder:
@@ -220,7 +220,7 @@ def main():
             print(f"refused: {error}")
             count.of("refusals", False)
         else:
-            try_calls(count, refuser, chosen.calls or parts.build_ours("spt_refused", "read_gr", "diamond", "1"))
+            try_calls(count, refuser, chosen.calls or parts.build_ours("tests_refused", "read_gr", "diamond", "1"))
             write_files(folder)
             try_commands(count, refuser, chosen.program or parts.program(), folder)
     print(f"{count.passed} passed, {count.failed} failed")

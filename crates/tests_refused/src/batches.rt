@@ -1,0 +1,76 @@
+//! From bytes to bytes: texts in memory, and standard output.
+use crate::report::Ending;
+use crate::sample::Sample;
+use tests_samples::FROM_ONE;
+use sp_batch::{BatchError, BucketWidth, Summary, run_batch};
+use sp_dimacs::{OfRead, Write};
+use sp_pairs::run_pairs;
+use sp_text::Kind;
+use sp_word::Workers;
+use std::io;
+use std::sync::Wait;
+use std::thread::Threads;
+
+// Whether memory is what was wanting.
+fn is_memory(error: BatchError) -> bool {
+    match error {
+        BatchError::Memory => true,
+        BatchError::Gr(fault) | BatchError::Ss(fault) | BatchError::Pairs(fault) => {
+            matches!(fault.kind, Kind::Memory)
+        }
+        _ => false,
+    }
+}
+
+// How a batch ended.
+fn tell_batch<R: Print>(rt: &R, answer: Result<Summary, BatchError>) -> io::Result<Ending> {
+    match answer {
+        Ok(summary) => {
+            println!(rt; "{} {} {}", summary.sources, summary.too_far, summary.bytes)?;
+            Ok(Ending::Answered)
+        }
+        Err(error) => {
+            if is_memory(error) {
+                Ok(Ending::Memory)
+            } else {
+                Ok(Ending::Wrong)
+            }
+        }
+    }
+}
+
+/// A batch from vertex 1.
+pub fn call_run_batch<R: AllocGlobal + Print + Threads + Wait + Sync, W: Write>(
+    rt: &R,
+    out: &mut W,
+    sample: Sample,
+    workers: Workers,
+) -> io::Result<Ending> {
+    let mut gr = OfRead::new(sample.gr().as_bytes());
+    let mut ss = OfRead::new(FROM_ONE.as_bytes());
+    let width = BucketWidth::Of(sample.delta());
+    let answer = run_batch::<28, R, _, _, _>(rt, rt.alloc(), &mut gr, &mut ss, out, width, workers);
+    tell_batch(rt, answer)
+}
+
+/// Two pairs.
+pub fn call_run_pairs<R: AllocGlobal + Print + Threads + Wait + Sync, W: Write>(
+    rt: &R,
+    out: &mut W,
+    sample: Sample,
+    workers: Workers,
+) -> io::Result<Ending> {
+    let mut gr = OfRead::new(sample.gr().as_bytes());
+    let mut pairs = OfRead::new(sample.pairs().as_bytes());
+    let width = BucketWidth::MeanLength;
+    let answer = run_pairs::<28, R, _, _, _>(
+        rt,
+        rt.alloc(),
+        &mut gr,
+        &mut pairs,
+        out,
+        width,
+        workers,
+    );
+    tell_batch(rt, answer)
+}

@@ -1,0 +1,366 @@
+//! Rounds on threads.
+ghost use Rattle.std.specs.Prelude.{◌≡◌, ℕ, ◌<◌, ◌≤◌, length, All, IfOk, IfErr, IsTrue};
+
+use crate::phase::crew;
+use gates::{Count, Meeting, Thief};
+use tests_round_samples::{Bench, MOST_DIST, MOST_VERTICES, any_tasks, set_up};
+use tests_samples::{DIAMOND, Triple};
+use sp_bucket::Entry;
+use sp_graph::Rows;
+use sp_offer::{AnyWord, Loop, Lowering, OneMin};
+use sp_paths::Arc;
+use sp_task::{
+    Gate, OpenGate, Round, RoundOut, RoundRefused, Task, TaskKind, run_round, run_round_by,
+};
+use sp_word::{Word, Workers};
+use std::alloc::{AllocError, Global};
+use std::sync::Wait;
+use std::sync::atomic::{AtomicBool, AtomicU64, Ordering};
+use std::test::Fail;
+use std::thread::Threads;
+
+mod gates;
+
+/// What a round found, in the order of the vertices, and how many workers it had.
+#[derive(Drop)]
+struct Played {
+    bench: Bench,
+    found: Vec<Entry>,
+    started: u32,
+    refused: bool,
+}
+
+/// Plays one round, of which nothing is known but that a bench comes back.
+fn play<M: Lowering + Send + Sync, R: Threads + Wait + Sync, G: Gate + Sync>(
+    rt: &R,
+    alloc: Global,
+    bench: Bench,
+    tasks: &[Task],
+    number: u64,
+    workers: Workers,
+    gate: &G,
+) -> Played {
+    let Bench {
+        rows,
+        table,
+        claims,
+        caller,
+        claimer,
+    } = bench;
+    let round = Round {
+        table: &table,
+        claims: &claims,
+        rows: &rows,
+        tasks: any_tasks(&rows, tasks),
+        number,
+        workers,
+    };
+    let (caller, claimer, found, started, refused) = match run_round_by::<M, R, AnyWord, G, 28>(
+        rt, alloc, &round, caller, claimer, gate,
+    ) {
+        Ok(out) => {
+            let RoundOut {
+                caller,
+                claimer,
+                found,
+                started,
+            } = out;
+            (caller, claimer, found, started, false)
+        }
+        Err(refusal) => {
+            let RoundRefused { caller, claimer } = refusal;
+            (caller, claimer, Vec::new(alloc), 0, true)
+        }
+    };
+    let bench = Bench {
+        rows,
+        table,
+        claims,
+        caller,
+        claimer,
+    };
+    Played {
+        bench,
+        found,
+        started,
+        refused,
+    }
+}
+
+/// The leader's own offer, where the vertex and the distance are in range.
+fn offer(bench: &mut Bench, vertex: u32, dist: u64, pred: u32) {
+    let n = bench.rows.n();
+    if vertex < 1 || vertex > n || dist > MOST_DIST || pred > MOST_VERTICES {
+        return;
+    }
+    let _ = bench
+        .table
+        .offer(&mut bench.caller, vertex, Word::pack(dist, pred));
+}
+
+/// The bits of all words, by rising vertex.
+fn words(alloc: Global, bench: &mut Bench) -> Result<Vec<u64>, AllocError> {
+    let n = bench.rows.n();
+    let mut words = Vec::new(alloc);
+    for place in 0..n {
+        let vertex = place + 1;
+        if vertex > bench.rows.n() {
+            break;
+        }
+        let word = bench.table.read(&mut bench.caller, vertex);
+        words.push(word.bits())?;
+    }
+    Ok(words)
+}
+
+/// Makes the offers of these tasks without a round, by one caller, in order.
+fn offer_in_order(bench: &mut Bench, tasks: &[Task]) {
+    for task in tasks {
+        let n = bench.rows.n();
+        if task.vertex < 1 || task.vertex > n || task.dist > MOST_DIST {
+            return;
+        }
+        for number in 0..bench.rows.light(task.vertex).len() {
+            if let Some(arc) = arc_at(&bench.rows, *task, number) {
+                offer(bench, arc.head, task.dist + arc.len as u64, arc.tail);
+            }
+        }
+    }
+}
+
+// An arc of the task's row, where its vertex has one at that place.
+fn arc_at(rows: &Rows, task: Task, number: usize) -> Option<Arc> {
+    if task.vertex < 1 || task.vertex > rows.n() {
+        return None;
+    }
+    rows.light(task.vertex).get(number).copied()
+}
+
+fn light(vertex: u32, dist: u64) -> Task {
+    Task {
+        vertex,
+        dist,
+        kind: TaskKind::Light,
+    }
+}
+
+fn entry(vertex: u32, dist: u64) -> Entry {
+    Entry { vertex, dist }
+}
+
+/// Whether these are the entries, in some order: each stands there, and there are as many.
+fn are_entries(found: &[Entry], wanted: &[Entry]) -> bool {
+    for entry in wanted {
+        if !found.contains(entry) {
+            return false;
+        }
+    }
+    found.len() == wanted.len()
+}
+
+#[test]
+fn two_workers_meet(rt: HostRuntime) -> Result<(), Fail> {
+    let alloc = rt.alloc();
+    let arcs = [(1, 2, 1), (1, 3, 1), (2, 4, 1), (3, 5, 1)];
+    let mut bench = set_up(alloc, 5, &arcs, 1)?;
+    offer(&mut bench, 1, 0, 0);
+    offer(&mut bench, 2, 1, 1);
+    offer(&mut bench, 3, 1, 1);
+    let gate = Meeting::new();
+    let tasks = [light(2, 1), light(3, 1)];
+    let played = play::<Loop, HostRuntime, Meeting>(
+        &rt,
+        alloc,
+        bench,
+        &tasks,
+        1,
+        crew(&rt, 2),
+        &gate,
+    );
+    assert!(rt; !played.refused, "no memory");
+    assert!(rt; gate.met(), "the workers did not meet");
+    assert_eq!(rt; played.started, 2);
+    assert!(rt; are_entries(played.found.as_slice(), &[entry(4, 2), entry(5, 2)]));
+    Ok(())
+}
+
+#[test]
+fn thief_takes(rt: HostRuntime) -> Result<(), Fail> {
+    let alloc = rt.alloc();
+    let arcs = [
+        (1, 2, 1),
+        (1, 3, 1),
+        (1, 4, 1),
+        (2, 5, 1),
+        (3, 6, 1),
+        (4, 7, 1),
+    ];
+    let mut bench = set_up(alloc, 7, &arcs, 1)?;
+    offer(&mut bench, 1, 0, 0);
+    offer(&mut bench, 2, 1, 1);
+    offer(&mut bench, 3, 1, 1);
+    offer(&mut bench, 4, 1, 1);
+    let gate = Thief::new();
+    let tasks = [light(2, 1), light(3, 1), light(4, 1)];
+    let played = play::<Loop, HostRuntime, Thief>(
+        &rt,
+        alloc,
+        bench,
+        &tasks,
+        1,
+        crew(&rt, 2),
+        &gate,
+    );
+    assert!(rt; !played.refused, "no memory");
+    assert!(rt; gate.came() >= 2, "no task was taken from the leader");
+    let wanted = [entry(5, 2), entry(6, 2), entry(7, 2)];
+    assert!(rt; are_entries(played.found.as_slice(), &wanted));
+    Ok(())
+}
+
+/// Whether the rounds on the graph of the diamond find what they should, with any lowering: round 1 of the first tasks,
+/// which relax the arcs of vertex 1, and then round 2.
+fn diamond<M: Lowering + Send + Sync, R: Threads + Wait + Sync>(
+    rt: &R,
+    alloc: Global,
+    first: &[Task],
+    workers: Workers,
+) -> Result<bool, AllocError> {
+    let mut bench = set_up(alloc, 4, &DIAMOND, 100)?;
+    offer(&mut bench, 1, 0, 0);
+    let one = play::<M, R, OpenGate>(rt, alloc, bench, first, 1, workers, &OpenGate);
+    let wanted = [entry(2, 3), entry(3, 3), entry(4, 6)];
+    let first_found = are_entries(one.found.as_slice(), &wanted) && one.started == workers.get();
+    // every claim of round 1 would be refused now, so the leader makes all three offers
+    let again_by = Count::new();
+    let again = play::<M, R, Count>(rt, alloc, one.bench, first, 1, workers, &again_by);
+    let none_found = again.found.is_empty() && !again.refused && again_by.is_leader_alone(3);
+    // both offers of 5 to 4 are made, and the first alone is shorter
+    let second = [light(2, 3), light(3, 3), light(4, 6)];
+    let both = Workers::new(2).unwrap();
+    let two = play::<M, R, OpenGate>(rt, alloc, again.bench, &second, 2, both, &OpenGate);
+    let last_found = are_entries(two.found.as_slice(), &[entry(4, 5)]);
+    let more_by = Count::new();
+    let more = play::<M, R, Count>(rt, alloc, two.bench, &second, 2, both, &more_by);
+    let no_more = more.found.is_empty() && !more.refused && more_by.is_leader_alone(2);
+    Ok(first_found && none_found && last_found && no_more)
+}
+
+#[test]
+fn rounds(rt: HostRuntime) -> Result<(), Fail> {
+    let first = [light(1, 0)];
+    assert!(rt; diamond::<Loop, HostRuntime>(&rt, rt.alloc(), &first, crew(&rt, 1))?);
+    assert!(rt; diamond::<OneMin, HostRuntime>(&rt, rt.alloc(), &first, crew(&rt, 1))?);
+    Ok(())
+}
+
+// No arc leaves vertex 4.
+#[test]
+fn rounds_of_two_workers(rt: HostRuntime) -> Result<(), Fail> {
+    let first = [light(1, 0), light(4, 6)];
+    assert!(rt; diamond::<Loop, HostRuntime>(&rt, rt.alloc(), &first, crew(&rt, 2))?);
+    assert!(rt; diamond::<OneMin, HostRuntime>(&rt, rt.alloc(), &first, crew(&rt, 2))?);
+    Ok(())
+}
+
+const MANY: u32 = 100_000;
+
+/// The next number of a row of random ones.
+fn next_random(seed: u64) -> u64 {
+    seed.wrapping_mul(6364136223846793005)
+        .wrapping_add(1442695040888963407)
+}
+
+/// Four arcs from each vertex to random heads.
+fn random_arcs(alloc: Global) -> Result<Vec<Triple>, AllocError> {
+    let mut arcs = Vec::new(alloc);
+    let mut seed = 1;
+    for place in 0..4 * MANY {
+        seed = next_random(seed);
+        let head = (seed >> 33) % MANY as u64 + 1;
+        let len = (seed >> 20) % 50 + 1;
+        arcs.push((place / 4 + 1, head as u32, len as u32))?;
+    }
+    Ok(arcs)
+}
+
+/// A light task for each vertex, at a random distance.
+fn random_tasks(alloc: Global) -> Result<Vec<Task>, AllocError> {
+    let mut tasks = Vec::new(alloc);
+    let mut seed = 2;
+    for vertex in 1..=MANY {
+        seed = next_random(seed);
+        tasks.push(light(vertex, (seed >> 40) % 1000))?;
+    }
+    Ok(tasks)
+}
+
+#[test]
+fn many_workers_leave_the_words_of_one_caller(rt: HostRuntime) -> Result<(), Fail> {
+    let alloc = rt.alloc();
+    let arcs = random_arcs(alloc)?;
+    let tasks = random_tasks(alloc)?;
+    let mut plain = set_up(alloc, MANY, arcs.as_slice(), 25)?;
+    offer_in_order(&mut plain, tasks.as_slice());
+    let wanted = words(alloc, &mut plain)?;
+    for workers in [1, 2, 4, 64] {
+        let bench = set_up(alloc, MANY, arcs.as_slice(), 25)?;
+        let played = play::<Loop, HostRuntime, OpenGate>(
+            &rt,
+            alloc,
+            bench,
+            tasks.as_slice(),
+            1,
+            crew(&rt, workers),
+            &OpenGate,
+        );
+        assert!(rt; !played.refused, "no memory");
+        assert!(rt; 1 <= played.started && played.started <= workers);
+        let mut bench = played.bench;
+        let left = words(alloc, &mut bench)?;
+        assert!(rt;
+            left.as_slice() == wanted.as_slice(),
+            "other words with {workers} workers"
+        );
+    }
+    Ok(())
+}
+
+/// The round of two workers, and the same tasks under the next number. Whatever memory is refused, the words are
+/// those of the offers in the end.
+#[test]
+fn refused_rounds_are_made_up_for(rt: HostRuntime) -> Result<(), Fail> {
+    let alloc = rt.alloc();
+    let arcs = [(1, 2, 1), (1, 3, 1), (2, 4, 1), (3, 5, 1)];
+    let mut bench = set_up(alloc, 5, &arcs, 1)?;
+    offer(&mut bench, 1, 0, 0);
+    offer(&mut bench, 2, 1, 1);
+    offer(&mut bench, 3, 1, 1);
+    let tasks = [light(2, 1), light(3, 1)];
+    let wanted = [entry(4, 2), entry(5, 2)];
+    let first = play::<Loop, HostRuntime, OpenGate>(
+        &rt,
+        alloc,
+        bench,
+        &tasks,
+        1,
+        crew(&rt, 2),
+        &OpenGate,
+    );
+    assert!(rt; first.refused || are_entries(first.found.as_slice(), &wanted));
+    let second = play::<Loop, HostRuntime, OpenGate>(
+        &rt,
+        alloc,
+        first.bench,
+        &tasks,
+        2,
+        crew(&rt, 2),
+        &OpenGate,
+    );
+    let mut bench = second.bench;
+    let left = words(alloc, &mut bench)?;
+    let pair = |dist: u64, pred: u64| (dist << 28) | pred;
+    let made = [pair(0, 0), pair(1, 1), pair(1, 1), pair(2, 2), pair(2, 3)];
+    assert!(rt; second.refused || left.as_slice() == &made[..]);
+    Ok(())
+}
