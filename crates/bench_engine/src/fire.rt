@@ -52,7 +52,7 @@ fn is_same<const P: u32>(told: &Result<Tree<P>, RunError>, plain: &Answer<P>) ->
 }
 
 // A team of so many workers. Its buckets are 1 wide, about as wide as an arc, as some arcs, or as wide as can be.
-fn team_of<const P: u32>(graph: &Graph, number: u32, workers: u32) -> Option<Team<P>>
+fn team_of<const P: u32>(graph: &Graph, number: u32, workers: u32) -> Option<Team<'static, P>>
     requires { is_layout P ≡ true }
 {
     let longest = u64::from(graph.longest());
@@ -67,6 +67,7 @@ fn team_of<const P: u32>(graph: &Graph, number: u32, workers: u32) -> Option<Tea
     Some(Team {
         delta: Delta::new(width.min(most))?,
         workers: Workers::new(workers)?,
+        meter: None,
     })
 }
 

@@ -8,7 +8,7 @@ use crate::report::print_each;
 use crate::whole::Plan;
 use sp_dimacs::{GrFile, OfRead, PairsFile, read_gr, read_pairs};
 use sp_graph::Graph;
-use sp_solve::{run_targets, useful_workers};
+use sp_solve::{run_targets, useful_team};
 use sp_team::Team;
 use std::alloc::{AllocError, Global};
 use std::rt::Files;
@@ -89,8 +89,10 @@ fn find<R: AllocGlobal + Threads + Wait + Sync>(
     let targets = targets_of(rt.alloc(), graph, pairs, source)?;
     let team = Team {
         delta: plan.delta,
-        workers: useful_workers(rt, graph.n(), plan.workers),
+        workers: plan.workers,
+        meter: None,
     };
+    let team = useful_team(rt, graph.n(), &team);
     let _ = run_targets::<28, R>(rt, rt.alloc(), graph, team, source, targets)?;
     Ok(())
 }

@@ -12,8 +12,8 @@ use crate::watch::Watch;
 use crate::writing::{nothing, sum, write_group, write_one};
 use sp_dimacs::Write;
 use sp_graph::Graph;
-use sp_job::{BatchError, Lead, Listener, Nobody, Plan, Progress, Summary};
-use sp_word::Workers;
+use sp_job::{BatchError, Lead, Listener, Nobody, Progress, Summary};
+use sp_word::{Team, Workers};
 use std::alloc::{AllocError, Global};
 use std::sync::Wait;
 use std::thread;
@@ -46,7 +46,7 @@ fn answer_source<const P: u32, R: Threads + Wait + Sync + Watch, W: Write>(
     rt: &R,
     alloc: Global,
     graph: &Graph,
-    plan: &Plan<P>,
+    team: &Team<P>,
     source: u32,
     out: &mut W,
 ) -> Result<Summary, BatchError>
@@ -54,7 +54,7 @@ fn answer_source<const P: u32, R: Threads + Wait + Sync + Watch, W: Write>(
     requires vertex { IsVertex graph.now.n source }
     ensures { AreAllAnswered P graph.now (source ∷ []) W.Write out.old result out.new }
 {
-    match find_source::<P, R>(rt, alloc, graph, plan, source) {
+    match find_source::<P, R>(rt, alloc, graph, team, source) {
         Ok(found) => write_one(&found, out),
         Err(AllocError) => Err(BatchError::Memory),
     }
@@ -80,22 +80,22 @@ fn answer_in_turn<const P: u32, R: Threads + Wait + Sync + Watch, W: Write, L: L
             written: summary,
             count: sources.len(),
         });
-        let one = answer_source::<P, R, W>(rt, alloc, graph, &lead.plan, *source, out)?;
+        let one = answer_source::<P, R, W>(rt, alloc, graph, &lead.team, *source, out)?;
         summary = sum(summary, one);
     }
     Ok(summary)
 }
 
-// The same plan, its workers shared among so many sources.
-fn shared<const P: u32>(plan: &Plan<P>, sources: usize) -> Plan<P>
+// The same team, its workers shared among so many sources.
+fn shared<'m, const P: u32>(team: &Team<'m, P>, sources: usize) -> Team<'m, P>
     requires { 1 ≤ sources }
-    ensures delta { result.delta ≡ plan.now.delta }
-    ensures most { result.workers ≤ plan.now.workers }
+    ensures delta { result.delta ≡ team.now.delta }
+    ensures most { result.workers ≤ team.now.workers }
 {
-    let each = plan.workers.get() as usize / sources;
-    Plan {
-        delta: plan.delta,
-        workers: plan.workers.at_most(each),
+    let each = team.workers.get() as usize / sources;
+    Team {
+        workers: team.workers.at_most(each),
+        ..*team
     }
 }
 
@@ -104,7 +104,7 @@ fn find_and_write<const P: u32, R: Threads + Wait + Sync + Watch, W: Write>(
     rt: &R,
     alloc: Global,
     graph: &Graph,
-    plan: &Plan<P>,
+    team: &Team<P>,
     sources: &[u32],
     before: &[Found<P>],
     out: &mut W,
@@ -118,13 +118,13 @@ fn find_and_write<const P: u32, R: Threads + Wait + Sync + Watch, W: Write>(
     ensures written { IsGroupWritten W.Write before.now out.old result.1 out.new }
 {
     if before.is_empty() {
-        let found = find_group::<P, R>(rt, alloc, graph, plan, sources);
+        let found = find_group::<P, R>(rt, alloc, graph, team, sources);
         return (found, Ok(nothing()));
     }
     let mut find = || -> Result<Vec<Found<P>>, AllocError>
         requires { IsSync R.row × IsReady P graph.now × All (IsVertex graph.now.n) sources.now }
         ensures { IfOk result (λ group. AreFound graph.entry.now sources.entry.now group.items) }
-    { find_group::<P, R>(rt, alloc, graph, plan, sources) };
+    { find_group::<P, R>(rt, alloc, graph, team, sources) };
     let mut write = || -> Result<Summary, BatchError>
         ensures { IsGroupWritten W.Write before.entry.now out.entry.now result out.exit.now }
     { write_group::<P, W>(before, out) };
@@ -155,7 +155,7 @@ fn answer_group<const P: u32, R: Threads + Wait + Sync + Watch, W: Write, L: Lis
     requires vertices { All (IsVertex graph.now.n) sources.now }
     ensures { MovesOn graph.now waiting.entry.items sources.now W.Write out.old result out.new }
 {
-    let each = shared(&lead.plan, sources.len());
+    let each = shared(&lead.team, sources.len());
     let (found, written) = find_and_write::<P, R, W>(
         rt, alloc, graph, &each, sources, &waiting, out,
     );
@@ -168,7 +168,7 @@ fn answer_group<const P: u32, R: Threads + Wait + Sync + Watch, W: Write, L: Lis
         Err(AllocError) => {
             drop(waiting);
             let quiet = Lead {
-                plan: lead.plan,
+                team: lead.team,
                 listener: &Nobody,
             };
             let more = answer_in_turn::<P, R, W, Nobody>(rt, alloc, graph, &quiet, sources, out)?;
@@ -207,7 +207,7 @@ pub(crate) fn answer_side_by_side<
             written: summary,
             count: sources.len(),
         });
-        let size = rest.len().min(lead.plan.workers.get() as usize);
+        let size = rest.len().min(lead.team.workers.get() as usize);
         let (group, later) = rest.split_at(size);
         let Step {
             summary: more,
@@ -236,14 +236,14 @@ pub(crate) fn answer_sources<const P: u32, R: Threads + Wait + Sync + Watch, W: 
     requires vertices { All (IsVertex graph.now.n) sources.now }
     ensures { AreAllAnswered P graph.now sources.now W.Write out.old result out.new }
 {
-    let workers = count_at_once(rt, graph, least, sources.len(), lead.plan.workers);
+    let workers = count_at_once(rt, graph, least, sources.len(), lead.team.workers);
     if workers.get() == 1 {
         return answer_in_turn::<P, R, W, L>(rt, alloc, graph, lead, sources, out);
     }
     let groups = Lead {
-        plan: Plan {
-            delta: lead.plan.delta,
+        team: Team {
             workers,
+            ..lead.team
         },
         listener: lead.listener,
     };

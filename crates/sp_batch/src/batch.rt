@@ -63,7 +63,7 @@ pub(crate) fn answer_file<const P: u32, R: Threads + Wait + Sync + Watch, W: Wri
         arcs: graph.m(),
     });
     let lead = Lead {
-        plan: settings.plan_for(&graph),
+        team: settings.team_for(&graph),
         listener: settings.listener,
     };
     answer_sources::<P, R, W, L>(rt, alloc, &graph, least, &lead, sources, out)

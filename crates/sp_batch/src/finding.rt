@@ -6,10 +6,10 @@ ghost use Rattle.sp_job.specs.Ready.{IsReady};
 ghost use Rattle.sp_batch.specs.Found.{IsFound, AreFound};
 
 use crate::watch::Watch;
-use sp_graph::Graph;
-use sp_job::Plan;
-use sp_solve::{RunError, run_source};
 use sp_answer::Tree;
+use sp_graph::Graph;
+use sp_solve::{RunError, run_by_team, useful_team};
+use sp_word::Team;
 use std::alloc::{AllocError, Global};
 use std::sync::Wait;
 use std::thread::{Threads, join};
@@ -28,7 +28,7 @@ pub(crate) fn find_source<const P: u32, R: Threads + Wait + Sync + Watch>(
     rt: &R,
     alloc: Global,
     graph: &Graph,
-    plan: &Plan<P>,
+    team: &Team<P>,
     source: u32,
 ) -> Result<Found<P>, AllocError>
     requires ready { IsReady P graph.now }
@@ -36,7 +36,8 @@ pub(crate) fn find_source<const P: u32, R: Threads + Wait + Sync + Watch>(
     ensures { IfOk result (IsFound graph.now source) }
 {
     rt.before_source(source);
-    match run_source::<P, R>(rt, alloc, graph, plan.delta, plan.workers, source) {
+    let team = useful_team(rt, graph.n(), team);
+    match run_by_team::<P, R>(rt, alloc, graph, team, source) {
         Ok(tree) => Ok(Found::Tree(tree)),
         Err(RunError::TooFar(vertex)) => Ok(Found::Far { source, vertex }),
         Err(RunError::NoSuchVertex) => unreachable!(),
@@ -49,7 +50,7 @@ fn find_in_turn<const P: u32, R: Threads + Wait + Sync + Watch>(
     rt: &R,
     alloc: Global,
     graph: &Graph,
-    plan: &Plan<P>,
+    team: &Team<P>,
     sources: &[u32],
 ) -> Result<Vec<Found<P>>, AllocError>
     requires ready { IsReady P graph.now }
@@ -58,7 +59,7 @@ fn find_in_turn<const P: u32, R: Threads + Wait + Sync + Watch>(
 {
     let mut group = Vec::new(alloc);
     for source in sources {
-        group.push(find_source::<P, R>(rt, alloc, graph, plan, *source)?)?;
+        group.push(find_source::<P, R>(rt, alloc, graph, team, *source)?)?;
     }
     Ok(group)
 }
@@ -82,7 +83,7 @@ pub(crate) fn find_group<const P: u32, R: Threads + Wait + Sync + Watch>(
     rt: &R,
     alloc: Global,
     graph: &Graph,
-    plan: &Plan<P>,
+    team: &Team<P>,
     sources: &[u32],
 ) -> Result<Vec<Found<P>>, AllocError>
     requires ready { IsReady P graph.now }
@@ -90,18 +91,18 @@ pub(crate) fn find_group<const P: u32, R: Threads + Wait + Sync + Watch>(
     ensures { IfOk result (λ group. AreFound graph.now sources.now group.items) }
 {
     if sources.len() < 2 {
-        return find_in_turn(rt, alloc, graph, plan, sources);
+        return find_in_turn(rt, alloc, graph, team, sources);
     }
     let half = sources.len() / 2;
     let (left, right) = sources.split_at(half);
     let back = move || -> Result<Vec<Found<P>>, AllocError>
         requires { IsSync R.row × IsReady P graph.now × All (IsVertex graph.now.n) right.now }
         ensures { IfOk result (λ group. AreFound graph.entry.now right.entry.now group.items) }
-    { find_group(rt, alloc, graph, plan, right) };
+    { find_group(rt, alloc, graph, team, right) };
     let front = move || -> Result<Vec<Found<P>>, AllocError>
         requires { IsSync R.row × IsReady P graph.now × All (IsVertex graph.now.n) left.now }
         ensures { IfOk result (λ group. AreFound graph.entry.now left.entry.now group.items) }
-    { find_group(rt, alloc, graph, plan, left) };
+    { find_group(rt, alloc, graph, team, left) };
     let (second, first) = join(rt, back, front);
     put_behind(first?, second?)
 }

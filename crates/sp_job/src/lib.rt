@@ -2,13 +2,13 @@
 #![tactic(auto)]
 
 mod answers;
+mod lead;
 mod places;
-mod plan;
 mod progress;
 mod width;
 
 pub use answers::{BatchError, Summary};
+pub use lead::Lead;
 pub use places::{Places, chosen};
-pub use plan::{Lead, Plan};
 pub use progress::{Listener, Nobody, Progress};
 pub use width::{BucketWidth, Settings};

@@ -1,5 +1,6 @@
 //! What is told of a batch while it runs.
 use crate::answers::Summary;
+use sp_word::Meter;
 use std::fmt;
 
 /// How far a batch is.
@@ -32,6 +33,11 @@ impl fmt::Display for Progress {
 pub trait Listener: Drop {
     /// Is told before the next source, group of sources or pair is answered, and once the graph stands.
     fn hear(&self, progress: Progress);
+
+    /// Where the workers count what they have relaxed, if the listener looks at that while they work.
+    fn meter(&self) -> Option<&Meter> {
+        None
+    }
 }
 
 /// Listens to nothing.

@@ -3,9 +3,9 @@ ghost use Rattle.std.specs.Prelude.{◌≡◌, true};
 ghost use Rattle.sp_word.specs.Word.{is_layout};
 ghost use Rattle.sp_job.specs.Width.{width_among};
 
-use crate::plan::Plan;
+use crate::progress::Listener;
 use sp_graph::Graph;
-use sp_word::{Delta, Word, Workers};
+use sp_word::{Delta, Team, Word, Workers};
 
 /// How wide a bucket of tentative distances is. What is written is the same for each width.
 #[derive(Clone, Copy, Debug, PartialEq, Eq)]
@@ -45,16 +45,17 @@ fn width_for<const P: u32>(width: &BucketWidth<P>, graph: &Graph) -> Delta<P>
     }
 }
 
-impl<const P: u32, L> Settings<'_, P, L> {
+impl<'a, const P: u32, L: Listener> Settings<'a, P, L> {
     /// How runs are made in this graph.
-    pub fn plan_for(&self, graph: &Graph) -> Plan<P>
+    pub fn team_for(&self, graph: &Graph) -> Team<'a, P>
         requires { is_layout P ≡ true }
         ensures delta { result.delta ≡ width_among graph.now.arcs self.now.width }
         ensures workers { result.workers ≡ self.now.workers }
     {
-        Plan {
+        Team {
             delta: width_for(&self.width, graph),
             workers: self.workers,
+            meter: self.listener.meter(),
         }
     }
 }

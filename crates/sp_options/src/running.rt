@@ -9,7 +9,7 @@ use crate::width::Width;
 use clap::{Arg, ArgMatches, Command, Error, value_parser};
 use sp_command::{Fault, FileKind, Inputs, Report, Status, Words, flag, valued};
 use sp_job::{BatchError, BucketWidth, Listener, Progress, Summary};
-use sp_word::Workers;
+use sp_word::{Meter, Workers};
 use std::alloc::Global;
 
 /// How runs are made.
@@ -134,6 +134,14 @@ impl<F: Inputs> Teller<'_, F> {
 impl<F: Inputs> Listener for Teller<'_, F> {
     fn hear(&self, progress: Progress) {
         self.tell(report_of(progress));
+    }
+
+    fn meter(&self) -> Option<&Meter> {
+        if self.is_asked {
+            self.files.meter()
+        } else {
+            None
+        }
     }
 }
 

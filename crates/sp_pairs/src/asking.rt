@@ -4,9 +4,9 @@ ghost use Rattle.sp_job.specs.Ready.{IsReady};
 ghost use Rattle.sp_pairs.specs.Slots.{IsClosed, slot_of, IsPairOf, AreAllOpen, pair_at, AreHeld, AreFirstClosed, StayClosed, IsPlaceBehind, AreTargetsOf, IsFor, IsClosedAt};
 
 use sp_graph::Graph;
-use sp_job::{Lead, Listener, Plan, Progress};
-use sp_solve::{PairAnswer, Reach, run_targets, useful_workers};
-use sp_team::Team;
+use sp_job::{Lead, Listener, Progress};
+use sp_solve::{PairAnswer, Reach, run_targets, useful_team};
+use sp_word::Team;
 use std::alloc::{AllocError, Global};
 use std::sync::Wait;
 use std::thread::Threads;
@@ -154,7 +154,7 @@ fn ask<const P: u32, R: Threads + Wait + Sync>(
     rt: &R,
     alloc: Global,
     graph: &Graph,
-    plan: &Plan<P>,
+    team: &Team<P>,
     pairs: &[(u32, u32)],
     slots: &mut Vec<Slot>,
     place: usize,
@@ -168,10 +168,7 @@ fn ask<const P: u32, R: Threads + Wait + Sync>(
     ensures first { IfOk result (λ _. AreFirstClosed (place + 1) slots.new.items) }
 {
     let targets = targets_from(alloc, graph, pairs, slots, place)?;
-    let team = Team {
-        delta: plan.delta,
-        workers: useful_workers(rt, graph.n(), plan.workers),
-    };
+    let team = useful_team(rt, graph.n(), team);
     let reach = run_targets::<P, R>(rt, alloc, graph, team, pairs[place].0, targets)?;
     keep_answers(&reach, pairs, slots, place);
     Ok(())
@@ -197,7 +194,7 @@ pub(crate) fn find_answers<const P: u32, R: Threads + Wait + Sync, L: Listener>(
                 found: place,
                 count: pairs.len(),
             });
-            ask::<P, R>(rt, alloc, graph, &lead.plan, pairs, &mut slots, place)?;
+            ask::<P, R>(rt, alloc, graph, &lead.team, pairs, &mut slots, place)?;
         }
     }
     Ok(slots)

@@ -57,7 +57,7 @@ fn answer_pairs<const P: u32, R: Threads + Wait + Sync, W: Write, L: Listener>(
         arcs: graph.m(),
     });
     let lead = Lead {
-        plan: settings.plan_for(&graph),
+        team: settings.team_for(&graph),
         listener: settings.listener,
     };
     let slots = find_answers::<P, R, L>(rt, alloc, &graph, &lead, &list.pairs)?;

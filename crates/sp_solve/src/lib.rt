@@ -7,5 +7,5 @@ mod source;
 mod whole;
 
 pub use reach::{PairAnswer, Reach, run_targets};
-pub use source::{run_by_team, run_source, useful_workers};
+pub use source::{run_by_team, run_source, useful_team};
 pub use sp_answer::RunError;

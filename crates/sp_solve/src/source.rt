@@ -16,8 +16,10 @@ use std::thread::Threads;
 // A worker for fewer vertices takes longer to start than it saves.
 const LEAST_VERTICES: u32 = 5000;
 
-/// How many of the workers there is work for: no more than processors, and one for some thousand vertices.
-pub fn useful_workers<R: Threads>(rt: &R, n: u32, workers: Workers) -> Workers {
+// How many of the workers there is work for: no more than processors, and one for some thousand vertices.
+fn useful_workers<R: Threads>(rt: &R, n: u32, workers: Workers) -> Workers
+    ensures { result ≤ workers }
+{
     let few = workers.at_most((n / LEAST_VERTICES) as usize);
     if few.get() == 1 {
         return few;
@@ -25,6 +27,17 @@ pub fn useful_workers<R: Threads>(rt: &R, n: u32, workers: Workers) -> Workers {
     match thread::available_parallelism(rt) {
         Ok(count) => few.at_most(count.get()),
         Err(_) => few,
+    }
+}
+
+/// The same team in a graph of so many vertices, with no more workers than there is work for.
+pub fn useful_team<'m, const P: u32, R: Threads>(rt: &R, n: u32, team: &Team<'m, P>) -> Team<'m, P>
+    ensures delta { result.delta ≡ team.now.delta }
+    ensures fewer { result.workers ≤ team.now.workers }
+{
+    Team {
+        workers: useful_workers(rt, n, team.workers),
+        ..*team
     }
 }
 
@@ -45,8 +58,12 @@ pub fn run_source<const P: u32, R: Threads + Wait + Sync>(
     ensures tree { IfOk result (IsAnswer P graph.now source) }
     ensures refused { IfErr result (IsRefusal P graph.now source) }
 {
-    let workers = useful_workers(rt, graph.n(), workers);
-    run_by_team(rt, alloc, graph, Team { delta, workers }, source)
+    let team = Team {
+        delta,
+        workers: useful_workers(rt, graph.n(), workers),
+        meter: None,
+    };
+    run_by_team(rt, alloc, graph, team, source)
 }
 
 /// The same with just so many threads.

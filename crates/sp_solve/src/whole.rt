@@ -25,7 +25,7 @@ pub(crate) struct WholeRun<'g, const P: u32> {
     pub(crate) alloc: Global,
     pub(crate) graph: &'g Graph,
     pub(crate) source: u32,
-    pub(crate) team: Team<P>,
+    pub(crate) team: Team<'g, P>,
 }
 
 impl<'g, const P: u32> Model for WholeRun<'g, P> {
@@ -45,7 +45,7 @@ impl<'g, const P: u32> WholeRun<'g, P> {
         alloc: Global,
         graph: &'g Graph,
         source: u32,
-        team: Team<P>,
+        team: Team<'g, P>,
     ) -> WholeRun<'g, P>
         requires layout { is_layout P ≡ true }
         requires most { graph.now.n ≤ max_pred P }

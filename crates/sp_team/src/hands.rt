@@ -2,8 +2,10 @@
 
 use crate::board::Board;
 use crate::entries::Block;
+use crate::tally::Tally;
 use crossbeam_deque::{Steal, Stealer, Worker};
 use sp_bins::{Bins, Entry};
+use sp_word::Meter;
 use std::alloc::{AllocError, Global};
 use std::hint::spin_loop;
 use std::sync::Wait;
@@ -28,7 +30,7 @@ const NAP: u64 = 500;
 
 /// What a worker has in hand.
 #[derive(Drop)]
-pub struct Hands {
+pub struct Hands<'m> {
     alloc: Global,
     worker: usize,
     // how many buckets it may be ahead of the others without waiting for them
@@ -38,6 +40,7 @@ pub struct Hands {
     // what is worked off, and how much of it is done
     list: Vec<Entry>,
     next: usize,
+    tally: Tally<'m>,
 }
 
 // A block of another worker's, if one is got.
@@ -54,15 +57,16 @@ fn steal(stealers: &[Stealer<Block>]) -> Option<Block> {
     None
 }
 
-impl Hands {
-    /// Empty hands of a worker, with buckets 2 to the power of `shift` wide.
+impl<'m> Hands<'m> {
+    /// Empty hands of a worker, with buckets 2 to the power of `shift` wide, and where it counts what it has relaxed.
     pub fn new(
         alloc: Global,
         worker: usize,
         own: Worker<Block>,
         shift: u32,
         ahead: u64,
-    ) -> Result<Hands, AllocError> {
+        meter: Option<&'m Meter>,
+    ) -> Result<Hands<'m>, AllocError> {
         Ok(Hands {
             alloc,
             worker,
@@ -71,6 +75,7 @@ impl Hands {
             bins: Bins::new(alloc, shift)?,
             list: Vec::new(alloc),
             next: 0,
+            tally: Tally::new(meter),
         })
     }
 
@@ -100,6 +105,11 @@ impl Hands {
         } else {
             None
         }
+    }
+
+    /// Counts one vertex more that was relaxed.
+    pub fn count(&mut self) {
+        self.tally.count();
     }
 
     // How many entries of the list are left.
@@ -233,6 +243,7 @@ impl Hands {
         stealers: &[Stealer<Block>],
     ) -> Result<bool, AllocError> {
         let Some(bucket) = self.bins.advance()? else {
+            self.tally.tell();
             if board.is_alone() {
                 return Ok(false);
             }

@@ -11,7 +11,9 @@ mod entries;
 mod hands;
 mod relax;
 mod search;
+mod tally;
 mod team;
 
 pub use search::Search;
-pub use team::{Relaxed, Team, relax_all};
+pub use sp_word::Team;
+pub use team::{Relaxed, relax_all};

@@ -110,26 +110,27 @@ pub(crate) fn warm<L: Lawful, const P: u32>(
     }
 }
 
-/// Relaxes all arcs of an entry's vertex at the distance that it has, if that is the entry's.
+/// Relaxes all arcs of an entry's vertex at the distance that it has, if that is the entry's. Tells whether it was.
 pub(crate) fn relax<L: Lawful, const P: u32>(
     graph: &Graph,
     table: &OfferTable<L, P>,
     entry: Entry,
     caller: &mut Caller,
     bins: &mut Bins,
-) -> Result<(), AllocError>
+) -> Result<bool, AllocError>
     requires ready { IsReady P (lawful P (L.allows table.now.law)) table.now.vertices graph.now }
     requires caller { caller.old.table ≡ table.now.id }
     ensures { IsLater (lawful P (L.allows table.now.law)) caller.old caller.new }
 {
     let vertex = entry.vertex;
     if vertex < 1 || vertex > graph.n() {
-        return Ok(());
+        return Ok(false);
     }
     match read_dist(table, vertex, caller) {
         Some(dist) if dist == entry.dist => {
-            relax_row(table, graph.row(vertex), dist, caller, bins)
+            relax_row(table, graph.row(vertex), dist, caller, bins)?;
+            Ok(true)
         }
-        _ => Ok(()),
+        _ => Ok(false),
     }
 }

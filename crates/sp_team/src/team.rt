@@ -16,7 +16,7 @@ use crossbeam_deque::{Stealer, Worker};
 use sp_bins::Entry;
 use sp_graph::Graph;
 use sp_offer::{Caller, Lawful, OfferTable};
-use sp_word::{Delta, Workers};
+use sp_word::Team;
 use std::alloc::{AllocError, Global};
 use std::sync::Wait;
 use std::thread::{Threads, join};
@@ -27,13 +27,6 @@ const STRETCH: usize = 16;
 /// A worker orders its entries by buckets that are delta wide, divided by 2 to this power, and may be delta ahead of the
 /// others.
 const FINER: u32 = 3;
-
-/// How a team works: the width of a bucket, and the number of workers.
-#[derive(Clone, Copy, Debug)]
-pub struct Team<const P: u32> {
-    pub delta: Delta<P>,
-    pub workers: Workers,
-}
 
 /// What a team leaves when it ends.
 #[derive(Drop)]
@@ -82,7 +75,9 @@ fn run_some<L: Lawful, const P: u32>(
         if !horizon.reaches(entry.dist) {
             continue;
         }
-        relax(graph, table, entry, caller, hands.bins())?;
+        if relax(graph, table, entry, caller, hands.bins())? {
+            hands.count();
+        }
     }
     Ok(())
 }
@@ -172,7 +167,7 @@ fn run_worker<R: Wait, L: Lawful, const P: u32>(
     board: &Board,
     stealers: &[Stealer<Block>],
     queue: &[u32],
-    delta: Delta<P>,
+    team: &Team<P>,
     seat: Seat,
 ) -> Relaxed
     requires ready { IsReady P (lawful P (L.allows table.now.law)) table.now.vertices graph.now }
@@ -184,8 +179,8 @@ fn run_worker<R: Wait, L: Lawful, const P: u32>(
         own,
         mut caller,
     } = seat;
-    let shift = delta.get().ilog2().saturating_sub(FINER);
-    let Ok(mut hands) = Hands::new(alloc, worker, own, shift, 1 << FINER) else {
+    let shift = team.delta.get().ilog2().saturating_sub(FINER);
+    let Ok(mut hands) = Hands::new(alloc, worker, own, shift, 1 << FINER, team.meter) else {
         // the first worker would have had the queue
         let lost = worker == 0;
         if lost {
@@ -268,7 +263,7 @@ fn run_first<R: Wait, L: Lawful, const P: u32>(
     board: &Board,
     stealers: &[Stealer<Block>],
     queue: &[u32],
-    delta: Delta<P>,
+    team: &Team<P>,
     crew: Crew,
 ) -> Relaxed
     requires ready { IsReady P (lawful P (L.allows table.now.law)) table.now.vertices graph.now }
@@ -288,7 +283,7 @@ fn run_first<R: Wait, L: Lawful, const P: u32>(
         own,
         caller,
     };
-    run_worker(rt, alloc, graph, table, board, stealers, queue, delta, seat)
+    run_worker(rt, alloc, graph, table, board, stealers, queue, team, seat)
 }
 
 // A worker for each of the deques, one on this thread and the others on threads that it starts. Each half starts its own,
@@ -302,7 +297,7 @@ fn run_workers<R: Threads + Wait + Sync, L: Lawful + Send + Sync, const P: u32>(
     board: &Board,
     stealers: &[Stealer<Block>],
     queue: &[u32],
-    delta: Delta<P>,
+    team: &Team<P>,
     mut crew: Crew,
 ) -> Relaxed
     requires ready { IsReady P (lawful P (L.allows table.now.law)) table.now.vertices graph.now }
@@ -311,10 +306,10 @@ fn run_workers<R: Threads + Wait + Sync, L: Lawful + Send + Sync, const P: u32>(
 {
     let half = crew.owners.len() / 2;
     if half == 0 {
-        return run_first(rt, alloc, graph, table, board, stealers, queue, delta, crew);
+        return run_first(rt, alloc, graph, table, board, stealers, queue, team, crew);
     }
     let Ok(owners) = crew.owners.split_off(half) else {
-        return run_first(rt, alloc, graph, table, board, stealers, queue, delta, crew);
+        return run_first(rt, alloc, graph, table, board, stealers, queue, team, crew);
     };
     let (first, second) = part(table, crew, owners);
     let theirs = move || -> Relaxed
@@ -324,7 +319,7 @@ fn run_workers<R: Threads + Wait + Sync, L: Lawful + Send + Sync, const P: u32>(
         ensures { IsLater (lawful P (L.allows table.entry.now.law)) second.caller result.caller }
     {
         run_workers(
-            rt, alloc, graph, table, board, stealers, queue, delta, second,
+            rt, alloc, graph, table, board, stealers, queue, team, second,
         )
     };
     let mine = move || -> Relaxed
@@ -332,11 +327,7 @@ fn run_workers<R: Threads + Wait + Sync, L: Lawful + Send + Sync, const P: u32>(
             × IsReady P (lawful P (L.allows table.now.law)) table.now.vertices graph.now
             × (first.caller.table ≡ table.now.id) }
         ensures { IsLater (lawful P (L.allows table.entry.now.law)) first.caller result.caller }
-    {
-        run_workers(
-            rt, alloc, graph, table, board, stealers, queue, delta, first,
-        )
-    };
+    { run_workers(rt, alloc, graph, table, board, stealers, queue, team, first) };
     let (later, sooner) = join(rt, theirs, mine);
     merge(table, sooner, later)
 }
@@ -380,7 +371,7 @@ pub fn relax_all<R: Threads + Wait + Sync, L: Lawful + Send + Sync, const P: u32
         &board,
         stealers.as_slice(),
         search.queue,
-        team.delta,
+        &team,
         crew,
     )
 }

@@ -28,12 +28,16 @@ pub(crate) fn graph_of(
 }
 
 // Buckets so wide, and so many workers.
-fn team<const P: u32>(rt: &impl Abort, width: u64, workers: u32) -> Team<P>
+fn team<const P: u32>(rt: &impl Abort, width: u64, workers: u32) -> Team<'static, P>
     requires { is_layout P ≡ true }
 {
     let delta = Delta::new(width).expect(rt, "a width in range");
     let workers = Workers::new(workers).expect(rt, "a number of workers in range");
-    Team { delta, workers }
+    Team {
+        delta,
+        workers,
+        meter: None,
+    }
 }
 
 /// What a run tells, every round of which is shared among the workers.
@@ -47,8 +51,16 @@ pub(crate) fn run<const P: u32>(
     requires { is_layout P ≡ true }
 {
     assert!(rt; graph.n() <= Word::<P>::max_pred());
-    let Team { delta, workers } = team(rt, delta, workers);
-    run_source_with(rt, rt.alloc(), graph, delta, workers, source, &OpenGate)
+    let team = team(rt, delta, workers);
+    run_source_with(
+        rt,
+        rt.alloc(),
+        graph,
+        team.delta,
+        team.workers,
+        source,
+        &OpenGate,
+    )
 }
 
 /// The same, by a team that lasts.

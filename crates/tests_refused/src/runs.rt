@@ -72,6 +72,7 @@ pub fn call_run_by_team<R: AllocGlobal + Print + Threads + Wait + Sync, W: Write
     let team = Team {
         delta: sample.delta(),
         workers,
+        meter: None,
     };
     let answer = run_by_team(rt, rt.alloc(), &graph, team, 1);
     Ok(tell_run(out, answer))
@@ -116,6 +117,7 @@ pub fn call_run_targets<R: AllocGlobal + Print + Threads + Wait + Sync>(
     let team = Team {
         delta: sample.delta(),
         workers,
+        meter: None,
     };
     let mut targets = Vec::new(alloc);
     targets.push(graph.n())?;

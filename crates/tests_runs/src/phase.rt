@@ -9,7 +9,7 @@ use sp_phase::{RunError, Store, run_source, run_source_with};
 use sp_task::OpenGate;
 use sp_team::Team;
 use sp_tree::Tree;
-use sp_word::{Delta, Word, Workers};
+use sp_word::{Delta, Meter, Word, Workers};
 use std::process::Abort;
 use std::sync::Wait;
 use std::test::Fail;
@@ -72,8 +72,12 @@ fn run_by_team<const P: u32>(
     requires { is_layout P ≡ true }
 {
     assert!(rt; graph.n() <= Word::<P>::max_pred());
-    let (delta, workers) = (width(rt, delta), crew(rt, workers));
-    sp_solve::run_by_team(rt, rt.alloc(), graph, Team { delta, workers }, source)
+    let team = Team {
+        delta: width(rt, delta),
+        workers: crew(rt, workers),
+        meter: None,
+    };
+    sp_solve::run_by_team(rt, rt.alloc(), graph, team, source)
 }
 
 // The first caller of a store, and another.
@@ -132,6 +136,28 @@ fn by_a_team(rt: HostRuntime) -> Result<(), Fail> {
     let (delta, workers) = (width::<28>(&rt, 2), crew(&rt, 64));
     let tree = run_source(&rt, rt.alloc(), &graph, delta, workers, 1)?;
     assert!(rt; has_rows(&tree, &DIAMOND_ROWS));
+    Ok(())
+}
+
+#[test]
+fn meter_counts_each_vertex_of_a_path(rt: HostRuntime) -> Result<(), Fail> {
+    let mut arcs = Vec::new(rt.alloc());
+    for tail in 1u32..1000 {
+        arcs.push((tail, tail + 1, 1))?;
+    }
+    let graph = graph_of(&rt, 1001, &arcs)?;
+    assert!(rt; graph.n() <= Word::<28>::max_pred());
+    for workers in WORKERS {
+        let meter = Meter::new();
+        let team = Team {
+            delta: width::<28>(&rt, 2),
+            workers: crew(&rt, workers),
+            meter: Some(&meter),
+        };
+        let tree = sp_solve::run_by_team(&rt, rt.alloc(), &graph, team, 1)?;
+        assert!(rt; tree.rows().len() == 1000);
+        assert!(rt; meter.count() == 1000);
+    }
     Ok(())
 }
 

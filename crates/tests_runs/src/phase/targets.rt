@@ -51,6 +51,7 @@ fn told<const P: u32>(
     let team = Team {
         delta: width::<P>(rt, delta),
         workers: crew(rt, workers),
+        meter: None,
     };
     let reach = run_targets::<P, _>(rt, rt.alloc(), graph, team, source, list)?;
     let mut answers = Vec::new(rt.alloc());

@@ -1,0 +1,35 @@
+//! What a worker counts for the meter of its run.
+use sp_word::Meter;
+
+/// How many vertices a worker tells the meter of at once: seldom enough to cost nothing.
+const LOT: u64 = 256;
+
+/// What a worker has relaxed since it last told the meter.
+#[derive(Drop)]
+pub(crate) struct Tally<'m> {
+    meter: Option<&'m Meter>,
+    untold: u64,
+}
+
+impl<'m> Tally<'m> {
+    /// For a worker that has relaxed nothing.
+    pub(crate) fn new(meter: Option<&'m Meter>) -> Tally<'m> {
+        Tally { meter, untold: 0 }
+    }
+
+    /// Counts one vertex more.
+    pub(crate) fn count(&mut self) {
+        self.untold = self.untold.saturating_add(1);
+        if self.untold >= LOT {
+            self.tell();
+        }
+    }
+
+    /// Tells the meter what it hasn't been told yet.
+    pub(crate) fn tell(&mut self) {
+        if let Some(meter) = self.meter {
+            meter.add(self.untold);
+        }
+        self.untold = 0;
+    }
+}
