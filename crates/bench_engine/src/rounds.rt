@@ -3,8 +3,6 @@ ghost use Rattle.std.specs.Prelude.{◌≤◌};
 
 use crate::offers::{next_random, vertex_of};
 use crate::report::print_each;
-use tests_round_samples::{Bench, any_tasks, set_up};
-use tests_samples::Triple;
 use sp_offer::AnyWord;
 use sp_task::{OpenGate, Round, Task, TaskKind, run_round};
 use sp_word::Workers;
@@ -13,6 +11,8 @@ use std::io;
 use std::sync::Wait;
 use std::thread::Threads;
 use std::time::{Clock, Duration, Instant};
+use tests_round_samples::{Bench, any_tasks, set_up};
+use tests_samples::Triple;
 
 const MOST_TASKS: u32 = 1_000_000;
 

@@ -10,10 +10,10 @@ ghost use Rattle.sp_phase.specs.Settling.{IsToldBy, IsLaterBucket};
 
 use crate::advancing::{Settled, Until};
 use crate::leader::Leader;
+use sp_answer::Tree;
 use sp_claim::Claimer;
 use sp_offer::Caller;
 use sp_store::{RunError, Store};
-use sp_answer::Tree;
 use sp_task::Gate;
 use sp_word::{Word, Workers};
 use std::alloc::Global;

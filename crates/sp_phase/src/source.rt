@@ -4,11 +4,11 @@ ghost use Rattle.sp_word.specs.Word.{is_layout, max_pred};
 ghost use Rattle.sp_answer.specs.Answer.{IsAnswer, IsRefusal};
 
 use crate::run::Run;
+use sp_answer::Tree;
 use sp_claim::Claimer;
 use sp_graph::Graph;
 use sp_offer::Caller;
 use sp_store::{RunError, Store};
-use sp_answer::Tree;
 use sp_task::Gate;
 use sp_word::{Delta, Workers};
 use std::alloc::Global;

@@ -105,7 +105,7 @@ refused {P = P} left passed has_failed g start text old new before after all e k
       parts = behind.1;
       block = block;
       begun = λ some none.
-        begun (some_lines h.trees (2 ^ 64 - 1) (lines_before old) h.lines (omega arith) some) (all_given text (trees_text h.trees) (front ++ behind.0) (left_of left old before) (rw known at h.came) behind.1 none);
+          begun (some_lines h.trees (2 ^ 64 - 1) (lines_before old) h.lines (omega arith) some) (all_given text (trees_text h.trees) (front ++ behind.0) (left_of left old before) (rw known at h.came) behind.1 none);
       fault = fault;
       has_fault = behind.2;
       told = told ∙ told_in_file (lines_of h.trees) (lines_before old) fault h.lines;

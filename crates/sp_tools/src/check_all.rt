@@ -11,10 +11,10 @@ ghost use Rattle.sp_tools.specs.CheckAnswers.{TreesJudged, AreTreesRefused, Tell
 
 use crate::check::{Check, Verdict, judge};
 use crate::graphs::read_graph;
-use sp_tree::TreeBlocks;
 use sp_command::{Fault, FileKind, Inputs, Status};
 use sp_device::{Printer, Read, Write, WriteFault, finish, print_number, print_text};
 use sp_graph::Graph;
+use sp_tree::TreeBlocks;
 use std::alloc::Global;
 use std::thread::Threads;
 

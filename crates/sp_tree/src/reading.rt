@@ -7,8 +7,8 @@ ghost use Rattle.sp_tree.specs.Spelling.{tree_judge};
 ghost use Rattle.sp_tree.specs.Reading.{IsBehindTree, IsSpentTree, TreeFed, TreeFinished, TreeRead};
 
 use crate::taking::TreeLines;
-use sp_device::Read;
 use sp_answer::Tree;
+use sp_device::Read;
 use sp_text::{DimacsError, Feeder, Kind, read_text};
 use std::alloc::Global;
 

@@ -4,8 +4,8 @@ ghost use Rattle.std.specs.List.{flat_map};
 ghost use Rattle.sp_device.specs.Printing.{Sends, Finished as Written, Counted};
 ghost use Rattle.sp_tree.specs.TreeText.{problem_text, reached_text, row_text, end_text, tree_text, far_text};
 
-use sp_device::{Block, Printer, Write, WriteFault, finish, make_room};
 use sp_answer::Tree;
+use sp_device::{Block, Printer, Write, WriteFault, finish, make_room};
 use sp_text::push_number;
 use sp_word::Word;
 

@@ -12,9 +12,9 @@ use crate::answers::Told;
 use crate::arcs::{SptArc, graph_of};
 use crate::refusals::refusal;
 use crate::solving::width_for;
-use sp_serial::{TargetAnswer, run_target_alone};
 use sp_graph::Graph;
 use sp_kept::KeptGraph;
+use sp_serial::{TargetAnswer, run_target_alone};
 use sp_word::Delta;
 use std::alloc::Global;
 

@@ -7,8 +7,8 @@ ghost use Rattle.spt_c.specs.Blocks.{slices, IsSolvedAt, AreSolved};
 
 use crate::answers::{Batch, Told};
 use crate::cells::put_cells;
-use sp_serial::{RunError, run_source_alone};
 use sp_graph::Graph;
+use sp_serial::{RunError, run_source_alone};
 use sp_word::{Delta, Word};
 use std::alloc::Global;
 

@@ -2,7 +2,6 @@
 ghost use Rattle.std.specs.Prelude.{◌≡◌, ◌≤◌, true, IfOk};
 ghost use Rattle.sp_word.specs.Word.{is_layout};
 
-use tests_samples::Triple;
 use sp_graph::Graph;
 use sp_phase::{RunError, run_source_with};
 use sp_plain::{Answer, plain_tree};
@@ -14,6 +13,7 @@ use std::process::Abort;
 use std::sync::Wait;
 use std::test::Fail;
 use std::thread::Threads;
+use tests_samples::Triple;
 
 /// The graph of arcs that are given by tail, head and length.
 pub(crate) fn graph_of(

@@ -1,7 +1,6 @@
 //! From bytes to bytes: texts in memory, and standard output.
 use crate::report::Ending;
 use crate::sample::Sample;
-use tests_samples::FROM_ONE;
 use sp_batch::{BatchError, BucketWidth, Summary, run_batch};
 use sp_dimacs::{OfRead, Write};
 use sp_pairs::run_pairs;
@@ -10,6 +9,7 @@ use sp_word::Workers;
 use std::io;
 use std::sync::Wait;
 use std::thread::Threads;
+use tests_samples::FROM_ONE;
 
 // Whether memory is what was wanting.
 fn is_memory(error: BatchError) -> bool {

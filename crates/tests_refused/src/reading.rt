@@ -1,10 +1,10 @@
 //! The readers, over texts in memory.
 use crate::report::{Ending, tell_fault, tell_tree};
 use crate::sample::Sample;
-use tests_samples::FROM_ONE;
 use sp_dimacs::{OfRead, Write, read_gr, read_pairs, read_ss};
 use sp_tree::read_tree;
 use std::io;
+use tests_samples::FROM_ONE;
 
 /// Reads the graph, and prints its arcs.
 pub fn call_read_gr<R: AllocGlobal + Eprint + Print>(rt: &R, sample: Sample) -> io::Result<Ending> {

@@ -5,7 +5,6 @@ ghost use Rattle.sp_offer.specs.Order.{lawful};
 ghost use Rattle.sp_task.specs.Offers.{IsTask};
 
 use crate::report::Ending;
-use tests_samples::{Triple, graph_of};
 use sp_bucket::Entry;
 use sp_claim::{ClaimTable, Claimer};
 use sp_graph::Rows;
@@ -15,6 +14,7 @@ use sp_word::{Word, Workers};
 use std::io;
 use std::sync::Wait;
 use std::thread::Threads;
+use tests_samples::{Triple, graph_of};
 
 const VERTICES: u32 = 5;
 

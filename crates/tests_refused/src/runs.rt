@@ -1,7 +1,6 @@
 //! Graphs, and runs from vertex 1.
 use crate::report::{Ending, tell_refusal, tell_run};
 use crate::sample::Sample;
-use tests_samples::{DIAMOND, arcs_of, long_path};
 use sp_device::Write;
 use sp_graph::Graph;
 use sp_phase::{run_pair, run_source_with};
@@ -12,6 +11,7 @@ use sp_word::Workers;
 use std::io;
 use std::sync::Wait;
 use std::thread::Threads;
+use tests_samples::{DIAMOND, arcs_of, long_path};
 
 /// Builds the graph, and prints its arcs in order.
 pub fn call_build<R: AllocGlobal + Print>(rt: &R, sample: Sample) -> io::Result<Ending> {

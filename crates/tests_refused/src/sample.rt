@@ -2,10 +2,10 @@
 ghost use Rattle.std.specs.Prelude.{◌≤◌, IfOk};
 ghost use Rattle.sp_word.specs.Word.{max_pred};
 
-use tests_samples::{DIAMOND, DIAMOND_GR, DIAMOND_TREE, graph_of, long_path};
 use sp_graph::Graph;
 use sp_word::{Delta, Word};
 use std::alloc::{AllocError, Global};
+use tests_samples::{DIAMOND, DIAMOND_GR, DIAMOND_TREE, graph_of, long_path};
 
 const LONG_GR: &str =
     "p sp 18 17\na 1 2 4294967295\na 2 3 4294967295\na 3 4 4294967295\na 4 5 4294967295\na 5 6 4294967295\na 6 7 4294967295\na 7 8 4294967295\na 8 9 4294967295\na 9 10 4294967295\na 10 11 4294967295\na 11 12 4294967295\na 12 13 4294967295\na 13 14 4294967295\na 14 15 4294967295\na 15 16 4294967295\na 16 17 4294967295\na 17 18 15\n";

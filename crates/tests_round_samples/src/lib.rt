@@ -9,12 +9,12 @@ ghost use Rattle.sp_task.specs.Offers.{IsTask};
 ghost use base.Stored.{Coded-set};
 ghost use Rattle.atomic_table.specs.Seated.{table_id_coded};
 
-use tests_samples::{Triple, graph_of};
 use sp_claim::{ClaimTable, Claimer};
 use sp_graph::Rows;
 use sp_offer::{AnyWord, Caller, OfferTable};
 use sp_task::Task;
 use std::alloc::{AllocError, Global};
+use tests_samples::{Triple, graph_of};
 
 /// The most vertices of a bench.
 pub const MOST_VERTICES: u32 = 1_000_000;

@@ -2,7 +2,6 @@
 ghost use Rattle.std.specs.Prelude.{◌≡◌, ◌≤◌, true, IfOk};
 ghost use Rattle.sp_word.specs.Word.{is_layout};
 
-use tests_samples::{DIAMOND, DIAMOND_ROWS, Triple, long_path};
 use sp_graph::Graph;
 use sp_offer::Caller;
 use sp_phase::{RunError, Store, run_source, run_source_with};
@@ -14,6 +13,7 @@ use std::process::Abort;
 use std::sync::Wait;
 use std::test::Fail;
 use std::thread::Threads;
+use tests_samples::{DIAMOND, DIAMOND_ROWS, Triple, long_path};
 
 mod compare;
 mod lending;

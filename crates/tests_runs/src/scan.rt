@@ -1,12 +1,12 @@
 //! What arcs show of words, by one thread and by several.
 ghost use Rattle.std.specs.Prelude.{◌≡◌, IfOk, length};
 
-use tests_samples::{DIAMOND, Triple, arcs_of};
 use sp_scan::{Scan, open_tails, scan_arcs};
 use sp_word::Word;
 use std::process::Abort;
 use std::test::Fail;
 use std::thread::Threads;
+use tests_samples::{DIAMOND, Triple, arcs_of};
 
 // Words of vertices 1, 2 and so on, a vertex without one being unreached.
 fn words_of(

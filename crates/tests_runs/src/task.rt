@@ -3,8 +3,6 @@ ghost use Rattle.std.specs.Prelude.{◌≡◌, ℕ, ◌<◌, ◌≤◌, length, 
 
 use crate::phase::crew;
 use gates::{Count, Meeting, Thief};
-use tests_round_samples::{Bench, MOST_DIST, MOST_VERTICES, any_tasks, set_up};
-use tests_samples::{DIAMOND, Triple};
 use sp_bucket::Entry;
 use sp_graph::Rows;
 use sp_offer::{AnyWord, Loop, Lowering, OneMin};
@@ -18,6 +16,8 @@ use std::sync::Wait;
 use std::sync::atomic::{AtomicBool, AtomicU64, Ordering};
 use std::test::Fail;
 use std::thread::Threads;
+use tests_round_samples::{Bench, MOST_DIST, MOST_VERTICES, any_tasks, set_up};
+use tests_samples::{DIAMOND, Triple};
 
 mod gates;
 

@@ -2,13 +2,13 @@
 ghost use Rattle.std.specs.Prelude.{◌≡◌, ◌≤◌, true};
 ghost use Rattle.sp_word.specs.Word.{is_layout};
 
-use tests_samples::{DIAMOND, Triple, graph_of};
 use sp_cert::{CheckError, Rule, check};
 use sp_tree::{Tree, TreeReader};
 use std::alloc::{AllocError, Global};
 use std::process::Abort;
 use std::test::Fail;
 use std::thread::Threads;
+use tests_samples::{DIAMOND, Triple, graph_of};
 
 // The tree that the text spells.
 fn tree<const P: u32>(rt: &(impl Abort + AllocGlobal), text: &str) -> Tree<P>

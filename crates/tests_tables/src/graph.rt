@@ -2,11 +2,11 @@
 
 mod orders;
 
-use tests_samples::{Triple, graph_of};
 use sp_graph::Rows;
 use sp_paths::Arc;
 use std::process::Abort;
 use std::test::Fail;
+use tests_samples::{Triple, graph_of};
 
 // Whether these are the arcs, by tail, head and length.
 fn are(row: &[Arc], want: &[Triple]) -> bool {

@@ -1,8 +1,8 @@
-use tests_samples::{DIAMOND, Triple, graph_of, long_path};
 use sp_plain::{Answer, plain_tree};
 use sp_word::Word;
 use std::process::Abort;
 use std::test::Fail;
+use tests_samples::{DIAMOND, Triple, graph_of, long_path};
 
 // The answer for a source of the graph of these arcs, given by tail, head and length, in words of 28 bits of predecessor.
 fn answer(

@@ -1,11 +1,11 @@
 //! Runs by the calling thread alone, beside the plain program.
 
-use tests_samples::{DIAMOND, graph_of, long_path};
 use sp_plain::{Answer, GraphKind, Random, plain_tree, random_graph};
 use sp_serial::solve_alone;
 use sp_word::Delta;
 use std::process::Abort;
 use std::test::Fail;
+use tests_samples::{DIAMOND, graph_of, long_path};
 
 const KINDS: [GraphKind; 6] = [
     GraphKind::Sparse,

@@ -1,8 +1,8 @@
 //! Files of several trees, however their device cuts them.
 use crate::answers::fault;
-use sp_tree::TreeBlocks;
 use sp_device::UpTo;
 use sp_text::Kind;
+use sp_tree::TreeBlocks;
 use std::test::Fail;
 
 const BLOCKS: &[u8] = b"p spt 2 1\nv 1 0 0\nv 2 7 1\ne 2\np spt 2 2\nv 2 0 0\ne 1\n";

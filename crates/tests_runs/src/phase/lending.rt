@@ -1,11 +1,11 @@
 //! Runs from several sources over the same rows.
 use super::{crew, graph_of, run, width};
-use tests_samples::DIAMOND;
 use sp_graph::Rows;
 use sp_phase::{Run, RunError, Store};
 use sp_task::OpenGate;
 use sp_tree::Tree;
 use std::test::Fail;
+use tests_samples::DIAMOND;
 
 #[test]
 fn sources_over_lent_rows(rt: HostRuntime) -> Result<(), Fail> {

@@ -4,7 +4,6 @@ ghost use Rattle.sp_word.specs.Word.{is_layout};
 
 use super::compare::plain;
 use super::{WIDE, WORKERS, crew, graph_of, width};
-use tests_samples::{DIAMOND, Triple, long_path};
 use sp_graph::Graph;
 use sp_phase::{RunError, run_pair, run_pair_with};
 use sp_plain::{Answer, GraphKind, Random, random_graph};
@@ -15,6 +14,7 @@ use std::sync::Wait;
 use std::sync::atomic::{AtomicU64, Ordering};
 use std::test::Fail;
 use std::thread::Threads;
+use tests_samples::{DIAMOND, Triple, long_path};
 
 const DELTAS: [u64; 3] = [1, 5, 100];
 

@@ -3,7 +3,6 @@ ghost use Rattle.std.specs.Prelude.{◌≡◌, ◌≤◌, OnOk};
 ghost use Rattle.sp_phase.specs.Progress.{IsUnspent};
 
 use super::{WORKERS, crew, graph_of, split, width};
-use tests_samples::DIAMOND;
 use sp_claim::Claimer;
 use sp_graph::Graph;
 use sp_offer::Caller;
@@ -14,6 +13,7 @@ use std::process::Abort;
 use std::sync::Wait;
 use std::test::Fail;
 use std::thread::Threads;
+use tests_samples::DIAMOND;
 
 // One more answer of `settle`, followed by `heavy` where it tells a bucket.
 fn push_answer(

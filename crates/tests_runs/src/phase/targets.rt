@@ -5,7 +5,6 @@ ghost use Rattle.sp_paths.specs.Paths.{IsVertex};
 
 use super::compare::plain;
 use super::{WORKERS, crew, graph_of, width};
-use tests_samples::{DIAMOND, Triple, long_path};
 use sp_graph::Graph;
 use sp_plain::{Answer, GraphKind, Random, random_graph};
 use sp_solve::{PairAnswer, run_targets};
@@ -15,6 +14,7 @@ use std::process::Abort;
 use std::sync::Wait;
 use std::test::Fail;
 use std::thread::Threads;
+use tests_samples::{DIAMOND, Triple, long_path};
 
 const DELTAS: [u64; 3] = [1, 5, 100];
 

@@ -2,7 +2,6 @@
 ghost use Rattle.std.specs.Prelude.{◌≡◌, ◌≤◌, IfOk};
 
 use super::{crew, graph_of, has_rows, split, width};
-use tests_samples::{DIAMOND, DIAMOND_ROWS};
 use sp_claim::Claimer;
 use sp_offer::{Caller, Lawful, OfferTable};
 use sp_phase::{Run, RunError, Store};
@@ -13,6 +12,7 @@ use std::process::Abort;
 use std::sync::Wait;
 use std::test::Fail;
 use std::thread::{Threads, join};
+use tests_samples::{DIAMOND, DIAMOND_ROWS};
 
 // Reads vertices 1 to 4, and tells whether no word is greater than the one before.
 fn read_four<L: Lawful>(

@@ -1,9 +1,9 @@
 use crate::faulty::Faulty;
-use tests_samples::DIAMOND_GR;
 use sp_device::{Failed, OfRead, OfWrite, Read, UpToWriter, Write, WriteFault, write_all};
 use std::alloc::Global;
 use std::io::ErrorKind;
 use std::test::Fail;
+use tests_samples::DIAMOND_GR;
 
 #[test]
 fn readers_of_std(rt: HostRuntime) -> Result<(), Fail> {

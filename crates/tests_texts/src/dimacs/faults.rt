@@ -1,8 +1,8 @@
 use crate::answers::{failed_behind, fault};
-use tests_samples::{DIAMOND, DIAMOND_GR, arcs_of};
 use sp_device::UpTo;
 use sp_dimacs::{Kind, read_gr};
 use std::test::Fail;
+use tests_samples::{DIAMOND, DIAMOND_GR, arcs_of};
 
 #[test]
 fn failing_reader(rt: HostRuntime) -> Result<(), Fail> {

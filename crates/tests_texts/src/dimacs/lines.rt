@@ -1,11 +1,11 @@
 ghost use Rattle.std.specs.Prelude.{◌≤◌, ◌^◌, length};
 
 use crate::answers::{failed_behind, fault};
-use tests_samples::DIAMOND_GR;
 use sp_device::UpTo;
 use sp_dimacs::{DimacsError, Kind, Lines};
 use std::alloc::Global;
 use std::test::Fail;
+use tests_samples::DIAMOND_GR;
 
 // The lines of a text one after the other, each between brackets, with a bar where it lacks its LF; and then
 // the fault, if there is one.

@@ -2,11 +2,11 @@ ghost use Rattle.std.specs.Prelude.{◌<◌};
 
 use super::counts::{arcs, fed};
 use crate::answers::{fault, out, told};
-use tests_samples::{DIAMOND, DIAMOND_GR, arcs_of};
 use sp_device::{Read, UpTo};
 use sp_dimacs::{DimacsError, GrReader, Kind, read_gr};
 use std::alloc::Global;
 use std::test::Fail;
+use tests_samples::{DIAMOND, DIAMOND_GR, arcs_of};
 
 #[test]
 fn cut_anywhere(rt: HostRuntime) -> Result<(), Fail> {

@@ -1,11 +1,11 @@
 use super::entries::read_entries;
 use crate::answers::fault;
 use crate::faulty::Faulty;
-use tests_samples::DIAMOND_GR;
 use sp_device::{OfRead, Read, UpTo};
 use sp_text::Kind;
 use std::io::ErrorKind;
 use std::test::Fail;
+use tests_samples::DIAMOND_GR;
 
 #[test]
 fn readers_of_std(rt: HostRuntime) -> Result<(), Fail> {

@@ -2,11 +2,11 @@ ghost use Rattle.std.specs.Prelude.{◌<◌, ◌≤◌, ◌^◌, length};
 
 use super::entries::{Entry, new_reader, read_entries};
 use crate::answers::{failed_behind, fault, out, told};
-use tests_samples::DIAMOND_GR;
 use sp_device::UpTo;
 use sp_text::{DimacsError, Kind};
 use std::alloc::Global;
 use std::test::Fail;
+use tests_samples::DIAMOND_GR;
 
 // The number of items of a text that is fed in pieces of this many bytes.
 fn fed(alloc: Global, text: &[u8], size: usize) -> Result<usize, DimacsError>

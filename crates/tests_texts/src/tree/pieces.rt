@@ -1,10 +1,10 @@
 use super::counts::{cut_off, diamond, fed};
 use crate::answers::{failed_behind, fault, told};
-use tests_samples::{ALONE_TREE, DIAMOND_TREE};
 use sp_device::{Read, UpTo};
 use sp_text::Kind;
 use sp_tree::{TreeReader, read_tree};
 use std::test::Fail;
+use tests_samples::{ALONE_TREE, DIAMOND_TREE};
 
 #[test]
 fn cut_anywhere(rt: HostRuntime) -> Result<(), Fail> {

@@ -1,9 +1,9 @@
 use super::counts::diamond;
-use tests_samples::{ALONE_TREE, DIAMOND_TREE};
 use sp_device::UpTo;
 use sp_tree::{Tree, read_tree, tree_text_is_exact, tree_texts_are_accepted};
 use sp_word::Word;
 use std::test::Fail;
+use tests_samples::{ALONE_TREE, DIAMOND_TREE};
 
 #[test]
 fn tree_of_words(rt: HostRuntime) -> Result<(), Fail> {

@@ -1,9 +1,9 @@
 use super::counts::diamond;
-use tests_samples::{ALONE_TREE, DIAMOND_TREE};
 use sp_device::{UpToWriter, WriteFault};
 use sp_tree::{Tree, write_far, write_tree};
 use sp_word::Word;
 use std::test::Fail;
+use tests_samples::{ALONE_TREE, DIAMOND_TREE};
 
 #[test]
 fn alone(rt: HostRuntime) -> Result<(), Fail> {
