@@ -1,4 +1,5 @@
--- Graphs with the same arcs have the same trees: the order of the list of arcs plays no part, nor how often an arc stands in it.
+-- Graphs with the same arcs have the same trees: neither the order of the list of arcs matters, nor how often an arc is
+-- repeated.
 use Rattle.std.specs.Prelude.{◌≡◌, ℕ, Option, Contains}
 use Rattle.sp_paths.specs.declared.arc.Arc.{Arc}
 use Rattle.sp_word.specs.History.{Table}

@@ -1,4 +1,4 @@
--- The rows of a graph by tail, and their light and heavy arcs: parts of the list of arcs, in its order.
+-- The rows of a graph by tail, with their light and heavy arcs: sublists of the list of arcs, in its order.
 use Rattle.std.specs.Prelude.{◌≡◌, ℕ, ◌+◌, ◌<◌, ◌≤◌, ◌↔◌, List, Contains, filter, All, nat_eq, nat_le, nat_lt}
 use Rattle.sp_word.specs.History.{Table}
 use Rattle.sp_paths.specs.declared.arc.Arc.{Arc}
@@ -14,11 +14,11 @@ light_of arcs delta v = filter (λ a. nat_le a.len delta) (row_of arcs v)
 abbrev pub heavy_of : List Arc → (delta v : ℕ) → List Arc
 heavy_of arcs delta v = filter (λ a. nat_lt delta a.len) (row_of arcs v)
 
--- an arc of a vertex at distance d was relaxed
+-- An arc of a vertex at distance d was relaxed.
 abbrev pub IsArcRelaxed : (max : ℕ) → Table → (d : ℕ) → Arc → Type 0
 IsArcRelaxed max words d arc = d + arc.len ≤ max → IsAtMost (words arc.head) (d + arc.len) arc.tail
 
--- what holds of the arcs of the rows holds of the arcs of the graph
+-- Whatever holds for the arcs of the rows holds for the arcs of the graph.
 pub record RowsAreArcs (g : Graph) (delta : ℕ) : Type 0 where
   pub row : (u v l : ℕ) → HasArc g u v l ↔ Contains (row_of g.arcs u) (record { tail = u; head = v; len = l })
   pub light : (u v l : ℕ) → (HasArc g u v l × (l ≤ delta)) ↔ Contains (light_of g.arcs delta u) (record { tail = u; head = v; len = l })
@@ -27,7 +27,7 @@ pub record RowsAreArcs (g : Graph) (delta : ℕ) : Type 0 where
 abbrev pub RowsHoldArcs : Type 0
 RowsHoldArcs = (g : Graph) (delta : ℕ) → RowsAreArcs g delta
 
--- where each vertex below the bound had its light row relaxed, its light arcs were
+-- If the light row of each vertex below the bound was relaxed, then its light arcs were relaxed.
 abbrev pub LightRowsRelaxed : Type 0
 LightRowsRelaxed = (g : Graph) (max delta bound : ℕ) (words : Table) → IsGraph g
     → ((u d p : ℕ) → IsVertex g.n u → words u ≡ Pair d p → d < bound → All (IsArcRelaxed max words d) (light_of g.arcs delta u))

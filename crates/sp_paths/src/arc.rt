@@ -1,6 +1,7 @@
 //! Arcs.
 
-/// An arc of a directed graph: it leads from its tail to its head, which are numbered from 1, and has a length.
+/// An arc of a directed graph: it leads from its tail to its head, which are vertices numbered from 1, and has a
+/// length.
 #[derive(Clone, Copy, Debug, PartialEq, Eq)]
 pub struct Arc {
     pub tail: u32,

@@ -1,4 +1,4 @@
-//! The theorems of this crate about its definitions, each the contract of a function that does nothing.
+//! The theorems about this crate's definitions. Each is the contract of a function that does nothing.
 
 ghost use Rattle.sp_paths.specs.Theorems.{
   FinishedEndsInTree,
@@ -18,7 +18,7 @@ ghost use Rattle.sp_paths.specs.Rows.{RowsHoldArcs, LightRowsRelaxed, HeavyRowsR
 ghost use Rattle.sp_paths.specs.Calls.{ClosedEndsInTree, OneCallMore, OpeningOpens};
 ghost use Rattle.sp_paths.specs.Phase.{SweptEndsInTree, SweptIsTree, SweptIsFar, TestedIsSettled, SettledIsLeast, ShorterIsLater, TestedIsPair, SweptIsPair};
 
-/// What a run's table says once every arc is relaxed.
+/// States what the table of a run means once every arc is relaxed.
 pub fn finished_table()
     ensures ends_in_tree { FinishedEndsInTree }
     ensures is_tree { FinishedIsTree }
@@ -26,13 +26,13 @@ pub fn finished_table()
     ensures is_pair { FinishedIsPair }
 {}
 
-/// What a passed test of a bucket says.
+/// States what follows once a bucket has passed its test.
 pub fn passed_bucket()
     ensures settled { PassedIsSettled }
     ensures pair { PassedIsPair }
 {}
 
-/// What the leader's copy of the words shows after a sweep.
+/// States what the leader's copy of the words means after a sweep.
 pub fn swept_copy()
     ensures ends_in_tree { SweptEndsInTree }
     ensures is_tree { SweptIsTree }
@@ -40,7 +40,7 @@ pub fn swept_copy()
     ensures is_pair { SweptIsPair }
 {}
 
-/// What the leader's copy of the words shows after the test of a bucket.
+/// States what the leader's copy of the words means after a bucket has passed its test.
 pub fn tested_copy()
     ensures settled { TestedIsSettled }
     ensures pair { TestedIsPair }
@@ -48,33 +48,34 @@ pub fn tested_copy()
     ensures later { ShorterIsLater }
 {}
 
-/// The rows of a graph hold its arcs, and what was done for each arc of the rows was done for each arc.
+/// States that the rows of a graph hold its arcs: what was done for each arc of the rows was done for each arc of the
+/// graph.
 pub fn rows_of_arcs()
     ensures rows { RowsHoldArcs }
     ensures light { LightRowsRelaxed }
     ensures heavy { HeavyRowsRelaxed }
 {}
 
-/// The arcs of a graph are a bag.
+/// States that the arcs of a graph are a bag.
 pub fn bag_of_arcs()
     ensures { SameArcsSameAnswers }
 {}
 
-/// A closed list of relaxations, whatever their order and whoever made them.
+/// States that a closed list of relaxations ends in the tree, with any callers and in any order.
 pub fn closed_calls()
     ensures ends_in_tree { ClosedEndsInTree }
     ensures one_more { OneCallMore }
     ensures opening { OpeningOpens }
 {}
 
-/// The definitions have answers, and no two of them.
+/// States that the definitions determine their answers uniquely.
 pub fn meanings()
     ensures least { LeastExists }
     ensures one { AnswersAreOne }
     ensures far { FarIsMeant }
 {}
 
-/// Every source has an answer, and every target.
+/// States that every source and every target has an answer.
 pub fn answers_exist()
     ensures tree { TreesExist }
     ensures pair { PairsExist }

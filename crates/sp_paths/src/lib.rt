@@ -1,5 +1,5 @@
-//! Directed graphs with positive arc lengths: walks, least lengths, shortest-path trees, vertices that are too far,
-//! and the theorems about tables of words that every engine and every checker of trees stands on.
+//! Directed graphs with positive arc lengths: walks, least lengths, shortest-path trees, vertices that are too far, and
+//! the theorems about tables of words on which every engine and every checker of trees relies.
 #![tactic(auto)]
 
 mod arc;

@@ -1,11 +1,11 @@
--- What a table of least offers replies.
+-- The reply of the table of least offers.
 use Rattle.std.specs.Prelude.{if◌then◌else◌, nat_lt, ◌==◌, ◌&&◌}
 use Rattle.sp_word.specs.Word.{Word, Unreached, Pair}
 use Rattle.sp_word.specs.declared.reply.Reply.{Reply}
 use Rattle.sp_word.specs.declared.reply.Reply.TheVariants.{Shorter, SmallerPred, Kept}
 
--- to an offer where a word was found: the distance becomes smaller, from unreached too; or the distances are
--- equal and the predecessor becomes smaller; or the word is kept
+-- The reply to an offer is Shorter where the distance becomes smaller, also from unreached; SmallerPred where the
+-- distances are equal and the predecessor becomes smaller; and Kept where the word found stays.
 abbrev pub reply_to : (found offered : Word) → Reply
 reply_to found Unreached = Kept
 reply_to Unreached (Pair d p) = Shorter

@@ -1,4 +1,4 @@
--- A word: unreached, or a distance and a predecessor.
+-- A word is unreached, or a pair of a distance and a predecessor.
 use Rattle.std.specs.Prelude.{◌≡◌, ℕ, ◌+◌, ◌-◌, ◌*◌, ◌/◌, ◌%◌, ◌^◌, ◌<◌, ◌≤◌, ◌⊎◌, ◌==◌, ◌||◌, ◌&&◌, Bool, true, false, if◌then◌else◌, nat_lt, Option, Some, None}
 
 pub data Word : Type 0 where
@@ -13,13 +13,13 @@ IsBelow Unreached b = ⊥
 IsBelow (Pair d p) Unreached = Unit {0}
 IsBelow (Pair d p) (Pair e q) = (d < e) ⊎ ((d ≡ e) × (p < q))
 
--- the same as a test
+-- This is the same order as a Boolean test.
 abbrev pub is_below : Word → Word → Bool
 is_below Unreached b = false
 is_below (Pair d p) Unreached = true
 is_below (Pair d p) (Pair e q) = nat_lt d e || ((d == e) && nat_lt p q)
 
--- the distance is less; unreached is further than every pair
+-- The first word has the smaller distance; unreached counts as farther than every pair.
 abbrev pub is_nearer : Word → Word → Bool
 is_nearer Unreached b = false
 is_nearer (Pair d p) Unreached = true
@@ -31,7 +31,7 @@ is_same Unreached (Pair d p) = false
 is_same (Pair d p) Unreached = false
 is_same (Pair d p) (Pair e q) = (d == e) && (p == q)
 
--- the lesser of two words
+-- This is the lesser of two words.
 abbrev pub lesser : Word → Word → Word
 lesser a b = if is_below b a then b else a
 
@@ -58,12 +58,12 @@ max_dist P = 2 ^ (64 - P) - 2
 abbrev pub max_pred : ℕ → ℕ
 max_pred P = 2 ^ P - 2
 
--- what a word of the layout may be
+-- The word can be packed with this layout.
 abbrev pub Fits : ℕ → Word → Type 0
 Fits P Unreached = Unit {0}
 Fits P (Pair d p) = (d ≤ max_dist P) × (p ≤ max_pred P)
 
--- the distance above the predecessor; all ones for unreached
+-- The distance stands above the predecessor; unreached is all ones.
 abbrev pub bits_of : ℕ → Word → ℕ
 bits_of P Unreached = 18446744073709551615
 bits_of P (Pair d p) = d * 2 ^ P + p
@@ -71,6 +71,6 @@ bits_of P (Pair d p) = d * 2 ^ P + p
 abbrev pub word_of : ℕ → ℕ → Word
 word_of P bits = if bits == 18446744073709551615 then Unreached else Pair (bits / 2 ^ P) (bits % 2 ^ P)
 
--- all ones, or neither half is all ones
+-- The bits are those of a word: they are all ones, or neither half is all ones.
 abbrev pub is_word : ℕ → ℕ → Bool
 is_word P bits = (bits == 18446744073709551615) || (nat_lt (bits / 2 ^ P) (2 ^ (64 - P) - 1) && nat_lt (bits % 2 ^ P) (2 ^ P - 1))

@@ -7,7 +7,7 @@ use std::marker::Model;
 
 /// The width of a bucket, from 1 to the greatest distance of a word with `P` bits of predecessor.
 ///
-/// Contracts see the number.
+/// In contracts a `Delta` is its number.
 #[derive(Clone, Copy, Debug, PartialEq, Eq)]
 pub struct Delta<const P: u32> {
     width: u64,
@@ -29,7 +29,7 @@ impl<const P: u32> Model for Delta<P> {
 impl<const P: u32> Delta<P> {
     ghost use Rattle.sp_word.specs.Ranges.{IsWidth};
 
-    /// This width, where it is in range.
+    /// Returns this width, or `None` if it is out of range.
     pub fn new(width: u64) -> Option<Delta<P>>
         requires { is_layout P ≡ true }
         ensures width { IfSome result (λ delta. delta ≡ width) }
@@ -41,7 +41,7 @@ impl<const P: u32> Delta<P> {
         Some(Delta { width })
     }
 
-    /// The number.
+    /// Returns the width as a number.
     pub fn get(self) -> u64
         ensures width { result ≡ self.entry }
         ensures range { IsWidth P result }

@@ -1,8 +1,8 @@
-//! The packed word of a vertex, and what a table of least offers replies to an offer; the width of a bucket and the number
-//! of workers, in their ranges, which a run takes; and how much of its work a run has done.
+//! The packed word of a vertex; the reply of a table of least offers to an offer; the width of a bucket and the number
+//! of workers, each with its range; and a meter of the work that a run has done.
 //!
-//! A word is unreached, or a pair of a distance and a predecessor. Contracts see it so; the code keeps
-//! 64 bits, with the distance above `P` bits of predecessor, so that the order of words is the order of numbers.
+//! A word is unreached, or a pair of a distance and a predecessor. Contracts see it like this; the code keeps 64 bits,
+//! with the distance above `P` bits of predecessor, so that the order of words is the order of their bits as numbers.
 #![tactic(auto)]
 
 mod delta;

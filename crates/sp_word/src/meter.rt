@@ -1,28 +1,28 @@
-//! How much of its work a run has done.
+//! A meter of the work that a run has done.
 use std::sync::atomic::{AtomicU64, Ordering};
 
-/// How many vertices the workers of a run have relaxed, told by them now and then.
+/// Counts the vertices that the workers of a run have relaxed. Workers report to it from time to time.
 ///
-/// This is advice for whoever watches a run: a vertex that is relaxed anew counts anew, and no answer rests on it.
+/// The count is only for display: a vertex that is relaxed again counts again, and no result depends on it.
 #[derive(Drop)]
 pub struct Meter {
     relaxed: AtomicU64,
 }
 
 impl Meter {
-    /// Counts from 0.
+    /// Returns a meter that counts from 0.
     pub fn new() -> Meter {
         Meter {
             relaxed: AtomicU64::new(0),
         }
     }
 
-    /// Counts some vertices more.
+    /// Adds `vertices` to the count.
     pub fn add(&self, vertices: u64) {
         self.relaxed.fetch_add(vertices, Ordering::SeqCst);
     }
 
-    /// How many there were.
+    /// Returns the count.
     pub fn count(&self) -> u64 {
         self.relaxed.load(Ordering::SeqCst)
     }

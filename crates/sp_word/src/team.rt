@@ -1,9 +1,10 @@
-//! What a run takes.
+//! The parameters of a run.
 use crate::delta::Delta;
 use crate::meter::Meter;
 use crate::workers::Workers;
 
-/// What a run takes: the width of a bucket, the number of workers, and where they count what they have relaxed.
+/// The parameters of a run: the width of a bucket, the number of workers, and the meter on which the workers count the
+/// vertices that they have relaxed.
 #[derive(Clone, Copy)]
 pub struct Team<'m, const P: u32> {
     pub delta: Delta<P>,

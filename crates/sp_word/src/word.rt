@@ -5,8 +5,8 @@ ghost use Rattle.sp_word.specs.Word.{Unreached, Pair, Fits, IsBelow, is_below, i
 
 use std::marker::Model;
 
-/// A word: unreached, or a distance above a predecessor of `P` bits. `P` is 20, 24, 28 or 32; a program
-/// that makes a word of another layout is refused when it is checked.
+/// A word: unreached, or a distance above a predecessor of `P` bits. `P` is 20, 24, 28 or 32; a program that makes a
+/// word of another layout is refused when it is checked.
 ///
 /// Words are ordered by distance, then by predecessor, with unreached last.
 #[derive(Clone, Copy, Debug, PartialEq, Eq, PartialOrd, Ord)]
@@ -28,7 +28,7 @@ impl<const P: u32> Model for Word<P> {
 }
 
 impl<const P: u32> Word<P> {
-    /// The greatest distance.
+    /// Returns the greatest distance.
     pub fn max_dist() -> u64
         requires { is_layout P ≡ true }
         ensures { result ≡ max_dist P }
@@ -36,7 +36,7 @@ impl<const P: u32> Word<P> {
         (1 << (64 - P)) - 2
     }
 
-    /// The greatest predecessor, which is the greatest vertex too.
+    /// Returns the greatest predecessor, which is also the greatest vertex.
     pub fn max_pred() -> u32
         requires { is_layout P ≡ true }
         ensures { result ≡ max_pred P }
@@ -44,7 +44,7 @@ impl<const P: u32> Word<P> {
         ((1u64 << P) - 2) as u32
     }
 
-    /// The word of a vertex that no walk has reached.
+    /// Returns the word of a vertex that no walk has reached.
     pub fn unreached() -> Word<P>
         requires { is_layout P ≡ true }
         ensures { result ≡ Unreached }
@@ -52,7 +52,7 @@ impl<const P: u32> Word<P> {
         Word { bits: u64::MAX }
     }
 
-    /// The word of a distance and a predecessor.
+    /// Packs a distance and a predecessor into a word.
     pub fn pack(dist: u64, pred: u32) -> Word<P>
         requires layout { is_layout P ≡ true }
         requires dist { dist ≤ max_dist P }
@@ -64,14 +64,14 @@ impl<const P: u32> Word<P> {
         }
     }
 
-    /// The 64 bits of the word: the distance above the predecessor, or all ones for unreached.
+    /// Returns the 64 bits of the word: the distance above the predecessor, or all ones for unreached.
     pub fn bits(self) -> u64
         ensures { result ≡ bits_of P self.entry }
     {
         self.bits
     }
 
-    /// The word that has these bits, if they are those of one.
+    /// Returns the word with these bits, or `None` if no word has them.
     pub fn of_bits(bits: u64) -> Option<Word<P>>
         requires { is_layout P ≡ true }
         ensures word { IfSome result (λ w. bits_of P w ≡ bits) }
@@ -86,7 +86,7 @@ impl<const P: u32> Word<P> {
         }
     }
 
-    /// The word whose bits these are. Where that isn't known, `of_bits` tells.
+    /// Returns the word with these bits, which must be those of a word. `of_bits` tests that.
     pub fn from_bits(bits: u64) -> Word<P>
         requires layout { is_layout P ≡ true }
         requires word { is_word P bits ≡ true }
@@ -97,7 +97,7 @@ impl<const P: u32> Word<P> {
         Word { bits }
     }
 
-    /// The distance, of a pair.
+    /// Returns the distance, or `None` for unreached.
     pub fn dist(self) -> Option<u64>
         ensures dist { result ≡ dist_of self.entry }
         ensures range { Fits P self.entry }
@@ -109,7 +109,7 @@ impl<const P: u32> Word<P> {
         }
     }
 
-    /// The predecessor, of a pair.
+    /// Returns the predecessor, or `None` for unreached.
     pub fn pred(self) -> Option<u32>
         ensures pred { result ≡ pred_of self.entry }
         ensures range { Fits P self.entry }
@@ -121,14 +121,14 @@ impl<const P: u32> Word<P> {
         }
     }
 
-    /// Whether no walk has reached the vertex.
+    /// Returns whether no walk has reached the vertex.
     pub fn is_unreached(self) -> bool
         ensures { IsTrue result ↔ (self.entry ≡ Unreached) }
     {
         self.bits == u64::MAX
     }
 
-    /// Whether this word is the other.
+    /// Returns whether the two words are equal.
     pub fn is_same(self, other: Word<P>) -> bool
         ensures same { result ≡ is_same self.entry other.entry }
         ensures word { IsTrue result ↔ (self.entry ≡ other.entry) }
@@ -136,7 +136,7 @@ impl<const P: u32> Word<P> {
         self.bits == other.bits
     }
 
-    /// Whether this word is less than the other: by distance, then by predecessor, with unreached last.
+    /// Returns whether this word is less than the other: by distance, then by predecessor, with unreached last.
     pub fn is_below(self, other: Word<P>) -> bool
         ensures test { result ≡ is_below self.entry other.entry }
         ensures order { IsTrue result ↔ IsBelow self.entry other.entry }
@@ -144,7 +144,7 @@ impl<const P: u32> Word<P> {
         self.bits < other.bits
     }
 
-    // Whether the distance of this word is less than the other's, with unreached at no distance.
+    // Returns whether this word has a smaller distance than the other; unreached counts as farther than every pair.
     pub(crate) fn is_nearer(self, other: Word<P>) -> bool
         ensures { result ≡ is_nearer self.entry other.entry }
     {
@@ -152,12 +152,12 @@ impl<const P: u32> Word<P> {
     }
 }
 
-/// The numeric order of the bits is the order of words.
+/// States that the numeric order of the bits is the order of words.
 pub fn bits_are_ordered<const P: u32>(a: Word<P>, b: Word<P>)
     ensures { IsBelow a.entry b.entry ↔ (bits_of P a.entry < bits_of P b.entry) }
 {}
 
-/// Words with the same bits are the same word.
+/// States that words with the same bits are equal.
 pub fn bits_are_exact<const P: u32>(a: Word<P>, b: Word<P>)
     ensures { bits_of P a.entry ≡ bits_of P b.entry → a.entry ≡ b.entry }
 {}

@@ -3,12 +3,12 @@ ghost use Rattle.std.specs.Prelude.{◌≡◌, ◌≤◌, ◌↔◌, IsSome, IfS
 
 use std::marker::Model;
 
-/// The most workers.
+/// The greatest number of workers.
 pub const MOST_WORKERS: u32 = 64;
 
 /// A number of workers, from 1 to `MOST_WORKERS`.
 ///
-/// Contracts see the number.
+/// In contracts it is that number.
 #[derive(Clone, Copy, Debug, PartialEq, Eq)]
 pub struct Workers {
     number: u32,
@@ -30,7 +30,7 @@ impl Model for Workers {
 impl Workers {
     ghost use Rattle.sp_word.specs.Ranges.{IsCrew};
 
-    /// So many workers, where that is in range.
+    /// Returns this number of workers, or `None` if it is out of range.
     pub fn new(number: u32) -> Option<Workers>
         ensures number { IfSome result (λ workers. workers ≡ number) }
         ensures exactly { IsSome result ↔ IsCrew number }
@@ -41,14 +41,14 @@ impl Workers {
         Some(Workers { number })
     }
 
-    /// One worker.
+    /// Returns one worker.
     pub fn one() -> Workers
         ensures { result ≡ 1 }
     {
         Workers { number: 1 }
     }
 
-    /// The number.
+    /// Returns the number.
     pub fn get(self) -> u32
         ensures number { result ≡ self }
         ensures range { IsCrew result }
@@ -56,7 +56,7 @@ impl Workers {
         self.number
     }
 
-    /// As many of them as there is work for: no more than `most`, and one at least.
+    /// Limits the number of workers to the work: at most `most`, and at least one.
     pub fn at_most(self, most: usize) -> Workers
         ensures number { result ≡ max 1 (min self most) }
         ensures fewer { result ≤ self }
