@@ -1,4 +1,4 @@
--- What contracts see of a graph, and what it keeps.
+-- What contracts see of a graph, and what the graph keeps.
 use Rattle.std.specs.Prelude.{◌^◌, ◌<◌, ◌≤◌, length}
 use Rattle.sp_paths.specs.Paths.{Graph, IsGraph}
 use Rattle.sp_graph.specs.Order.{IsInOrder}
@@ -9,7 +9,7 @@ use Rattle.sp_graph.specs.declared.graph.Graph.TheInside.{Inside}
 abbrev pub graph_of : Inside → Graph
 graph_of g = record { n = g.n; arcs = g.arcs.items }
 
--- its arcs are fewer than 2^32 and in order, it knows where each row lies, and the greatest length
+-- The graph has fewer than 2^32 arcs, in order; it knows where each row lies, and the greatest length.
 pub record IsStored (g : Inside) : Type 0 where
   pub some : 1 ≤ g.n
   pub few : length g.arcs.items < 2 ^ 32

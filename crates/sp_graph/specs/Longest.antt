@@ -2,7 +2,7 @@
 use Rattle.std.specs.Prelude.{◌≡◌, ℕ, ◌≤◌, ◌⊎◌, List, [], All, Any}
 use Rattle.sp_paths.specs.declared.arc.Arc.{Arc}
 
--- no arc is longer than l, and an arc has the length l; 0 where there is no arc
+-- No arc is longer than l, and some arc has the length l; l is 0 if there is no arc.
 pub record IsLongest (arcs : List Arc) (l : ℕ) : Type 0 where
   pub none_longer : All (λ a. a.len ≤ l) arcs
   pub met : ((arcs ≡ []) × (l ≡ 0)) ⊎ Any (λ a. a.len ≡ l) arcs

@@ -5,7 +5,7 @@ use Rattle.sp_paths.specs.declared.arc.Arc.{Arc}
 abbrev pub total_length : List Arc → ℕ
 total_length arcs = sum_by (λ a. a.len) arcs
 
--- the sum of the lengths divided by their number, rounded down; 1 where there is no arc
+-- This is the sum of the lengths divided by their number, rounded down; it is 1 if there is no arc.
 abbrev pub mean_length : List Arc → ℕ
 mean_length [] = 1
 mean_length (a ∷ rest) = total_length (a ∷ rest) / length (a ∷ rest)

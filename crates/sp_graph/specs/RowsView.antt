@@ -1,4 +1,4 @@
--- What contracts see of the rows of a graph, and what they keep.
+-- What contracts see of the rows of a graph, and what the rows keep.
 use Rattle.std.specs.Prelude.{◌≤◌}
 use Rattle.sp_paths.specs.Paths.{IsGraph}
 use Rattle.sp_graph.specs.Order.{in_order}
@@ -6,7 +6,7 @@ use Rattle.sp_graph.specs.Split.{IsSplit}
 use Rattle.sp_graph.specs.RowsValue.{Split}
 use Rattle.sp_graph.specs.declared.rows.Rows.TheInside.{Inside}
 
--- the arcs are kept with light before heavy ones, so the graph's list is theirs in order
+-- The arcs are kept with light ones before heavy ones, so the graph's list is the kept list, sorted.
 abbrev pub split_of : Inside → Split
 split_of r = record { graph = record { n = r.n; arcs = in_order r.arcs.items }; delta = r.delta }
 

@@ -15,16 +15,16 @@ use sp_paths::Arc;
 use std::alloc::{AllocError, Global};
 use std::marker::Model;
 
-/// A graph with its arcs in order, by tail, then by head, then by length, so that the arcs that leave a vertex are
-/// one slice, its row. Parallel arcs and loops are kept, each as often as it was given.
+/// A graph with its arcs sorted by tail, then by head, then by length, so that the arcs that leave a vertex are one
+/// slice, its row. Parallel arcs and loops are kept, each as often as it was given.
 ///
-/// Contracts see the number of vertices and the arcs in their order.
+/// Contracts see the number of vertices and the sorted arcs.
 #[derive(Drop)]
 pub struct Graph {
     n: u32,
-    // in order
+    // The arcs, sorted.
     arcs: Vec<Arc>,
-    // the row of vertex v ends at the place that stands at v, where the next one begins
+    // The row of vertex v ends at the index `ends[v]`, where the next row begins.
     ends: Vec<u32>,
     longest: u32,
 }
@@ -42,7 +42,8 @@ impl Model for Graph {
 }
 
 impl Graph {
-    /// The graph of `n` vertices with these arcs, each as often as it is given, from a copy of them. `from_arcs` needs none.
+    /// Builds the graph of `n` vertices with these arcs, each as often as it is given, from a copy of them. `from_arcs`
+    /// does so without a copy.
     pub fn build(alloc: Global, n: u32, arcs: &[Arc]) -> Result<Graph, AllocError>
         requires some { 1 ≤ n }
         requires arcs { All (IsArc n) arcs.now }
@@ -54,10 +55,12 @@ impl Graph {
         Graph::from_arcs(alloc, n, arcs)
     }
 
-    /// The graph of `n` vertices with these arcs, each as often as it is given. It takes linear time but for rows out of
-    /// order, `l log l` for one of `l` arcs. Arcs that come by rising tail stay where they are; others are copied, twice where
-    /// their tails are far apart, and each list is given back as soon as its copy stands. It is refused where there is no
-    /// memory for a second list and for `n + 1` places, and where there are 2^32 arcs or more.
+    /// Builds the graph of `n` vertices with these arcs, each as often as it is given.
+    ///
+    /// It takes linear time, except that sorting a row of `l` arcs that is out of order takes `l log l`. Arcs that come
+    /// by rising tail stay where they are; others are copied once, or twice if their tails are far apart, and each list
+    /// is freed as soon as its copy is complete. The call fails if there is no memory for a second list and for `n + 1`
+    /// indices, or if there are 2^32 arcs or more.
     #[tactic(auto, using(std::proofs::lemmas::List::Sorted::length_permutation))]
     pub fn from_arcs(alloc: Global, n: u32, arcs: Vec<Arc>) -> Result<Graph, AllocError>
         requires some { 1 ≤ n }
@@ -79,7 +82,7 @@ impl Graph {
         })
     }
 
-    /// How many vertices there are; they are numbered from 1.
+    /// Returns the number of vertices. They are numbered from 1.
     pub fn n(&self) -> u32
         ensures n { result ≡ self.now.n }
         ensures some { 1 ≤ self.now.n }
@@ -88,22 +91,22 @@ impl Graph {
         self.n
     }
 
-    /// How many arcs there are.
+    /// Returns the number of arcs.
     pub fn m(&self) -> usize
         ensures { result ≡ length self.now.arcs }
     {
         self.arcs.len()
     }
 
-    /// The greatest length of an arc, 0 where there is none.
+    /// Returns the greatest length of an arc, or 0 if there is no arc.
     pub fn longest(&self) -> u32
         ensures { IsLongest self.now.arcs result }
     {
         self.longest
     }
 
-    /// The mean length of an arc: the sum of all lengths divided by their number, rounded down; 1 where there is no arc. It
-    /// takes linear time.
+    /// Returns the mean length of an arc: the sum of all lengths divided by their number, rounded down; or 1 if there
+    /// is no arc. It takes linear time.
     pub fn mean_length(&self) -> u64
         ensures mean { result ≡ mean_length self.now.arcs }
         ensures some { 1 ≤ result }
@@ -111,7 +114,7 @@ impl Graph {
         mean_length(&self.arcs)
     }
 
-    /// All arcs, in order.
+    /// Returns all arcs, sorted.
     pub fn arcs(&self) -> &[Arc]
         ensures arcs { result.now ≡ self.now.arcs }
         ensures graph { IsGraph self.now }
@@ -120,7 +123,7 @@ impl Graph {
         self.arcs.as_slice()
     }
 
-    /// The arcs that leave `v`, by rising head, then by rising length. It takes two look-ups.
+    /// Returns the arcs that leave `v`, by rising head, then by rising length. It takes two look-ups.
     pub fn row(&self, v: u32) -> &[Arc]
         requires { IsVertex self.now.n v }
         ensures row { result.now ≡ row_of self.now.arcs v }
@@ -130,7 +133,7 @@ impl Graph {
         &self.arcs[low..high]
     }
 
-    // Where the row of `v` begins and ends among the arcs.
+    // Returns where the row of `v` begins and ends in the list of arcs.
     fn bounds(&self, v: u32) -> (usize, usize)
         requires { IsVertex self.now.n v }
         ensures { IsRowAt self.now v result.0 result.1 }

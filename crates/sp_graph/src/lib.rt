@@ -1,5 +1,5 @@
-//! Graphs by rows: the arcs of each vertex as a slice, and the same with short arcs before long ones. And what arcs leave out
-//! of a table of words.
+//! Graphs by rows: the arcs of each vertex as a slice, and the same rows with light arcs before heavy ones. The crate
+//! also finds the vertices that a table of words leaves out.
 #![tactic(auto)]
 
 mod graph;

@@ -4,7 +4,7 @@ ghost use Rattle.sp_graph.specs.Mean.{total_length, mean_length};
 
 use sp_paths::Arc;
 
-// The sum of the lengths.
+// Returns the sum of the lengths.
 fn total_length(arcs: &[Arc]) -> u64
     requires { length arcs.now < 2 ^ 32 }
     ensures { result ≡ total_length arcs.now }
@@ -16,7 +16,7 @@ fn total_length(arcs: &[Arc]) -> u64
     total
 }
 
-/// The sum of the lengths divided by their number, rounded down; 1 where there is no arc.
+/// Returns the sum of the lengths divided by their number, rounded down; or 1 if there is no arc.
 pub fn mean_length(arcs: &[Arc]) -> u64
     requires { length arcs.now < 2 ^ 32 }
     ensures { result ≡ mean_length arcs.now }

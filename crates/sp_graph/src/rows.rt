@@ -9,25 +9,24 @@ use sp_paths::Arc;
 use std::alloc::{AllocError, Global};
 use std::marker::Model;
 
-// Where the light arcs of a row begin among all arcs, and where its heavy ones do.
+// Where the light arcs of a row begin in the list of all arcs, and where its heavy arcs begin.
 #[derive(Clone, Copy)]
 struct Cut {
     light: usize,
     heavy: usize,
 }
 
-/// The rows of a graph, each with its light arcs, those of a length of at most `delta`, before its heavy ones.
-/// (Meyer and Sanders, "Delta-stepping: a parallelizable shortest path algorithm", Journal of Algorithms 49 (2003),
-/// section 2.)
+/// The rows of a graph, each with its light arcs, of length at most `delta`, before its heavy arcs. (Meyer and Sanders,
+/// "Delta-stepping: a parallelizable shortest path algorithm", Journal of Algorithms 49 (2003), section 2.)
 ///
 /// Contracts see the graph and `delta`.
 #[derive(Drop)]
 pub struct Rows {
     n: u32,
     delta: u64,
-    // the rows by vertex, each with light before heavy arcs, both in the order of the row
+    // The rows by vertex, each with light arcs before heavy ones, both in the order of the row.
     arcs: Vec<Arc>,
-    // that of vertex v at v - 1, and the end of the last row
+    // The cut of vertex v is at v - 1; the last cut is the end of the last row.
     cuts: Vec<Cut>,
 }
 
@@ -44,8 +43,8 @@ impl Model for Rows {
 }
 
 impl Rows {
-    /// The rows of `graph`, parted at `delta`. It takes linear time, and is refused where there is no memory for a copy
-    /// of the arcs and for `n + 1` cuts.
+    /// Splits the rows of `graph` at `delta`. It takes linear time, and fails if there is no memory for a copy of the
+    /// arcs and for `n + 1` cuts.
     pub fn split(alloc: Global, graph: &Graph, delta: u64) -> Result<Rows, AllocError>
         ensures graph { IfOk result (λ rows. rows.graph ≡ graph.now) }
         ensures delta { IfOk result (λ rows. rows.delta ≡ delta) }
@@ -70,7 +69,7 @@ impl Rows {
         })
     }
 
-    /// How many vertices there are.
+    /// Returns the number of vertices.
     pub fn n(&self) -> u32
         ensures n { result ≡ self.now.graph.n }
         ensures some { 1 ≤ self.now.graph.n }
@@ -79,14 +78,14 @@ impl Rows {
         self.n
     }
 
-    /// The greatest length of a light arc.
+    /// Returns the greatest length of a light arc.
     pub fn delta(&self) -> u64
         ensures { result ≡ self.now.delta }
     {
         self.delta
     }
 
-    /// The arcs of length at most `delta` that leave `v`, in the order of its row.
+    /// Returns the arcs of length at most `delta` that leave `v`, in the order of its row.
     pub fn light(&self, v: u32) -> &[Arc]
         requires { IsVertex self.now.graph.n v }
         ensures row { result.now ≡ light_of self.now.graph.arcs self.now.delta v }
@@ -95,7 +94,7 @@ impl Rows {
         self.parts(v).0
     }
 
-    /// The arcs of a length above `delta` that leave `v`, in the order of its row.
+    /// Returns the arcs of length above `delta` that leave `v`, in the order of its row.
     pub fn heavy(&self, v: u32) -> &[Arc]
         requires { IsVertex self.now.graph.n v }
         ensures row { result.now ≡ heavy_of self.now.graph.arcs self.now.delta v }
@@ -104,7 +103,7 @@ impl Rows {
         self.parts(v).1
     }
 
-    // The light arcs of `v`, and its heavy ones.
+    // Returns the light arcs of `v` and its heavy arcs.
     fn parts(&self, v: u32) -> (&[Arc], &[Arc])
         requires { IsVertex self.now.graph.n v }
         ensures light { result.0.now ≡ light_of self.now.graph.arcs self.now.delta v }
@@ -120,7 +119,7 @@ impl Rows {
     }
 }
 
-// The arcs from `low` up to, not including, `high`.
+// Returns the arcs from `low` up to, not including, `high`.
 fn part(arcs: &[Arc], low: usize, high: usize) -> &[Arc]
     requires rising { low ≤ high }
     requires within { high ≤ length arcs.now }
@@ -129,7 +128,7 @@ fn part(arcs: &[Arc], low: usize, high: usize) -> &[Arc]
     &arcs[low..high]
 }
 
-// Appends a row, its light arcs before its heavy ones, and tells where the two begin.
+// Appends a row with its light arcs before its heavy arcs, and returns where the two begin.
 fn push_row(arcs: &mut Vec<Arc>, row: &[Arc], delta: u64) -> Result<Cut, AllocError>
     ensures row { OnOk result (arcs.new.items ≡ arcs.old.items ++ light_then_heavy delta row.now) }
     ensures light { IfOk result (λ cut. cut.light ≡ length arcs.old.items) }

@@ -1,4 +1,4 @@
-//! Words by vertex, and what arcs leave out of a table of words.
+//! Words by vertex, and the vertices that a table of words leaves out.
 ghost use Rattle.std.specs.Prelude.{◌≡◌, ◌↔◌, length, All, IsTrue};
 ghost use Rattle.sp_paths.specs.Paths.{IsArc, IsVertex, word_at};
 ghost use Rattle.sp_graph.specs.LeftOut.{network, LeadsOut, smaller_of, IsLeastLeftOut};
@@ -6,7 +6,7 @@ ghost use Rattle.sp_graph.specs.LeftOut.{network, LeadsOut, smaller_of, IsLeastL
 use sp_paths::Arc;
 use sp_word::Word;
 
-/// The word of a vertex, in a list that has that of vertex `v` at `v - 1`.
+/// Returns the word of a vertex from a list that holds the word of vertex `v` at `v - 1`.
 pub fn look_up<const P: u32>(words: &[Word<P>], vertex: u32) -> Word<P>
     requires { IsVertex (length words.now) vertex }
     ensures { result ≡ word_at words.now vertex }
@@ -14,7 +14,7 @@ pub fn look_up<const P: u32>(words: &[Word<P>], vertex: u32) -> Word<P>
     words[(vertex - 1) as usize]
 }
 
-// The smaller of two vertices, of which the first may be missing.
+// Returns the smaller of two vertices, the first of which may be missing.
 fn smaller(first: Option<u32>, second: u32) -> u32
     ensures { result ≡ smaller_of first second }
 {
@@ -24,15 +24,15 @@ fn smaller(first: Option<u32>, second: u32) -> u32
     }
 }
 
-// Whether an arc between vertices with these words leads from a reached one to an unreached one.
+// Returns whether an arc between vertices with these words leads from a reached vertex to an unreached one.
 fn leads_out<const P: u32>(from: Word<P>, found: Word<P>) -> bool
     ensures { IsTrue result ↔ LeadsOut from.entry found.entry }
 {
     !from.is_unreached() && found.is_unreached()
 }
 
-/// The smallest unreached vertex that has an arc from a reached one: where each arc within the greatest distance is relaxed,
-/// the smallest vertex that is too far.
+/// Returns the smallest unreached vertex that has an arc from a reached one. If each arc within the greatest distance
+/// is relaxed, this is the smallest vertex that is too far.
 pub fn left_out<const P: u32>(words: &[Word<P>], arcs: &[Arc]) -> Option<u32>
     requires { All (IsArc (length words.now)) arcs.now }
     ensures { IsLeastLeftOut (network (length words.now) arcs.now) (word_at words.now) result }

@@ -6,15 +6,15 @@ use Rattle.sp_paths.specs.Paths.{Graph, IsGraph, IsVertex, HasArc, IsTree, IsFar
 use Rattle.sp_graph.specs.LeftOut.{network}
 use Rattle.sp_paths.specs.Theorems.{IsFinished}
 
--- the pair that the arc makes of the word `from`, within max, and less than the word found
+-- The arc makes a pair of the word `from`; the pair is within max, and less than the word found.
 abbrev pub IsLesserOffer : (max : ℕ) → Word → Arc → Word → Word → Type 0
 IsLesserOffer max from arc found word = (d : ℕ) × (dist_of from ≡ Some d) × (d + arc.len ≤ max) × (word ≡ Pair (d + arc.len) arc.tail) × IsBelow word found
 
--- what the arc makes of the word `from` is not less than the word found
+-- What the arc makes of the word `from` is not less than the word found.
 abbrev pub IsNoLesser : (max : ℕ) → Word → Arc → Word → Type 0
 IsNoLesser max from arc found = (d : ℕ) → dist_of from ≡ Some d → d + arc.len ≤ max → IsBelow (Pair (d + arc.len) arc.tail) found → ⊥
 
--- distances within max, and predecessors within n
+-- The distance is at most max, and the predecessor at most n.
 abbrev pub IsSmall : (n max : ℕ) → Word → Type 0
 IsSmall n max Unreached = Unit {0}
 IsSmall n max (Pair d p) = (d ≤ max) × (p ≤ n)
@@ -22,19 +22,19 @@ IsSmall n max (Pair d p) = (d ≤ max) × (p ≤ n)
 abbrev pub IsSmallTable : ℕ → List Word → Type 0
 IsSmallTable max words = All (IsSmall (length words) max) words
 
--- what was the table of a run is one still
+-- If the old words are the table of a run, so are the new ones.
 abbrev pub KeepsTables : Graph → List Word → List Word → Type 0
 KeepsTables g before after = (s : ℕ) → IsVertex g.n s → IsTableFrom g s (word_at before) → IsTableFrom g s (word_at after)
 
--- the same for the graph of n vertices with these arcs
+-- This says the same for the graph of n vertices with these arcs.
 abbrev pub KeepsTablesOf : ℕ → List Arc → List Word → List Word → Type 0
 KeepsTablesOf n arcs before after = KeepsTables (network n arcs) before after
 
--- every one of these arcs between n vertices is relaxed
+-- Each of these arcs between n vertices is relaxed.
 abbrev pub IsClosedTable : (n max : ℕ) → List Arc → List Word → Type 0
 IsClosedTable n max arcs words = IsClosed (network n arcs) max (word_at words)
 
--- the place of a word in the order of words
+-- This is the rank of a word in the order of words.
 abbrev pub rank : (n max : ℕ) → Word → ℕ
 rank n max Unreached = (max + 1) * (n + 1)
 rank n max (Pair d p) = d * (n + 1) + p
@@ -42,27 +42,27 @@ rank n max (Pair d p) = d * (n + 1) + p
 abbrev pub total_rank : ℕ → List Word → ℕ
 total_rank max words = sum_by (rank (length words) max) words
 
--- (0, 0) at the source, and unreached elsewhere
+-- The source has (0, 0), and the other vertices are unreached.
 abbrev pub first_words : (n s : ℕ) → List Word
 first_words n s = slice_set (replicate n Unreached) (s - 1) (Pair 0 0)
 
--- a table of n words within max: walks from s alone, and the source's own pair
+-- The table has n words within max; they come from walks from s, and the source has its own pair.
 pub record IsTableOfWalks (g : Graph) (s max : ℕ) (words : List Word) : Type 0 where
   pub size : length words ≡ g.n
   pub small : IsSmallTable max words
   pub table : IsTableFrom g s (word_at words)
 
--- such a table stays one, in each graph that has the arc
+-- Such a table stays one, for each graph that has the arc.
 abbrev pub KeepsWalks : (max : ℕ) → Arc → List Word → List Word → Type 0
 KeepsWalks max arc before after = (g : Graph) (s : ℕ) → IsGraph g → IsVertex g.n s → HasArc g arc.tail arc.head arc.len → IsTableOfWalks g s max before → IsTableOfWalks g s max after
 
--- a table of n words in which every arc is relaxed
+-- The table has n words, and every arc is relaxed.
 pub record IsFinishedTable (g : Graph) (s max : ℕ) (words : List Word) : Type 0 where
   pub size : length words ≡ g.n
   pub small : IsSmallTable max words
   pub finished : IsFinished g s max (word_at words)
 
--- what a finished table says: the tree, or the vertex that is too far
+-- A finished table gives the tree, or the vertex that is too far.
 abbrev pub IsOutcome : Graph → (s max : ℕ) → List Word → Option ℕ → Type 0
 IsOutcome g s max words None = IsTree g s (word_at words) × IsFar g s max None
 IsOutcome g s max words (Some v) = IsFar g s max (Some v)

@@ -1,4 +1,4 @@
-//! One arc relaxed, in a table of words that some other program lowers.
+//! Relaxation of one arc, in a table of words that another program lowers.
 ghost use Rattle.std.specs.Prelude.{◌≡◌, ◌≤◌, true, vec_len, IfOk};
 ghost use Rattle.sp_word.specs.Word.{is_layout, max_dist, max_pred};
 ghost use Rattle.sp_paths.specs.Paths.{IsArc, IsVertex};
@@ -10,7 +10,7 @@ use sp_paths::Arc;
 use sp_word::Word;
 use std::alloc::{AllocError, Global};
 
-/// The words of a run before any arc is relaxed: (0, 0) at the source, the others unreached.
+/// Returns the words of a run before any arc is relaxed: (0, 0) at the source, and unreached elsewhere.
 pub fn open_table<const P: u32>(
     alloc: Global,
     graph: &Graph,
@@ -24,13 +24,13 @@ pub fn open_table<const P: u32>(
     first_table(alloc, graph.n(), source)
 }
 
-// The distance of a word, where it isn't that of the word found.
+// Returns the distance of `word` if it differs from that of the word found.
 fn distance_below<const P: u32>(found: Word<P>, word: Word<P>) -> Option<u64> {
     word.dist().filter(|dist| found.dist() != Some(*dist))
 }
 
-/// Relaxes an arc: where what it makes of its tail's word is within the greatest distance and less than its head's word, it
-/// becomes that. The head's new distance, where it became shorter.
+/// Relaxes an arc: if the pair that it makes of its tail's word is within the greatest distance and less than its
+/// head's word, that pair replaces the head's word. Returns the head's new distance if it became shorter.
 pub fn relax<const P: u32>(words: &mut Vec<Word<P>>, arc: Arc) -> Option<u64>
     requires layout { is_layout P ≡ true }
     requires room { vec_len words.old ≤ max_pred P }

@@ -10,7 +10,7 @@ use sp_paths::Arc;
 use sp_word::Word;
 use std::alloc::{AllocError, Global};
 
-// The word that an arc from a vertex with the word `from` puts in place of the head's, if there is one.
+// Returns the word with which an arc from a vertex with the word `from` replaces the head's word, if it does.
 pub fn offer<const P: u32>(from: Word<P>, arc: Arc, found: Word<P>) -> Option<Word<P>>
     requires layout { is_layout P ≡ true }
     requires tail { arc.tail ≤ max_pred P }
@@ -31,7 +31,7 @@ pub fn offer<const P: u32>(from: Word<P>, arc: Arc, found: Word<P>) -> Option<Wo
     }
 }
 
-// Relaxes every arc once; says whether a word changed.
+// Relaxes every arc once, and returns whether a word changed.
 fn pass<const P: u32>(words: &mut Vec<Word<P>>, arcs: &[Arc]) -> bool
     requires layout { is_layout P ≡ true }
     requires room { vec_len words.old ≤ max_pred P }
@@ -74,7 +74,7 @@ pub fn relax_all<const P: u32>(words: &mut Vec<Word<P>>, arcs: &[Arc])
     }
 }
 
-// The table before any arc is relaxed.
+// Returns the table before any arc is relaxed.
 pub fn first_table<const P: u32>(
     alloc: Global,
     n: u32,
@@ -89,7 +89,7 @@ pub fn first_table<const P: u32>(
     Ok(words)
 }
 
-// The table once every arc is relaxed.
+// Returns the table once every arc is relaxed.
 pub fn finished_table<const P: u32>(
     alloc: Global,
     graph: &Graph,

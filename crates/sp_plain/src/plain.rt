@@ -11,18 +11,18 @@ use sp_graph::Graph;
 use sp_word::Word;
 use std::alloc::{AllocError, Global};
 
-/// What is to be told of one source.
+/// The answer for one source.
 #[derive(Debug, Drop, PartialEq, Eq)]
 pub enum Answer<const P: u32> {
     /// The words of the tree, that of vertex `v` at `v - 1`.
     Tree(Vec<Word<P>>),
-    /// The smallest vertex whose least length is above the greatest distance of a word, while that of some vertex before it
-    /// is not.
+    /// The smallest vertex whose least length is above the greatest distance of a word, while some vertex with an arc
+    /// to it has a least length that is not.
     TooFar(u32),
 }
 
-/// The shortest-path tree from `source`, or the smallest vertex that is too far. It is refused where there is no memory for
-/// a word for each vertex.
+/// Computes the shortest-path tree from `source`, or finds the smallest vertex that is too far. It fails if there is no
+/// memory for one word for each vertex.
 pub fn plain_tree<const P: u32>(
     alloc: Global,
     graph: &Graph,
@@ -38,7 +38,8 @@ pub fn plain_tree<const P: u32>(
     Ok(answer_of(graph, words))
 }
 
-/// What is to be told of the source once every arc is relaxed, in a table that whatever program has lowered before.
+/// Relaxes the arcs until no word changes, in a table that any other program may have lowered before, and returns the
+/// answer for the source.
 pub fn finish_table<const P: u32>(graph: &Graph, source: u32, mut words: Vec<Word<P>>) -> Answer<P>
     requires layout { is_layout P ≡ true }
     requires source { IsVertex graph.now.n source }
@@ -51,7 +52,7 @@ pub fn finish_table<const P: u32>(graph: &Graph, source: u32, mut words: Vec<Wor
     answer_of(graph, words)
 }
 
-/// Relaxes the arcs until no word changes, in a table that whatever program has lowered before.
+/// Relaxes the arcs until no word changes, in a table that any other program may have lowered before.
 pub fn close_table<const P: u32>(graph: &Graph, source: u32, words: &mut Vec<Word<P>>)
     requires layout { is_layout P ≡ true }
     requires source { IsVertex graph.now.n source }

@@ -6,25 +6,25 @@ use sp_graph::Graph;
 use sp_paths::Arc;
 use std::alloc::{AllocError, Global};
 
-// The most vertices of a random graph.
+// The greatest number of vertices of a random graph.
 const MOST_VERTICES: u32 = 2000;
 
-// The most arcs of a dense one.
+// The greatest number of arcs of a dense graph.
 const MOST_ARCS: u32 = 40_000;
 
-/// A row of numbers that are random enough (D. Knuth's multiplier, the upper bits).
+/// A sequence of pseudo-random numbers: the upper bits of a linear congruential generator with D. Knuth's multiplier.
 #[derive(Drop)]
 pub struct Random {
     state: u64,
 }
 
 impl Random {
-    /// The same seed gives the same row.
+    /// Returns the sequence of `seed`. The same seed gives the same sequence.
     pub fn new(seed: u64) -> Random {
         Random { state: seed }
     }
 
-    /// From 0 up to, not including, `bound`.
+    /// Returns the next number, from 0 up to, not including, `bound`.
     pub fn below(&mut self, bound: u32) -> u32
         requires { 0 < bound }
         ensures { result < bound }
@@ -36,7 +36,7 @@ impl Random {
         ((self.state >> 32) as u32) % bound
     }
 
-    /// From 1 up to `n`.
+    /// Returns the next number, from 1 to `n`.
     pub fn up_to(&mut self, n: u32) -> u32
         requires { 1 ≤ n }
         ensures { IsVertex n result }
@@ -45,33 +45,33 @@ impl Random {
     }
 }
 
-/// Kinds of random graphs.
+/// The kinds of random graphs.
 #[derive(Clone, Copy, Debug, PartialEq, Eq)]
 pub enum GraphKind {
-    /// Two arcs a vertex.
+    /// Each vertex has two arcs on average.
     Sparse,
-    /// Each vertex has arcs to half of the others, or there are 40,000 arcs.
+    /// Each vertex has arcs to half of the others, up to 40,000 arcs in all.
     Dense,
-    /// Short arcs, so that many walks have the same length.
+    /// Arcs are short, so that many walks have the same length.
     Ties,
-    /// Loops and parallel arcs.
+    /// There are loops and parallel arcs.
     Parallel,
-    /// Parts that no arc joins.
+    /// The graph has parts that no arc joins.
     Parts,
-    /// Long arcs between near vertices, so that far vertices may be too far.
+    /// Long arcs join near vertices, so that distant vertices may be too far.
     Long,
 }
 
-// How a graph is made.
+// The parameters by which a graph is made.
 #[derive(Clone, Copy)]
 struct Shape {
     n: u32,
     arcs: u32,
-    // the greatest length of an arc
+    // The greatest length of an arc.
     longest: u32,
-    // a head is one of so many vertices, from the tail on, and round from the last to the first ..
+    // A head is one of this many vertices from the tail on, wrapping round from the last vertex to the first ..
     reach: u32,
-    // .. unless it lies in another part than the tail; so many vertices are a part
+    // .. unless it lies in another part than the tail; each part has this many vertices.
     part: u32,
     ghost vertices: { (1 ≤ n) × (n ≤ 2000) },
     ghost lengths: { 1 ≤ longest },
@@ -80,7 +80,7 @@ struct Shape {
     ghost parts: { 1 ≤ part },
 }
 
-// A graph of so many vertices, of a kind.
+// Returns the parameters of a graph of `n` vertices of this kind.
 fn shape_of(kind: GraphKind, n: u32) -> Shape
     requires { (1 ≤ n) × (n ≤ 2000) }
     ensures { result.n ≡ n }
@@ -102,7 +102,7 @@ fn shape_of(kind: GraphKind, n: u32) -> Shape
     }
 }
 
-// An arc of such a graph.
+// Returns a random arc of such a graph.
 fn random_arc(random: &mut Random, shape: Shape) -> Arc
     ensures { IsArc shape.n result }
 {
@@ -116,7 +116,7 @@ fn random_arc(random: &mut Random, shape: Shape) -> Arc
     }
 }
 
-// All its arcs.
+// Returns all arcs of such a graph.
 fn random_arcs(alloc: Global, random: &mut Random, shape: Shape) -> Result<Vec<Arc>, AllocError>
     ensures { IfOk result (λ arcs. All (IsArc shape.n) arcs.items) }
 {
@@ -127,7 +127,7 @@ fn random_arcs(alloc: Global, random: &mut Random, shape: Shape) -> Result<Vec<A
     Ok(arcs)
 }
 
-/// A random graph of this kind with so many vertices.
+/// Returns a random graph of this kind with the given number of vertices.
 pub fn random_graph(
     alloc: Global,
     random: &mut Random,
