@@ -1,13 +1,14 @@
 -- When a device fails.
 use Rattle.std.specs.Prelude.{◌≡◌, ◌<◌, ℕ, ⊤, Result, Ok, Err}
 
--- Never; exactly where so many bytes have passed in all; or at any time.
+-- A device never fails; or it fails exactly where a given number of bytes has passed in all; or it may fail at any
+-- time.
 pub data Failing : Type 0 where
   Never : Failing
   Behind : ℕ → Failing
   Anytime : Failing
 
--- The answer to a call for some bytes, where so many have passed.
+-- This is the answer to a call for some bytes after a given number of bytes has passed.
 abbrev pub FailsBy : {T E : Type 0} → Failing → ℕ → Result T E → Type 0
 FailsBy Never passed (Ok answer) = ⊤
 FailsBy Never passed (Err e) = ⊥

@@ -1,13 +1,13 @@
-//! Bytes that wait to be written.
+//! A buffer of bytes that wait to be written.
 ghost use Rattle.std.specs.Prelude.{◌≡◌, ◌+◌, ◌-◌, ◌≤◌, [], ◌++◌, length, take, decimal};
 
 use itoa::Buffer;
 use std::marker::Model;
 
-// As many bytes as a block holds.
+// The capacity of a block in bytes.
 const ROOM: usize = 8192;
 
-/// Bytes that wait to be written, at most 8,192.
+/// A buffer of bytes that wait to be written, at most 8,192 of them.
 #[derive(Drop)]
 pub struct Block {
     bytes: [u8; ROOM],
@@ -25,7 +25,7 @@ impl Model for Block {
 }
 
 impl Block {
-    /// A block in which nothing waits.
+    /// Returns an empty block.
     pub fn new() -> Self
         ensures { result ≡ [] }
     {
@@ -35,14 +35,14 @@ impl Block {
         }
     }
 
-    /// How many more bytes may wait.
+    /// Returns how many more bytes fit.
     pub fn room_left(&self) -> usize
         ensures { result + length self.now ≡ 8192 }
     {
         ROOM - self.len
     }
 
-    /// Puts bytes behind the others.
+    /// Appends bytes, which must fit.
     pub fn push(&mut self, bytes: &[u8])
         requires { length self.old + length bytes.now ≤ 8192 }
         ensures { self.new ≡ self.old ++ bytes.now }
@@ -52,7 +52,7 @@ impl Block {
         self.len = end;
     }
 
-    /// Pushes a number in decimal, of at most 20 digits.
+    /// Appends a number in decimal, of at most 20 digits.
     pub fn push_number(&mut self, n: u64)
         requires { length self.old + 20 ≤ 8192 }
         ensures text { self.new ≡ self.old ++ decimal n }
@@ -62,14 +62,14 @@ impl Block {
         self.push(buffer.format(n).as_bytes());
     }
 
-    /// Takes all bytes away.
+    /// Removes all bytes.
     pub fn clear(&mut self)
         ensures { self.new ≡ [] }
     {
         self.len = 0;
     }
 
-    /// What waits.
+    /// Returns the bytes that wait.
     pub fn bytes(&self) -> &[u8]
         ensures { result.now ≡ self.now }
     {

@@ -6,25 +6,25 @@ ghost use Rattle.sp_device.specs.Failing.{Failing, Anytime, FailsBy};
 
 use crate::faults::WriteFault;
 
-/// The device failed.
+/// The error of a device that has failed.
 #[derive(Clone, Copy, Debug, PartialEq, Eq)]
 pub struct Failed;
 
-/// Where bytes come from. A device that has failed fails at every later call.
+/// A source of bytes. A device that has failed fails at every later call.
 pub trait Read {
-    /// The bytes that are left, where they are known.
+    /// The bytes that are left, if they are known.
     ghost left: { Self → Option (List ℕ) };
 
-    /// How many bytes it has passed.
+    /// The number of bytes that it has passed.
     ghost passed: { Self → ℕ };
 
     /// Whether it has failed.
     ghost has_failed: { Self → Bool };
 
-    /// When it fails, as long as it lives.
+    /// When it may fail, throughout its life.
     ghost failing: { Self → Failing } = { λ _. Anytime };
 
-    /// Puts some bytes into the front of the buffer, none only at the end.
+    /// Puts some bytes at the front of the buffer and returns their number, which is 0 only at the end.
     fn read(&mut self, buf: &mut [u8]) -> Result<usize, Failed>
         requires { 0 < length buf.old }
         ensures within { IfOk result (λ n. n ≤ length buf.new) }
@@ -42,21 +42,21 @@ pub trait Read {
         ensures lasting { failing self.new ≡ failing self.old };
 }
 
-/// Where bytes go. A device that has failed fails at every later call.
+/// A sink of bytes. A device that has failed fails at every later call.
 pub trait Write {
-    /// The bytes that it has taken, where they are known.
+    /// The bytes that it has taken, if they are known.
     ghost written: { Self → Option (List ℕ) };
 
-    /// How many bytes it has passed on.
+    /// The number of bytes that it has passed on.
     ghost passed: { Self → ℕ };
 
     /// Whether it has failed.
     ghost has_failed: { Self → Bool };
 
-    /// When it fails, as long as it lives.
+    /// When it may fail, throughout its life.
     ghost failing: { Self → Failing } = { λ _. Anytime };
 
-    /// Takes a beginning of the bytes, at least one where there is one.
+    /// Takes a prefix of the bytes and returns its length, which is at least one unless there are none.
     fn write(&mut self, bytes: &[u8]) -> Result<usize, Failed>
         ensures within { IfOk result (λ n. n ≤ length bytes.now) }
         ensures some { IfOk result (λ n. 0 < length bytes.now → 0 < n) }
@@ -74,7 +74,7 @@ pub trait Write {
         ensures lasting { failing self.new ≡ failing self.old };
 }
 
-/// Writes all the bytes, or a beginning of them where the device fails.
+/// Writes all the bytes, or a prefix of them if the device fails.
 pub fn write_all<W: Write>(out: &mut W, bytes: &[u8]) -> Result<(), WriteFault>
     ensures written { OnOk result (Appends (W.written out.old) (W.written out.new) bytes.now) }
     ensures passed { OnOk result (W.passed out.new ≡ W.passed out.old + length bytes.now) }

@@ -1,7 +1,7 @@
-//! What can be wrong with a writer.
+//! The fault of a writer.
 use thiserror::Error;
 
-/// The writer failed. It displays as the number and the name of this refusal.
+/// The writer failed. The fault displays as the number and the name of this refusal.
 #[derive(Clone, Copy, Debug, PartialEq, Eq, Error)]
 #[error("10 Write")]
 pub struct WriteFault;

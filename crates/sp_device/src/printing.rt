@@ -1,4 +1,4 @@
-//! A text that is written in blocks.
+//! Text that is written in blocks.
 ghost use Rattle.std.specs.Prelude.{◌≡◌, ◌+◌, ◌≤◌, [], length, decimal, false};
 ghost use Rattle.sp_device.specs.Printing.{Sends, KeepsSending, EndsSending, EndsCounting};
 
@@ -7,22 +7,22 @@ use crate::devices::{Write, write_all};
 use crate::faults::WriteFault;
 use itoa::Buffer;
 
-// As many bytes as a block holds.
+// The capacity of a block in bytes.
 const ROOM: usize = 8192;
 
-/// Sends a text to a device by blocks, and counts the bytes. A failure is told at the end.
+/// Sends text to a device in blocks, and counts the bytes. A failure is reported at the end.
 #[derive(Drop)]
 pub struct Printer {
-    /// What waits. Where there is room, what is pushed here is sent too.
+    /// The bytes that wait. Bytes that are pushed here, if they fit, are sent too.
     pub block: Block,
-    /// How many bytes were written.
+    /// The number of bytes that were written.
     pub count: u64,
     /// Whether the device has failed.
     pub failed: bool,
 }
 
 impl Printer {
-    /// Nothing has been sent.
+    /// Returns a printer that has sent nothing.
     pub fn new() -> Self
         ensures block { result.block ≡ [] }
         ensures count { result.count ≡ 0 }
@@ -36,7 +36,7 @@ impl Printer {
     }
 }
 
-// Writes what waits.
+// Writes the bytes that wait.
 fn flush<W: Write>(out: &mut W, printer: &mut Printer)
     ensures block { printer.new.block ≡ [] }
     ensures sends { KeepsSending W.written W.passed W.has_failed
@@ -59,7 +59,7 @@ fn flush<W: Write>(out: &mut W, printer: &mut Printer)
     }
 }
 
-// Writes bytes while nothing waits.
+// Writes bytes while none wait.
 fn write_on<W: Write>(out: &mut W, printer: &mut Printer, bytes: &[u8])
     requires { printer.old.block ≡ [] }
     ensures { Sends W.written W.passed W.has_failed bytes.now
@@ -74,7 +74,7 @@ fn write_on<W: Write>(out: &mut W, printer: &mut Printer, bytes: &[u8])
     }
 }
 
-/// Makes room for so many bytes in the block.
+/// Makes room for `room` bytes in the block.
 pub fn make_room<W: Write>(out: &mut W, printer: &mut Printer, room: usize)
     requires { room ≤ 8192 }
     ensures room { length printer.new.block + room ≤ 8192 }
@@ -86,7 +86,7 @@ pub fn make_room<W: Write>(out: &mut W, printer: &mut Printer, room: usize)
     }
 }
 
-/// Sends these bytes too.
+/// Sends these bytes after the others.
 pub fn print_text<W: Write>(out: &mut W, printer: &mut Printer, bytes: &[u8])
     ensures { Sends W.written W.passed W.has_failed bytes.now
         out.old printer.old out.new printer.new }
@@ -109,7 +109,7 @@ pub fn print_number<W: Write>(out: &mut W, printer: &mut Printer, n: u64)
     print_text(out, printer, buffer.format(n).as_bytes());
 }
 
-/// Writes what waits, and tells how many bytes were written.
+/// Writes the bytes that wait, and returns how many bytes were written in all.
 pub fn finish<W: Write>(out: &mut W, mut printer: Printer) -> Result<u64, WriteFault>
     ensures written { EndsSending W.written W.passed W.has_failed
         out.old printer result out.new }

@@ -6,10 +6,10 @@ use crate::devices::{Failed, Read, Write};
 use crate::faults::WriteFault;
 use std::io;
 
-// As many bytes as a device passes in all.
+// The greatest number of bytes that a device passes in all.
 const LIMIT: u64 = 1 << 62;
 
-// As many of these bytes as may still pass.
+// Returns how many of these bytes may still pass.
 fn passing(len: usize, passed: u64) -> usize
     requires { passed ≤ 2 ^ 62 }
     ensures within { result ≤ len }
@@ -24,7 +24,7 @@ fn passing(len: usize, passed: u64) -> usize
     }
 }
 
-/// A reader of std. It fails where std's call fails, and once 2^62 bytes have passed.
+/// A device over a reader of std. It fails if the call of std fails, and once 2^62 bytes have passed.
 #[derive(Drop)]
 pub struct OfRead<R> {
     inner: R,
@@ -34,7 +34,7 @@ pub struct OfRead<R> {
 }
 
 impl<R: io::Read> OfRead<R> {
-    /// A device that has passed nothing.
+    /// Returns a device that has passed no bytes.
     pub fn new(inner: R) -> Self
         ensures left { ⟦<OfRead<R> as Read>⟧.left result ≡ R.remaining inner }
         ensures passed { ⟦<OfRead<R> as Read>⟧.passed result ≡ 0 }
@@ -74,8 +74,8 @@ impl<R: io::Read> Read for OfRead<R> {
     }
 }
 
-/// A writer of std. It fails where std's call fails or takes none of some bytes, and once 2^62 bytes
-/// have passed.
+/// A device over a writer of std. It fails if the call of std fails or takes no bytes where there are some, and once
+/// 2^62 bytes have passed.
 #[derive(Drop)]
 pub struct OfWrite<W> {
     inner: W,
@@ -85,7 +85,7 @@ pub struct OfWrite<W> {
 }
 
 impl<W: io::Write> OfWrite<W> {
-    /// A device that has passed nothing on.
+    /// Returns a device that has passed on no bytes.
     pub fn new(inner: W) -> Self
         ensures written { ⟦<OfWrite<W> as Write>⟧.written result ≡ W.contents inner }
         ensures passed { ⟦<OfWrite<W> as Write>⟧.passed result ≡ 0 }
@@ -100,7 +100,7 @@ impl<W: io::Write> OfWrite<W> {
 }
 
 impl<W: io::Write> OfWrite<W> {
-    /// Hands on what the writer of std may have kept back.
+    /// Flushes the writer of std, which may have kept bytes back.
     pub fn flush(&mut self) -> Result<(), WriteFault>
         ensures kept { Keeps (⟦<OfWrite<W> as Write>⟧.written self.old)
             (⟦<OfWrite<W> as Write>⟧.written self.new) }

@@ -6,11 +6,11 @@ use Rattle.sp_text.specs.declared.formats.Top.TheVariants.{Number, Vertex, Probl
 use Rattle.sp_text.specs.Formats.{Format, LineForm, field}
 use Rattle.sp_dimacs.specs.declared.formats.TheConstants.{MOST_ARCS, LONGEST_ARC, MOST_SOURCES}
 
--- a line with these words and these numbers, of which so many may stand
+-- This is a line with these words and these numbers, with a limit on how many such lines there may be.
 abbrev pub line_form : List (List ℕ) → List Field → Top → LineForm
 line_form words fields limit = record { words = words; fields = fields; fresh = false; group = 0; limit = limit }
 
--- `.gr`: the problem line `p sp N M`, and M lines `a U V W`
+-- A `.gr` file has the problem line `p sp N M`, and M lines `a U V W`.
 abbrev pub arc_line : LineForm
 arc_line = line_form (codes "a" ∷ []) (field 85 1 (Problem 0) ∷ field 86 1 (Problem 0) ∷ field 87 1 (Number LONGEST_ARC) ∷ []) (Problem 1)
 
@@ -21,7 +21,7 @@ gr = record {
   needed = Problem 1;
 }
 
--- `.ss`: the problem line `p aux sp ss K`, and K lines `s V`
+-- A `.ss` file has the problem line `p aux sp ss K`, and K lines `s V`.
 abbrev pub source_line : LineForm
 source_line = line_form (codes "s" ∷ []) (field 86 1 Vertex ∷ []) (Problem 0)
 
@@ -32,7 +32,7 @@ ss = record {
   needed = Problem 0;
 }
 
--- pairs: the problem line `p pairs K`, and K lines `q S T`
+-- A pairs file has the problem line `p pairs K`, and K lines `q S T`.
 abbrev pub pair_line : LineForm
 pair_line = line_form (codes "q" ∷ []) (field 83 1 Vertex ∷ field 84 1 Vertex ∷ []) (Problem 0)
 

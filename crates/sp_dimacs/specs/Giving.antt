@@ -1,4 +1,4 @@
--- Where a reader of lines stands.
+-- The position of a reader of lines in its text.
 use Rattle.std.specs.Prelude.{◌≡◌, ℕ, ◌+◌, ◌-◌, ◌^◌, ◌<◌, ◌≤◌, ◌⊎◌, min, slice_get, Bool, true, false, List, [], ◌∷◌, ◌++◌, length, Option, Some, None, Result, Ok, Err}
 use Rattle.std.specs.Borrow.{Bor}
 use Rattle.std.specs.Io.KnownBytes.{Consumes, IsAtEnd}
@@ -11,10 +11,10 @@ use Rattle.sp_dimacs.specs.declared.lines.Lines.{Lines}
 use Rattle.sp_dimacs.specs.declared.lines.State.{State}
 use Rattle.sp_dimacs.specs.declared.lines.State.TheVariants.{Going, Over, Refused}
 
--- `start` are the bytes that the device had before the first line, where they are known, and `left` those that
--- it still has.
+-- `start` holds the bytes that the device had before the first line, if they are known, and `left` holds those that it
+-- still has.
 
--- These lines came, each with its LF. Behind them some bytes came that still wait.
+-- These lines came, each with its LF. After them came some bytes that still wait.
 pub record AreEnded {R : Type 0} (left : R → Option (List ℕ)) (start : Option (List ℕ)) (given : List (List ℕ)) (reader : Lines R) : Type 0 where
   pub behind : List ℕ
   pub came : Consumes start (left reader.reader) (behind ++ reader.piece)
@@ -41,17 +41,17 @@ Stands left start given reader Going = AreEnded left start given reader
 Stands left start given reader Over = AreAll left start given reader
 Stands left start given reader (Refused e) = ⊥
 
--- The reader has given these lines, the first ones of the text, and no other.
+-- The reader has given these lines, which are the first of the text, and no others.
 pub record IsBehindLines {R : Type 0} (left : R → Option (List ℕ)) (start : Option (List ℕ)) (given : List (List ℕ)) (reader : Lines R) : Type 0 where
   pub number : reader.number ≡ min (length given) (2 ^ 64 - 1)
   pub stands : Stands left start given reader reader.state
 
--- The next line of the text is this one, and it has its LF; or it has none, and the text has ended.
+-- This is the next line of the text. It has its LF; or it has none, and the text has ended.
 abbrev pub IsNext : {R : Type 0} → (R → Option (List ℕ)) → Option (List ℕ) → List (List ℕ) → List ℕ → Lines R → (has_end : Bool) → Type 0
 IsNext left start given line reader true = AreEnded left start (given ++ line ∷ []) reader
 IsNext left start given line reader false = IsLast left start given line reader × (0 < length line)
 
--- Behind the given lines, what came of the next one is too long; or it is not, and the device has failed.
+-- After the given lines, the part of the next line that came is too long; or it isn't, and the device has failed.
 pub record IsRefused {R : Type 0} (left : R → Option (List ℕ)) (has_failed : R → Bool) (start : Option (List ℕ)) (given : List (List ℕ)) (kind : Kind) (reader : Lines R) : Type 0 where
   pub front : List ℕ
   pub more : List ℕ
@@ -59,17 +59,17 @@ pub record IsRefused {R : Type 0} (left : R → Option (List ℕ)) (has_failed :
   pub ended : ended front ≡ given
   pub why : ((kind ≡ LongLine) × (LONGEST_LINE < length (rest front))) ⊎ ((kind ≡ Read) × (length (rest front) ≤ LONGEST_LINE) × (more ≡ []) × (has_failed reader.reader ≡ true))
 
--- whether the line that was given last had its LF
+-- This says whether the line that was given last had its LF.
 abbrev pub had_lf : {R : Type 0} → Lines R → Bool
 had_lf reader = reader.has_end
 
--- The answer to the question for the next line: this one; or there is none; or its fault.
+-- The answer to a request for the next line is this line, or that there is none, or its fault.
 abbrev pub Gave : {R : Type 0} → (R → Option (List ℕ)) → (R → Bool) → Option (List ℕ) → List (List ℕ) → List ℕ → Result Bool DimacsError → Lines R → Type 0
 Gave left has_failed start given line (Ok true) new = IsBehindLines left start (given ++ line ∷ []) new × IsNext left start given line new (had_lf new) × (length line ≤ LONGEST_LINE)
 Gave left has_failed start given line (Ok false) new = IsBehindLines left start given new × AreAll left start given new
 Gave left has_failed start given line (Err e) new = (new.state ≡ Refused e) × (e.line ≡ min (length given + 1) (2 ^ 64 - 1)) × IsRefused left has_failed start given e.kind new
 
--- The line in the room is the next one. Without its LF it is the last; and without a byte it is no line.
+-- The line in the buffer is the next one. Without its LF it is the last; and without a byte it is no line.
 abbrev pub Counted : {R : Type 0} → Lines R → (has_end : Bool) → (is_line : Bool) → Lines R → Type 0
 Counted old true false new = ⊥
 Counted old true true new = new ≡ record old { has_end = true; number = min (old.number + 1) (2 ^ 64 - 1) }
@@ -83,25 +83,26 @@ IsRefusedAs e reader = reader.state ≡ Refused e
 abbrev pub IsStillRefused : {R : Type 0} → Lines R → Lines R → Type 0
 IsStillRefused old new = (e : DimacsError) → IsRefusedAs e old → IsRefusedAs e new
 
--- The answer with the line that is lent.
+-- This is the answer with the line that is lent.
 abbrev pub GaveNext : {R : Type 0} → (R → Option (List ℕ)) → (R → Bool) → Option (List ℕ) → List (List ℕ) → Result (Option (Bor (List ℕ))) DimacsError → Lines R → Type 0
 GaveNext left has_failed start given (Ok (Some line)) new = Gave left has_failed start given line.now (Ok true) new
 GaveNext left has_failed start given (Ok None) new = Gave left has_failed start given [] (Ok false) new
 GaveNext left has_failed start given (Err e) new = Gave left has_failed start given [] (Err e) new
 
--- The reader after this answer: a refused one stays so, and one that stands behind some lines gave the next.
+-- This is the reader after the answer: a reader that has refused its text stays refused, and one after some lines gave
+-- the next line.
 abbrev pub Gives : {R : Type 0} → (R → Option (List ℕ)) → (R → Bool) → Lines R → Result (Option (Bor (List ℕ))) DimacsError → Lines R → Type 0
 Gives left has_failed old result new = IsStillRefused old new ×
     ((start : Option (List ℕ)) (given : List (List ℕ)) → IsBehindLines left start given old → GaveNext left has_failed start given result new)
 
--- The next line of the text is too long; or the device has failed.
+-- The next line of the text is too long, or the device has failed.
 abbrev pub IsFaulty : (text : List ℕ) → (given : List (List ℕ)) → Kind → Type 0
 IsFaulty text given kind = ((kind ≡ LongLine) × (long : List ℕ) × (slice_get (lines text) (length given) ≡ Some long) × (LONGEST_LINE < length long)) ⊎ (kind ≡ Read)
 
 abbrev pub IsFaultOf : (text : List ℕ) → (given : List (List ℕ)) → DimacsError → Type 0
 IsFaultOf text given e = (e.line ≡ min (length given + 1) (2 ^ 64 - 1)) × IsFaulty text given e.kind
 
--- The line behind the given ones is this line of the text; or the given ones are all its lines.
+-- The line after the given ones is this line of the text; or the given ones are all its lines.
 abbrev pub GaveOf : (text : List ℕ) → (given : List (List ℕ)) → Result (Option (Bor (List ℕ))) DimacsError → Type 0
 GaveOf text given (Ok (Some line)) = (slice_get (lines text) (length given) ≡ Some line.now) × (length line.now ≤ LONGEST_LINE)
 GaveOf text given (Ok None) = lines text ≡ given

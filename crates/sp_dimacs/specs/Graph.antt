@@ -12,11 +12,11 @@ use Rattle.sp_paths.specs.Paths.{Graph, IsArc}
 use Rattle.sp_text.specs.Formats.{ranges_of}
 use Rattle.sp_dimacs.specs.declared.graphs.GrFile.{GrFile}
 
--- the arc of a line `a U V W`
+-- This is the arc of a line `a U V W`.
 abbrev pub arc_of : Item → Arc
 arc_of item = record { tail = slice_index item.numbers 0; head = slice_index item.numbers 1; len = slice_index item.numbers 2 }
 
--- The first number of the problem line, and the arcs in the order of their lines.
+-- The file holds the first number of the problem line, and the arcs in the order of their lines.
 abbrev pub IsGraph : List ℕ → List Item → GrFile → Type 0
 IsGraph problem items file = (file.n ≡ slice_index problem 0) × (file.arcs.items ≡ map arc_of items)
 
@@ -24,15 +24,15 @@ IsGraph problem items file = (file.n ≡ slice_index problem 0) × (file.arcs.it
 abbrev pub SpellsGraph : ℕ → List ℕ → GrFile → Type 0
 SpellsGraph P text file = (problem : List ℕ) × (items : List Item) × Spells gr (ranges_of P) text problem items × IsGraph problem items file
 
--- The answer to the whole text of a device, of which a part is perhaps left.
+-- This is the answer to the whole text of a device, part of which may be left.
 abbrev pub GraphRead : ℕ → List ℕ → Option (List ℕ) → Bool → Result GrFile DimacsError → Type 0
 GraphRead P text left has_failed result = AllRead (judge gr (ranges_of P)) (SpelledBy gr IsGraph) text left has_failed result
 
--- the graph of a file
+-- This is the graph of a file.
 abbrev pub graph_of : GrFile → Graph
 graph_of file = record { n = file.n; arcs = file.arcs.items }
 
--- There is a vertex, there are no more than a word of the layout can name, and the arcs are within them.
+-- There is a vertex, there are no more vertices than a word of the layout can name, and the arcs join these vertices.
 pub record IsNetwork (P : ℕ) (file : GrFile) : Type 0 where
   pub least : 1 ≤ file.n
   pub most : file.n ≤ max_pred P

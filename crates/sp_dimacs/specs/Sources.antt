@@ -10,11 +10,11 @@ use Rattle.sp_dimacs.specs.declared.formats.TheConstants.{MOST_SOURCES}
 use Rattle.sp_dimacs.specs.Formats.{ss}
 use Rattle.sp_dimacs.specs.declared.sources.SsFile.{SsFile}
 
--- the source of a line `s V`
+-- This is the source of a line `s V`.
 abbrev pub source_of : Item → ℕ
 source_of item = slice_index item.numbers 0
 
--- The sources, in the order of their lines.
+-- The file holds the sources in the order of their lines.
 abbrev pub AreSources : List ℕ → List Item → SsFile → Type 0
 AreSources problem items file = file.sources.items ≡ map source_of items
 
@@ -22,7 +22,7 @@ AreSources problem items file = file.sources.items ≡ map source_of items
 abbrev pub SpellsSources : ℕ → List ℕ → SsFile → Type 0
 SpellsSources P text file = (problem : List ℕ) × (items : List Item) × Spells ss (ranges_of P) text problem items × AreSources problem items file
 
--- The answer to the whole text of a device, of which a part is perhaps left.
+-- This is the answer to the whole text of a device, part of which may be left.
 abbrev pub SourcesRead : ℕ → List ℕ → Option (List ℕ) → Bool → Result SsFile DimacsError → Type 0
 SourcesRead P text left has_failed result = AllRead (judge ss (ranges_of P)) (SpelledBy ss AreSources) text left has_failed result
 
@@ -31,7 +31,7 @@ pub record IsVertex (P : ℕ) (vertex : ℕ) : Type 0 where
   pub least : 1 ≤ vertex
   pub most : vertex ≤ max_pred P
 
--- There are no more sources than may be, and a word of the layout can name each.
+-- There are no more sources than the format allows, and a word of the layout can name each of them.
 pub record AreSourcesWithin (P : ℕ) (file : SsFile) : Type 0 where
   pub short : length file.sources.items ≤ MOST_SOURCES
   pub sources : All (IsVertex P) file.sources.items

@@ -5,16 +5,16 @@ ghost use Rattle.sp_dimacs.specs.Formats.{gr, ss, pairs};
 
 use sp_text::{Field, FileFormat, Form, Top};
 
-/// As many arcs as a graph may have.
+/// The greatest number of arcs of a graph.
 pub const MOST_ARCS: u64 = 1_073_741_824;
 
 /// The greatest length of an arc.
 pub const LONGEST_ARC: u64 = 4_294_967_295;
 
-/// As many sources, or pairs, as a file may have.
+/// The greatest number of sources, or of pairs, in a file.
 pub const MOST_SOURCES: u64 = 1_048_576;
 
-// The one line that says how many lines of another form stand.
+// The limit for the single line that announces how many lines of another form there are.
 const PROBLEM_LIMIT: Top = Top::Number(1);
 
 const GR: FileFormat = FileFormat {
@@ -121,21 +121,21 @@ const PAIRS: FileFormat = FileFormat {
     needed: Top::Problem(0),
 };
 
-/// The line forms of a `.gr` file.
+/// Returns the line forms of a `.gr` file.
 pub fn gr_format() -> FileFormat
     ensures { format_of result ≡ gr }
 {
     GR
 }
 
-/// The line forms of an `.ss` file.
+/// Returns the line forms of an `.ss` file.
 pub fn ss_format() -> FileFormat
     ensures { format_of result ≡ ss }
 {
     SS
 }
 
-/// The line forms of a pairs file.
+/// Returns the line forms of a pairs file.
 pub fn pairs_format() -> FileFormat
     ensures { format_of result ≡ pairs }
 {

@@ -1,4 +1,4 @@
-//! `.gr` files: a graph.
+//! `.gr` files, which spell a graph.
 ghost use Rattle.std.specs.Prelude.{◌≡◌, ◌<◌, ◌^◌, ℕ, List, [], map, true, false, Some, IfOk, IfErr};
 ghost use Rattle.sp_word.specs.Word.{is_layout, max_pred};
 ghost use Rattle.sp_text.specs.Formats.{ranges_of};
@@ -24,7 +24,7 @@ pub struct GrFile {
     pub arcs: Vec<Arc>,
 }
 
-/// The arcs so far.
+/// The arcs that were read so far.
 #[derive(Drop)]
 pub struct Arcs<const P: u32> {
     alloc: Global,
@@ -93,7 +93,7 @@ impl<const P: u32> Keep for Arcs<P> {
 pub type GrReader<const P: u32> = TextReader<Collector<Arcs<P>>>;
 
 impl<const P: u32> TextReader<Collector<Arcs<P>>> {
-    /// A reader behind no text.
+    /// Returns a reader that has read no text.
     pub fn new(alloc: Global) -> Self
         requires { is_layout P ≡ true }
         ensures { IsBehindText
@@ -103,8 +103,8 @@ impl<const P: u32> TextReader<Collector<Arcs<P>>> {
     }
 }
 
-/// The graph that the bytes of a device spell from here on, or their first fault. Where an arc finds no
-/// room, Memory is told of its line, if no line up to it has a fault.
+/// Reads the rest of a device's bytes, and returns the graph that they spell, or their first fault. If there is no
+/// memory for an arc, the fault is Memory at its line, unless a line up to it has a fault.
 #[tactic(auto, using(crate::proofs::Limits::graph_read))]
 pub fn read_gr<const P: u32, R: Read>(alloc: Global, reader: &mut R) -> Result<GrFile, DimacsError>
     requires { is_layout P ≡ true }

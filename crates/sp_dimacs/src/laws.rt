@@ -1,4 +1,4 @@
-//! What holds of each value that a text spells.
+//! Laws about the values that texts spell.
 ghost use Rattle.std.specs.Prelude.{ℕ};
 ghost use Rattle.sp_text.specs.Formats.{ranges_of};
 ghost use Rattle.sp_text.specs.Text.{judge};
@@ -12,21 +12,21 @@ ghost use Rattle.sp_dimacs.specs.declared.graphs.GrFile.{GrFile};
 ghost use Rattle.sp_dimacs.specs.declared.sources.SsFile.{SsFile};
 ghost use Rattle.sp_dimacs.specs.declared.pairs.PairsFile.{PairsFile};
 
-/// A graph that some text spells is within the limits of the layout.
+/// States that a graph which some text spells is within the limits of the layout.
 #[tactic(auto, using(crate::proofs::Limits::graph_within))]
 pub fn spelled_graph_is_within()
     ensures { (P : ℕ) (file : GrFile)
         → IsSpelled (judge gr (ranges_of P)) (SpelledBy gr IsGraph) file → IsNetwork P file }
 {}
 
-/// Sources that some text spells are within the limits of the layout.
+/// States that sources which some text spells are within the limits of the layout.
 pub fn spelled_sources_are_within()
     ensures { (P : ℕ) (file : SsFile)
         → IsSpelled (judge ss (ranges_of P)) (SpelledBy ss AreSources) file
         → AreSourcesWithin P file }
 {}
 
-/// Pairs that some text spells are within the limits of the layout.
+/// States that pairs which some text spells are within the limits of the layout.
 pub fn spelled_pairs_are_within()
     ensures { (P : ℕ) (file : PairsFile)
         → IsSpelled (judge pairs (ranges_of P)) (SpelledBy pairs ArePairs) file

@@ -1,5 +1,5 @@
-//! The texts of a graph, of a list of sources and of a list of pairs: what they spell, their first fault,
-//! and readers that are fed them in pieces.
+//! The text formats of a graph, of a list of sources and of a list of pairs: what a text spells, its first fault, and
+//! readers that take it in pieces.
 #![tactic(auto)]
 
 mod formats;

@@ -1,4 +1,4 @@
-//! The lines of a text, one after the other.
+//! The lines of a text, one after another.
 ghost use Rattle.std.specs.Prelude.{◌≡◌, ◌+◌, ◌-◌, ◌^◌, ◌≤◌, ◌++◌, ◌∷◌, [], ℕ, List, Option, Some, Err, Ok, IfOk, IfErr, OnOk, ◌<◌, length, min};
 ghost use Rattle.sp_text.specs.declared.faults.DimacsError.{DimacsError};
 ghost use Rattle.sp_dimacs.specs.LineReading.{RunTaken, LineRead};
@@ -7,7 +7,7 @@ use crate::piece::Piece;
 use sp_device::Read;
 use sp_text::{DimacsError, Kind, LONGEST_LINE, Room, cut_line};
 
-// Whether lines may come, and otherwise why there are no more.
+// Whether more lines may come, and otherwise why not.
 #[derive(Clone, Copy)]
 pub enum State {
     Going,
@@ -15,8 +15,8 @@ pub enum State {
     Refused(DimacsError),
 }
 
-// Moves bytes up to an LF, and takes the LF away; or all of them, where there is none. It tells whether an
-// LF came.
+// Moves the bytes up to the next LF, and removes the LF; or moves all bytes if there is none. Returns whether there was
+// an LF.
 fn take_run(piece: &mut Piece, room: &mut Room) -> Result<bool, Kind>
     ensures taken { RunTaken piece.old room.old result piece.new room.new }
     ensures short { OnOk result (length room.new ≤ LONGEST_LINE) }
@@ -32,8 +32,8 @@ fn take_run(piece: &mut Piece, room: &mut Room) -> Result<bool, Kind>
     Ok(true)
 }
 
-// Reads the next line into the room, and tells whether it has its LF. Without one, and without a byte, it is
-// no line.
+// Reads the next line into the buffer, and returns whether it has its LF. If it has neither an LF nor a byte, it is no
+// line.
 fn read_line<R: Read>(reader: &mut R, piece: &mut Piece, room: &mut Room) -> Result<bool, Kind>
     requires { room.old ≡ [] }
     ensures read { LineRead (R.left reader.old) (R.left reader.new)
@@ -55,7 +55,7 @@ fn read_line<R: Read>(reader: &mut R, piece: &mut Piece, room: &mut Room) -> Res
     }
 }
 
-/// The lines of the text of a device, one after the other. It takes no memory.
+/// Reads the lines of a device's text, one after another. It allocates no memory.
 #[derive(Drop)]
 pub struct Lines<R> {
     reader: R,
@@ -73,7 +73,7 @@ impl<R: Read> Lines<R> {
     ghost use Rattle.std.specs.Borrow.{sem};
     ghost use Rattle.sp_dimacs.specs.declared.lines.State.TheVariants.{Refused};
 
-    /// Before the first line.
+    /// Returns a reader that stands before the first line.
     pub fn new(reader: R) -> Self
         ensures { IsBehindLines R.left (R.left reader) [] result }
     {
@@ -87,7 +87,7 @@ impl<R: Read> Lines<R> {
         }
     }
 
-    // Reads the next line into the room, if there is one.
+    // Reads the next line into the buffer, and returns whether there is one.
     fn advance(&mut self) -> Result<bool, DimacsError>
         ensures again { (e : DimacsError) → self.old.state ≡ Refused e
             → (result ≡ Err e) × (self.new ≡ self.old) }
@@ -107,7 +107,7 @@ impl<R: Read> Lines<R> {
         }
     }
 
-    // The line that was read is the next one, if it is a line.
+    // Counts the line that was read, if it is a line.
     fn count(&mut self, has_end: bool) -> bool
         ensures { Counted self.old has_end result self.new }
     {
@@ -122,7 +122,7 @@ impl<R: Read> Lines<R> {
         true
     }
 
-    // The next line has this fault.
+    // Refuses the text: the next line has this fault.
     fn refuse(&mut self, kind: Kind) -> DimacsError
         ensures line { result
             ≡ record { line = min (self.old.number + 1) (2 ^ 64 - 1); kind = kind } }
@@ -136,7 +136,7 @@ impl<R: Read> Lines<R> {
         error
     }
 
-    /// The number of the line that was given last, 0 before the first.
+    /// Returns the number of the line that was given last, or 0 before the first.
     pub fn line(&self) -> u64
         ensures { (start : Option (List ℕ)) (given : List (List ℕ))
             → IsBehindLines R.left start given self.now → result ≡ min (length given) (2 ^ 64 - 1) }
@@ -144,16 +144,16 @@ impl<R: Read> Lines<R> {
         self.number
     }
 
-    /// Whether the line that was given last had its LF.
+    /// Returns whether the line that was given last had its LF.
     pub fn ended(&self) -> bool
         ensures { result ≡ had_lf self.now }
     {
         self.has_end
     }
 
-    /// The next line, without its LF; None where the text has ended. A line of more than 1,024 bytes is
-    /// refused with LongLine, and where the device has failed, with Read at the line that was being read. After
-    /// a refusal it answers the same again.
+    /// Returns the next line without its LF, or `None` once the text has ended. A line of more than 1,024 bytes is
+    /// refused with LongLine, and a failure of the device with Read, at the line that was being read. After a refusal
+    /// every call returns the same refusal.
     pub fn next(&mut self) -> Result<Option<&[u8]>, DimacsError>
         ensures again { (e : DimacsError) → IsRefusedAs e self.old → result ≡ Err e }
         ensures text { (text : List ℕ) (given : List (List ℕ))

@@ -1,4 +1,4 @@
-//! Files of pairs: a source and a target each.
+//! Files of pairs, each of a source and a target.
 ghost use Rattle.std.specs.Prelude.{◌≡◌, ◌<◌, ◌^◌, ℕ, List, [], map, true, false, Some, IfOk, IfErr};
 ghost use Rattle.sp_word.specs.Word.{is_layout, max_pred};
 ghost use Rattle.sp_text.specs.Formats.{ranges_of};
@@ -16,13 +16,13 @@ use sp_text::{
 use std::alloc::{AllocError, Global};
 use std::mem;
 
-/// What a file of pairs spells: a source and a target each, in the order of their lines.
+/// What a pairs file spells: the pairs of a source and a target, in the order of their lines.
 #[derive(Drop)]
 pub struct PairsFile {
     pub pairs: Vec<(u32, u32)>,
 }
 
-/// The pairs so far.
+/// The pairs that were read so far.
 #[derive(Drop)]
 pub struct Pairs<const P: u32> {
     alloc: Global,
@@ -86,7 +86,7 @@ impl<const P: u32> Keep for Pairs<P> {
 pub type PairsReader<const P: u32> = TextReader<Collector<Pairs<P>>>;
 
 impl<const P: u32> TextReader<Collector<Pairs<P>>> {
-    /// A reader behind no text.
+    /// Returns a reader that has read no text.
     pub fn new(alloc: Global) -> Self
         requires { is_layout P ≡ true }
         ensures { IsBehindText
@@ -96,8 +96,8 @@ impl<const P: u32> TextReader<Collector<Pairs<P>>> {
     }
 }
 
-/// The pairs that the bytes of a device spell from here on, or their first fault. Where a pair finds no
-/// room, Memory is told of its line, if no line up to it has a fault.
+/// Reads the rest of a device's bytes, and returns the pairs that they spell, or their first fault. If there is no
+/// memory for a pair, the fault is Memory at its line, unless a line up to it has a fault.
 #[tactic(auto, using(crate::proofs::Limits::pairs_read))]
 pub fn read_pairs<const P: u32, R: Read>(
     alloc: Global,

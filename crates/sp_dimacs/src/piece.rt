@@ -1,4 +1,4 @@
-//! Bytes that came from a device and wait to be read.
+//! A buffer of bytes that came from a device and wait to be read.
 ghost use Rattle.std.specs.Prelude.{◌≡◌, ◌+◌, ◌≤◌, ◌^◌, [], drop, length, OnOk, OnErr, true};
 ghost use Rattle.std.specs.Io.KnownBytes.{Consumes, Keeps, IsAtEnd};
 
@@ -6,7 +6,7 @@ use sp_device::{Failed, Read};
 use sp_text::PIECE;
 use std::marker::Model;
 
-/// Bytes that wait to be read, at most `PIECE`.
+/// A buffer of bytes that wait to be read, at most `PIECE` of them.
 #[derive(Drop)]
 pub struct Piece {
     bytes: [u8; PIECE],
@@ -26,7 +26,7 @@ impl Model for Piece {
 }
 
 impl Piece {
-    /// A piece in which nothing waits.
+    /// Returns an empty piece.
     pub fn new() -> Self
         ensures { result ≡ [] }
     {
@@ -37,14 +37,14 @@ impl Piece {
         }
     }
 
-    /// What waits.
+    /// Returns the bytes that wait.
     pub fn bytes(&self) -> &[u8]
         ensures { result.now ≡ self.now }
     {
         &self.bytes[self.start..self.end]
     }
 
-    /// Takes so many bytes off the front.
+    /// Removes `n` bytes at the front.
     pub fn skip(&mut self, n: usize)
         requires { n ≤ length self.old }
         ensures { self.new ≡ drop n self.old }
@@ -52,7 +52,7 @@ impl Piece {
         self.start += n;
     }
 
-    /// Takes all bytes away.
+    /// Removes all bytes.
     pub fn clear(&mut self)
         ensures { self.new ≡ [] }
     {
@@ -60,7 +60,7 @@ impl Piece {
         self.end = 0;
     }
 
-    /// Takes the next bytes of a device in place of what waits, none only at its end.
+    /// Replaces the bytes with the next ones of a device; there are none only at its end.
     pub fn refill<R: Read>(&mut self, reader: &mut R) -> Result<(), Failed>
         ensures bytes { OnOk result (Consumes (R.left reader.old) (R.left reader.new) self.new) }
         ensures end { OnOk result (self.new ≡ [] → IsAtEnd (R.left reader.new)) }

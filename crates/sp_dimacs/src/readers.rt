@@ -6,15 +6,15 @@ ghost use Rattle.sp_dimacs.specs.Reading.{IsBehindText, IsSpent, FedText, Finish
 
 use sp_text::{DimacsError, Feeder, LineTaker};
 
-/// A reader of a text that comes in pieces. It tells the first fault of the text, as early as the bytes
-/// so far show it, and answers the same fault from then on.
+/// A reader of a text that comes in pieces. It reports the first fault of the text, as early as the bytes so far show
+/// it, and returns the same fault from then on.
 #[derive(Drop)]
 pub struct TextReader<T> {
     feeder: Feeder<T>,
 }
 
 impl<T: LineTaker> TextReader<T> {
-    /// A reader behind no text.
+    /// Returns a reader that has read no text.
     pub(crate) fn of_taker(taker: T) -> Self
         requires { T.After taker [] }
         ensures { IsBehindText T.rules T.After [] result }
@@ -24,7 +24,7 @@ impl<T: LineTaker> TextReader<T> {
         }
     }
 
-    /// What is fed from a device.
+    /// Returns the part of the reader that is fed from a device.
     pub(crate) fn into_feeder(self) -> Feeder<T>
         ensures { (text : List ℕ) → IsBehindText T.rules T.After text self
             → IsBehind T.rules T.After text result }
@@ -44,7 +44,7 @@ impl<T: LineTaker> TextReader<T> {
         self.feeder.feed(piece)
     }
 
-    /// The text has ended. A reader that gives its value is a new one then.
+    /// Ends the text. A reader that returns its value then begins a new text.
     pub fn finish(&mut self) -> Result<T::Value, DimacsError>
         ensures again { (e : DimacsError) → IsSpent e self.old
             → (result ≡ Err e) × (self.new ≡ self.old) }
@@ -55,7 +55,7 @@ impl<T: LineTaker> TextReader<T> {
         self.feeder.finish()
     }
 
-    /// The device failed: the fault that was met before, or Read at the line being read.
+    /// Reports a failure of the device: returns the fault that was met before, or Read at the line being read.
     pub fn fail(&mut self) -> DimacsError
         ensures again { (e : DimacsError) → IsSpent e self.old
             → (result ≡ e) × (self.new ≡ self.old) }

@@ -1,4 +1,4 @@
-//! `.ss` files: a list of sources.
+//! `.ss` files, which spell a list of sources.
 ghost use Rattle.std.specs.Prelude.{◌≡◌, ◌<◌, ◌^◌, ℕ, List, [], map, true, false, Some, IfOk, IfErr};
 ghost use Rattle.sp_word.specs.Word.{is_layout, max_pred};
 ghost use Rattle.sp_text.specs.Formats.{ranges_of};
@@ -16,13 +16,13 @@ use sp_text::{
 use std::alloc::{AllocError, Global};
 use std::mem;
 
-/// What an `.ss` file spells: the sources in the order of their lines.
+/// What an `.ss` file spells: the sources, in the order of their lines.
 #[derive(Drop)]
 pub struct SsFile {
     pub sources: Vec<u32>,
 }
 
-/// The sources so far.
+/// The sources that were read so far.
 #[derive(Drop)]
 pub struct Sources<const P: u32> {
     alloc: Global,
@@ -85,7 +85,7 @@ impl<const P: u32> Keep for Sources<P> {
 pub type SsReader<const P: u32> = TextReader<Collector<Sources<P>>>;
 
 impl<const P: u32> TextReader<Collector<Sources<P>>> {
-    /// A reader behind no text.
+    /// Returns a reader that has read no text.
     pub fn new(alloc: Global) -> Self
         requires { is_layout P ≡ true }
         ensures { IsBehindText
@@ -95,8 +95,8 @@ impl<const P: u32> TextReader<Collector<Sources<P>>> {
     }
 }
 
-/// The sources that the bytes of a device spell from here on, or their first fault. Where a source finds no
-/// room, Memory is told of its line, if no line up to it has a fault.
+/// Reads the rest of a device's bytes, and returns the sources that they spell, or their first fault. If there is no
+/// memory for a source, the fault is Memory at its line, unless a line up to it has a fault.
 #[tactic(auto, using(crate::proofs::Limits::sources_read))]
 pub fn read_ss<const P: u32, R: Read>(alloc: Global, reader: &mut R) -> Result<SsFile, DimacsError>
     requires { is_layout P ≡ true }
