@@ -1,4 +1,4 @@
--- The earliest of some faults, and the faults of a vertex and of an arc.
+-- The earliest of several faults, and the faults at a vertex and by an arc.
 use Rattle.std.specs.Prelude.{◌≡◌, ◌≢◌, ℕ, ◌+◌, ◌<◌, ◌≤◌, ◌⊎◌, ◌==◌, ◌&&◌, ◌||◌, Bool, if◌then◌else◌, nat_lt, List, Contains, length, slice_index_or, Option, Some, None}
 use Rattle.sp_word.specs.Word.{Unreached, Pair, IsBelow}
 use Rattle.sp_word.specs.History.{Table}
@@ -9,16 +9,16 @@ use Rattle.sp_cert.specs.declared.rule.Rule.TheVariants.{Size, OwnSource, NoLess
 use Rattle.sp_cert.specs.declared.fault.Fault.{Fault}
 use Rattle.sp_cert.specs.Rules.{number_of, IsExplained, NoLater}
 
--- the earliest of the faults that have the property, or none
+-- This is the earliest of the faults that have the property, or none.
 abbrev pub IsFirstOf : (ℕ → Rule → Type 0) → Option Fault → Type 0
 IsFirstOf P None = (v : ℕ) → (rule : Rule) → P v rule → ⊥
 IsFirstOf P (Some f) = P f.vertex f.rule × ((w : ℕ) → (other : Rule) → P w other → NoLater f.vertex f.rule w other)
 
--- the second fault comes before the first
+-- The second fault comes before the first.
 abbrev pub is_later : Fault → Fault → Bool
 is_later f g = nat_lt g.vertex f.vertex || ((g.vertex == f.vertex) && nat_lt (number_of g.rule) (number_of f.rule))
 
--- the earlier of two faults, each of which may be missing
+-- This is the earlier of two faults, each of which may be missing.
 abbrev pub earlier_of : Option Fault → Option Fault → Option Fault
 earlier_of None b = b
 earlier_of (Some f) None = Some f
@@ -27,15 +27,15 @@ earlier_of (Some f) (Some g) = if is_later f g then Some g else Some f
 abbrev pub IsNoFurther : Arc → Arc → Type 0
 IsNoFurther a b = (a.head < b.head) ⊎ ((a.head ≡ b.head) × (a.len ≤ b.len))
 
--- the arcs rise by head, then by length
+-- The arcs rise by head, then by length.
 abbrev pub IsRow : List Arc → Type 0
 IsRow arcs = (i j : ℕ) → (d : Arc) → i ≤ j → j < length arcs → IsNoFurther (slice_index_or arcs i d) (slice_index_or arcs j d)
 
--- some arc leads to the head at this length
+-- Some arc leads to the head and has this length.
 abbrev pub HasArcTo : List Arc → (head len : ℕ) → Type 0
 HasArcTo arcs head len = (arc : Arc) × Contains arcs arc × (arc.head ≡ head) × (arc.len ≡ len)
 
--- the rules that a vertex breaks by its own word
+-- These are the rules that a vertex breaks by its own word.
 abbrev pub BreaksAt : Graph → (s : ℕ) → Table → (v : ℕ) → Rule → Type 0
 BreaksAt g s words v Size = ⊥
 BreaksAt g s words v OwnSource = (v ≡ s) × (words v ≢ Pair 0 0)
@@ -43,7 +43,7 @@ BreaksAt g s words v NoLesserOffer = ⊥
 BreaksAt g s words v NamesPredecessor = (d p : ℕ) × (words v ≡ Pair d p) × (v ≢ s) × (IsExplained g words v d p → ⊥)
 BreaksAt g s words v OnlyTooFar = ⊥
 
--- the rules that an arc breaks at its head
+-- These are the rules that an arc breaks at its head.
 abbrev pub BreaksBy : (max : ℕ) → Table → Arc → Rule → Type 0
 BreaksBy max words arc Size = ⊥
 BreaksBy max words arc OwnSource = ⊥
@@ -51,19 +51,19 @@ BreaksBy max words arc NoLesserOffer = (d p : ℕ) × (words arc.tail ≡ Pair d
 BreaksBy max words arc NamesPredecessor = ⊥
 BreaksBy max words arc OnlyTooFar = (d p : ℕ) × (words arc.tail ≡ Pair d p) × (max < d + arc.len) × (words arc.head ≡ Unreached)
 
--- the one rule that a vertex or an arc breaks, or none
+-- This is the one rule that a vertex or an arc breaks, or none.
 abbrev pub IsBroken : (Rule → Type 0) → Option Rule → Type 0
 IsBroken P None = (rule : Rule) → P rule → ⊥
 IsBroken P (Some rule) = P rule × ((other : Rule) → P other → other ≡ rule)
 
--- the faults at a vertex by its word, and at an arc's head by the arc
+-- These are the faults at a vertex by its word, and at an arc's head by the arc.
 abbrev pub FaultAt : Graph → (s : ℕ) → Table → (vertex : ℕ) → (v : ℕ) → Rule → Type 0
 FaultAt g s words vertex v rule = (v ≡ vertex) × BreaksAt g s words vertex rule
 
 abbrev pub FaultBy : (max : ℕ) → Table → Arc → (v : ℕ) → Rule → Type 0
 FaultBy max words arc v rule = (v ≡ arc.head) × BreaksBy max words arc rule
 
--- the faults at all vertices, and by all arcs of a list
+-- These are the faults at all vertices, and by all arcs of a list.
 abbrev pub FaultOfVertex : Graph → (s : ℕ) → Table → (v : ℕ) → Rule → Type 0
 FaultOfVertex g s words v rule = IsVertex g.n v × BreaksAt g s words v rule
 

@@ -1,4 +1,4 @@
-//! The faults that arcs show at their heads, looked for in parallel.
+//! Finds, in parallel, the faults that arcs show at their heads.
 ghost use Rattle.std.specs.Prelude.{◌≡◌, ◌≤◌, true, length, All, None};
 ghost use Rattle.sp_word.specs.Word.{is_layout, max_dist, max_pred};
 ghost use Rattle.sp_paths.specs.Paths.{IsArc, word_at};
@@ -12,7 +12,7 @@ use sp_paths::Arc;
 use sp_word::Word;
 use std::thread::Threads;
 
-// The rule that the arc breaks at its head.
+// Returns the rule that the arc breaks at its head, if any.
 fn broken_by<const P: u32>(words: &[Word<P>], arc: Arc) -> Option<Rule>
     requires layout { is_layout P ≡ true }
     requires most { length words.now ≤ max_pred P }
@@ -37,7 +37,7 @@ fn broken_by<const P: u32>(words: &[Word<P>], arc: Arc) -> Option<Rule>
     }
 }
 
-// The fault that the arc shows.
+// Returns the fault that the arc shows, if any.
 fn fault_by<const P: u32>(words: &[Word<P>], arc: Arc) -> Option<Fault>
     requires layout { is_layout P ≡ true }
     requires most { length words.now ≤ max_pred P }
@@ -54,7 +54,7 @@ fn fault_by<const P: u32>(words: &[Word<P>], arc: Arc) -> Option<Fault>
     }
 }
 
-/// The earliest fault that an arc shows, whatever piece found it.
+/// Returns the earliest fault that an arc shows, independently of how the arcs are split into pieces.
 pub fn first_of_arcs<const P: u32, R: Threads + Sync>(
     rt: &R,
     words: &[Word<P>],

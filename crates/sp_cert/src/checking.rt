@@ -17,7 +17,8 @@ use thiserror::Error;
 /// Why a tree is not certified.
 #[derive(Clone, Copy, Debug, PartialEq, Eq, Error)]
 pub enum CheckError {
-    /// The lowest vertex at which a rule fails, and its lowest such rule. The vertex of the size is 0.
+    /// The lowest vertex at which a rule fails, and the lowest rule that fails there. For the rule of the size the
+    /// vertex is 0.
     #[error("rule {rule} fails at vertex {vertex}")]
     Fault { vertex: u32, rule: Rule },
     /// There was no memory for the words by vertex.
@@ -33,7 +34,7 @@ impl From<AllocError> for CheckError {
     }
 }
 
-// The earliest fault of a tree with as many vertices as the graph.
+// Returns the earliest fault of a tree with as many vertices as the graph.
 #[tactic(auto, using(crate::proofs::Verdict::first_of_tree))]
 fn first_fault<const P: u32, R: Threads + Sync>(
     rt: &R,
@@ -51,10 +52,10 @@ fn first_fault<const P: u32, R: Threads + Sync>(
     Ok(earlier(of_arcs, of_vertices))
 }
 
-/// Whether the tree is the shortest-path tree of its source in the graph, with no vertex that is too far.
+/// Checks whether the tree is the shortest-path tree of its source in the graph, with no vertex that is too far.
 ///
-/// It takes the time of one pass over the arcs and a binary search in one row for each reached vertex, on all
-/// processors, and 8 bytes of memory a vertex. It answers `Memory` only where that memory is refused.
+/// It takes the time of one pass over the arcs and, for each reached vertex, of a binary search in one row, on all
+/// processors. It allocates 8 bytes for each vertex, and returns `Memory` only if that allocation fails.
 #[tactic(auto, using(crate::proofs::Verdict::passes, crate::proofs::Verdict::told, crate::proofs::Verdict::only_memory))]
 pub fn check<const P: u32, R: Threads + Sync>(
     rt: &R,

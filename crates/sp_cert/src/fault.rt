@@ -11,7 +11,7 @@ pub struct Fault {
     pub rule: Rule,
 }
 
-// Whether the second fault comes before the first: by vertex, then by rule.
+// Returns whether the second fault comes before the first: by vertex, then by rule.
 fn comes_later(first: Fault, second: Fault) -> bool
     ensures { result ≡ is_later first second }
 {
@@ -19,7 +19,7 @@ fn comes_later(first: Fault, second: Fault) -> bool
         || (second.vertex == first.vertex && second.rule.number() < first.rule.number())
 }
 
-/// The earlier of two faults, each of which may be missing.
+/// Returns the earlier of two faults, each of which may be missing.
 pub fn earlier(first: Option<Fault>, second: Option<Fault>) -> Option<Fault>
     ensures { result ≡ earlier_of first second }
 {

@@ -1,4 +1,4 @@
-//! A checker of shortest-path trees, whoever made them.
+//! A checker of shortest-path trees, which any program may have made.
 #![tactic(auto)]
 
 mod arcs;

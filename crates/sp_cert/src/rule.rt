@@ -5,7 +5,7 @@ ghost use Rattle.sp_cert.specs.Rules.{number_of};
 
 use std::fmt;
 
-/// A rule of a tree. It displays as its number.
+/// A rule that a tree satisfies. It displays as its number.
 #[derive(Clone, Copy, Debug, PartialEq, Eq)]
 pub enum Rule {
     /// The tree has as many vertices as the graph.
@@ -14,7 +14,7 @@ pub enum Rule {
     OwnSource = 2,
     /// No arc from a reached vertex offers its head a pair within the greatest distance that is less than its word.
     NoLesserOffer = 3,
-    /// A reached vertex other than the source names a reached predecessor, with an arc whose length is the
+    /// A reached vertex other than the source names a reached predecessor, which has an arc to it whose length is the
     /// difference of the two distances.
     NamesPredecessor = 4,
     /// No arc from a reached vertex to an unreached one has a sum beyond the greatest distance.
@@ -22,7 +22,7 @@ pub enum Rule {
 }
 
 impl Rule {
-    /// The number by which the rule is told, from 1.
+    /// Returns the number by which the rule is reported, from 1.
     pub fn number(self) -> u8
         ensures { result ≡ number_of self }
     {

@@ -1,4 +1,4 @@
-//! The faults that vertices show by their own words, looked for in parallel.
+//! Finds, in parallel, the faults that vertices show by their own words.
 ghost use Rattle.std.specs.Prelude.{◌≡◌, ◌≤◌, ◌↔◌, true, length, IsTrue, None};
 ghost use Rattle.sp_word.specs.Word.{is_layout, max_pred};
 ghost use Rattle.sp_paths.specs.Paths.{IsVertex, word_at};
@@ -14,7 +14,7 @@ use sp_paths::Arc;
 use sp_word::Word;
 use std::thread::Threads;
 
-// Whether a row has an arc of this length to `head`, by a binary search.
+// Returns whether a row has an arc of this length to `head`, by binary search.
 fn has_arc(row: &[Arc], head: u32, len: u64) -> bool
     requires { IsRow row.now }
     ensures { IsTrue result ↔ HasArcTo row.now head len }
@@ -23,7 +23,7 @@ fn has_arc(row: &[Arc], head: u32, len: u64) -> bool
         .is_ok()
 }
 
-// Whether `pred` is reached, and has an arc to the vertex that makes its distance `dist`.
+// Returns whether `pred` is reached and has an arc to the vertex that makes its distance `dist`.
 fn is_explained<const P: u32>(
     graph: &Graph,
     words: &[Word<P>],
@@ -44,7 +44,7 @@ fn is_explained<const P: u32>(
     }
 }
 
-// The rule that the vertex breaks by its own word.
+// Returns the rule that the vertex breaks by its own word, if any.
 fn broken_at<const P: u32>(
     graph: &Graph,
     words: &[Word<P>],
@@ -75,7 +75,7 @@ fn broken_at<const P: u32>(
     }
 }
 
-// The fault that the vertex shows.
+// Returns the fault that the vertex shows, if any.
 fn fault_at<const P: u32>(
     graph: &Graph,
     words: &[Word<P>],
@@ -95,7 +95,7 @@ fn fault_at<const P: u32>(
     }
 }
 
-/// The earliest fault that a vertex shows, whatever piece found it.
+/// Returns the earliest fault that a vertex shows, independently of how the vertices are split into pieces.
 pub fn first_of_vertices<const P: u32, R: Threads + Sync>(
     rt: &R,
     graph: &Graph,
