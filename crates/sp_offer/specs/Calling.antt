@@ -1,4 +1,4 @@
--- What a caller has after its calls.
+-- What a caller knows after its calls.
 use Rattle.std.specs.Prelude.{◌≡◌, ℕ, List, [], ◌∷◌, ◌++◌}
 use Rattle.sp_word.specs.Word.{Word}
 use Rattle.sp_word.specs.History.{Event, Offer, Read}
@@ -11,7 +11,7 @@ use Rattle.sp_offer.specs.Rule.{Board}
 abbrev pub IsSameCaller : Knowledge → Knowledge → Type 0
 IsSameCaller before after = (after.table ≡ before.table) × (after.number ≡ before.number)
 
--- the same caller, whose calls stand where they stood
+-- This is the same caller, and its own calls keep their places in the history.
 abbrev pub KeepsPlaces : Knowledge → Knowledge → Type 0
 KeepsPlaces before after =
     (after.table ≡ before.table) × (after.number ≡ before.number) × (after.story.own ≡ before.story.own)
@@ -19,24 +19,24 @@ KeepsPlaces before after =
 abbrev pub HasSameCalls : Knowledge → Knowledge → Type 0
 HasSameCalls before after = own_calls after.story ≡ own_calls before.story
 
--- a second caller of the table has seen what the first has, and has made no calls
+-- A second caller of the table has seen what the first has, and has made no calls.
 abbrev pub IsBeside : Knowledge → Knowledge → Type 0
 IsBeside first second = (second.table ≡ first.table) × (second.story ≡ story_beside first.story)
 
 -- ## One call
 
--- a caller's offer of a word to a vertex, with its answer
+-- A caller offers a word to a vertex, and this is the event with the answer.
 abbrev pub offer_of : {P : ℕ} → Knowledge → ℕ → Word → Offered P → Event
 offer_of caller vertex word answer = event caller.number vertex (Offer word answer.found answer.reply)
 
 abbrev pub read_of : Knowledge → ℕ → Word → Event
 read_of caller vertex word = event caller.number vertex (Read word)
 
--- what the caller knows of the words is what the call tells
+-- What the caller knows about the words follows from the call.
 abbrev pub Tells : Event → Knowledge → Knowledge → Type 0
 Tells call before after = Knows call before.story after.story
 
--- the caller has these own calls more
+-- These calls are added to the caller's own.
 abbrev pub OwnsAll : List Event → Knowledge → Knowledge → Type 0
 OwnsAll calls before after = own_calls after.story ≡ own_calls before.story ++ calls
 
@@ -46,26 +46,26 @@ Owns call before after = OwnsAll (call ∷ []) before after
 -- ## Calls at a table
 
 module _ {L : Type 0} (P : ℕ) (allows : L → ℕ → Word → Type 0) (board : Board L) where
-  -- the caller's history goes on, with this offer at its end
+  -- The caller's history is extended, and this offer is its last event.
   abbrev pub Offers : ℕ → Word → Offered P → Knowledge → Knowledge → Type 0
   Offers vertex word answer before after =
       Calls (lawful P (allows board.law)) (offer_of before vertex word answer) before.story after.story
 
-  -- with this read at its end
+  -- This read is its last event.
   abbrev pub ReadsWord : ℕ → Word → Knowledge → Knowledge → Type 0
   ReadsWord vertex word before after =
       Calls (lawful P (allows board.law)) (read_of before vertex word) before.story after.story
 
-  -- with a read of each vertex, in rising order
+  -- A read of each vertex, in rising order, ends it.
   abbrev pub ReadsWords : List Word → Knowledge → Knowledge → Type 0
   ReadsWords words before after =
       Reads (lawful P (allows board.law)) before.number 1 words before.story after.story
 
-  -- the words are between those that the caller knew and those that it knows
+  -- The words lie between those that the caller knew before and those that it knows after.
   abbrev pub CopiesWords : List Word → Knowledge → Knowledge → Type 0
   CopiesWords words before after = IsCopy (lawful P (allows board.law)) words before.story after.story
 
-  -- the caller has seen what both of two callers had, and knows what either knew
+  -- The caller has seen what both callers had seen, and knows what either knew.
   abbrev pub SeesBoth : (first second after : Knowledge) → Type 0
   SeesBoth first second after =
       Follows (lawful P (allows board.law)) first.story second.story after.story

@@ -24,20 +24,20 @@ module _ {L : Type 0} where
   abbrev pub board_of : Words L → Board L
   board_of words = record { id = id_of words; vertices = vertices_of words; law = law_of words }
 
-  -- the table was told these when it was made
+  -- The table was made with these parameters.
   abbrev pub HasTerms : L → (vertices layout : ℕ) → Words L → Type 0
   HasTerms law vertices layout words =
       words.table.shared.key ≡ record { law = law; vertices = vertices; layout = layout }
 
-  -- the word that bits of the table spell
+  -- This is the word that bits of the table spell.
   abbrev pub word_in : Words L → ℕ → Word
   word_in words bits = word_of (layout_of words) bits
 
   module _ (allows : L → ℕ → Word → Type 0) (words : Words L) where
-    -- the words that the table takes
+    -- These are the words that the table takes.
     abbrev pub law_in : ℕ → Word → Type 0
     law_in = lawful (layout_of words) (allows (law_of words))
 
-    -- the seat's own caller offered a word, and the bits found decided
+    -- The seat's own caller offered a word, and the bits found decided the reply.
     abbrev pub Lowers : {S : Type 0} → (vertex bits found : ℕ) → Seat S Sight → Seat S Sight → Type 0
     Lowers vertex bits found p q = SeatOffers (layout_of words) law_in p.id vertex (word_in words bits) found p q

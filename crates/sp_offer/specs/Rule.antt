@@ -13,8 +13,8 @@ use Rattle.sp_offer.specs.Histories.{blank, event, AreLawful}
 use Rattle.sp_offer.specs.Story.{Story, Knowledge, IsStory, times, once_below, Calls, Looks, Follows}
 use Rattle.sp_offer.specs.Sight.{Sight, newcomer, story}
 
--- There is one legal history, which ends in the words, and whose offers the law allows. Each caller has seen a
--- beginning of it, and each of its calls is one caller's own.
+-- There is one legal history, which ends in the words, and whose offers the law allows. Each caller has seen a prefix
+-- of it, and each of its calls belongs to exactly one caller.
 pub record OneHistory (P : ℕ) (law : ℕ → Word → Type 0) (vertices : ℕ) (words : List ℕ) (views : List Sight) : Type 0 where
   pub log : List Event
   pub wide : length words ≡ vertices
@@ -33,12 +33,12 @@ rule P law vertices s = OneHistory P law vertices s.words s.views
 abbrev pub Hears : Sight → Sight → Type 0
 Hears v w = (w.heard ≡ []) × IsPrefix v.heard w.seen
 
--- an offer, answered by the word found
+-- This is the event of an offer that is answered by the word found.
 abbrev pub answer_event : ℕ → ℕ → Word → Word → Event
 answer_event by vertex word found = event by vertex (Offer word found (reply_to found word))
 
 module _ {S : Type 0} (P : ℕ) (law : ℕ → Word → Type 0) where
-  -- a seat holds no slot, before and after, and the bits found are those of a word
+  -- A seat holds no slot, before and after, and the bits found are those of a word.
   abbrev pub Stays : Me S Sight → Me S Sight → ℕ → Type 0
   Stays m m' found = (m'.1 ≡ m.1) × Hears m.0 m'.0 × (is_word P found ≡ true)
 
@@ -50,14 +50,14 @@ module _ {S : Type 0} (P : ℕ) (law : ℕ → Word → Type 0) where
     was_read st m found m' = Stays m m' found × Calls law (event by (st.word + 1) (Read (word_of P found))) (story m.0) (story m'.0)
 
     module _ (word : Word) where
-      -- a word that is no larger than the one offered ends the call, and another is only seen
+      -- A word that is no larger than the one offered ends the call; any other word is only seen.
       abbrev pub loaded : Step S → Me S Sight → ℕ → Me S Sight → Type 0
       loaded st m found m' =
           Stays m m' found
           × (found ≤ bits_of P word → Calls law (answer_event by (st.word + 1) word (word_of P found)) (story m.0) (story m'.0))
           × (bits_of P word < found → Looks law (st.word + 1) (word_of P found) (story m.0) (story m'.0))
 
-      -- an exchange for a lesser word wins, or loses and decides, or loses and goes on
+      -- An exchange for a lesser word wins, or loses and decides the reply, or loses and the offer continues.
       abbrev pub exchanged : Step S → Me S Sight → ℕ → Me S Sight → Type 0
       exchanged st m found m' =
           Stays m m' found
@@ -70,16 +70,16 @@ module _ {S : Type 0} (P : ℕ) (law : ℕ → Word → Type 0) where
 
 -- ## Seats
 
--- a seat that a caller may rest on: it holds no slot, and has looked at all that it heard
+-- A caller's seat is at rest if it holds no slot and has looked at all that it heard.
 module _ {S : Type 0} where
   abbrev pub IsAtRest : TableId → Seat S Sight → Type 0
   IsAtRest table it = (it.table_id ≡ table) × (it.me.1 ≡ []) × (it.me.0.heard ≡ [])
 
-  -- a seat of the table that holds no slot
+  -- The seat belongs to the table and holds no slot.
   abbrev pub HoldsNoSlot : TableId → Seat S Sight → Type 0
   HoldsNoSlot table it = (it.table_id ≡ table) × (it.me.1 ≡ [])
 
-  -- the table's first seat
+  -- This is the table's first seat.
   abbrev pub IsFirstSeat : TableId → Seat S Sight → Type 0
   IsFirstSeat table it = (it.table_id ≡ table) × (it.me ≡ (newcomer, []))
 
@@ -89,19 +89,19 @@ module _ {S : Type 0} where
   abbrev pub seat_story : Seat S Sight → Story
   seat_story it = story it.me.0
 
-  -- what contracts see of the caller on the seat
+  -- This is what contracts see of the caller on the seat.
   abbrev pub knowledge : Seat S Sight → Knowledge
   knowledge it = record { table = it.table_id; number = it.id; story = seat_story it }
 
-  -- what holds of a caller's seat
+  -- This holds for every caller's seat.
   abbrev pub IsCallersSeat : Seat S Sight → Type 0
   IsCallersSeat it = (it.me.1 ≡ []) × (it.me.0.heard ≡ []) × IsStory (seat_story it)
 
-  -- the same seat, which has seen and done no more
+  -- The seat is the same, and has seen and done nothing more.
   abbrev pub IsAsItWas : Seat S Sight → Seat S Sight → Type 0
   IsAsItWas p q = IsSameSeat p q × (seat_story q ≡ seat_story p)
 
-  -- the places of the seat's own calls
+  -- These are the places of the seat's own calls.
   abbrev pub own_places : Seat S Sight → List ℕ
   own_places it = (seat_story it).own
 
@@ -111,24 +111,24 @@ module _ {S : Type 0} where
   -- ## What a seat is told
 
   module _ (law : ℕ → Word → Type 0) where
-    -- it saw the history so far
+    -- The seat saw the history so far.
     abbrev pub SeatLooks : Seat S Sight → Seat S Sight → Type 0
     SeatLooks p q = (found : Word) × Looks law 1 found (seat_story p) (seat_story q)
 
-    -- afterwards the first has seen what both had
+    -- Afterwards the first seat has seen what both had seen.
     abbrev pub SeatSees : (first second after : Seat S Sight) → Type 0
     SeatSees first second after = Follows law (seat_story first) (seat_story second) (seat_story after)
 
   module _ (P : ℕ) (law : ℕ → Word → Type 0) (by vertex : ℕ) where
-    -- it read these bits
+    -- The seat read these bits.
     abbrev pub SeatReads : (bits : ℕ) → Seat S Sight → Seat S Sight → Type 0
     SeatReads bits p q = Calls law (event by vertex (Read (word_of P bits))) (seat_story p) (seat_story q)
 
-    -- it offered the word, and these bits decided
+    -- The seat offered the word, and these bits decided the reply.
     abbrev pub SeatOffers : Word → (bits : ℕ) → Seat S Sight → Seat S Sight → Type 0
     SeatOffers word bits p q = Calls law (answer_event by vertex word (word_of P bits)) (seat_story p) (seat_story q)
 
--- what contracts see of a table: which it is, how many vertices it has, and its law
+-- What contracts see of a table: which table it is, how many vertices it has, and its law.
 pub record Board (L : Type 0) : Type 0 where
   pub id : TableId
   pub vertices : ℕ

@@ -2,13 +2,13 @@
 ghost use Rattle.std.specs.Prelude.{ℕ};
 ghost use Rattle.sp_word.specs.Word.{Word};
 
-/// A fact about pairs that a table keeps. It has no running call.
+/// A property that every pair in a table has. It exists only in contracts and has no code to call.
 pub trait Lawful {
-    // Of the law, a vertex and a word.
+    // The arguments are the law, a vertex and a word.
     ghost allows: { Self → ℕ → Word → Type 0 };
 }
 
-/// Every pair may be offered to every vertex.
+/// The law that allows every pair for every vertex.
 #[derive(Clone, Copy, Debug)]
 pub struct AnyWord;
 

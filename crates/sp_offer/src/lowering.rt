@@ -9,13 +9,13 @@ use crate::law::Lawful;
 use crate::words::{Place, Words};
 use std::marker::Brand;
 
-/// A way to lower a word, by its bits.
+/// A way to lower a word, given by its bits.
 pub trait Lowering {
-    // Whether it takes one atomic step at most.
+    // Whether it takes at most one atomic step.
     ghost is_one_step: { Bool };
 
-    /// Leaves the lesser of the word of the vertex and the word offered. Answers the word by which that was
-    /// decided, and the number of atomic steps.
+    /// Leaves the lesser of the word of the vertex and the word offered. Returns the word that decided this, and the
+    /// number of atomic steps.
     fn lower<L: Lawful>(words: &Words<L>, seat: &mut Place, vertex: u32, word: u64) -> (u64, u64)
         requires vertex { (0 < vertex) × (vertex ≤ vertices_of words.now) }
         requires seat { IsAtRest (id_of words.now) seat.old }
@@ -27,7 +27,7 @@ pub trait Lowering {
         ensures one { Self.is_one_step ≡ true → result.1 ≡ 1 };
 }
 
-/// A load, and then exchanges until one wins or a word is found that is no larger than the word offered.
+/// Lowers by a load and then exchanges, until one wins or finds a word that is no larger than the word offered.
 pub struct Loop;
 
 impl Lowering for Loop {
@@ -39,7 +39,7 @@ impl Lowering for Loop {
     }
 }
 
-/// One step that leaves the lesser of two words.
+/// Lowers by one step that leaves the lesser of two words.
 pub struct OneMin;
 
 impl Lowering for OneMin {

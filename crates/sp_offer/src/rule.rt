@@ -10,16 +10,16 @@ use crate::view::View;
 use atomic_table::{Join, Play, Split, TableRule};
 use std::marker::{Brand, PhantomData};
 
-/// What a table is told when it is made: its law, the number of its vertices, and the layout of its words.
+/// The parameters of a table: its law, the number of its vertices, and the layout of its words.
 #[derive(Drop)]
 pub struct Terms<L> {
     pub law: L,
     pub vertices: u64,
-    /// The number of bits of a word that are its predecessor.
+    /// The number of bits of a word that hold its predecessor.
     pub layout: u32,
 }
 
-/// One legal history of all calls.
+/// All calls form one legal history.
 pub struct InOneHistory;
 
 impl<L: Lawful> TableRule<(), View, Terms<L>> for InOneHistory {
@@ -28,7 +28,7 @@ impl<L: Lawful> TableRule<(), View, Terms<L>> for InOneHistory {
     ghost first = { λ _. newcomer };
 }
 
-/// What one call asks. The call picks it, for its proof alone.
+/// The parameters of one call. The call chooses them, only for its proof.
 pub trait Asking {
     // The caller's number.
     ghost by: { ℕ };
@@ -53,7 +53,7 @@ impl Asking for Brand {
     ghost word = { Unreached };
 }
 
-/// A load that only sees the history so far.
+/// A load that only looks at the history so far.
 pub struct Meet<J> {
     call: PhantomData<J>,
 }
@@ -71,7 +71,7 @@ impl<J: Asking> Play<(), View> for ReadWord<J> {
     ghost then = { was_read J.layout J.law J.by };
 }
 
-/// The load that begins an offer, and ends it where the word found is no larger.
+/// The load that begins an offer, and ends it if the word found is no larger.
 pub struct FirstLook<J> {
     call: PhantomData<J>,
 }
@@ -98,7 +98,7 @@ impl<J: Asking> Play<(), View> for Lessen<J> {
     ghost then = { lessened J.layout J.law J.by J.word };
 }
 
-/// The first keeps its view, and a second has seen as much.
+/// The first seat keeps its view, and a second one has seen as much.
 pub struct Share;
 
 impl Split<View> for Share {
@@ -107,7 +107,7 @@ impl Split<View> for Share {
     ghost right = { listener };
 }
 
-/// The first takes over the second's calls.
+/// The first seat takes over the second one's calls.
 pub struct TakeOver;
 
 impl Join<View> for TakeOver {

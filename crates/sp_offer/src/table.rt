@@ -12,7 +12,7 @@ use sp_word::{Reply, Word, decide};
 use std::alloc::{AllocError, Global};
 use std::marker::{Brand, Model};
 
-/// A word for each of the vertices 1 to n, which offers lower.
+/// A table with a word for each of the vertices 1 to n. Offers lower the words.
 #[derive(Drop)]
 pub struct OfferTable<L: Lawful, const P: u32> {
     words: Words<L>,
@@ -30,7 +30,7 @@ impl<L: Lawful, const P: u32> Model for OfferTable<L, P> {
     ghost invariant = { λ t. layout_of t.words ≡ P };
 }
 
-/// What one thread knows of a table, and its right to call there. It has no bytes.
+/// What one thread knows about a table, and its right to call there. It takes no bytes.
 #[derive(Drop)]
 pub struct Caller {
     seat: Place,
@@ -47,26 +47,26 @@ impl Model for Caller {
     ghost invariant = { λ c. IsCallersSeat c.seat };
 }
 
-/// There was no memory for a second caller, and the first is as it was.
+/// There was no memory for a second caller. The first is unchanged.
 #[derive(Drop)]
 pub struct SplitRefused {
     /// The caller that was to be split.
     pub caller: Caller,
 }
 
-/// The answer of an offer.
+/// The answer to an offer.
 #[derive(Clone, Copy, Debug, PartialEq, Eq)]
 pub struct Offered<const P: u32> {
     /// What the offer did.
     pub reply: Reply,
-    /// The word by which the reply was decided.
+    /// The word that decided the reply.
     pub found: Word<P>,
-    /// How many atomic steps the call took.
+    /// The number of atomic steps that the call took.
     pub tries: u64,
 }
 
 impl<L: Lawful, const P: u32> OfferTable<L, P> {
-    /// A table whose words are all unreached, and its first caller, which has seen nothing.
+    /// Makes a table whose words are all unreached, with its first caller, which has seen nothing.
     pub fn new(alloc: Global, n: u32, law: L) -> Result<(OfferTable<L, P>, Caller), AllocError>
     where
         L: Drop,
@@ -79,7 +79,7 @@ impl<L: Lawful, const P: u32> OfferTable<L, P> {
         Ok((OfferTable { words }, Caller { seat }))
     }
 
-    /// Leaves the lesser of the word of the vertex and the word offered. It waits for nobody.
+    /// Leaves the lesser of the word of the vertex and the word offered. It doesn't wait for other threads.
     pub fn offer(&self, caller: &mut Caller, vertex: u32, word: Word<P>) -> Offered<P>
         requires vertex { (0 < vertex) × (vertex ≤ self.now.vertices) }
         requires caller { caller.old.table ≡ self.now.id }
@@ -94,7 +94,7 @@ impl<L: Lawful, const P: u32> OfferTable<L, P> {
         self.offer_by::<Loop>(caller, vertex, word)
     }
 
-    /// The same, by a lowering of the caller's choice.
+    /// Makes an offer like `offer`, by a lowering that the caller chooses.
     pub fn offer_by<M: Lowering>(
         &self,
         caller: &mut Caller,
@@ -135,7 +135,7 @@ impl<L: Lawful, const P: u32> OfferTable<L, P> {
         Word::from_bits(self.words.read::<Brand>(&mut caller.seat, vertex))
     }
 
-    /// Copies the words of all vertices, by one read a vertex, in rising order.
+    /// Copies the words of all vertices, by one read of each vertex, in rising order.
     pub fn copy_words(&self, caller: &mut Caller, words: &mut [Word<P>])
         requires caller { caller.old.table ≡ self.now.id }
         requires room { length words.old ≡ self.now.vertices }
@@ -152,7 +152,7 @@ impl<L: Lawful, const P: u32> OfferTable<L, P> {
         }
     }
 
-    // Reads the word of a place, counted from 0, into its copy.
+    // Reads the word at an index, counted from 0, into its copy.
     fn copy_word(&self, caller: &mut Caller, place: usize, copy: &mut Word<P>)
         requires caller { caller.old.table ≡ self.now.id }
         requires place { place < self.now.vertices }
@@ -165,7 +165,8 @@ impl<L: Lawful, const P: u32> OfferTable<L, P> {
         *copy = self.read(caller, place as u32 + 1);
     }
 
-    /// A second caller, which has seen what the first has and made no calls. It takes no memory, and is never refused.
+    /// Makes a second caller, which has seen what the first has and has made no calls. It allocates no memory, and
+    /// never fails.
     pub fn split(&self, caller: Caller) -> Result<(Caller, Caller), SplitRefused>
         requires { caller.table ≡ self.now.id }
         ensures first { IsOkAnd result (λ c. c.0 ≡ caller) }
@@ -176,7 +177,7 @@ impl<L: Lawful, const P: u32> OfferTable<L, P> {
         Ok((Caller { seat }, Caller { seat: second }))
     }
 
-    /// One caller of two: it has seen what both had, and the calls of both are its own.
+    /// Joins two callers into one: it has seen what both had seen, and the calls of both are its own.
     pub fn join(&self, first: Caller, second: Caller) -> Caller
         requires first { first.table ≡ self.now.id }
         requires second { second.table ≡ self.now.id }
@@ -191,7 +192,7 @@ impl<L: Lawful, const P: u32> OfferTable<L, P> {
         Caller { seat }
     }
 
-    /// Afterwards both have seen what both had, and the first's history is a beginning of the second's.
+    /// Lets each caller see what the other has seen. Afterwards the first caller's history is a prefix of the second's.
     pub fn meet(&self, first: &mut Caller, second: &mut Caller)
         requires first { first.old.table ≡ self.now.id }
         requires second { second.old.table ≡ self.now.id }

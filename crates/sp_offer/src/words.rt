@@ -73,7 +73,7 @@ impl<L: Lawful> Words<L> {
         words.load::<ReadWord<J>>(seat, (vertex - 1) as usize)
     }
 
-    // The load that begins an offer.
+    // Makes the load that begins an offer.
     #[tactic(auto, using(crate::proofs::Moves::may_begin))]
     fn first_look<J: Asking>(&self, seat: &mut Place, vertex: u32, word: u64) -> u64
         requires vertex { (0 < vertex) × (vertex ≤ vertices_of self.now) }
@@ -88,7 +88,7 @@ impl<L: Lawful> Words<L> {
         words.load::<FirstLook<J>>(seat, (vertex - 1) as usize)
     }
 
-    // An exchange of the bits held for the lesser bits offered.
+    // Exchanges the bits held for the lesser bits offered.
     #[tactic(auto, using(crate::proofs::Moves::may_exchange))]
     fn exchange<J: Asking>(&self, seat: &mut Place, vertex: u32, held: u64, word: u64) -> u64
         requires vertex { (0 < vertex) × (vertex ≤ vertices_of self.now) }
@@ -104,8 +104,8 @@ impl<L: Lawful> Words<L> {
         words.compare_exchange::<Exchange<J>>(seat, (vertex - 1) as usize, held, word)
     }
 
-    /// A load, and exchanges until one wins or a word is found that is no larger. Answers the word found last and
-    /// the number of steps.
+    /// Loads, then exchanges until one wins or finds a word that is no larger. Returns the word found last and the
+    /// number of steps.
     #[tactic(auto, using(crate::proofs::Exchanges::won_call, crate::proofs::Exchanges::won_tries, crate::proofs::Exchanges::lost_on))]
     pub(crate) fn lower<J: Asking>(&self, seat: &mut Place, vertex: u32, word: u64) -> (u64, u64)
         requires vertex { (0 < vertex) × (vertex ≤ vertices_of self.now) }
@@ -131,7 +131,7 @@ impl<L: Lawful> Words<L> {
         (held, tries)
     }
 
-    /// One step that leaves the lesser of two words. Answers the word before it.
+    /// Leaves the lesser of two words by one step. Returns the word before it.
     pub(crate) fn lessen<J: Asking>(&self, seat: &mut Place, vertex: u32, word: u64) -> u64
         requires vertex { (0 < vertex) × (vertex ≤ vertices_of self.now) }
         requires seat { IsAtRest (id_of self.now) seat.old }
@@ -146,7 +146,7 @@ impl<L: Lawful> Words<L> {
         words.fetch_min::<Lessen<J>>(seat, (vertex - 1) as usize, word)
     }
 
-    /// A second seat, which has seen what the first has.
+    /// Makes a second seat, which has seen what the first has.
     #[tactic(auto, using(crate::proofs::Moves::splits))]
     pub(crate) fn split(&self, seat: &mut Place) -> Place
         requires { IsAtRest (id_of self.now) seat.old }
@@ -156,7 +156,7 @@ impl<L: Lawful> Words<L> {
         self.table.shared.split_seat::<Share>(seat)
     }
 
-    // One load, by which the seat sees the history so far.
+    // Makes one load, by which the seat sees the history so far.
     fn look<J: Asking>(&self, seat: &mut Place)
         requires seat { HoldsNoSlot (id_of self.now) seat.old }
         requires layout { J.layout ≡ layout_of self.now }
@@ -191,7 +191,7 @@ impl<L: Lawful> Words<L> {
         self.look::<Brand>(seat);
     }
 
-    /// The first sees what the second has seen, too.
+    /// The first seat also sees what the second has seen.
     pub(crate) fn hear(&self, first: &mut Place, second: &mut Place)
         requires first { IsAtRest (id_of self.now) first.old }
         requires second { IsAtRest (id_of self.now) second.old }
@@ -203,7 +203,7 @@ impl<L: Lawful> Words<L> {
         let echo = self.split(second);
         self.take_over(first, echo);
     }
-    /// Both see what both have seen, and the first's history is a beginning of the second's.
+    /// Both seats see what both have seen, and the first one's history is a prefix of the second's.
     pub(crate) fn meet(&self, first: &mut Place, second: &mut Place)
         requires first { IsAtRest (id_of self.now) first.old }
         requires second { IsAtRest (id_of self.now) second.old }

@@ -12,7 +12,7 @@ pub record IsAllowed (format : Format) (ranges : Ranges) (problem : List ℕ) (i
   pub full : length item.numbers ≡ length item.form.fields
   pub in_range : first_out ranges problem item.form.fields item.numbers ≡ None
 
--- All numbers are in their ranges, as many items stand as are needed, and no more than a group may have.
+-- All numbers are in their ranges, there are as many items as are needed, and no group has more than its limit.
 pub record IsAccepted (format : Format) (ranges : Ranges) (problem : List ℕ) (items : List Item) : Type 0 where
   pub full : length problem ≡ length format.problem.fields
   pub in_range : first_out ranges [] format.problem.fields problem ≡ None

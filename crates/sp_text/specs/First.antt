@@ -1,4 +1,4 @@
--- The first fault of a text, whatever its line forms are.
+-- The first fault of a text, for any line forms.
 use Rattle.std.specs.Prelude.{◌≢◌, ℕ, ◌+◌, Bool, true, false, List, [], ◌∷◌, ◌++◌, length, nat_lt, if◌then◌else◌, Option, Some, None}
 use Rattle.sp_text.specs.declared.faults.Kind.{Kind}
 use Rattle.sp_text.specs.declared.faults.Kind.TheVariants.{LongLine, TooMany, TooFew, Read}
@@ -6,9 +6,9 @@ use Rattle.sp_text.specs.declared.faults.DimacsError.{DimacsError}
 use Rattle.sp_text.specs.declared.rooms.TheConstants.{LONGEST_LINE}
 use Rattle.sp_text.specs.Lines.{ended, rest, lines}
 
--- A file's rules: whether nothing may stand behind some lines, the fault of a line by the lines before it,
--- which have none, what is missing where the lines end, whether a line is an item line, whose value takes
--- room, and whether each line needs its LF, also the last.
+-- The rules of a file: whether no line may follow some lines; the fault of a line, given the lines before it, which
+-- have none; what is missing where the lines end; whether a line is an item line, whose value needs memory; and whether
+-- each line, including the last, needs its LF.
 pub record Judge : Type 0 where
   pub closed : List (List ℕ) → Bool
   pub fault : List (List ℕ) → List ℕ → Option Kind
@@ -33,14 +33,14 @@ abbrev pub or_kind : Option Kind → Option Kind → Option Kind
 or_kind None later = later
 or_kind (Some kind) later = Some kind
 
--- What a line shows by its bytes alone: it should not be there, or there are too many.
+-- The bytes of a line alone show that it shouldn't be there, or that it has too many bytes.
 abbrev pub size_fault : Judge → List (List ℕ) → List ℕ → Option Kind
 size_fault judge before line = if judge.closed before then Some TooMany else (if nat_lt LONGEST_LINE (length line) then Some LongLine else None)
 
 abbrev pub line_fault : Judge → List (List ℕ) → List ℕ → Option Kind
 line_fault judge before line = or_kind (size_fault judge before line) (judge.fault before line)
 
--- The first of these lines, which stand after `before`, that has a fault.
+-- This is the first fault of these lines, which come after `before`.
 unfoldable pub first_after : Judge → List (List ℕ) → List (List ℕ) → Option DimacsError
 first_after judge before [] = None
 first_after judge before (line ∷ more) = or_at (length before + 1) (line_fault judge before line) (first_after judge (before ++ line ∷ []) more)
@@ -48,7 +48,7 @@ first_after judge before (line ∷ more) = or_at (length before + 1) (line_fault
 abbrev pub first_fault : Judge → List (List ℕ) → Option DimacsError
 first_fault judge all = first_after judge [] all
 
--- The text may go on: a line whose LF came has a fault, or what came of the next one shows it.
+-- The text may continue: a line whose LF came has a fault, or the part that came of the next one shows a fault.
 abbrev pub rest_fault : Judge → List (List ℕ) → List ℕ → Option Kind
 rest_fault judge before [] = None
 rest_fault judge before (b ∷ bytes) = size_fault judge before (b ∷ bytes)
@@ -56,11 +56,11 @@ rest_fault judge before (b ∷ bytes) = size_fault judge before (b ∷ bytes)
 unfoldable pub fault_so_far : Judge → List ℕ → Option DimacsError
 fault_so_far judge text = or_else (first_fault judge (ended text)) (or_at (length (ended text) + 1) (rest_fault judge (ended text) (rest text)) None)
 
--- The device failed after this text: a fault that came earlier, or Read at the line that was being read.
+-- The device failed after this text: the fault is one that came earlier, or Read at the line that was being read.
 unfoldable pub fault_at_failure : Judge → List ℕ → Option DimacsError
 fault_at_failure judge text = or_else (fault_so_far judge text) (or_at (length (ended text) + 1) (Some Read) None)
 
--- The text has ended within a line: a fault that came earlier, or TooFew at that line.
+-- The text has ended within a line: the fault is one that came earlier, or TooFew at that line.
 abbrev pub cut_short : List ℕ → Option Kind
 cut_short [] = None
 cut_short (b ∷ bytes) = Some TooFew

@@ -8,8 +8,8 @@ use Rattle.sp_word.specs.Word.{max_dist, max_pred}
 use Rattle.sp_text.specs.declared.formats.Ranges.{Ranges}
 use Rattle.sp_text.specs.Lines.{fields_from}
 
--- Its words, and then a number for each field. Lines of forms of one group are counted together, up to
--- the limit. Where a form is fresh, its first number stands in no earlier line of the form.
+-- A line form has its words, and then a number for each field. Lines of forms of one group are counted together, up to
+-- the limit. If a form is fresh, the first number of a line occurs in no earlier line of that form.
 pub record LineForm : Type 0 where
   pub words : List (List ℕ)
   pub fields : List Field
@@ -17,13 +17,13 @@ pub record LineForm : Type 0 where
   pub group : ℕ
   pub limit : Top
 
--- The problem line, and the other lines. As many lines of group 0 have to stand as `needed` says.
+-- A format has the problem line and the other lines. There must be as many lines of group 0 as `needed` says.
 pub record Format : Type 0 where
   pub problem : LineForm
   pub items : List LineForm
   pub needed : Top
 
--- what the program's data say
+-- This is the form that the program's data describe.
 abbrev pub form_of : Form → LineForm
 form_of f = record { words = fields_from [] f.words.now; fields = f.fields.now; fresh = f.fresh; group = f.group; limit = f.limit }
 
@@ -33,7 +33,7 @@ format_of l = record { problem = form_of l.problem; items = map form_of l.items.
 abbrev pub field : ℕ → ℕ → Top → Field
 field letter least most = record { letter = letter; least = least; most = most }
 
--- The places of the fresh forms, from `k` on.
+-- These are the indices of the fresh forms, from `k` on.
 abbrev pub fresh_after : ℕ → List LineForm → List ℕ
 fresh_after k [] = []
 fresh_after k (form ∷ forms) = if form.fresh then k ∷ fresh_after (k + 1) forms else fresh_after (k + 1) forms
@@ -42,11 +42,11 @@ abbrev pub IsOneOf : ℕ → List ℕ → Type 0
 IsOneOf n [] = ⊥
 IsOneOf n (k ∷ ks) = (n ≡ k) ⊎ IsOneOf n ks
 
--- The form at this place is fresh.
+-- The form at this index is fresh.
 abbrev pub IsFreshPlace : Format → ℕ → Type 0
 IsFreshPlace format place = IsOneOf place (fresh_after 0 format.items)
 
--- The engine has room for its lines: at most four numbers, and three groups.
+-- The engine has room for lines of this form: at most four numbers, and three groups.
 pub record IsSmallForm (f : Form) : Type 0 where
   pub numbers : length f.fields.now ≤ 4
   pub group : f.group < 3
@@ -55,6 +55,6 @@ pub record IsSmall (l : FileFormat) : Type 0 where
   pub problem : IsSmallForm l.problem
   pub items : (k : ℕ) (d : Form) → k < length l.items.now → IsSmallForm (slice_index_or l.items.now k d)
 
--- the limits of words with P bits for the predecessor
+-- These are the limits of words with P bits for the predecessor.
 abbrev pub ranges_of : ℕ → Ranges
 ranges_of P = record { vertex = max_pred P; dist = max_dist P }

@@ -14,19 +14,19 @@ use Rattle.sp_text.specs.declared.reading.Found.TheVariants as founds
 use Rattle.sp_text.specs.Formats.{Format, form_of, IsSmallForm}
 use Rattle.sp_text.specs.Text.{Reading, Comment, Bad, IsProblem, IsItem, Item, with_number, numbers, behind_words, top, first_out, first_letter}
 
--- Of numbers of which the one with this letter is out of its range, these stand in front of it.
+-- The number with this letter is out of its range, and these numbers come before it.
 abbrev pub IsFront : List Field → List ℕ → ℕ → List ℕ → Type 0
 IsFront ds ns letter [] = first_letter ds ≡ Some letter
 IsFront ds ns letter (n ∷ part) = slice_index ns 0 ≡ n
 
--- `found` are the numbers that fields spell, if they do.
+-- `found` holds the numbers that the fields spell, if they spell any.
 abbrev pub Spells : Ranges → List ℕ → List Field → Option (List ℕ) → List ℕ → List ℕ → Spelled → Type 0
 Spells ranges ps ds found old new No = found ≡ None
 Spells ranges ps ds found old new (Out letter) = (ns part : List ℕ) × (found ≡ Some ns) × (first_out ranges ps ds ns ≡ Some letter) × (new ≡ old ++ part) × IsFront ds ns letter part
 Spells ranges ps ds found old new Within = (ns : List ℕ) × (found ≡ Some ns) × (first_out ranges ps ds ns ≡ None) × (new ≡ old ++ ns)
 
--- The first number is this one, and in its range, and the rest of the line spells the others; or the line does
--- not spell such numbers; or it does, and the first is out of its range.
+-- The first number is this one, it is in its range, and the rest of the line spells the others; or the line doesn't
+-- spell such numbers; or it does, and the first is out of its range.
 abbrev pub NumberTaken : Ranges → List ℕ → Field → List Field → Option (List ℕ) → Result (ℕ × Bor (List ℕ)) Spelled → Type 0
 NumberTaken ranges ps d ds found (Ok (n, rest)) = (found ≡ with_number n (numbers ds (fields_from [] rest.now))) × ((nat_le d.least n && nat_le n (top ranges ps d.most)) ≡ true)
 NumberTaken ranges ps d ds found (Err No) = found ≡ None
@@ -37,12 +37,12 @@ abbrev pub Are : Ranges → List ℕ → List Field → List ℕ → Numbers →
 Are ranges ps ds ns (lists.Out letter values) = (first_out ranges ps ds ns ≡ Some letter) × IsFront ds ns letter values
 Are ranges ps ds ns (lists.Within values) = (first_out ranges ps ds ns ≡ None) × (values ≡ ns)
 
--- the numbers that were read
+-- These are the numbers that were read.
 abbrev pub front_of : Numbers → List ℕ
 front_of (lists.Out letter values) = values
 front_of (lists.Within values) = values
 
--- the letter of the first one that is out of its range
+-- This is the letter of the first number that is out of its range.
 abbrev pub letter_of : Numbers → Option ℕ
 letter_of (lists.Out letter values) = Some letter
 letter_of (lists.Within values) = None
@@ -55,11 +55,11 @@ Matched ranges ps ds found (Some numbers) = (ns : List ℕ) × (found ≡ Some n
 abbrev pub StandsApart : List ℕ → Type 0
 StandsApart text = 0 < length text → is_blank (slice_index text 0) ≡ true
 
--- The words are a letter, which the line begins with, and this is the rest of it.
+-- The words are a single letter, the line begins with it, and this is the rest of the line.
 abbrev pub IsLetter : List ℕ → List ℕ → List ℕ → Type 0
 IsLetter words line rest = StandsApart rest → (ds : List Field) → behind_words (fields_from [] words) ds (fields_from [] line) ≡ numbers ds (fields_from [] rest)
 
--- The text stands apart, and spells these numbers, which are in their ranges.
+-- The text begins with a blank or is empty, and it spells these numbers, which are in their ranges.
 pub record AreSpaced (ranges : Ranges) (ps : List ℕ) (ds : List Field) (text ns : List ℕ) : Type 0 where
   pub apart : StandsApart text
   pub spelled : numbers ds (fields_from [] text) ≡ Some ns
@@ -71,6 +71,6 @@ IsFound format ranges ps reading founds.Bad = reading ≡ Bad
 IsFound format ranges ps reading (founds.Problem numbers) = (ns : List ℕ) × (reading ≡ IsProblem ns) × Are ranges [] format.problem.fields ns numbers
 IsFound format ranges ps reading (founds.Item place form numbers) = (item : Item) × (reading ≡ IsItem item) × (item.kind ≡ place) × (slice_get format.items place ≡ Some item.form) × (item.form ≡ form_of form.now) × IsSmallForm form.now × Are ranges ps item.form.fields item.numbers numbers
 
--- An item of the form at this place, with these numbers, which are in their ranges.
+-- This is an item of the form at this index with these numbers, which are in their ranges.
 abbrev pub IsUsualItem : Format → Ranges → List ℕ → Reading → ℕ × Bor Form × List ℕ → Type 0
 IsUsualItem format ranges ps reading (place, form, ns) = IsFound format ranges ps reading (founds.Item place form (lists.Within ns))

@@ -1,4 +1,4 @@
--- The fault of a device is told of no line of a format.
+-- No line of a format is reported with the fault of a device.
 use Rattle.std.proofs.Common.{◌≢◌, ℕ, Bool, true, false, cond, List, [], Option, Some, None}
 use Rattle.std.specs.Prelude.{nat_lt, nat_le}
 use Rattle.sp_text.specs.declared.faults.Kind.{Kind}

@@ -1,4 +1,4 @@
--- What a text spells, and its first fault, on the whole list of its lines.
+-- What a text spells, and its first fault, defined on the whole list of its lines.
 use Rattle.std.specs.Prelude.{◌≡◌, ℕ, ◌+◌, Bool, true, false, ◌&&◌, List, [], ◌∷◌, slice_index, nat_le, nat_lt, ◌==◌, if◌then◌else◌, Option, Some, None}
 use Rattle.std.specs.List.{list_any, count_by}
 use Rattle.sp_text.specs.declared.faults.Kind.{Kind}
@@ -19,7 +19,7 @@ is_word [] (c ∷ field) = false
 is_word (b ∷ word) [] = false
 is_word (b ∷ word) (c ∷ field) = (b == c) && is_word word field
 
--- Either no fields, or the first is `c`.
+-- There are no fields, or the first one is `c`.
 abbrev pub is_comment : List (List ℕ) → Bool
 is_comment [] = true
 is_comment (field ∷ more) = is_word (99 ∷ []) field
@@ -28,7 +28,7 @@ abbrev pub with_number : ℕ → Option (List ℕ) → Option (List ℕ)
 with_number n None = None
 with_number n (Some ns) = Some (n ∷ ns)
 
--- The fields are numbers, one for each of these: the numbers.
+-- The fields are numbers, one for each of these, and this is the list of them.
 abbrev pub numbers : List Field → List (List ℕ) → Option (List ℕ)
 numbers [] [] = Some []
 numbers [] (field ∷ more) = None
@@ -41,11 +41,11 @@ behind_words [] ds line = numbers ds line
 behind_words (word ∷ words) ds [] = None
 behind_words (word ∷ words) ds (field ∷ more) = if is_word word field then behind_words words ds more else None
 
--- The numbers of a line of this form.
+-- These are the numbers of a line of this form.
 unfoldable pub of_form : LineForm → List (List ℕ) → Option (List ℕ)
 of_form form line = behind_words form.words form.fields line
 
--- An item line: which form it has, by its place among the forms, and its numbers.
+-- An item line has a form, given by its index among the forms, and numbers.
 pub record Item : Type 0 where
   pub kind : ℕ
   pub form : LineForm
@@ -69,7 +69,7 @@ abbrev pub problem_or : Option (List ℕ) → Reading → Reading
 problem_or None other = other
 problem_or (Some ns) other = IsProblem ns
 
--- What the fields of a line are.
+-- This is what the fields of a line are.
 unfoldable pub reading_of : Format → List (List ℕ) → Reading
 reading_of format line = if is_comment line then Comment else problem_or (of_form format.problem line) (item_reading 0 format.items line)
 
@@ -100,14 +100,14 @@ items_of format (line ∷ more) = items_first (reading format line) (items_of fo
 
 -- 3. The fault of a line, by the lines before it.
 
--- The greatest value that is allowed. `ps` are the numbers of the problem line.
+-- This is the greatest value that is allowed. `ps` are the numbers of the problem line.
 abbrev pub top : Ranges → List ℕ → Top → ℕ
 top ranges ps (Number n) = n
 top ranges ps Vertex = ranges.vertex
 top ranges ps Dist = ranges.dist
 top ranges ps (Problem k) = slice_index ps k
 
--- The letter of the leftmost number that is out of its range.
+-- This is the letter of the leftmost number that is out of its range.
 abbrev pub first_out : Ranges → List ℕ → List Field → List ℕ → Option ℕ
 first_out ranges ps [] ns = None
 first_out ranges ps (d ∷ ds) [] = None
@@ -121,8 +121,7 @@ abbrev pub first_letter : List Field → Option ℕ
 first_letter [] = None
 first_letter (d ∷ ds) = Some d.letter
 
--- Whether an earlier item of the form at this place has this first number. In a fresh form such a number is
--- out of its range.
+-- An earlier item of the form at this index has this first number. In a fresh form such a number is out of its range.
 abbrev pub is_named : ℕ → ℕ → List Item → Bool
 is_named place first before = list_any (λ item. (item.kind == place) && (slice_index item.numbers 0 == first)) before
 
@@ -133,7 +132,7 @@ abbrev pub letter_or : Option ℕ → Option ℕ → Option ℕ
 letter_or None later = later
 letter_or (Some letter) later = Some letter
 
--- The letter of the leftmost number that was named before or is out of its range.
+-- This is the letter of the leftmost number that was named before or is out of its range.
 abbrev pub item_out : Ranges → List ℕ → List Item → Item → Option ℕ
 item_out ranges ps before item = letter_or (named_at item.form item.kind (slice_index item.numbers 0) before) (first_out ranges ps item.form.fields item.numbers)
 
@@ -180,7 +179,7 @@ is_item_reading Bad = false
 is_item_reading (IsProblem ns) = false
 is_item_reading (IsItem item) = true
 
--- Whether a line is an item line.
+-- The line is an item line.
 unfoldable pub is_item_line : Format → List ℕ → Bool
 is_item_line format line = is_item_reading (reading format line)
 

@@ -6,8 +6,8 @@ use Rattle.sp_text.specs.Lines.{lines}
 use Rattle.sp_text.specs.First.{Judge, fault_at_failure, fault_at_end}
 use Rattle.sp_text.specs.Feeding.{IsToldOf, Refused}
 
--- Of the whole text a beginning was read, and the rest is left. All of it was read, and the value is what its
--- lines spell, or the fault is its first one; or what was read shows the fault; or the device has failed.
+-- A part of the whole text was read, and the rest is left. Either all of it was read, and the value is what its lines
+-- spell, or the fault is its first one; or the part that was read shows the fault; or the device has failed.
 abbrev pub AllRead : {V : Type 0} → Judge → (List (List ℕ) → V → Type 0) → List ℕ → Option (List ℕ) → Bool → Result V DimacsError → Type 0
 AllRead judge Spelled text left has_failed (Ok value) = (left ≡ Some []) × (fault_at_end judge text ≡ None) × Spelled (lines text) value
 AllRead judge Spelled text left has_failed (Err e) = (front more : List ℕ) × (text ≡ front ++ more) × (left ≡ Some more) ×
@@ -17,7 +17,7 @@ AllRead judge Spelled text left has_failed (Err e) = (front more : List ℕ) × 
 abbrev pub IsSpelled : {V : Type 0} → Judge → (List (List ℕ) → V → Type 0) → V → Type 0
 IsSpelled judge Spelled value = (text : List ℕ) × (fault_at_end judge text ≡ None) × Spelled (lines text) value
 
--- The same where the bytes of the device are perhaps not known: this text came from it.
+-- This says the same where the bytes of the device may be unknown: this text came from it.
 abbrev pub ReadOn : {V : Type 0} → Judge → (List (List ℕ) → V → Type 0) → Option (List ℕ) → Option (List ℕ) → Bool → Result V DimacsError → Type 0
 ReadOn judge Spelled old new has_failed (Ok value) = (text : List ℕ) × Consumes old new text × IsAtEnd new × (fault_at_end judge text ≡ None) × Spelled (lines text) value
 ReadOn judge Spelled old new has_failed (Err e) = (front : List ℕ) × Consumes old new front ×

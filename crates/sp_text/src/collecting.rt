@@ -1,4 +1,4 @@
-//! The lines of a file, taken one after the other.
+//! The lines of a file, taken one after another.
 ghost use Rattle.std.specs.Prelude.{◌≡◌, ℕ, ◌<◌, List, [], ◌∷◌, ◌++◌, length, slice_get, OnOk, IfSome, Option, Some, None, true, false};
 ghost use Rattle.sp_text.specs.declared.formats.Ranges.{Ranges};
 ghost use Rattle.sp_text.specs.Formats.{Format, format_of, IsSmall, IsSmallForm, IsFreshPlace, form_of};
@@ -17,15 +17,15 @@ use crate::reading::{Found, read_line, usual_item};
 use crate::rooms::Values;
 use std::alloc::AllocError;
 
-/// What becomes of the items of a file.
+/// Says what is done with the items of a file.
 pub trait Keep {
-    /// What a text spells.
+    /// The value that a text spells.
     type Value;
 
     /// The line forms of the file.
     ghost format: { Format };
 
-    /// The limits of the words that the file is read for.
+    /// The limits of the words for which the file is read.
     ghost ranges: { Ranges };
 
     /// These items were kept.
@@ -34,28 +34,28 @@ pub trait Keep {
     /// The numbers of the problem line and the items spell this value.
     ghost Spelled: { List ℕ → List Item → Self.Value → Type 0 };
 
-    /// The line forms of the file.
+    /// Returns the line forms of the file.
     fn format(&self) -> FileFormat
         ensures format { format_of result ≡ format }
         ensures small { IsSmall result };
 
-    /// The limits of the words that the file is read for.
+    /// Returns the limits of the words for which the file is read.
     fn ranges(&self) -> Ranges
         ensures { result ≡ ranges };
 
-    /// Keeps an item whose numbers are in range. Where memory is refused, nothing is promised of the items.
+    /// Keeps an item whose numbers are in range. If there is no memory, the contract promises nothing about the items.
     fn keep(&mut self, place: usize, values: &Values) -> Result<(), AllocError>
         requires { CanKeep format ranges place values.now }
         ensures { (before : List Item) (item : Item) → Kept self.old before → item.kind ≡ place
             → item.numbers ≡ values.now → OnOk result (Kept self.new (before ++ item ∷ [])) };
 
-    /// Whether an item of this fresh form with this first number was kept.
+    /// Returns whether an item of this fresh form with this first number was kept.
     fn is_named(&self, place: usize, first: u64) -> bool
         requires { IsFreshPlace format place }
         ensures { (before : List Item) → Kept self.now before
             → result ≡ is_named place first before };
 
-    /// The value of the items, behind a problem line whose numbers are in range; then it begins again.
+    /// Returns the value of the items after a problem line whose numbers are in range, and begins again.
     fn give(&mut self, problem: &Values) -> Self::Value
         requires { first_out ranges [] format.problem.fields problem.now ≡ None }
         ensures { (all : List Item) → Kept self.old all
@@ -81,7 +81,7 @@ fn first_letter(fields: &[Field]) -> Option<u8>
     }
 }
 
-// The letter of the first field, where the form is fresh and its number was named before.
+// Returns the letter of the first field if the form is fresh and its number was named before.
 fn named_letter<K: Keep>(keep: &K, place: usize, form: &Form, first: u64) -> Option<u8>
     requires { form.now.fresh ≡ true → IsFreshPlace K.format place }
     ensures { (before : List Item) → K.Kept keep.now before
@@ -94,7 +94,7 @@ fn named_letter<K: Keep>(keep: &K, place: usize, form: &Form, first: u64) -> Opt
 }
 
 impl<K: Keep> Collector<K> {
-    /// Takes the lines of a text from the first on.
+    /// Returns a collector that takes the lines of a text from the first on.
     pub fn new(keep: K) -> Self
         requires { K.Kept keep [] }
         ensures { ⟦<Collector<K> as LineTaker>⟧.After result [] }
@@ -106,7 +106,8 @@ impl<K: Keep> Collector<K> {
         }
     }
 
-    // The form of a line, its place and the numbers, behind a problem line, if they stand there in the usual way.
+    // Returns the form of a line after the problem line, with its index and its numbers, if they are in the usual
+    // spelling.
     #[inline(always)]
     fn usual_item(&self, line: &[u8]) -> Option<(usize, &'static Form, Values)>
         ensures { IfSome result

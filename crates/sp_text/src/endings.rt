@@ -7,10 +7,10 @@ use memchr::memchr;
 use std::simd::prelude::*;
 use std::simd::u8x32;
 
-// As many bytes are searched at once.
+// This many bytes are searched at once.
 const FRONT: usize = 32;
 
-// Where the first LF stands.
+// Returns the position of the first LF.
 #[inline(always)]
 fn first_lf(bytes: &[u8]) -> Option<usize>
     ensures { IsFirstByte (is_byte 10) bytes.now result }
@@ -25,7 +25,7 @@ fn first_lf(bytes: &[u8]) -> Option<usize>
     memchr(b'\n', bytes)
 }
 
-/// The bytes in front of the first LF, and those behind it.
+/// Returns the bytes before the first LF, and those after it.
 #[inline(always)]
 pub fn cut_line(bytes: &[u8]) -> Option<(&[u8], &[u8])>
     ensures { MatchOption result (HasNoLf bytes.now) (λ x. IsFirstLine bytes.now x.0.now x.1.now) }

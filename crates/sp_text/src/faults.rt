@@ -1,31 +1,31 @@
-//! What can be wrong with a text.
+//! The faults of a text.
 use thiserror::Error;
 
-/// What is wrong with a line. Within one line the lowest number is told.
+/// The fault of a line. Of several faults of one line, the one with the lowest number is reported.
 #[derive(Clone, Copy, Debug, PartialEq, Eq, Error)]
 pub enum Kind {
     /// The line has more bytes than a line may have.
     #[error("1 LongLine")]
     LongLine,
-    /// Neither a comment nor a line of the file's forms.
+    /// The line is neither a comment nor a line of one of the file's forms.
     #[error("2 BadLine")]
     BadLine,
     /// A line stands before the problem line, or there is none.
     #[error("3 NoProblem")]
     NoProblem,
-    /// A second problem line.
+    /// The line is a second problem line.
     #[error("4 SecondProblem")]
     SecondProblem,
     /// The number of the field with this letter is out of its range.
     #[error("5 OutOfRange {}", char::from(*.0))]
     OutOfRange(u8),
-    /// More lines than may stand.
+    /// There are more lines than are allowed.
     #[error("6 TooMany")]
     TooMany,
-    /// Fewer lines than were announced.
+    /// There are fewer lines than were announced.
     #[error("7 TooFew")]
     TooFew,
-    /// A growth was refused: the value of this line found no room.
+    /// An allocation failed: there was no memory for the value of this line.
     #[error("8 Memory")]
     Memory,
     /// The device failed.
@@ -37,7 +37,7 @@ pub enum Kind {
 #[derive(Clone, Copy, Debug, PartialEq, Eq, Error)]
 #[error("line {line}: {kind}")]
 pub struct DimacsError {
-    /// The line, from 1 on.
+    /// The number of the line, from 1.
     pub line: u64,
     pub kind: Kind,
 }

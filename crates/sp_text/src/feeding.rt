@@ -1,4 +1,4 @@
-//! A reader that is fed a text in pieces, whatever its line forms are.
+//! A reader that is fed a text in pieces, for any line forms.
 ghost use Rattle.std.specs.Prelude.{◌≡◌, ◌+◌, ◌-◌, ◌^◌, ◌<◌, ◌≤◌, ◌++◌, ◌∷◌, [], ℕ, List, length, min, Ok, Err, Some, None, false, IfOk, IfErr};
 ghost use Rattle.sp_text.specs.declared.faults.DimacsError.{DimacsError};
 ghost use Rattle.sp_text.specs.Lines.{ended};
@@ -11,9 +11,9 @@ use crate::faults::{DimacsError, Kind};
 use crate::rooms::{LONGEST_LINE, Room};
 use std::mem;
 
-/// Takes the lines of a text, one after the other, while none has a fault.
+/// Takes the lines of a text one after another, as long as none has a fault.
 pub trait LineTaker {
-    /// What a text spells.
+    /// The value that a text spells.
     type Value;
 
     /// The rules of the file.
@@ -25,20 +25,20 @@ pub trait LineTaker {
     /// The lines spell this value.
     ghost Spelled: { List (List ℕ) → Self.Value → Type 0 };
 
-    /// Whether nothing may stand behind the lines so far.
+    /// Returns whether no line may follow those so far.
     fn is_closed(&self) -> bool
         ensures { (before : List (List ℕ)) → After self.now before → result ≡ rules.closed before };
 
-    /// Whether each line needs its LF, also the last.
+    /// Returns whether each line, including the last, needs its LF.
     fn needs_lf(&self) -> bool
         ensures { result ≡ rules.needs_lf };
 
-    /// Takes the next line, or tells its fault. After a fault nothing is promised of the state.
+    /// Takes the next line, or returns its fault. After a fault the contract promises nothing about the state.
     fn take_line(&mut self, line: &[u8]) -> Result<(), Kind>
         ensures { (before : List (List ℕ)) → After self.old before
             → Takes rules After before line.now result self.new };
 
-    /// The lines have ended. Where nothing is missing, it gives the value and begins again.
+    /// Ends the lines. If nothing is missing, it returns the value and begins again.
     fn end(&mut self) -> Result<Self::Value, Kind>
         ensures { (all : List (List ℕ)) → After self.old all
             → Ends rules After Spelled all result self.new };
@@ -47,8 +47,8 @@ pub trait LineTaker {
     ghost silent: { IsSilent rules };
 }
 
-/// A reader that is fed a text in pieces, and gives what the text spells, or its first fault. After a
-/// fault it answers the same fault for ever.
+/// A reader that is fed a text in pieces, and returns what the text spells, or its first fault. After a fault every
+/// call returns the same fault.
 #[derive(Drop)]
 pub struct Feeder<T> {
     taker: T,
@@ -58,7 +58,7 @@ pub struct Feeder<T> {
 }
 
 impl<T: LineTaker> Feeder<T> {
-    /// A reader behind no text.
+    /// Returns a reader that has read no text.
     pub fn new(taker: T) -> Self
         requires { T.After taker [] }
         ensures { IsBehind T.rules T.After [] result }
@@ -71,7 +71,7 @@ impl<T: LineTaker> Feeder<T> {
         }
     }
 
-    // The line being read has this fault.
+    // Refuses the text: the line being read has this fault.
     fn refuse(&mut self, kind: Kind) -> DimacsError
         ensures line { result
             ≡ record { line = min (self.old.ends + 1) (2 ^ 64 - 1); kind = kind } }
@@ -85,7 +85,7 @@ impl<T: LineTaker> Feeder<T> {
         error
     }
 
-    // The line that is being read ends, and has these bytes.
+    // Ends the line that is being read, which has these bytes.
     #[inline(always)]
     fn end_line(&mut self, line: &[u8]) -> Result<(), DimacsError>
         ensures { (text : List ℕ) → length text ≤ 2 ^ 62 → T.rules.closed (ended text) ≡ false
@@ -102,7 +102,7 @@ impl<T: LineTaker> Feeder<T> {
         }
     }
 
-    // The line that is being read ends.
+    // Ends the line that is being read.
     #[inline(never)]
     fn end_room(&mut self) -> Result<(), DimacsError>
         ensures { (text : List ℕ) → length text ≤ 2 ^ 62 → T.rules.closed (ended text) ≡ false
@@ -145,7 +145,7 @@ impl<T: LineTaker> Feeder<T> {
         self.end_line(bytes)
     }
 
-    // Takes the bytes up to the next LF with it, or all of them, and answers what stands behind.
+    // Takes the bytes up to and including the next LF, or all of them, and returns the bytes after them.
     #[inline(always)]
     fn take_run<'a>(&mut self, bytes: &'a [u8]) -> Result<&'a [u8], DimacsError>
         requires { 0 < length bytes.now }
@@ -170,7 +170,7 @@ impl<T: LineTaker> Feeder<T> {
         Ok(more)
     }
 
-    /// Takes the next piece of the text. After a refusal it answers the same again.
+    /// Takes the next piece of the text. After a refusal every call returns the same refusal.
     #[inline(never)]
     pub fn feed(&mut self, piece: &[u8]) -> Result<(), DimacsError>
         ensures again { (e : DimacsError) → self.old.spent ≡ Some e
@@ -189,7 +189,7 @@ impl<T: LineTaker> Feeder<T> {
         Ok(())
     }
 
-    // Takes the last line, if it lacks its LF, and needs none.
+    // Takes the last line, if it lacks its LF and needs none.
     fn close_line(&mut self) -> Result<(), DimacsError>
         ensures { (text : List ℕ) → length text ≤ 2 ^ 62 → IsBehind T.rules T.After text self.old
             → Closed T.rules T.After text result self.new }
@@ -203,7 +203,7 @@ impl<T: LineTaker> Feeder<T> {
         self.end_room()
     }
 
-    /// The text has ended. A reader that gives its value is a new one then.
+    /// Ends the text. A reader that returns its value then begins a new text.
     pub fn finish(&mut self) -> Result<T::Value, DimacsError>
         ensures again { (e : DimacsError) → self.old.spent ≡ Some e
             → (result ≡ Err e) × (self.new ≡ self.old) }
@@ -224,7 +224,7 @@ impl<T: LineTaker> Feeder<T> {
         }
     }
 
-    /// The device failed: the fault that was met before, or Read at the line being read.
+    /// Reports a failure of the device: returns the fault that was met before, or Read at the line being read.
     pub fn fail(&mut self) -> DimacsError
         ensures again { (e : DimacsError) → self.old.spent ≡ Some e
             → (result ≡ e) × (self.new ≡ self.old) }

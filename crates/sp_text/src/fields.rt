@@ -2,7 +2,7 @@
 ghost use Rattle.std.specs.Prelude.{◌≡◌, ℕ, ◌<◌, ◌≤◌, Bool, true, not, List, [], ◌∷◌, length, slice_index, MatchOption};
 ghost use Rattle.sp_text.specs.Lines.{is_blank, without_cr, fields_from, StartsOtherwise};
 
-/// Whether the byte is a blank.
+/// Returns whether the byte is a blank.
 #[inline(always)]
 pub(crate) fn parts_fields(byte: u8) -> bool
     ensures { result ≡ is_blank byte }
@@ -10,7 +10,7 @@ pub(crate) fn parts_fields(byte: u8) -> bool
     byte == b' ' || byte == b'\t'
 }
 
-// How many bytes at the front are blanks, or how many are none.
+// Counts the bytes at the front that are blanks, or those that are not.
 #[inline(always)]
 fn run(text: &[u8], blanks: bool) -> usize
     ensures within { result ≤ length text.now }
@@ -25,7 +25,7 @@ fn run(text: &[u8], blanks: bool) -> usize
     text.len()
 }
 
-/// A line without the CR at its end.
+/// Returns a line without the CR at its end.
 #[inline(always)]
 pub(crate) fn drop_cr(line: &[u8]) -> &[u8]
     ensures { result.now ≡ without_cr line.now }
@@ -36,7 +36,7 @@ pub(crate) fn drop_cr(line: &[u8]) -> &[u8]
     }
 }
 
-/// The text without the blanks at its front.
+/// Returns the text without the blanks at its front.
 #[inline(always)]
 pub(crate) fn skip_blanks(text: &[u8]) -> &[u8]
     ensures { fields_from [] result.now ≡ fields_from [] text.now }
@@ -45,7 +45,7 @@ pub(crate) fn skip_blanks(text: &[u8]) -> &[u8]
     rest
 }
 
-/// The first field, and what stands after it.
+/// Returns the first field, and the text after it.
 pub(crate) fn next_field(text: &[u8]) -> Option<(&[u8], &[u8])>
     ensures { MatchOption result (fields_from [] text.now ≡ [])
         (λ x. (fields_from [] text.now ≡ x.0.now ∷ fields_from [] x.1.now)
@@ -59,7 +59,8 @@ pub(crate) fn next_field(text: &[u8]) -> Option<(&[u8], &[u8])>
     Some((field, after))
 }
 
-/// Whether the first field begins with another byte than this one, as far as the first byte shows it.
+/// Returns whether the first field begins with a byte other than this one, as far as the first byte of the text shows
+/// it.
 #[inline(always)]
 pub(crate) fn starts_otherwise(text: &[u8], byte: u8) -> bool
     ensures { result ≡ true → StartsOtherwise text.now byte }

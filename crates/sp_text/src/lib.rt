@@ -1,4 +1,4 @@
-//! Texts of lines: what they spell, their first fault, and how they are read.
+//! Texts that consist of lines: what they spell, their first fault, and how they are read.
 #![tactic(auto)]
 
 mod collecting;

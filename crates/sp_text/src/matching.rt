@@ -1,4 +1,4 @@
-//! A line against the forms of a file.
+//! Matches a line against the forms of a file.
 ghost use Rattle.std.specs.Prelude.{◌≡◌, ◌+◌, ◌≤◌, ℕ, List, [], ◌∷◌, length, slice_index, true, Some, None, IfSome, MatchOption, MatchBool};
 ghost use Rattle.sp_text.specs.Lines.{fields_from};
 ghost use Rattle.sp_text.specs.declared.formats.Field.{Field};
@@ -16,9 +16,9 @@ use crate::rooms::Values;
 /// The numbers of a line that has a form.
 #[derive(Drop)]
 pub enum Numbers {
-    /// The letter of the first one that is out of its range, and the numbers before it.
+    /// The letter of the first number that is out of its range, and the numbers before it.
     Out(u8, Values),
-    /// All of them.
+    /// All numbers, each in its range.
     Within(Values),
 }
 
@@ -30,7 +30,7 @@ enum Spelled {
     Within,
 }
 
-/// The greatest value of a field, where the problem line had these numbers.
+/// Returns the greatest value of a field, given the numbers of the problem line.
 #[inline(always)]
 pub(crate) fn greatest(most: Top, ranges: &Ranges, problem: &Values) -> u64
     ensures { result ≡ top ranges.now problem.now most }
@@ -46,7 +46,7 @@ pub(crate) fn greatest(most: Top, ranges: &Ranges, problem: &Values) -> u64
 impl Numbers {
     ghost use Rattle.sp_text.specs.Matching.{front_of};
 
-    /// The first number that was read, or 0.
+    /// Returns the first number that was read, or 0.
     pub(crate) fn first(&self) -> u64
         ensures { result ≡ slice_index (front_of self.now) 0 }
     {
@@ -56,7 +56,7 @@ impl Numbers {
     }
 }
 
-// The first field as a number, and what stands after it.
+// Returns the first field as a number, and the text after it.
 fn next_number(text: &[u8], least: u64, most: u64) -> Option<(Numeral, &[u8])>
     ensures { MatchOption result (fields_from [] text.now ≡ [])
         (λ x. (field : List ℕ) × (fields_from [] text.now ≡ field ∷ fields_from [] x.1.now)
@@ -66,7 +66,7 @@ fn next_number(text: &[u8], least: u64, most: u64) -> Option<(Numeral, &[u8])>
     Some((number(field, least, most), rest))
 }
 
-// Whether the fields of the text are numbers, one for each of these, and nothing else.
+// Returns whether the fields of the text are numbers, one for each of these, and nothing else.
 fn are_numbers(fields: &[Field], text: &[u8]) -> bool
     ensures { MatchBool result
         ((ns : List ℕ) × (numbers fields.now (fields_from [] text.now) ≡ Some ns))
@@ -84,8 +84,8 @@ fn are_numbers(fields: &[Field], text: &[u8]) -> bool
     are_numbers(more, rest)
 }
 
-// The number of the first field, and what stands after it; or what the line is, where that is no number or is
-// out of its range. Behind this field come `more`.
+// Returns the number of the first field, and the text after it; or what the line is, if that is no number or is out of
+// its range. The fields `more` follow this one.
 #[inline(always)]
 fn take_number<'a>(
     field: &Field,
@@ -113,7 +113,7 @@ fn take_number<'a>(
     }
 }
 
-// What a line is where no field is left, and this text is.
+// Returns what a line is where no field is left, and this text is.
 #[inline(always)]
 fn end_numbers(text: &[u8]) -> Spelled
     ensures { (ranges : Ranges) (ps values : List ℕ)
@@ -126,7 +126,7 @@ fn end_numbers(text: &[u8]) -> Spelled
     }
 }
 
-// Puts the numbers of the line behind the values, one for each field, and nothing else on the line.
+// Appends the numbers of the line to the values, one for each field, with nothing else on the line.
 #[inline(always)]
 fn take_numbers(
     fields: &[Field],
@@ -154,7 +154,7 @@ fn take_numbers(
     end_numbers(rest)
 }
 
-// What stands behind the words, if the line begins with them.
+// Returns the text after the words, if the line begins with them.
 fn after_fields<'a>(words: &[u8], text: &'a [u8]) -> Option<&'a [u8]>
     ensures { (ds : List Field)
         → MatchOption result
@@ -175,7 +175,7 @@ fn after_fields<'a>(words: &[u8], text: &'a [u8]) -> Option<&'a [u8]>
     Some(rest)
 }
 
-/// Whether the first bytes show that the line does not begin with the words.
+/// Returns whether the first bytes show that the line doesn't begin with the words.
 #[inline(always)]
 pub(crate) fn begins_otherwise(words: &[u8], text: &[u8]) -> bool
     ensures { result ≡ true → (ds : List Field)
@@ -187,7 +187,7 @@ pub(crate) fn begins_otherwise(words: &[u8], text: &[u8]) -> bool
     }
 }
 
-/// What stands behind a letter, if the words are that letter alone, and the line begins with it.
+/// Returns the text after a letter, if the words are that letter alone and the line begins with it.
 #[inline(always)]
 pub(crate) fn after_letter<'a>(words: &[u8], text: &'a [u8]) -> Option<&'a [u8]>
     ensures { IfSome result (λ rest. IsLetter words.now text.now rest.now) }
@@ -204,7 +204,8 @@ pub(crate) fn after_letter<'a>(words: &[u8], text: &'a [u8]) -> Option<&'a [u8]>
     Some(rest)
 }
 
-/// The numbers that the text spells in the usual way, one for each field: behind a space each, and in its range.
+/// Returns the numbers that the text spells in the usual way, one for each field: each after one space, and in its
+/// range.
 #[inline(always)]
 pub(crate) fn spaced_numbers(
     fields: &[Field],
@@ -235,7 +236,7 @@ pub(crate) fn spaced_numbers(
     if rest.is_empty() { Some(values) } else { None }
 }
 
-/// The numbers of a line of this form, where the problem line had these.
+/// Returns the numbers of a line of this form, given those of the problem line.
 #[inline(always)]
 #[tactic(auto, unfolding(crate::specs::Text::of_form))]
 pub(crate) fn match_form(

@@ -1,4 +1,4 @@
-//! Numbers of any number of digits.
+//! Numbers with any number of digits.
 ghost use Rattle.std.specs.Prelude.{◌≡◌, ◌<◌, ◌≤◌, ◌^◌, length, take, slice_index, true, false, IfSome, MatchOption};
 ghost use Rattle.std.specs.List.{list_all};
 ghost use Rattle.std.specs.Char.{is_ascii_digit};
@@ -8,20 +8,20 @@ ghost use Rattle.sp_text.specs.Numeral.{numeral, numeral_within, HasNoLead, Lead
 use crate::fields::parts_fields;
 use crate::packed::packed_number;
 
-/// What a field is as a number within a range.
+/// A field, read as a number within a range.
 #[derive(Clone, Copy, Debug, PartialEq, Eq)]
 pub enum Numeral {
-    /// No number is spelled.
+    /// The field spells no number.
     Bad,
-    /// A number that is out of the range.
+    /// The field spells a number that is out of the range.
     Out,
     Value(u64),
 }
 
-// As many digits spell a number below 2^64, whatever they are.
+// Any number with this many digits is below 2^64.
 const FEW_DIGITS: usize = 19;
 
-// The number that the digits spell, if it fits.
+// Returns the number that the digits spell, if it fits.
 fn value_of(digits: &[u8]) -> Option<u64>
     ensures { MatchOption result (2 ^ 64 ≤ value digits.now) (λ v. v ≡ value digits.now) }
 {
@@ -39,7 +39,7 @@ fn all_digits(bytes: &[u8]) -> bool
     bytes.iter().all(|b| b.is_ascii_digit())
 }
 
-/// Whether a field spells a number.
+/// Returns whether a field spells a number.
 #[tactic(auto, unfolding(crate::specs::Lines::is_number))]
 pub(crate) fn spells_number(field: &[u8]) -> bool
     ensures { result ≡ is_number field.now }
@@ -51,7 +51,7 @@ pub(crate) fn spells_number(field: &[u8]) -> bool
     }
 }
 
-// The number of a field that may be long.
+// Returns the number of a field that may be long.
 fn long_number(field: &[u8], least: u64, most: u64) -> Numeral
     ensures { result ≡ numeral field.now least most }
 {
@@ -64,7 +64,7 @@ fn long_number(field: &[u8], least: u64, most: u64) -> Numeral
     }
 }
 
-/// The number, if it is from `least` to `most`.
+/// Returns the number if it is from `least` to `most`.
 #[inline(always)]
 pub(crate) fn ranged(value: u64, least: u64, most: u64) -> Numeral
     ensures { result ≡ numeral_within value least most }
@@ -76,7 +76,7 @@ pub(crate) fn ranged(value: u64, least: u64, most: u64) -> Numeral
     }
 }
 
-// The number that the digits at the front spell, if they are few, and how many there are.
+// Returns the number that the digits at the front spell, if they are few, and how many there are.
 #[inline(always)]
 fn front_digits(text: &[u8]) -> (u64, usize)
     ensures within { result.1 ≤ length text.now }
@@ -95,7 +95,7 @@ fn front_digits(text: &[u8]) -> (u64, usize)
     (value, text.len())
 }
 
-/// The number that the digits at the front spell and where they end, if they begin with no zero, and are few.
+/// Returns the number that the digits at the front spell, and where they end, if they are few and begin with no zero.
 #[inline(always)]
 pub(crate) fn front_number(text: &[u8]) -> Option<(u64, usize)>
     ensures { IfSome result (λ x. IsFront text.now x.0 x.1) }
@@ -113,8 +113,8 @@ pub(crate) fn front_number(text: &[u8]) -> Option<(u64, usize)>
     Some((value, end))
 }
 
-/// The number that the digits at the front spell and where they end, if a blank or nothing stands there,
-/// and they are few.
+/// Returns the number that the digits at the front spell, and where they end, if they are few and a blank or the end
+/// follows.
 #[inline(always)]
 pub(crate) fn quick_number(text: &[u8]) -> Option<(u64, usize)>
     ensures { IfSome result (λ x. IsQuick text.now x.0 x.1) }
@@ -126,7 +126,7 @@ pub(crate) fn quick_number(text: &[u8]) -> Option<(u64, usize)>
     Some((value, end))
 }
 
-// Whether the first byte is a digit, and no zero.
+// Returns whether the first byte is a digit other than zero.
 #[inline(always)]
 fn begins_number(text: &[u8]) -> bool
     ensures { result ≡ begins_number text.now }
@@ -137,7 +137,7 @@ fn begins_number(text: &[u8]) -> bool
     }
 }
 
-// Whether there is a byte, and no zero leads others.
+// Returns whether there is a byte, and no leading zero is followed by others.
 fn starts_number(field: &[u8]) -> bool
     ensures { result ≡ starts_number field.now }
 {
@@ -148,8 +148,8 @@ fn starts_number(field: &[u8]) -> bool
     }
 }
 
-/// The number that the digits at the front of a text spell, and how many digits they are. Of a number above
-/// 2^64 - 1 it tells that. None where they spell no number.
+/// Returns the number that the digits at the front of a text spell, and how many digits there are. A number that 64
+/// bits can't hold is reported as `u64::MAX`. Returns `None` if they spell no number.
 #[inline(always)]
 pub fn leading_number(text: &[u8]) -> Option<(u64, usize)>
     ensures { MatchOption result (HasNoLead text.now) (λ x. Leads text.now x.0 x.1) }
@@ -171,7 +171,7 @@ pub fn leading_number(text: &[u8]) -> Option<(u64, usize)>
     }
 }
 
-/// The number that a field spells, if it is from `least` to `most`.
+/// Returns the number that a field spells, if it is from `least` to `most`.
 pub fn number(field: &[u8], least: u64, most: u64) -> Numeral
     ensures { result ≡ numeral field.now least most }
 {

@@ -1,11 +1,11 @@
-//! Numbers of few digits, all digits at once.
+//! Reads numbers of few digits, all digits at once.
 ghost use Rattle.std.specs.Prelude.{IfSome};
 ghost use Rattle.sp_text.specs.Numeral.{AreDigits};
 
 use std::simd::prelude::*;
 use std::simd::{u8x8, u32x8};
 
-// By how many digits there are, what each of them counts, and the bytes behind them nothing.
+// For each number of digits, the weights of the digits; the bytes after them have weight 0.
 static WEIGHTS: [[u32; 8]; 8] = [
     [0, 0, 0, 0, 0, 0, 0, 0],
     [1, 0, 0, 0, 0, 0, 0, 0],
@@ -17,7 +17,7 @@ static WEIGHTS: [[u32; 8]; 8] = [
     [1_000_000, 100_000, 10_000, 1_000, 100, 10, 1, 0],
 ];
 
-/// The number that the digits at the front spell and where they end, if eight bytes stand there, and one to seven
+/// Returns the number that the digits at the front spell, and where they end, if there are eight bytes and one to seven
 /// of them are digits.
 #[inline(always)]
 pub(crate) fn packed_number(text: &[u8]) -> Option<(u64, usize)>

@@ -1,4 +1,4 @@
-//! What a line is.
+//! Reads what a line is.
 ghost use Rattle.std.specs.Prelude.{◌≡◌, [], IfSome};
 ghost use Rattle.sp_text.specs.Lines.{fields_from};
 ghost use Rattle.sp_text.specs.Formats.{format_of, IsSmall};
@@ -16,7 +16,7 @@ pub enum Found {
     Comment,
     Bad,
     Problem(Numbers),
-    /// The form and its place, and the numbers.
+    /// An item: the index of its form, the form, and the numbers.
     Item(usize, &'static Form, Numbers),
 }
 
@@ -33,7 +33,8 @@ fn is_remark(text: &[u8]) -> bool
     }
 }
 
-/// The form of a line, its place and the numbers, if it is an item in the usual spelling, and they are in their ranges.
+/// Returns the form of a line, with its index and its numbers, if the line is an item in the usual spelling and the
+/// numbers are in their ranges.
 #[inline(always)]
 pub(crate) fn usual_item(
     format: &FileFormat,
@@ -63,7 +64,7 @@ pub(crate) fn usual_item(
     None
 }
 
-/// What a line is, where the problem line had these numbers.
+/// Returns what a line is, given the numbers of the problem line.
 #[inline(never)]
 #[tactic(auto, unfolding(crate::specs::Text::reading, crate::specs::Text::reading_of, crate::specs::Lines::fields))]
 pub(crate) fn read_line(

@@ -1,10 +1,10 @@
-//! Fixed room for a line.
+//! Buffers of fixed size for a line.
 ghost use Rattle.std.specs.Prelude.{◌≡◌, ◌+◌, ◌<◌, ◌≤◌, List, [], ◌∷◌, ◌++◌, ℕ, length, take, slice_index, MatchBool, OnOk, OnErr, IfErr};
 
 use crate::faults::Kind;
 use std::marker::Model;
 
-/// As many bytes as a line may have before its LF.
+/// The greatest number of bytes of a line before its LF.
 pub const LONGEST_LINE: usize = 1024;
 
 /// The bytes of a line so far, at most `LONGEST_LINE`.
@@ -26,7 +26,7 @@ impl Model for Room {
 }
 
 impl Room {
-    /// Room without a byte.
+    /// Returns an empty buffer.
     pub fn new() -> Self
         ensures { result ≡ [] }
     {
@@ -36,21 +36,21 @@ impl Room {
         }
     }
 
-    // How many more bytes have room.
+    // Returns how many more bytes fit.
     fn room_left(&self) -> usize
         ensures { result + length self.now ≡ LONGEST_LINE }
     {
         LONGEST_LINE - self.len
     }
 
-    /// Whether there is no byte.
+    /// Returns whether there are no bytes.
     pub fn is_empty(&self) -> bool
         ensures { MatchBool result (self.now ≡ []) (0 < length self.now) }
     {
         self.len == 0
     }
 
-    // Puts bytes behind the others.
+    // Appends bytes, which must fit.
     fn push(&mut self, bytes: &[u8])
         requires { length self.old + length bytes.now ≤ LONGEST_LINE }
         ensures { self.new ≡ self.old ++ bytes.now }
@@ -60,7 +60,7 @@ impl Room {
         self.len = end;
     }
 
-    /// Puts bytes behind the others, or tells that the line is too long.
+    /// Appends bytes, or reports that the line is too long.
     pub fn extend(&mut self, bytes: &[u8]) -> Result<(), Kind>
         ensures pushed { OnOk result (self.new ≡ self.old ++ bytes.now) }
         ensures short { OnOk result (length self.new ≤ LONGEST_LINE) }
@@ -75,14 +75,14 @@ impl Room {
         Ok(())
     }
 
-    /// Takes all bytes away.
+    /// Removes all bytes.
     pub fn clear(&mut self)
         ensures { self.new ≡ [] }
     {
         self.len = 0;
     }
 
-    /// The bytes.
+    /// Returns the bytes.
     pub fn line(&self) -> &[u8]
         ensures { result.now ≡ self.now }
     {
@@ -90,7 +90,7 @@ impl Room {
     }
 }
 
-/// The numbers of a line, at most four. Past the last stand zeros.
+/// The numbers of a line, at most four. Zeros follow the last one.
 #[derive(Drop)]
 pub struct Values {
     numbers: [u64; 4],
@@ -106,7 +106,7 @@ impl Model for Values {
 }
 
 impl Values {
-    /// No numbers.
+    /// Returns an empty list of numbers.
     pub fn new() -> Self
         ensures { result ≡ [] }
     {
@@ -116,7 +116,7 @@ impl Values {
         }
     }
 
-    /// Puts a number behind the others.
+    /// Appends a number.
     pub fn push(&mut self, number: u64)
         requires { length self.old < 4 }
         ensures { self.new ≡ self.old ++ number ∷ [] }
@@ -124,7 +124,7 @@ impl Values {
         self.put(self.len, number);
     }
 
-    // Puts a number behind the others, of which there are so many.
+    // Appends a number to a list whose length is given.
     #[inline(always)]
     pub(crate) fn put(&mut self, place: usize, number: u64)
         requires place { place ≡ length self.old }
@@ -135,7 +135,7 @@ impl Values {
         self.len = place + 1;
     }
 
-    /// The number at this place, 0 past the last.
+    /// Returns the number at this index, or 0 past the last.
     pub fn get(&self, place: usize) -> u64
         ensures { result ≡ slice_index self.now place }
     {

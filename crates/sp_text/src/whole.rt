@@ -1,4 +1,4 @@
-//! A whole text from a device.
+//! Reads a whole text from a device.
 ghost use Rattle.std.specs.Prelude.{◌≡◌, ℕ, List, [], true, Some, IfOk, IfErr};
 ghost use Rattle.sp_text.specs.Whole.{AllRead, IsSpelled, ReadOn};
 ghost use Rattle.sp_text.specs.Feeding.{IsBehind};
@@ -7,7 +7,7 @@ use crate::faults::{DimacsError, Kind};
 use crate::feeding::{Feeder, LineTaker};
 use sp_device::Read;
 
-/// As many bytes as are read of a device at a time.
+/// The number of bytes that are read from a device at a time.
 pub const PIECE: usize = 65_536;
 
 // Reads to the end, and feeds what comes.
@@ -29,8 +29,8 @@ fn read_on<R: Read, T: LineTaker + Drop>(
     }
 }
 
-/// The value that the bytes of a reader spell from here on, or their first fault. Where the value of an item
-/// line finds no room, Memory is told of that line, if no line up to it has a fault.
+/// Reads the rest of a reader's bytes, and returns the value that they spell, or their first fault. If there is no
+/// memory for the value of an item line, the fault is Memory at that line, unless a line up to it has a fault.
 pub fn read_text<R: Read, T: LineTaker + Drop>(
     reader: &mut R,
     feeder: Feeder<T>,
