@@ -1,30 +1,30 @@
-//! Entries by bucket, for whoever needs no promise of their order.
+//! Entries by bucket, with no promise about their order.
 ghost use Rattle.std.specs.Prelude.{◌≡◌, ◌<◌, vec_len, IfOk, IfSome};
 
 use crate::entry::Entry;
 use std::alloc::{AllocError, Global};
 use std::mem;
 
-// How many slots a wheel has, and how many wheels there are.
+// The number of slots of a wheel, and the number of wheels.
 const SLOTS: usize = 256;
 
 const WHEELS: usize = 8;
 
-/// Entries by bucket: wheels within wheels, as G. Varghese and T. Lauck keep timers ("Hashed and
+/// Entries by bucket, in hierarchical wheels like those in which G. Varghese and T. Lauck keep timers ("Hashed and
 /// hierarchical timing wheels", 1987).
 ///
-/// A slot of the first wheel has the entries of one bucket, a slot of each further wheel those of as many buckets as the
-/// wheel below has slots for. An entry lies in the lowest wheel that tells its bucket from the lowest one; when a wheel is
-/// used up, the next slot of the one above is dealt to those below. So an entry is moved at most once a wheel, however far
-/// its bucket.
+/// A slot of the first wheel has the entries of one bucket; a slot of each further wheel has the entries of as many
+/// buckets as the wheel below has slots for. An entry lies in the lowest wheel that distinguishes its bucket from the
+/// lowest one; when a wheel is used up, the next slot of the wheel above is dealt to those below. An entry is therefore
+/// moved at most once for each wheel, however far away its bucket is.
 #[derive(Drop)]
 pub struct Bins {
     alloc: Global,
-    // buckets are 2 to this power wide
+    // Buckets are two to this power wide.
     shift: u32,
-    // the bucket that is emptied
+    // The bucket that is being emptied.
     lowest: u64,
-    // the slots of all wheels, the first wheel's first
+    // The slots of all wheels, with the first wheel's first.
     slots: Vec<Vec<Entry>>,
     ghost narrow: { shift < 64 },
     ghost size: { vec_len slots ≡ 2048 },
@@ -42,7 +42,7 @@ fn empty_slots(alloc: Global) -> Result<Vec<Vec<Entry>>, AllocError>
 }
 
 impl Bins {
-    /// Bins whose buckets are 2 to the power of `shift` wide.
+    /// Makes bins whose buckets are 2 to the power of `shift` wide.
     pub fn new(alloc: Global, shift: u32) -> Result<Bins, AllocError> {
         Ok(Bins {
             alloc,
@@ -52,17 +52,17 @@ impl Bins {
         })
     }
 
-    /// The bucket of a distance.
+    /// Returns the bucket of a distance.
     pub fn bucket_of(&self, dist: u64) -> u64 {
         dist >> self.shift
     }
 
-    /// The bucket that is emptied.
+    /// Returns the bucket that is being emptied.
     pub fn lowest(&self) -> u64 {
         self.lowest
     }
 
-    // Where the entries of a bucket lie. Those of a bucket below the lowest lie with the lowest one's.
+    // Returns the slot where the entries of a bucket lie. A bucket below the lowest shares the slot of the lowest.
     fn place_of(&self, bucket: u64) -> usize
         ensures { result < 2048 }
     {
@@ -79,7 +79,8 @@ impl Bins {
         Ok(())
     }
 
-    /// Gives the entries of the bucket that is emptied in place of a list that was worked off. Tells whether there are any.
+    /// Replaces a list that was worked off by the entries of the bucket that is being emptied. Returns whether there
+    /// are any.
     pub fn refill(&mut self, list: &mut Vec<Entry>) -> bool {
         let place = self.place_of(self.lowest);
         if self.slots[place].is_empty() {
@@ -89,12 +90,12 @@ impl Bins {
         true
     }
 
-    /// From now on this bucket is emptied, where there is no entry at all.
+    /// Makes this the bucket that is emptied, if there is no entry at all.
     pub fn open(&mut self, bucket: u64) {
         self.lowest = bucket;
     }
 
-    // The first slot with an entry.
+    // Returns the first slot that has an entry.
     fn first_place(&self) -> Option<usize>
         ensures { IfSome result (λ place. place < 2048) }
     {
@@ -107,7 +108,7 @@ impl Bins {
         None
     }
 
-    // The lowest bucket of some entries, if there is one.
+    // Returns the lowest bucket of the entries, if there are any.
     fn lowest_of(&self, entries: &[Entry]) -> Option<u64> {
         let mut least = None;
         for entry in entries {
@@ -119,7 +120,8 @@ impl Bins {
         Some(self.bucket_of(least?))
     }
 
-    // Deals the entries of a slot to the wheels below. The lowest of their buckets is emptied from now on.
+    // Deals the entries of a slot to the wheels below. The lowest of their buckets is the one that is emptied from then
+    // on.
     fn deal(&mut self, place: usize) -> Result<(), AllocError>
         requires { place < 2048 }
     {
@@ -133,7 +135,7 @@ impl Bins {
         Ok(())
     }
 
-    /// Goes on to the lowest bucket that has an entry, and tells which it is.
+    /// Advances to the lowest bucket that has an entry, and returns that bucket.
     pub fn advance(&mut self) -> Result<Option<u64>, AllocError> {
         let Some(place) = self.first_place() else {
             return Ok(None);

@@ -1,6 +1,6 @@
-//! A queued vertex.
+//! Queued vertices.
 
-/// A vertex, queued with the tentative distance that it had then.
+/// A vertex, queued with the tentative distance that it had at that time.
 #[derive(Clone, Copy, PartialEq, Eq, Debug)]
 pub struct Entry {
     pub vertex: u32,

@@ -1,4 +1,4 @@
-//! Entries by bucket, of which nothing is promised: for schedules.
+//! Entries by bucket, for schedules: the contracts promise nothing about which entries come out, or when.
 #![tactic(auto)]
 
 mod bins;

@@ -4,12 +4,12 @@ use Rattle.std.specs.declared.alloc.Global.{Global}
 use Rattle.sp_bins.specs.declared.entry.Entry.{Entry}
 use Rattle.sp_bucket.specs.Content.{bucket_of}
 
--- the entries of all the lists, one list after the other
+-- These are the entries of all the lists, one list after another.
 abbrev pub all_entries : List (Vec Entry Global) → List Entry
 all_entries [] = []
 all_entries (bucket ∷ buckets) = bucket.items ++ all_entries buckets
 
--- some entries stand at the key, all of them of the bucket that it names
+-- There are entries at the key, and all of them belong to the bucket that it names.
 pub record IsBucket (delta key : ℕ) (bucket : Vec Entry Global) : Type 0 where
   pub some : bucket.items ≢ []
   pub same : All (λ entry. bucket_of delta entry ≡ key) bucket.items

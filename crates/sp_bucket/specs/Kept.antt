@@ -1,4 +1,4 @@
--- The two ways of keeping entries.
+-- The two ways to keep entries.
 use Rattle.std.specs.Prelude.{◌≡◌, None}
 use Rattle.sp_bucket.specs.declared.buckets.Kept.{Kept}
 use Rattle.sp_bucket.specs.declared.buckets.Kept.TheVariants.{Map, Ring}
@@ -8,7 +8,7 @@ abbrev pub kept_content : Kept → Content
 kept_content (Map map) = map
 kept_content (Ring ring) = ring
 
--- a map alone has no ring
+-- A map alone has no ring.
 abbrev pub IsKept : Kept → Type 0
 IsKept (Map map) = map.ring ≡ None
 IsKept (Ring ring) = Unit {0}

@@ -1,4 +1,4 @@
--- A ring of buckets: a window of as many buckets as it has slots, of which bucket i stands in slot i % len.
+-- A ring of buckets: a window of as many buckets as the ring has slots, in which bucket i has slot i % len.
 use Rattle.std.specs.Prelude.{◌≡◌, ℕ, suc, ◌+◌, ◌%◌, ◌<◌, ◌≤◌, List, [], ◌∷◌, All, Vec, Some, length}
 use Rattle.std.specs.declared.alloc.Global.{Global}
 use Rattle.sp_bins.specs.declared.entry.Entry.{Entry}
@@ -6,7 +6,8 @@ use Rattle.sp_bucket.specs.declared.ring.TheConstants.{LONGEST_RING}
 use Rattle.sp_bucket.specs.Content.{Content, bucket_of}
 use Rattle.sp_bucket.specs.Filed.{all_entries}
 
--- the width of a bucket, the first bucket of the window, how many buckets it has, and the entries in some order
+-- This is the width of a bucket, the first bucket of the window, the number of its buckets, and the entries in some
+-- order.
 pub record Window : Type 0 where
   pub delta : ℕ
   pub first : ℕ
@@ -16,11 +17,11 @@ pub record Window : Type 0 where
 abbrev pub content_of : Window → Content
 content_of w = record { delta = w.delta; ring = Some w.len; entries = w.entries }
 
--- bucket i is one of the len buckets from the first on
+-- Bucket i is one of the len buckets from the first on.
 abbrev pub IsWithin : Window → ℕ → Type 0
 IsWithin w i = (w.first ≤ i) × (i < w.first + w.len)
 
--- each entry stands in the slot of its bucket, the first of the slots being slot j
+-- Each entry is in the slot of its bucket, where the first of the slots is slot j.
 abbrev pub Stand : ℕ → ℕ → ℕ → List (Vec Entry Global) → Type 0
 Stand delta len j [] = Unit {0}
 Stand delta len j (slot ∷ slots) = All (λ entry. bucket_of delta entry % len ≡ j) slot.items × Stand delta len (suc j) slots
@@ -28,7 +29,7 @@ Stand delta len j (slot ∷ slots) = All (λ entry. bucket_of delta entry % len 
 abbrev pub window_of : ℕ → ℕ → List (Vec Entry Global) → Window
 window_of delta first slots = record { delta = delta; first = first; len = length slots; entries = all_entries slots }
 
--- what a ring keeps of its width, its window, the slot of the window's first bucket and the slots
+-- This is what a ring keeps: its width, the first bucket of its window, the slot of that bucket, and the slots.
 pub record IsRing (delta first head : ℕ) (slots : List (Vec Entry Global)) : Type 0 where
   pub width : 0 < delta
   pub some : 0 < length slots

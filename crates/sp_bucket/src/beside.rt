@@ -1,4 +1,4 @@
-//! A ring of buckets, with a map beside it for entries outside of its window.
+//! A ring of buckets, with a map beside it for entries outside its window.
 ghost use Rattle.std.specs.Prelude.{◌≡◌, ◌<◌, ◌≤◌, ◌↔◌, [], Some, OnOk, OnErr, IsNone, IfSome, IfOk};
 ghost use Rattle.sp_bucket.specs.Content.{no_entries, Puts, Takes, IsLowest};
 
@@ -8,8 +8,8 @@ use sp_bins::Entry;
 use std::alloc::{AllocError, Global};
 use std::marker::Model;
 
-/// Buckets in a ring where they lie in its window, else in a map. The entries of one bucket all stand in one
-/// of the two.
+/// Buckets that are kept in a ring if they lie in its window, and otherwise in a map. The entries of one bucket are all
+/// in one of the two.
 #[derive(Drop)]
 pub struct RingBesideMap {
     ring: BucketRing,
@@ -29,7 +29,7 @@ impl Model for RingBesideMap {
 }
 
 impl RingBesideMap {
-    /// No entries, in a ring of so many buckets.
+    /// Makes a ring of `len` buckets with a map beside it, without entries.
     pub fn new(alloc: Global, delta: u64, len: u32) -> Result<RingBesideMap, AllocError>
         requires delta { 0 < delta }
         requires some { 0 < len }
@@ -42,14 +42,14 @@ impl RingBesideMap {
         })
     }
 
-    /// The number of the ring's buckets.
+    /// Returns the number of the ring's buckets.
     pub fn len(&self) -> u32
         ensures { Some result ≡ self.now.ring }
     {
         self.ring.len()
     }
 
-    /// Puts an entry into the ring where its bucket lies in the window and not in the map, else into the map.
+    /// Puts an entry into the ring if its bucket lies in the window and isn't in the map, and otherwise into the map.
     pub fn put(&mut self, entry: Entry) -> Result<(), AllocError>
         ensures put { OnOk result (Puts entry self.old self.new) }
         ensures refused { OnErr result (self.new ≡ self.old) }
@@ -62,7 +62,7 @@ impl RingBesideMap {
         }
     }
 
-    /// The number of the lowest bucket with an entry.
+    /// Returns the number of the lowest bucket with an entry.
     pub fn lowest(&self) -> Option<u64>
         ensures none { IsNone result ↔ (self.now.entries ≡ []) }
         ensures lowest { IfSome result (IsLowest self.now) }
@@ -74,8 +74,8 @@ impl RingBesideMap {
         }
     }
 
-    /// Takes the bucket out of the ring, or out of the map where the ring has none of it. The ring's window then
-    /// begins at the bucket, where that leaves no entry outside of it.
+    /// Takes the bucket out of the ring, or out of the map if the ring has no entry of it. The ring's window then
+    /// begins at this bucket, if that leaves no entry outside it.
     pub fn take(&mut self, number: u64) -> Vec<Entry>
         ensures { Takes number result.items self.old self.new }
     {

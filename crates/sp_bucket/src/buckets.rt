@@ -9,17 +9,16 @@ use sp_bins::Entry;
 use std::alloc::{AllocError, Global};
 use std::marker::Model;
 
-/// Entries in buckets by distance: bucket `i` has the distances from `i * delta` up to, not including,
-/// `(i + 1) * delta`. Contracts see the width, the length of the ring, if there is one, and the entries as a list
-/// whose order is left open.
-/// (U. Meyer and P. Sanders, "Delta-stepping: a parallelizable shortest path algorithm", Journal of
+/// Entries in buckets by distance: bucket `i` has the distances from `i * delta` up to, not including, `(i + 1) *
+/// delta`. Contracts see the width, the length of the ring, if there is one, and the entries as a list in an
+/// unspecified order. (U. Meyer and P. Sanders, "Delta-stepping: a parallelizable shortest path algorithm", Journal of
 /// Algorithms 49, 2003, section 2.)
 #[derive(Drop)]
 pub struct Buckets {
     kept: Kept,
 }
 
-// How the entries are kept.
+// The way the entries are kept.
 #[derive(Drop)]
 enum Kept {
     Map(BucketMap),
@@ -39,7 +38,7 @@ impl Model for Buckets {
 }
 
 impl Buckets {
-    /// No entries, in an ordered map. It takes no memory.
+    /// Makes empty buckets in an ordered map. It allocates no memory.
     pub fn new(alloc: Global, delta: u64) -> Buckets
         requires { 0 < delta }
         ensures { result ≡ no_entries delta None }
@@ -49,9 +48,9 @@ impl Buckets {
         }
     }
 
-    /// No entries, for a run whose longest step is `longest`: while bucket `i` is the lowest, what is queued from it
-    /// stands at most `ceil(longest / delta)` buckets higher. A ring of one bucket more holds all of it; one
-    /// that would be longer than `LONGEST_RING` buckets isn't made.
+    /// Makes empty buckets for a run whose longest step is `longest`: while bucket `i` is the lowest, an entry that is
+    /// queued from it lies at most `ceil(longest / delta)` buckets higher. A ring of one bucket more holds all entries;
+    /// a ring that would be longer than `LONGEST_RING` buckets isn't made.
     pub fn with_longest(alloc: Global, delta: u64, longest: u64) -> Result<Buckets, AllocError>
         requires { 0 < delta }
         ensures { IfOk result (λ buckets. buckets ≡ no_entries delta (ring_for delta longest)) }
@@ -66,7 +65,7 @@ impl Buckets {
         })
     }
 
-    /// The number of the ring's buckets; none where the entries are kept in a map alone.
+    /// Returns the number of the ring's buckets, or `None` if the entries are kept in a map alone.
     pub fn ring_len(&self) -> Option<u32>
         ensures { result ≡ self.now.ring }
     {
@@ -76,7 +75,7 @@ impl Buckets {
         }
     }
 
-    /// Puts an entry into its bucket. Where there is no memory for it, nothing changes.
+    /// Puts an entry into its bucket. If there is no memory for it, nothing changes.
     pub fn put(&mut self, entry: Entry) -> Result<(), AllocError>
         ensures put { OnOk result (Puts entry self.old self.new) }
         ensures refused { OnErr result (self.new ≡ self.old) }
@@ -87,7 +86,7 @@ impl Buckets {
         }
     }
 
-    /// The number of the lowest bucket with an entry.
+    /// Returns the number of the lowest bucket with an entry.
     pub fn lowest(&self) -> Option<u64>
         ensures none { IsNone result ↔ (self.now.entries ≡ []) }
         ensures lowest { IfSome result (IsLowest self.now) }
@@ -98,7 +97,8 @@ impl Buckets {
         }
     }
 
-    /// Takes all entries of a bucket out, none where it is empty. It hands out the Vec that `put` filled.
+    /// Removes and returns all entries of a bucket. It returns the Vec that `put` filled, which is empty if the bucket
+    /// is.
     pub fn take(&mut self, i: u64) -> Vec<Entry>
         ensures { Takes i result.items self.old self.new }
     {

@@ -1,4 +1,7 @@
 //! Entries in buckets by distance.
+//!
+//! This crate belongs to the engine by rounds, a library beside the engine that the program runs; it isn't part of the
+//! program.
 #![tactic(auto)]
 
 mod beside;

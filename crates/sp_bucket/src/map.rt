@@ -45,7 +45,7 @@ impl BucketMap {
         }
     }
 
-    /// The number of the bucket that an entry belongs in.
+    /// Returns the number of the bucket to which an entry belongs.
     pub fn number_of(&self, entry: &Entry) -> u64
         ensures { result ≡ bucket_of self.now.delta entry.now }
     {
@@ -68,7 +68,7 @@ impl BucketMap {
         Ok(())
     }
 
-    /// The number of the lowest bucket with an entry.
+    /// Returns the number of the lowest bucket with an entry.
     pub fn lowest(&self) -> Option<u64>
         ensures none { IsNone result ↔ (self.now.entries ≡ []) }
         ensures lowest { IfSome result (IsLowest self.now) }
@@ -79,7 +79,7 @@ impl BucketMap {
         }
     }
 
-    /// Whether an entry of the bucket stands.
+    /// Returns whether the bucket has an entry.
     pub fn holds(&self, number: u64) -> bool
         ensures held { IsTrue result → HasEntryIn self.now.delta self.now.entries number }
         ensures free { OnFalse result (HasNoEntryIn self.now.delta self.now.entries number) }
@@ -87,7 +87,7 @@ impl BucketMap {
         self.buckets.contains_key(&number)
     }
 
-    /// Takes the bucket out.
+    /// Removes and returns the entries of the bucket.
     pub fn take(&mut self, number: u64) -> Vec<Entry>
         ensures { Takes number result.items self.old self.new }
     {

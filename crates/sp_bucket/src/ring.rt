@@ -9,19 +9,19 @@ use std::alloc::{AllocError, Global};
 use std::marker::Model;
 use std::mem;
 
-/// The most buckets of a ring.
+/// The greatest number of buckets of a ring.
 pub const LONGEST_RING: u64 = 65_536;
 
-/// A window of buckets, as many as there are slots. Bucket `i` stands in slot `i % len`, so that no two
-/// buckets of the window share a slot, and a move of the window moves no entry.
-/// (Dial, "Algorithm 360: shortest-path forest with topological ordering", Communications of the ACM 12, 1969.)
+/// A window of buckets, as many as there are slots. Bucket `i` has slot `i % len`, so that no two buckets of the window
+/// share a slot, and moving the window moves no entry. (Dial, "Algorithm 360: shortest-path forest with topological
+/// ordering", Communications of the ACM 12, 1969.)
 #[derive(Drop)]
 pub struct BucketRing {
     alloc: Global,
     delta: u64,
-    // the first bucket of the window
+    // The first bucket of the window.
     first: u64,
-    // its slot
+    // The slot of the window's first bucket.
     head: usize,
     slots: Vec<Vec<Entry>>,
 }
@@ -37,7 +37,7 @@ impl Model for BucketRing {
 }
 
 impl BucketRing {
-    /// A ring without entries, its window at bucket 0.
+    /// Makes a ring without entries, with its window at bucket 0.
     pub fn new(alloc: Global, delta: u64, len: u32) -> Result<BucketRing, AllocError>
         requires delta { 0 < delta }
         requires some { 0 < len }
@@ -54,14 +54,14 @@ impl BucketRing {
         })
     }
 
-    /// The number of its buckets.
+    /// Returns the number of its buckets.
     pub fn len(&self) -> u32
         ensures { result ≡ self.now.len }
     {
         self.slots.len() as u32
     }
 
-    /// Whether a bucket lies in the window.
+    /// Returns whether a bucket lies in the window.
     pub fn covers(&self, number: u64) -> bool
         ensures covered { IsTrue result → IsWithin self.now number }
         ensures free { OnFalse result (HasNoEntryIn self.now.delta self.now.entries number) }
@@ -69,7 +69,7 @@ impl BucketRing {
         number >= self.first && number - self.first < self.slots.len() as u64
     }
 
-    // The slot of the bucket that stands so far from the window's first.
+    // Returns the slot of the bucket at this offset from the window's first bucket.
     fn slot(&self, offset: usize) -> usize
         requires { offset < self.now.len }
         ensures below { result < self.now.len }
@@ -83,7 +83,7 @@ impl BucketRing {
         }
     }
 
-    /// Puts an entry into its bucket, which lies in the window.
+    /// Puts an entry into its bucket, which must lie in the window.
     pub fn put(&mut self, number: u64, entry: Entry) -> Result<(), AllocError>
         requires number { number ≡ bucket_of self.old.delta entry }
         requires covered { IsWithin self.old number }
@@ -95,7 +95,7 @@ impl BucketRing {
         Ok(())
     }
 
-    /// The number of the lowest bucket with an entry.
+    /// Returns the number of the lowest bucket with an entry.
     pub fn lowest(&self) -> Option<u64>
         ensures none { IsNone result ↔ (self.now.entries ≡ []) }
         ensures lowest { IfSome result (IsLowest (content_of self.now)) }
@@ -108,7 +108,7 @@ impl BucketRing {
         None
     }
 
-    /// Lets the window begin at this bucket, where no entry would then lie outside of it.
+    /// Moves the window so that it begins at this bucket. No entry may then lie outside it.
     pub fn move_to(&mut self, number: u64)
         ensures { content_of self.new ≡ content_of self.old }
     {
@@ -125,7 +125,7 @@ impl BucketRing {
         }
     }
 
-    /// Takes the bucket out.
+    /// Removes and returns the entries of the bucket.
     pub fn take(&mut self, number: u64) -> Vec<Entry>
         ensures { Takes number result.items (content_of self.old) (content_of self.new) }
     {

@@ -1,17 +1,17 @@
-//! A grant, and the rule of the marks: what claimers hold, and what a step adds.
+//! Grants, and the rule of the marks: what claimers hold, and what a step adds.
 ghost use Rattle.std.specs.Prelude.{◌≡◌, ℕ};
 
 use atomic_table::{Join, Play, Split, TableRule};
 use std::collections::LinkedList;
 
-/// The right to run what the slot stands for, in this round.
+/// The right to run, in this round, whatever the slot stands for.
 #[derive(Clone, Copy, PartialEq, Eq, Debug)]
 pub struct Grant {
     pub slot: u32,
     pub round: u64,
 }
 
-/// What a claimer knows: the grants that it was given. No value of it is made.
+/// What a claimer knows: the grants that it was given. No value of this type is made.
 pub struct View {
     pub grants: LinkedList<Grant>,
 }
@@ -27,7 +27,7 @@ impl TableRule<(), View, usize> for OncePerRound {
     ghost first = { λ _. nothing };
 }
 
-/// A claim: the word found is below the round, and the grant is new, or nothing changes.
+/// A claim: if the word found is below the round, the grant is new; otherwise nothing changes.
 pub struct Claims;
 
 impl Play<(), View> for Claims {
@@ -36,7 +36,7 @@ impl Play<(), View> for Claims {
     ghost then = { Claimed };
 }
 
-/// A load that writes down that no grant was given twice.
+/// A load that records that no grant was given twice.
 pub struct Checks;
 
 impl Play<(), View> for Checks {
@@ -45,7 +45,7 @@ impl Play<(), View> for Checks {
     ghost then = { Checked };
 }
 
-/// A new claimer has no grant.
+/// A new claimer has no grants.
 pub struct Apart;
 
 impl Split<View> for Apart {
@@ -56,7 +56,7 @@ impl Split<View> for Apart {
     ghost right = { λ _. nothing };
 }
 
-/// The first has the grants of both.
+/// The first claimer has the grants of both.
 pub struct Together;
 
 impl Join<View> for Together {

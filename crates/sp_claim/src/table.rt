@@ -1,4 +1,4 @@
-//! The table that threads share, and the claimers.
+//! The table that threads share, and its claimers.
 ghost use Rattle.std.specs.Prelude.{◌≡◌, ◌∷◌, ◌++◌, [], ◌<◌, IfOk, IsOkAnd, IfSome, IfNone, OnSome, replicate};
 ghost use Rattle.sp_claim.specs.Grants.{times, EachOnce};
 
@@ -7,7 +7,7 @@ use atomic_table::{Seat, Table};
 use std::alloc::{AllocError, Global};
 use std::marker::Model;
 
-/// A word for each slot: the greatest round that was claimed, 0 at first. Contracts see which table it is.
+/// A table with a word for each slot: the greatest round that was claimed, at first 0. Contracts see which table it is.
 #[derive(Drop)]
 pub struct ClaimTable {
     table: Table<(), View, usize, OncePerRound, Global>,
@@ -24,7 +24,7 @@ impl Model for ClaimTable {
     ghost invariant = { λ t. t.table.shared.key ≡ t.table.shared.table_id.words };
 }
 
-/// What a thread claims with. Contracts see which table it is of, and the grants that it was given.
+/// A thread's right to claim. Contracts see the table to which it belongs, and the grants that it was given.
 #[derive(Drop)]
 pub struct Claimer {
     seat: Seat<(), View>,
@@ -41,14 +41,14 @@ impl Model for Claimer {
     ghost invariant = { λ c. c.seat.me.1 ≡ [] };
 }
 
-/// There was no memory for a second claimer. The one that was to be split comes back.
+/// There was no memory for a second claimer. The claimer that was to be split is returned.
 #[derive(Drop)]
 pub struct SplitRefused {
     pub claimer: Claimer,
 }
 
 impl ClaimTable {
-    /// A table whose words are all 0, with its first claimer, which has no grants.
+    /// Makes a table whose words are all 0, with its first claimer, which has no grants.
     pub fn new(alloc: Global, slots: u32) -> Result<(ClaimTable, Claimer), AllocError>
         requires { 0 < slots }
         ensures slots { IfOk result (λ made. made.0.words ≡ slots) }
@@ -60,8 +60,8 @@ impl ClaimTable {
         Ok((ClaimTable { table }, Claimer { seat }))
     }
 
-    /// Claims the slot for the round, by one step on the slot's word. The grant comes exactly where the word
-    /// found was below the round, so round 0 is never granted. It takes no memory.
+    /// Claims the slot for the round, by one step on the slot's word. The claim is granted exactly if the word found
+    /// was below the round, so round 0 is never granted. It allocates no memory.
     pub fn claim(&self, claimer: &mut Claimer, slot: u32, round: u64) -> Option<Grant>
         requires table { claimer.old.table ≡ self.now }
         requires inside { slot < self.now.words }
@@ -83,8 +83,8 @@ impl ClaimTable {
         }
     }
 
-    /// Two claimers of the table: the first keeps the grants, the second has none. It takes no memory, and is never
-    /// refused.
+    /// Splits a claimer into two: the first keeps the grants, and the second has none. It allocates no memory, and
+    /// never fails.
     pub fn split(&self, claimer: Claimer) -> Result<(Claimer, Claimer), SplitRefused>
         requires table { claimer.table ≡ self.now }
         requires slots { 0 < self.now.words }
@@ -97,7 +97,7 @@ impl ClaimTable {
         Ok((Claimer { seat }, Claimer { seat: other }))
     }
 
-    /// One claimer with the grants of both, which share no slot and round.
+    /// Joins two claimers into one with the grants of both, which have no slot and round in common.
     pub fn join(&self, claimer: Claimer, other: Claimer) -> Claimer
         requires first { claimer.table ≡ self.now }
         requires second { other.table ≡ self.now }
@@ -112,7 +112,7 @@ impl ClaimTable {
         joined
     }
 
-    /// Tells that no slot and round stands among the claimer's grants twice, by one load.
+    /// Shows, by one load, that no slot and round occurs among the claimer's grants twice.
     pub fn check(&self, claimer: &mut Claimer)
         requires table { claimer.old.table ≡ self.now }
         requires slots { 0 < self.now.words }
@@ -131,7 +131,7 @@ impl ClaimTable {
         self.table.shared.load::<Checks>(&mut claimer.seat, 0);
     }
 
-    // The first claimer has the grants of both.
+    // The first claimer takes over the grants of the other.
     fn take_over(&self, claimer: &mut Claimer, other: Claimer)
         requires first { claimer.old.table ≡ self.now }
         requires second { other.table ≡ self.now }
