@@ -5,13 +5,14 @@ use Rattle.sp_word.specs.Word.{Word}
 use Rattle.sp_offer.specs.Order.{IsNoMore, IsKnownWord}
 use Rattle.sp_offer.specs.Story.{Knowledge, known_table, IsStory}
 
--- The caller's history is legal, its calls stand there, each once, and every word that it knows is unreached or lawful.
+-- The caller's history is legal, each of its calls occurs in it once, and every word that it knows is unreached or
+-- lawful.
 pub record HasLegalHistory (law : ℕ → Word → Type 0) (caller : Knowledge) : Type 0 where
   pub is_story : IsStory caller.story
   pub words : (v : ℕ) → IsKnownWord law v (known_table caller.story v)
 
--- The caller is of the same table, and its history begins with what it had seen. Nowhere does it know less, what it
--- knows stays lawful, and its history legal.
+-- The caller belongs to the same table, and its history begins with what it had seen. No known word has risen, all
+-- known words stay lawful, and the history stays legal.
 pub record IsLater (law : ℕ → Word → Type 0) (before after : Knowledge) : Type 0 where
   pub table : after.table ≡ before.table
   pub begins : IsPrefix before.story.seen after.story.seen

@@ -12,26 +12,26 @@ use Rattle.sp_task.specs.Calls.{question_of, entries, IsNearer}
 use Rattle.sp_task.specs.Later.{IsLater}
 use Rattle.sp_task.specs.Work.{Job, Made, offers_at, calls_weight}
 
--- how often the number k stands among the receipts
+-- This counts how often the number k occurs among the receipts.
 abbrev pub tally : ℕ → List ℕ → ℕ
 tally k [] = 0
 tally k (r ∷ rs) = (if (r == k) then 1 else 0) + tally k rs
 
--- a number below n is marked exactly where it stands among the receipts
+-- A number below n is marked exactly if it occurs among the receipts.
 abbrev pub IsMarked : ℕ → List ℕ → List Bool → Type 0
 IsMarked n receipts marks =
     (k : ℕ) → k < n → (slice_index_or marks k false ≡ true → 0 < tally k receipts) × (slice_index_or marks k false ≡ false → tally k receipts ≡ 0)
 
--- g 0 + g 1 + .. up to g (n - 1)
+-- This is the sum g 0 + g 1 + .. + g (n - 1).
 abbrev pub upto : (ℕ → ℕ) → ℕ → ℕ
 upto g zero = 0
 upto g (suc n) = upto g n + g n
 
--- the value of g at each number that has no mark
+-- This is the value of g at each number without a mark.
 abbrev pub unmarked_value : List Bool → (ℕ → ℕ) → ℕ → ℕ
 unmarked_value marks g k = if slice_index_or marks k false then 0 else g k
 
--- the jobs below n that have no mark were run
+-- The jobs below n without a mark were run.
 abbrev pub RanLeft : (ℕ → Word → Type 0) → List Job → List Bool → ℕ → Knowledge → Knowledge → List Entry → List Entry → Type 0
 RanLeft law jobs marks n before after bag bag' =
     (calls : List Event) × Made law calls before after bag bag'
@@ -39,12 +39,12 @@ RanLeft law jobs marks n before after bag bag' =
 
 -- ## Rounds
 
--- each arc of the task was relaxed at its distance: what the caller knows is at most what the arc offered
+-- Each arc of the task was relaxed at its distance: what the caller knows is at most what the arc offered.
 abbrev pub IsTaskDone : (max : ℕ) → Split → Knowledge → Task → Type 0
 IsTaskDone max rows after t = All (IsArcRelaxed max (known_table after.story) t.dist) (arcs_of rows t)
 
--- The caller gained own calls: these are each offer of each task, each once, and no other. It knows every word of
--- them. Each call that was answered Shorter gave its entry, which is nearer than what the caller knew before.
+-- The caller's new calls are exactly the offers of the tasks, each made once. The caller knows every word of them. Each
+-- call that was answered Shorter gave its entry, which is nearer than what the caller knew before.
 pub record RoundDone (law : ℕ → Word → Type 0) (max : ℕ) (rows : Split) (tasks : List Task) (before after : Knowledge) (found : List Entry) : Type 0 where
   pub later : IsLater law before after
   pub calls : List Event

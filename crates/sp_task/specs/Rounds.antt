@@ -1,4 +1,4 @@
--- What contracts say of a round, and of the parts that its workers share.
+-- What contracts say about a round, and about the parts that its workers share.
 use Rattle.std.specs.Prelude.{◌≡◌, ℕ, ◌+◌, ◌≤◌, List, [], ◌∷◌, All, Bool, Vec, Result, length, max, slice_index_or, vec_len, vec_capacity}
 use Rattle.std.specs.declared.alloc.Global.{Global}
 use denote.RattleType.{RattleType}
@@ -29,24 +29,24 @@ module _ {L : Type 0} {P : ℕ} where
   abbrev pub jobs_in : Round L P → List Job
   jobs_in round = jobs_of (max_dist P) round.rows.now round.tasks.now
 
-  -- these are the arcs of the task of this number
+  -- These are the arcs of the task with this number.
   abbrev pub AreArcsOfTask : Round L P → ℕ → List Arc → Type 0
   AreArcsOfTask round number arcs = (t : Task) → arcs ≡ arcs_of round.rows.now (slice_index_or round.tasks.now number t)
 
   module _ (allows : L → ℕ → Word → Type 0) (round : Round L P) where
-    -- the words that its table takes
+    -- These are the words that its table takes.
     abbrev pub law_in : ℕ → Word → Type 0
     law_in = lawful P (allows round.table.now.law)
 
-    -- the table takes the offers of each task
+    -- The table takes the offers of each task.
     abbrev pub TakesTasks : Type 0
     TakesTasks = All (IsTask law_in (max_dist P) round.rows.now) round.tasks.now
 
-    -- the tables have room for each vertex, and take each task
+    -- The tables have room for each vertex, and the table takes the offers of each task.
     abbrev pub IsReadyRound : Type 0
     IsReadyRound = IsReady P law_in round.table.now.vertices round.claims.now.words round.rows.now round.tasks.now
 
-    -- each task was run once, and this came out
+    -- Each task was run once, and this is the result.
     abbrev pub IsRoundDone : Knowledge → RoundOut → Type 0
     IsRoundDone caller out =
         RoundDone law_in (max_dist P) round.rows.now round.tasks.now caller out.caller out.found.items
@@ -57,21 +57,21 @@ module _ {L : Type 0} {P : ℕ} where
     abbrev pub HasLegalHistoryIn : Knowledge → Type 0
     HasLegalHistoryIn caller = HasLegalHistory law_in caller
 
-    -- a worker ran some of the tasks
+    -- A worker ran some of the tasks.
     abbrev pub GoesOn : (before after : Did) → Type 0
     GoesOn before after = Goes law_in (jobs_in round) round.number before after
 
-    -- a worker made the offers of this task
+    -- A worker made the offers of this task.
     abbrev pub RunsTask : (number : ℕ) → (before after : Done) → Type 0
     RunsTask number before after =
         MadeOffers law_in (offers_at (jobs_in round) number) before.caller after.caller before.found.items after.found.items
 
-    -- the tasks without a mark were run
+    -- The tasks without a mark were run.
     abbrev pub RunsUnmarked : List Bool → (before after : Knowledge) → (bag bag' : Vec Entry Global) → Type 0
     RunsUnmarked marks before after bag bag' =
         RanLeft law_in (jobs_in round) marks (length round.tasks.now) before after bag.items bag'.items
 
--- no more than there are deques, and the leader
+-- There are at most as many workers as there are deques, plus the leader.
 abbrev pub most_workers : Prepared → ℕ
 most_workers prepared = max 1 (vec_len prepared.deques.owners)
 
@@ -85,32 +85,32 @@ HasRoom items more = vec_len items + more ≤ vec_capacity items
 abbrev pub jobs_at : (P : ℕ) → Split → List Task → List Job
 jobs_at P rows tasks = jobs_of (max_dist P) rows tasks
 
--- the lowering, the law, the gate and the runtime may go to other threads
+-- The lowering, the law, the gate and the runtime may be shared with other threads.
 abbrev pub AreShared : (runtime gate lowering law : RattleType) → Type 0
 AreShared runtime gate lowering law =
     IsSync runtime × IsSync gate × IsSync lowering × IsSend lowering × IsSync law × IsSend law
 
 module _ {L : Type 0} (P : ℕ) (allows : L → ℕ → Word → Type 0) (board : Board L) where
   module _ (dist : ℕ) where
-    -- the caller made the offer of this arc
+    -- The caller made the offer of this arc.
     abbrev pub IsOffer : Arc → (before after : Knowledge) → (bag bag' : Vec Entry Global) → Type 0
     IsOffer arc before after bag bag' =
         MadeOffers (lawful P (allows board.law)) (offer_along dist arc ∷ []) before after bag.items bag'.items
 
-    -- the caller made the offers of these arcs
+    -- The caller made the offers of these arcs.
     abbrev pub Relaxes : List Arc → (before after : Knowledge) → (bag bag' : Vec Entry Global) → Type 0
     Relaxes arcs before after bag bag' =
         MadeOffers (lawful P (allows board.law)) (offers_along (max_dist P) dist arcs) before after bag.items bag'.items
 
-  -- the tables have room for each vertex, and take each task
+  -- The tables have room for each vertex, and the table takes the offers of each task.
   abbrev pub IsReadyFor : TableId → Split → List Task → Type 0
   IsReadyFor claims rows tasks = IsReady P (lawful P (allows board.law)) board.vertices claims.words rows tasks
 
-  -- and a worker's caller and claimer are of these tables
+  -- A worker's caller and claimer belong to these tables.
   abbrev pub CanWork : TableId → Split → List Task → Seat → Type 0
   CanWork claims rows tasks seat = IsReadyFor claims rows tasks × AreOf board.id claims seat.caller seat.claimer
 
-  -- what one worker gives back, and what it and those of the other deques do
+  -- This is what one worker gives back, and what it and the workers of the other deques do.
   abbrev pub OneGives : List Job → (number : ℕ) → Seat → Result Done RoundRefused → Type 0
   OneGives jobs number seat result =
       Answers (lawful P (allows board.law)) jobs number seat.caller seat.claimer 1 result
@@ -119,20 +119,20 @@ module _ {L : Type 0} (P : ℕ) (allows : L → ℕ → Word → Type 0) (board 
   AllGive jobs number others seat result =
       Answers (lawful P (allows board.law)) jobs number seat.caller seat.claimer (vec_len others + 1) result
 
-  -- two callers and two claimers became one of each
+  -- Two callers and two claimers became one of each.
   abbrev pub JoinsTokens : (first second both : RoundRefused) → Type 0
   JoinsTokens first second both =
       AreJoined (lawful P (allows board.law)) first.caller second.caller both.caller first.claimer second.claimer both.claimer
 
-  -- the same of the tokens of two groups
+  -- This says the same of the caller and the claimer of two groups.
   abbrev pub JoinsTokensOf : (first second : Done) → (both : RoundRefused) → Type 0
   JoinsTokensOf first second both =
       AreJoined (lawful P (allows board.law)) first.caller second.caller both.caller first.claimer second.claimer both.claimer
 
-  -- two groups became one
+  -- Two groups became one.
   abbrev pub JoinsDone : (first second both : Done) → Type 0
   JoinsDone first second both = Joined (lawful P (allows board.law)) (did first) (did second) (did both)
 
--- the one counts no more workers than the two, and no fewer than the first
+-- The joined group counts at most the workers of the two, and at least those of the first.
 abbrev pub CountsBoth : (first second both : Done) → Type 0
 CountsBoth first second both = (first.started ≤ both.started) × (both.started ≤ first.started + second.started)

@@ -7,7 +7,7 @@ use Rattle.sp_offer.specs.Order.{lawful}
 use Rattle.sp_task.specs.declared.task.Task.{Task}
 use Rattle.sp_task.specs.Offers.{IsAllowed}
 
--- a task whose distance is that of a walk to its vertex asks for lawful offers alone
+-- A task whose distance is the length of a walk to its vertex makes only lawful offers.
 abbrev pub WalksAllowArcs : Type 0
 WalksAllowArcs = (P s : ℕ) (rows : Split) (t : Task) → IsGraph rows.graph → rows.graph.n ≤ max_pred P
     → HasWalk rows.graph s t.vertex t.dist → IsAllowed (lawful P (IsLawful rows.graph s)) (max_dist P) rows t

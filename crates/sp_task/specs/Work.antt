@@ -1,4 +1,4 @@
--- What a worker did from one moment to another.
+-- What a worker did between two moments.
 use Rattle.std.specs.Prelude.{◌≡◌, ℕ, zero, suc, ◌+◌, ◌-◌, ◌≤◌, ◌<◌, List, [], ◌∷◌, ◌++◌, length, map, sum_by, All, true, Result, Ok, Err}
 use Rattle.atomic_table.specs.Seated.{TableId}
 use Rattle.sp_word.specs.Word.{Word, is_layout, max_dist}
@@ -19,7 +19,7 @@ use Rattle.sp_task.specs.Later.{IsLater}
 
 -- ## Jobs
 
--- a task as its workers see it: the slot by which it is claimed, and its offers
+-- A job is a task as its workers see it: the slot by which it is claimed, and its offers.
 pub record Job : Type 0 where
   pub slot : ℕ
   pub offers : List Asked
@@ -30,7 +30,7 @@ job_of max rows t = record { slot = t.vertex - 1; offers = offers_of max rows t 
 abbrev pub jobs_of : (max : ℕ) → Split → List Task → List Job
 jobs_of max rows tasks = map (job_of max rows) tasks
 
--- the offers of job k
+-- These are the offers of job k.
 abbrev pub offers_at : List Job → ℕ → List Asked
 offers_at [] k = []
 offers_at (j ∷ js) zero = j.offers
@@ -41,13 +41,13 @@ slot_at [] k = 0
 slot_at (j ∷ js) zero = j.slot
 slot_at (j ∷ js) (suc k) = slot_at js k
 
--- the grant by which job k may be run
+-- This is the grant by which job k may be run.
 abbrev pub grant_at : List Job → ℕ → ℕ → Grant
 grant_at jobs number k = grant (slot_at jobs k) number
 
 -- ## Weights
 
--- how much all offers of these jobs weigh, the jobs given by their numbers
+-- This is the total weight of the offers of these jobs, which are given by their numbers.
 abbrev pub weight_at : (Asked → ℕ) → List Job → List ℕ → ℕ
 weight_at h jobs ks = sum_by (λ k. sum_by h (offers_at jobs k)) ks
 
@@ -56,18 +56,18 @@ calls_weight h calls = sum_by h (map question_of calls)
 
 -- ## What a round stands on
 
--- the tables have a word and a slot for each vertex, and the table takes the offers of each task
+-- The tables have a word and a slot for each vertex, and the table takes the offers of each task.
 pub record IsReady (P : ℕ) (law : ℕ → Word → Type 0) (vertices slots : ℕ) (rows : Split) (tasks : List Task) : Type 0 where
   pub layout : is_layout P ≡ true
   pub words : vertices ≡ rows.graph.n
   pub marks : rows.graph.n ≤ slots
   pub each : All (IsTask law (max_dist P) rows) tasks
 
--- a caller and a claimer of these tables
+-- The caller and the claimer belong to these tables.
 abbrev pub AreOf : TableId → TableId → Knowledge → Held → Type 0
 AreOf table claims caller claimer = (caller.table ≡ table) × (claimer.table ≡ claims)
 
--- a claimer of this table to which nothing was granted
+-- The claimer belongs to this table and has no grants.
 abbrev pub HasNoGrants : TableId → Held → Type 0
 HasNoGrants claims claimer = (claimer.table ≡ claims) × (claimer.grants ≡ [])
 
@@ -88,8 +88,8 @@ did d = record { caller = d.caller; claimer = d.claimer; receipts = numbers_of d
 abbrev pub start : Knowledge → Held → Did
 start caller claimer = record { caller = caller; claimer = claimer; receipts = []; found = [] }
 
--- The caller made these calls and no others, and knows each word that they offered. Each call that was answered
--- Shorter put its entry into the bag, and that entry is nearer than what the caller knew before.
+-- The caller made exactly these calls, and knows each word that they offered. Each call that was answered Shorter put
+-- its entry into the bag, and that entry is nearer than what the caller knew before.
 pub record Made (law : ℕ → Word → Type 0) (calls : List Event) (before after : Knowledge) (bag bag' : List Entry) : Type 0 where
   pub later : IsLater law before after
   pub mine : own_calls after.story ≡ own_calls before.story ++ calls
@@ -97,17 +97,18 @@ pub record Made (law : ℕ → Word → Type 0) (calls : List Event) (before aft
   pub nearer : All (IsNearer (known_table before.story)) (entries calls)
   pub knows : AllKnown after.story calls
 
--- the calls are these offers, in their order
+-- The calls are these offers, in their order.
 abbrev pub MadeOffers : (ℕ → Word → Type 0) → List Asked → Knowledge → Knowledge → List Entry → List Entry → Type 0
 MadeOffers law offers before after bag bag' =
     (calls : List Event) × (map question_of calls ≡ offers) × Made law calls before after bag bag'
 
--- each number is below n
+-- Each number is below n.
 abbrev pub AllBelow : ℕ → List ℕ → Type 0
 AllBelow n [] = Unit {0}
 AllBelow n (k ∷ ks) = (k < n) × AllBelow n ks
 
--- The new receipts are of jobs whose offers were made, each once, and no others. The claimer got a grant for each.
+-- The new receipts belong to exactly the jobs whose offers were made, each of them once. The claimer got a grant for
+-- each.
 pub record Goes (law : ℕ → Word → Type 0) (jobs : List Job) (number : ℕ) (before after : Did) : Type 0 where
   pub calls : List Event
   pub more : List ℕ
@@ -120,11 +121,11 @@ pub record Goes (law : ℕ → Word → Type 0) (jobs : List Job) (number : ℕ)
 
 -- ## Answers of groups of workers
 
--- a refusal gives back a caller and a claimer that went on from these
+-- A refusal gives back a caller and a claimer that come from these by further calls.
 abbrev pub IsRefused : (ℕ → Word → Type 0) → Knowledge → Held → RoundRefused → Type 0
 IsRefused law caller claimer r = IsLater law caller r.caller × (r.claimer.table ≡ claimer.table)
 
--- what a group of at most so many workers answers
+-- This is what a group of at most this many workers answers.
 abbrev pub Answers : (ℕ → Word → Type 0) → List Job → (number : ℕ) → Knowledge → Held → (count : ℕ) → Result Done RoundRefused → Type 0
 Answers law jobs number caller claimer count (Ok d) =
     Goes law jobs number (start caller claimer) (did d) × (1 ≤ d.started) × (d.started ≤ count)
@@ -138,7 +139,7 @@ abbrev pub claimer_of : Result Done RoundRefused → Held
 claimer_of (Ok d) = d.claimer
 claimer_of (Err r) = r.claimer
 
--- two callers became one, and so did two claimers
+-- Two callers became one, and so did two claimers.
 pub record AreJoined (law : ℕ → Word → Type 0) (first second both : Knowledge) (claimer other one : Held) : Type 0 where
   pub table : both.table ≡ first.table
   pub follows : Follows law first.story second.story both.story
@@ -146,13 +147,13 @@ pub record AreJoined (law : ℕ → Word → Type 0) (first second both : Knowle
   pub claims : one.table ≡ claimer.table
   pub grants : one.grants ≡ claimer.grants ++ other.grants
 
--- what two groups did, brought together
+-- This is what two groups did together.
 pub record Joined (law : ℕ → Word → Type 0) (a b both : Did) : Type 0 where
   pub tokens : AreJoined law a.caller b.caller both.caller a.claimer b.claimer both.claimer
   pub receipts : both.receipts ≡ a.receipts ++ b.receipts
   pub found : both.found ≡ a.found ++ b.found
 
--- what two groups answer together
+-- This is what two groups answer together.
 abbrev pub IsMerged : (ℕ → Word → Type 0) → Result Done RoundRefused → Result Done RoundRefused → Result Done RoundRefused → Type 0
 IsMerged law mine theirs (Ok d) =
     (m : Done) × (t : Done) × (mine ≡ Ok m) × (theirs ≡ Ok t) × Joined law (did m) (did t) (did d) × (m.started ≤ d.started) × (d.started ≤ m.started + t.started)

@@ -1,13 +1,13 @@
-//! What is called round every offer of a round.
+//! Gates, which are called around every offer of a round.
 
-/// Called round every offer of a round, by the worker that makes it, on its thread.
+/// A gate is called around every offer of a round, by the worker that makes it, on that worker's thread.
 pub trait Gate {
     fn before_offer(&self, worker: u32);
 
     fn after_offer(&self, worker: u32);
 }
 
-/// Lets every worker pass.
+/// The gate that lets every worker pass.
 #[derive(Clone, Copy, Debug)]
 pub struct OpenGate;
 

@@ -1,7 +1,10 @@
 //! Rounds of tasks that workers share.
 //!
-//! A task relaxes the light or the heavy arcs of one vertex at one distance. A round runs each of its tasks once, by
-//! as many workers as it is given, who take tasks from one another, and joins them.
+//! A task relaxes the light or the heavy arcs of one vertex at one distance. A round runs each of its tasks once, on as
+//! many workers as it is given, which steal tasks from one another; it joins all of them.
+//!
+//! This crate belongs to the engine by rounds, a library beside the engine that the program runs; it isn't part of the
+//! program.
 #![tactic(auto)]
 
 mod gate;

@@ -18,10 +18,10 @@ use std::alloc::{AllocError, Global};
 use std::sync::Wait;
 use std::thread::Threads;
 
-/// Runs each task of the round once, by at most so many workers as the round has and as there are tasks. It starts
-/// threads and joins them all. With one worker none is started, and nothing is claimed.
+/// Runs each task of the round once, with at most as many workers as the round has and as there are tasks. It starts
+/// threads and joins them all. With one worker it starts no thread and claims nothing.
 ///
-/// A refusal means that memory was wanting.
+/// It fails only if there is no memory.
 pub fn run_round<R: Threads + Wait + Sync, L: Lawful + Send + Sync, G: Gate + Sync, const P: u32>(
     rt: &R,
     alloc: Global,
@@ -47,7 +47,7 @@ pub fn run_round<R: Threads + Wait + Sync, L: Lawful + Send + Sync, G: Gate + Sy
     run_round_by::<Loop, R, L, G, P>(rt, alloc, round, caller, claimer, gate)
 }
 
-/// As `run_round`, with offers by a lowering of the caller's choice.
+/// Runs a round like `run_round`, with offers by a lowering that the caller chooses.
 pub fn run_round_by<
     M: Lowering + Send + Sync,
     R: Threads + Wait + Sync,
@@ -76,7 +76,7 @@ pub fn run_round_by<
     ensures refused_claimer { IfErr result (λ r. r.claimer.table ≡ claimer.table) }
     ensures refused_legal { IfErr result (λ r. HasLegalHistoryIn L.allows round.now r.caller) }
 {
-    // there is a vertex, and so a slot to claim
+    // There is a vertex, and therefore a slot to claim.
     let _ = round.rows.n();
     let workers = round.tasks.len().min(round.workers.get() as usize);
     if workers > 1 {
@@ -87,7 +87,7 @@ pub fn run_round_by<
     run_by_leader::<M, L, G, P>(alloc, round, caller, claimer, gate)
 }
 
-/// The same caller, which has looked at the table: its history is known to be legal.
+/// Returns the same caller after a look at the table: its history is then known to be legal.
 #[tactic(auto, using(crate::proofs::CallsInRow::later_joined, crate::proofs::CallsInRow::legal_joined))]
 fn look<L: Lawful, const P: u32>(table: &OfferTable<L, P>, caller: Caller) -> Caller
     requires { caller.table ≡ table.now.id }
@@ -101,7 +101,7 @@ fn look<L: Lawful, const P: u32>(table: &OfferTable<L, P>, caller: Caller) -> Ca
     table.join(caller, other)
 }
 
-/// What a round of several workers takes room for before its first offer.
+/// What a round of several workers allocates before its first offer.
 #[derive(Drop)]
 struct Prepared {
     marks: Vec<bool>,
@@ -119,7 +119,7 @@ fn prepare(alloc: Global, tasks: usize, workers: usize) -> Result<Prepared, Allo
     Ok(Prepared { marks, deques })
 }
 
-/// The leader runs all tasks, alone.
+/// The leader runs all tasks alone.
 fn run_by_leader<M: Lowering, L: Lawful, G: Gate, const P: u32>(
     alloc: Global,
     round: &Round<L, P>,
@@ -150,7 +150,7 @@ fn run_by_leader<M: Lowering, L: Lawful, G: Gate, const P: u32>(
     })
 }
 
-/// The workers run tasks until there are none, and then the leader runs each task that has no receipt.
+/// The workers run tasks until none are left, and then the leader runs each task that has no receipt.
 fn run_shared<
     M: Lowering + Send + Sync,
     R: Threads + Sync,

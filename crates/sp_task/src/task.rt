@@ -1,4 +1,4 @@
-//! Tasks, and what a round borrows.
+//! Tasks, and the parts that a round borrows.
 
 use sp_claim::ClaimTable;
 use sp_graph::Rows;
@@ -8,14 +8,15 @@ use sp_word::Workers;
 /// Which arcs of a vertex a task relaxes.
 #[derive(Clone, Copy, Debug, PartialEq, Eq)]
 pub enum TaskKind {
-    /// Those of a length of at most the width of a bucket.
+    /// The arcs whose length is at most the width of a bucket.
     Light,
-    /// The longer ones.
+    /// The longer arcs.
     Heavy,
 }
 
-/// Relaxes the arcs of a kind that leave a vertex, at a distance: to the head of each it offers the distance and
-/// the arc's length, added up, with the vertex as predecessor. A sum above the greatest distance is not offered.
+/// A task relaxes the arcs of one kind that leave a vertex, at a given distance: it offers to the head of each arc the
+/// sum of the distance and the arc's length, with the vertex as predecessor. A sum above the greatest distance isn't
+/// offered.
 #[derive(Clone, Copy, Debug, PartialEq, Eq)]
 pub struct Task {
     pub vertex: u32,
@@ -23,7 +24,8 @@ pub struct Task {
     pub kind: TaskKind,
 }
 
-/// What a round borrows, with its number, by which tasks are claimed, and the number of workers that may share it.
+/// The parts that a round borrows, with its number, by which tasks are claimed, and the number of workers that may
+/// share it.
 #[derive(Drop)]
 pub struct Round<'a, L: Lawful, const P: u32> {
     pub table: &'a OfferTable<L, P>,

@@ -9,23 +9,23 @@ pub(crate) mod stealing;
 pub(crate) mod steps;
 pub(crate) mod unfinished;
 
-/// Stands for a task of a round whose offers its holder's caller made.
+/// Shows that the holder's caller made the offers of a task of the round.
 #[derive(Clone, Copy, Debug, PartialEq, Eq)]
 pub struct Receipt {
     /// The number of the task, counted from 0.
     pub task: usize,
 }
 
-/// What a worker has when it ends, or several of them together.
+/// What one worker, or a group of workers, has at its end.
 #[derive(Drop)]
 pub struct Done {
     pub caller: Caller,
     pub claimer: Claimer,
-    /// One for each task whose offers the caller made.
+    /// One receipt for each task whose offers the caller made.
     pub receipts: Vec<Receipt>,
     /// One entry for each of those offers that made a distance smaller.
     pub found: Vec<Entry>,
-    /// How many workers these are.
+    /// The number of these workers.
     pub started: u32,
 }
 
@@ -36,11 +36,11 @@ pub struct RoundOut {
     pub claimer: Claimer,
     /// One entry for each offer of the round that made a distance smaller, with the vertex and that distance.
     pub found: Vec<Entry>,
-    /// How many workers ran, the leader included.
+    /// The number of workers that ran, including the leader.
     pub started: u32,
 }
 
-/// There was no memory to end a round. Offers that were made stay made, and the caller's history has them.
+/// There was no memory to complete a round. Offers that were made stay made, and the caller's history has them.
 #[derive(Drop)]
 pub struct RoundRefused {
     pub caller: Caller,

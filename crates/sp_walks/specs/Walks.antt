@@ -2,7 +2,7 @@
 use Rattle.std.specs.Prelude.{ℕ}
 use Rattle.sp_paths.specs.Paths.{Graph}
 
--- what contracts see of the law: the graph and the source
+-- This is what contracts see of the law: the graph and the source.
 pub record WalksFrom : Type 0 where
   pub graph : Graph
   pub source : ℕ

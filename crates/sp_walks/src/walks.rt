@@ -6,8 +6,8 @@ use sp_graph::Graph;
 use sp_offer::Lawful;
 use std::marker::Model;
 
-/// Allows a pair for a vertex only where a walk from the source to that vertex has its distance and its last arc
-/// leaves its predecessor, and (0, 0) at the source.
+/// Allows a pair for a vertex only if some walk from the source to that vertex has this distance and its last arc
+/// leaves this predecessor; for the source it also allows (0, 0).
 #[derive(Drop)]
 pub struct Walks<'g> {
     graph: &'g Graph,
@@ -23,7 +23,7 @@ impl<'g> Model for Walks<'g> {
 }
 
 impl<'g> Walks<'g> {
-    /// The law of walks from a vertex of the graph.
+    /// Makes the law of the walks from a vertex of the graph.
     pub fn new(graph: &'g Graph, source: u32) -> Walks<'g>
         requires { IsVertex graph.now.n source }
         ensures graph { result.graph ≡ graph.entry.now }

@@ -1,4 +1,4 @@
-//! Two groups of workers, brought together.
+//! Merges two groups of workers.
 ghost use Rattle.std.specs.Prelude.{◌≡◌, ℕ, ◌<◌, IfOk, IfErr};
 ghost use Rattle.sp_offer.specs.Order.{lawful};
 ghost use Rattle.sp_task.specs.Work.{AreOf, IsMerged, caller_of, claimer_of};
@@ -8,10 +8,10 @@ use crate::workers::{Done, RoundRefused};
 use sp_claim::ClaimTable;
 use sp_offer::{Lawful, OfferTable};
 
-/// What a group of workers answers. A refusal means that there was no memory to bring two groups together.
+/// The result of a group of workers. It is a refusal if there was no memory to merge two groups.
 pub(crate) type Worked = Result<Done, RoundRefused>;
 
-/// The caller and the claimer of a group, whatever it answers.
+/// Returns the caller and the claimer of a group, whether or not it succeeded.
 fn tokens_of(group: Worked) -> RoundRefused
     ensures caller { result.caller ≡ caller_of group }
     ensures claimer { result.claimer ≡ claimer_of group }
@@ -25,7 +25,7 @@ fn tokens_of(group: Worked) -> RoundRefused
     }
 }
 
-/// One caller and one claimer for two of each.
+/// Joins two callers into one, and two claimers into one.
 fn join_tokens<L: Lawful, const P: u32>(
     table: &OfferTable<L, P>,
     claims: &ClaimTable,
@@ -43,7 +43,7 @@ fn join_tokens<L: Lawful, const P: u32>(
     }
 }
 
-/// Brings together two groups that have ended.
+/// Merges two groups that have ended.
 fn merge_done<L: Lawful, const P: u32>(
     table: &OfferTable<L, P>,
     claims: &ClaimTable,
@@ -85,7 +85,7 @@ fn merge_done<L: Lawful, const P: u32>(
     })
 }
 
-/// Brings together what two groups of workers answer.
+/// Merges the results of two groups of workers.
 pub(crate) fn merge<L: Lawful, const P: u32>(
     table: &OfferTable<L, P>,
     claims: &ClaimTable,

@@ -1,6 +1,7 @@
-//! Workers that take tasks from one another.
+//! Workers that steal tasks from one another.
 //!
-//! What a deque hands out is a hint: nothing is known of it but that it is a number. The claim decides who runs a task.
+//! What a deque returns is a hint: the contracts only know that it is a number. The claim decides which worker runs a
+//! task.
 ghost use Rattle.std.specs.Prelude.{◌≡◌, ℕ, ◌+◌, ◌<◌, ◌≤◌, length, vec_len, IfOk};
 ghost use Rattle.sp_offer.specs.Calling.{IsBeside};
 ghost use Rattle.sp_task.specs.Work.{did, start, AreOf, HasNoGrants};
@@ -19,17 +20,17 @@ use sp_word::Workers;
 use std::alloc::{AllocError, Global};
 use std::thread::{Threads, join};
 
-/// How often a deque is asked again, in one pass, that answers neither a task nor empty.
+/// How often a pass retries a deque that answers neither with a task nor that it is empty.
 const MOST_RETRIES: usize = 1000;
 
-/// The deques of a round: the workers' own, the leader's last, and a thief's side of each.
+/// The deques of a round: the workers' own, with the leader's last, and a thief's handle of each.
 #[derive(Drop)]
 pub(crate) struct Deques {
     pub owners: Vec<Worker<usize>>,
     pub stealers: Vec<Stealer<usize>>,
 }
 
-/// What a worker begins with: its number, its own deque, its caller and its claimer.
+/// What a worker starts with: its number, its own deque, its caller and its claimer.
 #[derive(Drop)]
 pub(crate) struct Seat {
     pub worker: u32,
@@ -38,7 +39,7 @@ pub(crate) struct Seat {
     pub claimer: Claimer,
 }
 
-/// Deals task `k` to worker `k` modulo `workers`, first in, first out. A task that a deque refuses is left to the
+/// Deals task `k` to worker `k` modulo `workers`, in FIFO order. A task for which a deque has no memory is left to the
 /// leader.
 pub(crate) fn deal(alloc: Global, tasks: usize, workers: usize) -> Result<Deques, AllocError>
     requires { 0 < workers }
@@ -59,7 +60,7 @@ pub(crate) fn deal(alloc: Global, tasks: usize, workers: usize) -> Result<Deques
     Ok(Deques { owners, stealers })
 }
 
-/// A task of another worker.
+/// Steals a task from another worker.
 fn steal(stealer: &Stealer<usize>) -> Option<usize> {
     for _ in 0..=MOST_RETRIES {
         match stealer.steal() {
@@ -71,7 +72,7 @@ fn steal(stealer: &Stealer<usize>) -> Option<usize> {
     None
 }
 
-/// A task of its own, or else one of another's, by one pass over all deques.
+/// Returns a task from the worker's own deque, or else one of another worker, after one pass over all deques.
 fn next_task(own: &mut Worker<usize>, stealers: &[Stealer<usize>]) -> Option<usize> {
     if let Some(number) = own.pop() {
         return Some(number);
@@ -84,7 +85,7 @@ fn next_task(own: &mut Worker<usize>, stealers: &[Stealer<usize>]) -> Option<usi
     None
 }
 
-/// As `try_task`, for a number that a deque handed out.
+/// Tries a task like `try_task`, for a number that a deque returned.
 fn try_number<M: Lowering, L: Lawful, G: Gate, const P: u32>(
     round: &Round<L, P>,
     gate: &G,
@@ -104,7 +105,8 @@ fn try_number<M: Lowering, L: Lawful, G: Gate, const P: u32>(
     try_task::<M, L, G, P>(round, gate, worker, number, done)
 }
 
-/// One worker. It ends when a pass gave nothing, or there was no room, or after as many tasks as the round has.
+/// Runs one worker. It ends when a pass found no task, when there is no memory, or after as many tasks as the round
+/// has.
 fn run_worker<M: Lowering, L: Lawful, G: Gate, const P: u32>(
     alloc: Global,
     round: &Round<L, P>,
@@ -141,7 +143,7 @@ fn run_worker<M: Lowering, L: Lawful, G: Gate, const P: u32>(
     done
 }
 
-/// One worker, from the parts of a round.
+/// Runs one worker, given the parts of a round.
 fn run_alone<M: Lowering, L: Lawful, G: Gate, const P: u32>(
     alloc: Global,
     table: &OfferTable<L, P>,
@@ -163,13 +165,13 @@ fn run_alone<M: Lowering, L: Lawful, G: Gate, const P: u32>(
         rows,
         tasks,
         number,
-        // this one
+        // This is the one worker.
         workers: Workers::one(),
     };
     Ok(run_worker::<M, L, G, P>(alloc, &round, gate, stealers, seat))
 }
 
-/// Two seats of one: the second is the next worker's, with this deque.
+/// Splits a seat into two: the second is the next worker's, with this deque.
 fn split_seat<L: Lawful, const P: u32>(
     table: &OfferTable<L, P>,
     claims: &ClaimTable,
@@ -203,8 +205,8 @@ fn split_seat<L: Lawful, const P: u32>(
     (first, second)
 }
 
-/// A worker on this thread, and those of the other deques on threads that it starts. A closure that borrows a whole `Round`
-/// gets no contract, so the parts of a round go to its threads one by one.
+/// Runs one worker on this thread, and the workers of the other deques on threads that it starts. A closure that
+/// borrows a whole `Round` gets no contract, so the parts of a round are passed to its threads one by one.
 #[cycle(workers)]
 pub(crate) fn run_workers<
     R: Threads + Sync,

@@ -1,4 +1,4 @@
-//! One offer, one task.
+//! One offer, and one task.
 ghost use Rattle.std.specs.Prelude.{◌≡◌, ℕ, ◌+◌, ◌-◌, ◌<◌, ◌≤◌, [], ◌∷◌, ◌++◌, true, length, vec_len, vec_capacity, All, IsTrue};
 ghost use Rattle.sp_word.specs.Word.{Pair, is_layout, max_dist};
 ghost use Rattle.sp_paths.specs.Paths.{IsVertex, IsArc};
@@ -16,7 +16,7 @@ use sp_offer::{Caller, Lawful, Lowering, OfferTable};
 use sp_paths::Arc;
 use sp_word::{Reply, Word};
 
-/// The arcs that a task relaxes.
+/// Returns the arcs that a task relaxes.
 pub(crate) fn task_arcs(rows: &Rows, task: Task) -> &[Arc]
     requires { IsVertex rows.now.graph.n task.vertex }
     ensures row { result.now ≡ arcs_of rows.now task }
@@ -28,7 +28,7 @@ pub(crate) fn task_arcs(rows: &Rows, task: Task) -> &[Arc]
     }
 }
 
-/// Makes the offer of one arc, whose tail has this distance. There is room for its entry.
+/// Makes the offer of one arc, whose tail has this distance. There must be room for its entry.
 fn make_offer<M: Lowering, L: Lawful, G: Gate, const P: u32>(
     table: &OfferTable<L, P>,
     gate: &G,
@@ -67,7 +67,7 @@ fn make_offer<M: Lowering, L: Lawful, G: Gate, const P: u32>(
     }
 }
 
-/// Makes the offers along these arcs, in their order, where the sum is within the greatest distance. There is room
+/// Makes the offers along these arcs, in their order, if the sum is within the greatest distance. There must be room
 /// for an entry for each.
 pub(crate) fn make_offers<M: Lowering, L: Lawful, G: Gate, const P: u32>(
     table: &OfferTable<L, P>,
@@ -94,7 +94,7 @@ pub(crate) fn make_offers<M: Lowering, L: Lawful, G: Gate, const P: u32>(
     }
 }
 
-/// Takes room for one more receipt and for so many entries. `false` says that there was none.
+/// Reserves room for one more receipt and for `entries` entries. Returns `false` if there is no memory.
 fn take_room(done: &mut Done, entries: usize) -> bool
     ensures caller { done.new.caller ≡ done.old.caller }
     ensures claimer { done.new.claimer ≡ done.old.claimer }
@@ -143,7 +143,7 @@ fn run_task<M: Lowering, L: Lawful, G: Gate, const P: u32>(
     }
 }
 
-/// Runs the task if it is granted. `false` says that there was no room, and nothing was done.
+/// Runs the task if it is granted. Returns `false` if there was no memory; then nothing was done.
 #[tactic(auto, using(crate::proofs::WorkerSteps::goes_refused))]
 pub(crate) fn try_task<M: Lowering, L: Lawful, G: Gate, const P: u32>(
     round: &Round<L, P>,

@@ -1,4 +1,4 @@
-//! The tasks that no worker has a receipt for.
+//! The tasks for which no worker has a receipt.
 ghost use Rattle.std.specs.Prelude.{◌≡◌, ℕ, ◌+◌, ◌<◌, ◌≤◌, [], vec_len, false, IsTrue, replicate, slice_index_or};
 ghost use Rattle.sp_task.specs.Work.{AllBelow, numbers_of};
 ghost use Rattle.sp_task.specs.Left.{IsMarked};
@@ -24,15 +24,15 @@ pub(crate) fn mark(marks: &mut Vec<bool>, receipts: &[Receipt])
     }
 }
 
-/// Whether the number has a mark. With no marks at all, none has.
+/// Returns whether the number has a mark. With an empty list of marks no number has one.
 fn is_marked(marks: &[bool], number: usize) -> bool
     ensures { result ≡ slice_index_or marks.now number false }
 {
     number < marks.len() && marks[number]
 }
 
-/// The leader runs the tasks that have no mark, each with no claim. `false` says that there was no room, and the
-/// tasks before were run.
+/// The leader runs the tasks without a mark, and claims none of them. Returns `false` if there was no memory; the tasks
+/// before were run.
 pub(crate) fn run_left<M: Lowering, L: Lawful, G: Gate, const P: u32>(
     round: &Round<L, P>,
     gate: &G,
