@@ -7,7 +7,8 @@ use Rattle.sp_store.specs.declared.marks.Marks.{Marks}
 use Rattle.sp_store.specs.Stage.{Stage}
 use Rattle.sp_store.specs.Marks.{Noted, notes_of}
 
--- the store's stage, the caller, what is written down of the vertices, what is queued, and a copy of all words
+-- The leader has the store's stage, the caller, what is recorded about the vertices, the queued entries, and a copy of
+-- all words.
 pub record Lead : Type 0 where
   pub stage : Stage
   pub caller : Knowledge
@@ -18,6 +19,6 @@ pub record Lead : Type 0 where
 abbrev pub lead_of : Stage → Knowledge → Marks → Content → List Word → Lead
 lead_of st c m b words = record { stage = st; caller = c; marks = notes_of m; buckets = b; words = words }
 
--- nothing is remembered any more
+-- Nothing is remembered any more.
 abbrev pub lead_without_memory : Lead → Lead
 lead_without_memory l = record l { marks = record l.marks { remembered = [] } }

@@ -9,7 +9,7 @@ use Rattle.sp_phase.specs.Lead.{Lead}
 use Rattle.sp_phase.specs.Behind.{HasCome}
 
 -- The store's stage, and the caller of a run that isn't spent. `settled` is the bucket of the last answer that no round
--- of heavy arcs has followed yet, `closed` the last bucket that was settled and then relaxed heavy.
+-- of heavy arcs has followed yet, and `closed` is the last bucket that was settled and then relaxed heavy.
 pub record Progress : Type 0 where
   pub stage : Stage
   pub caller : Option Knowledge
@@ -20,7 +20,7 @@ abbrev pub caller_of : Option Lead → Option Knowledge
 caller_of None = None
 caller_of (Some l) = Some l.caller
 
--- a leader of the stage, if there is one, came so far
+-- If there is a leader, it belongs to the stage and has come this far.
 abbrev pub MayLead : (P : ℕ) → Stage → (settled closed : Option ℕ) → Option Lead → Type 0
 MayLead P st settled closed None = Unit {0}
 MayLead P st settled closed (Some l) = (l.stage ≡ st) × HasCome P st settled closed l
@@ -31,15 +31,15 @@ IsUnspent run = IsSome run.caller
 abbrev pub IsSpent : Progress → Type 0
 IsSpent run = run.caller ≡ None
 
--- the same buckets are settled and closed
+-- The same buckets are settled and closed.
 abbrev pub IsAsFar : (before after : Progress) → Type 0
 IsAsFar before after = (after.settled ≡ before.settled) × (after.closed ≡ before.closed)
 
--- the caller's word of the vertex
+-- This is the caller's word of the vertex.
 abbrev pub HasRead : Progress → (v : ℕ) → Word → Type 0
 HasRead run v word = IsSomeAnd run.caller (λ c. known_table c.story v ≡ word)
 
--- nothing but a growth was refused
+-- The refusal is due only to a failed allocation.
 abbrev pub IsMemory : RunError → Type 0
 IsMemory Memory = Unit {0}
 IsMemory (TooFar v) = ⊥

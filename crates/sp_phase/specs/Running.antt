@@ -1,4 +1,4 @@
--- What holds of a run between its rounds.
+-- What holds for a run between its rounds.
 use Rattle.std.specs.Prelude.{◌≡◌, ℕ, ◌≤◌, List, ◌++◌, length, All}
 use Rattle.std.specs.List.Sorted.{IsPermutation}
 use Rattle.sp_word.specs.Word.{max_dist}
@@ -12,29 +12,29 @@ use Rattle.sp_store.specs.Marks.{Noted}
 use Rattle.sp_store.specs.Rounds.{IsRunning}
 use Rattle.sp_phase.specs.Lead.{Lead}
 
--- a vertex, and a distance from low to max
+-- The entry has a vertex, and a distance from low to max.
 abbrev pub IsQueued : (P : ℕ) → Stage → (low : ℕ) → Entry → Type 0
 IsQueued P st low e = IsVertex st.graph.n e.vertex × (low ≤ e.dist) × (e.dist ≤ max_dist P)
 
--- a caller of the stage's table, and the marks that it made
+-- The caller belongs to the stage's table, and it made these marks.
 pub record Holds (P : ℕ) (st : Stage) (c : Knowledge) (m : Noted) : Type 0 where
   pub stage : IsStage P st
   pub table : c.table ≡ st.table
   pub running : IsRunning P st (known_table c.story) m.each
   pub remembered : All (IsVertex st.graph.n) m.remembered
 
--- a leader between two rounds of a run
+-- This is a leader between two rounds of a run.
 pub record Leads (P : ℕ) (st : Stage) (l : Lead) : Type 0 where
   pub holds : Holds P st l.caller l.marks
   pub width : l.buckets.delta ≡ st.delta
   pub entries : All (IsQueued P st 0) l.buckets.entries
   pub size : length l.words ≡ st.graph.n
 
--- distances from low on
+-- The tasks' distances are at least low.
 abbrev pub TasksFrom : (low : ℕ) → List Task → Type 0
 TasksFrom low tasks = All (λ t. low ≤ t.dist) tasks
 
--- the entries are put beside the old ones
+-- The entries are added to the old ones.
 abbrev pub HasPut : List Entry → (old new : Content) → Type 0
 HasPut entries old new = IsPermutation (old.entries ++ entries) new.entries
 

@@ -14,27 +14,27 @@ use Rattle.sp_store.specs.Marks.{mark_of, light_at, heavy_at}
 use Rattle.sp_phase.specs.declared.sweeping.Bounds.{Bounds}
 use Rattle.sp_phase.specs.Lead.{Lead}
 
--- relaxed at the distance d, where that is below the bounds
+-- The mark says that the vertex was relaxed at the distance d, if that is below the bounds.
 abbrev pub IsMarkedAt : Mark → Bounds → (d : ℕ) → Type 0
 IsMarkedAt m b d = (d < b.light → m.light ≡ Some d) × (d < b.heavy → m.heavy ≡ Some d)
 
 abbrev pub IsRelaxedAtDist : List Mark → Bounds → (u d : ℕ) → Type 0
 IsRelaxedAtDist marks b u d = IsMarkedAt (mark_of marks u) b d
 
--- so is each of the first n vertices at the distance of its word
+-- This holds for each of the first n vertices at the distance of its word.
 abbrev pub AreRelaxed : List Word → List Mark → Bounds → (n : ℕ) → Type 0
 AreRelaxed words marks b n = (u d p : ℕ) → IsVertex n u → word_at words u ≡ Pair d p → IsRelaxedAtDist marks b u d
 
--- so is the vertex, at the distance of its word
+-- This holds for the vertex at the distance of its word.
 abbrev pub IsRelaxedHere : List Word → List Mark → Bounds → (u : ℕ) → Type 0
 IsRelaxedHere words marks b u = (d p : ℕ) → word_at words u ≡ Pair d p → IsRelaxedAtDist marks b u d
 
--- the entry's vertex has its distance, and wasn't relaxed there
+-- The entry's vertex has its distance, and wasn't relaxed there.
 abbrev pub IsOpen : List Word → List Mark → Bounds → Entry → Type 0
 IsOpen words marks b e = IsVertex (length words) e.vertex × ((p : ℕ) × (word_at words e.vertex ≡ Pair e.dist p)) × (IsRelaxedAtDist marks b e.vertex e.dist → ⊥)
 
--- A copy of all words: lawful, no more than what was known when the marks were made, and no less than what the caller
--- knows now, which is lawful too.
+-- This is a copy of all words. It is lawful, at most what was known when the marks were made, and at least what the
+-- caller knows now, which is lawful too.
 pub record IsCopied (P : ℕ) (st : Stage) (c : Knowledge) (marks : List Mark) (copy : List Word) : Type 0 where
   pub words : Table
   pub of : IsMarkedCopy st.graph st.source (max_dist P) st.delta words (word_at copy) (light_at marks) (heavy_at marks)
@@ -43,28 +43,28 @@ pub record IsCopied (P : ℕ) (st : Stage) (c : Knowledge) (marks : List Mark) (
   pub stage : IsStage P st
   pub lawful : (v : ℕ) → IsKnownWord (law_of P st) v (known_table c.story v)
 
--- and no vertex is open in it
+-- No vertex is open in it.
 abbrev pub IsSwept : (P : ℕ) → Stage → Knowledge → List Mark → List Word → Type 0
 IsSwept P st c marks copy = IsCopied P st c marks copy × HasNoOpen st.graph (word_at copy) (light_at marks) (heavy_at marks)
 
--- so it is of the leader's copy
+-- This holds for the leader's copy.
 abbrev pub HasCopied : (P : ℕ) → Lead → Type 0
 HasCopied P l = IsCopied P l.stage l.caller l.marks.each l.words
 
 abbrev pub HasSwept : (P : ℕ) → Lead → Type 0
 HasSwept P l = IsSwept P l.stage l.caller l.marks.each l.words
 
--- in the leader's copy each vertex was relaxed as far as the bounds ask
+-- In the leader's copy each vertex was relaxed as far as the bounds require.
 abbrev pub HasRelaxed : Bounds → Lead → Type 0
 HasRelaxed b l = AreRelaxed l.words l.marks.each b (length l.words)
 
--- the leader copied the words
+-- The leader copied the words.
 pub record TakesCopy (P : ℕ) (l l' : Lead) : Type 0 where
   pub rest : l' ≡ record l { caller = l'.caller; words = l'.words }
   pub copied : HasCopied P l'
   pub below : (v : ℕ) → IsVertex l.stage.graph.n v → IsNoMore (word_at l'.words v) (known_table l.caller.story v)
   pub learns : Learns P l.stage l.caller l'.caller
 
--- a tree with these words
+-- The tree has these words.
 abbrev pub HasWords : TreeTable → (n : ℕ) → Table → Type 0
 HasWords t n words = (v : ℕ) → IsVertex n v → words v ≡ table_of t v

@@ -1,4 +1,4 @@
-//! How a leader goes on, bucket after bucket.
+//! Advances a leader from bucket to bucket.
 ghost use Rattle.std.specs.Prelude.{◌≡◌, ◌+◌, ◌*◌, ◌<◌, Some, None, IsTrue, IfOk, IfSome, IfNone};
 ghost use Rattle.sp_paths.specs.Paths.{IsVertex};
 ghost use Rattle.sp_bucket.specs.Content.{IsLowest};
@@ -17,19 +17,21 @@ use std::alloc::AllocError;
 use std::sync::Wait;
 use std::thread::Threads;
 
-/// What a leader goes on until.
+/// The point up to which a leader advances.
 #[derive(Clone, Copy, Debug)]
 pub(crate) enum Until {
-    /// Until a bucket is final, or all words are. Each bucket is tested by a copy of all words, and heavy arcs are left.
+    /// Until a bucket is final, or all words are. Each bucket is tested by a copy of all words, and heavy arcs are
+    /// left.
     BucketSettled,
-    /// Until all words are final. Heavy arcs are relaxed after each bucket, and words copied where no entry is queued.
+    /// Until all words are final. Heavy arcs are relaxed after each bucket, and the words are copied once no entry is
+    /// queued.
     Swept,
-    /// Until the word of this vertex is final, or all are. Heavy arcs are relaxed after each bucket, and words copied where
-    /// a bucket was emptied and the vertex lies below its end, or where no entry is queued.
+    /// Until the word of this vertex is final, or all words are. Heavy arcs are relaxed after each bucket. The words
+    /// are copied once a bucket is empty and the vertex lies below its end, or once no entry is queued.
     Final(u32),
 }
 
-/// A leader, and the bucket that is final for its caller; none where all words are.
+/// A leader, and the bucket that is final for its caller, or `None` if all words are final.
 #[derive(Drop)]
 pub(crate) struct Settled<'a, 'g, const P: u32> {
     pub leader: Leader<'a, 'g, P>,
@@ -50,7 +52,7 @@ fn bounds_of(bucket: u64, delta: u64) -> Bounds
     }
 }
 
-// Whether the word has a distance below this one.
+// Returns whether the word has a distance below this one.
 fn is_within<const P: u32>(word: Word<P>, end: u64) -> bool
     ensures { IsTrue result → IsBelowDist word.entry end }
 {
@@ -61,7 +63,7 @@ fn is_within<const P: u32>(word: Word<P>, end: u64) -> bool
 }
 
 impl<'a, 'g, const P: u32> Leader<'a, 'g, P> {
-    // Empties the lowest bucket, and tests it. It tells whether that passed; the vertices that failed are queued.
+    // Empties the lowest bucket, tests it, and returns whether it passed. The vertices that failed the test are queued.
     fn settle_bucket<R: Threads + Wait + Sync, G: Gate + Sync>(
         self,
         rt: &R,
@@ -80,8 +82,8 @@ impl<'a, 'g, const P: u32> Leader<'a, 'g, P> {
         Ok((leader, passed))
     }
 
-    // Empties the lowest bucket. Where the target's word then lies below its end, it is tested, and the vertices that
-    // failed are queued. It tells whether the target's word is final.
+    // Empties the lowest bucket. If the target's word then lies below its end, the bucket is tested, and the vertices
+    // that failed the test are queued. Returns whether the target's word is final.
     fn settle_target<R: Threads + Wait + Sync, G: Gate + Sync>(
         self,
         rt: &R,
@@ -109,7 +111,7 @@ impl<'a, 'g, const P: u32> Leader<'a, 'g, P> {
         Ok((leader, found))
     }
 
-    // Relaxes the heavy arcs that are owed, where they aren't left.
+    // Relaxes the heavy arcs that are owed, unless they are to be left.
     fn close_bucket<R: Threads + Wait + Sync, G: Gate + Sync>(
         self,
         rt: &R,
@@ -125,7 +127,8 @@ impl<'a, 'g, const P: u32> Leader<'a, 'g, P> {
         }
     }
 
-    // Empties the bucket, the lowest one, or sweeps where there is none. It tells whether the leader has come so far.
+    // Empties the given bucket, which is the lowest, or sweeps if there is none. Returns whether the leader has come as
+    // far as required.
     fn step<R: Threads + Wait + Sync, G: Gate + Sync>(
         mut self,
         rt: &R,
@@ -158,7 +161,7 @@ impl<'a, 'g, const P: u32> Leader<'a, 'g, P> {
         }
     }
 
-    /// Goes on from bucket to bucket.
+    /// Advances from bucket to bucket.
     pub(crate) fn advance<R: Threads + Wait + Sync, G: Gate + Sync>(
         mut self,
         rt: &R,

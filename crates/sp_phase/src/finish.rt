@@ -28,7 +28,8 @@ impl<'a, 'g, const P: u32> Leader<'a, 'g, P> {
         Ok(tree)
     }
 
-    /// The answer of a copy of the words in which no vertex is open, and the caller, which knows the tree's words.
+    /// Returns the answer of a copy of the words in which no vertex is open, and the caller, which knows the tree's
+    /// words.
     pub(crate) fn answer(self) -> Result<(Tree<P>, Caller), RunError>
         requires { HasSwept P self }
         ensures tree { IfOk result (λ done.

@@ -15,15 +15,15 @@ use sp_word::{Word, Workers};
 use std::alloc::{AllocError, Global};
 use std::marker::Model;
 
-/// The leader of a run over a store: it makes tasks, lets workers run them round after round, and looks at copies of all
-/// words.
+/// The leader of a run over a store. It makes tasks, lets workers run them round after round, and looks at copies of
+/// all words.
 ///
-/// Contracts see the store's stage, the caller, what is written down of the vertices, what is queued, and the copy.
+/// Contracts see the store's stage, the caller, what is recorded about the vertices, the queued entries, and the copy.
 #[derive(Drop)]
 pub(crate) struct Leader<'a, 'g, const P: u32> {
     pub(crate) alloc: Global,
     pub(crate) store: &'a Store<'g, P>,
-    /// The most workers of a round.
+    /// The greatest number of workers of a round.
     pub(crate) workers: Workers,
     pub(crate) caller: Caller,
     pub(crate) claimer: Claimer,
@@ -48,7 +48,7 @@ impl<'a, 'g, const P: u32> Model for Leader<'a, 'g, P> {
 }
 
 impl<'a, 'g, const P: u32> Leader<'a, 'g, P> {
-    /// The leader of a run that begins, alone: the source has its pair, and is queued.
+    /// Makes the leader of a new run, without other workers: the source has its pair, and is queued.
     pub(crate) fn new(
         alloc: Global,
         store: &'a Store<'g, P>,
@@ -86,14 +86,14 @@ impl<'a, 'g, const P: u32> Leader<'a, 'g, P> {
         })
     }
 
-    /// The same leader of so many workers.
+    /// Returns the same leader with this number of workers.
     pub(crate) fn with_workers(self, workers: Workers) -> Leader<'a, 'g, P>
         ensures { result ≡ self.entry }
     {
         Leader { workers, ..self }
     }
 
-    /// The lowest bucket with an entry.
+    /// Returns the lowest bucket with an entry.
     pub(crate) fn lowest(&self) -> Option<u64>
         ensures { IfSome result (IsLowest self.now.buckets) }
     {
@@ -109,14 +109,14 @@ impl<'a, 'g, const P: u32> Leader<'a, 'g, P> {
         self.store.read(&mut self.caller, vertex)
     }
 
-    /// The next round begins.
+    /// Begins the next round.
     pub(crate) fn begin_round(&mut self)
         ensures { self.new ≡ self.old }
     {
         self.marks.begin_round();
     }
 
-    /// Hands out the vertices that are remembered.
+    /// Returns the vertices that are remembered.
     pub(crate) fn recall(&mut self) -> Vec<u32>
         ensures vertices { result.items ≡ self.old.marks.remembered }
         ensures marks { self.new ≡ lead_without_memory self.old }

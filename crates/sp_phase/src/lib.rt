@@ -1,4 +1,7 @@
-//! Runs from a source by rounds: what is final before the end, the shortest-path tree, or the vertex that is too far.
+//! Runs from a source by rounds: they find which words are final before the end, and the shortest-path tree or the
+//! vertex that is too far.
+//!
+//! This crate is the engine by rounds, a library beside the engine that the program runs; it isn't part of the program.
 #![tactic(auto)]
 
 mod advancing;

@@ -41,8 +41,9 @@ impl<'a, 'g, const P: u32> Leader<'a, 'g, P> {
     }
 }
 
-/// The target's word of the source's shortest-path tree, or None where no walk leads to it. The run ends as soon as that
-/// word is final: it goes on from bucket to bucket, by at most so many workers, until the target lies in one that is.
+/// Returns the target's word in the shortest-path tree of the source, or `None` if no walk leads to it. The run ends as
+/// soon as that word is final: it advances from bucket to bucket, with at most `workers` workers, until the target lies
+/// in a bucket that is final.
 pub fn run_pair<const P: u32, R: Threads + Wait + Sync>(
     rt: &R,
     alloc: Global,
@@ -60,7 +61,7 @@ pub fn run_pair<const P: u32, R: Threads + Wait + Sync>(
     run_pair_with(rt, alloc, graph, delta, workers, source, target, &OpenGate)
 }
 
-/// The same, with a gate round every offer, and every round shared among the workers.
+/// Runs like `run_pair`, with a gate around every offer; every round is shared among the workers.
 pub fn run_pair_with<const P: u32, R: Threads + Wait + Sync, G: Gate + Sync>(
     rt: &R,
     alloc: Global,
@@ -83,7 +84,7 @@ pub fn run_pair_with<const P: u32, R: Threads + Wait + Sync, G: Gate + Sync>(
     run_stored_pair(rt, alloc, &store, caller, claimer, workers, target, gate)
 }
 
-// A run over a store, for one target.
+// Runs over a store, for one target.
 fn run_stored_pair<const P: u32, R: Threads + Wait + Sync, G: Gate + Sync>(
     rt: &R,
     alloc: Global,

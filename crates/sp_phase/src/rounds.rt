@@ -18,7 +18,7 @@ use std::alloc::AllocError;
 use std::sync::Wait;
 use std::thread::Threads;
 
-/// One element more, if there is one.
+/// Appends an element, if there is one.
 pub(crate) fn push_some<T: Copy>(list: &mut Vec<T>, item: Option<T>) -> Result<(), AllocError>
     ensures { OnOk result (list.new.items ≡ list.old.items ++ option_to_list item) }
 {
@@ -28,7 +28,7 @@ pub(crate) fn push_some<T: Copy>(list: &mut Vec<T>, item: Option<T>) -> Result<(
     Ok(())
 }
 
-/// Puts entries into their buckets. Refused, it has put the first ones.
+/// Puts entries into their buckets. If it fails, it has put the first ones.
 pub(crate) fn put_all(buckets: &mut Buckets, entries: &[Entry]) -> Result<(), AllocError>
     ensures width { buckets.new.delta ≡ buckets.old.delta }
     ensures some { (k : ℕ) × HasPut (take k entries.now) buckets.old buckets.new }
@@ -41,7 +41,7 @@ pub(crate) fn put_all(buckets: &mut Buckets, entries: &[Entry]) -> Result<(), Al
 }
 
 impl<'a, 'g, const P: u32> Leader<'a, 'g, P> {
-    // Runs a round of tasks, writes them down, and queues what they found. A refusal spends the leader.
+    // Runs a round of tasks, records them, and queues the entries that they found. If it fails, the leader is spent.
     fn run_tasks<R: Threads + Wait + Sync, G: Gate + Sync>(
         self,
         rt: &R,
@@ -84,7 +84,8 @@ impl<'a, 'g, const P: u32> Leader<'a, 'g, P> {
         })
     }
 
-    // The light task of an entry that is live: its vertex has the entry's distance, and isn't in this round yet.
+    // Returns the light task of an entry that is live: its vertex has the entry's distance, and isn't in this round
+    // yet.
     fn light_task(&mut self, entry: &Entry) -> Result<Option<Task>, AllocError>
         requires { IsVertex self.old.stage.graph.n entry.now.vertex }
         ensures dist { IfOk result (λ found. IfSome found (λ task. task.dist ≡ entry.now.dist)) }
@@ -104,7 +105,7 @@ impl<'a, 'g, const P: u32> Leader<'a, 'g, P> {
         }))
     }
 
-    // One round of the light arcs of the vertices among entries that are live.
+    // Runs one round of the light arcs of the vertices of live entries.
     fn light_round<R: Threads + Wait + Sync, G: Gate + Sync>(
         mut self,
         rt: &R,
@@ -125,7 +126,7 @@ impl<'a, 'g, const P: u32> Leader<'a, 'g, P> {
         self.run_tasks(rt, gate, tasks)
     }
 
-    // The heavy task of a vertex, at the distance that it has now.
+    // Returns the heavy task of a vertex, at its current distance.
     fn heavy_task(&mut self, vertex: u32) -> Option<Task>
         requires { IsVertex self.old.stage.graph.n vertex }
         ensures { GivesHeavy P vertex result self.old self.new }
@@ -139,7 +140,7 @@ impl<'a, 'g, const P: u32> Leader<'a, 'g, P> {
         })
     }
 
-    /// One round of the heavy arcs of the vertices that are remembered, which then are so no more.
+    /// Runs one round of the heavy arcs of the vertices that are remembered, which are then no longer remembered.
     pub(crate) fn heavy_round<R: Threads + Wait + Sync, G: Gate + Sync>(
         mut self,
         rt: &R,
@@ -159,7 +160,7 @@ impl<'a, 'g, const P: u32> Leader<'a, 'g, P> {
         self.run_tasks(rt, gate, tasks)
     }
 
-    // Takes a bucket out.
+    // Removes and returns the entries of a bucket.
     fn take_bucket(&mut self, bucket: u64) -> Vec<Entry>
         ensures rest { self.new ≡ record self.old { buckets = self.new.buckets } }
         ensures queued { All (IsQueued P self.old.stage 0) result.items }
@@ -169,7 +170,7 @@ impl<'a, 'g, const P: u32> Leader<'a, 'g, P> {
         self.buckets.take(bucket)
     }
 
-    /// Rounds of light arcs, until the bucket is empty.
+    /// Runs rounds of light arcs until the bucket is empty.
     pub(crate) fn empty_bucket<R: Threads + Wait + Sync, G: Gate + Sync>(
         mut self,
         rt: &R,

@@ -21,16 +21,16 @@ use std::marker::Model;
 use std::sync::Wait;
 use std::thread::Threads;
 
-/// A run of delta-stepping from a store's source. A run that was refused is spent.
+/// A run of delta-stepping from a store's source. A run that failed is spent.
 ///
-/// Contracts see the store's stage, the caller, if the run isn't spent, and how far the run has come.
+/// Contracts see the store's stage, the caller, unless the run is spent, and how far the run has come.
 #[derive(Drop)]
 pub struct Run<'a, 'g, const P: u32> {
     store: &'a Store<'g, P>,
     leader: Option<Leader<'a, 'g, P>>,
-    // the bucket of the last answer that no `heavy` has followed yet
+    // The bucket of the last answer that no `heavy` has followed yet.
     settled: Option<u64>,
-    // the last bucket that `heavy` followed
+    // The last bucket that `heavy` followed.
     closed: Option<u64>,
 }
 
@@ -51,7 +51,7 @@ impl<'a, 'g, const P: u32> Model for Run<'a, 'g, P> {
         × MayLead P r.store.now r.settled r.closed r.leader };
 }
 
-// The last bucket that is closed, once heavy arcs were relaxed after the one that was settled.
+// Returns the last bucket that is closed, once heavy arcs were relaxed after the settled one.
 fn closed_after(settled: Option<u64>, closed: Option<u64>) -> Option<u64>
     ensures { result ≡ option_or settled closed }
 {
@@ -59,8 +59,8 @@ fn closed_after(settled: Option<u64>, closed: Option<u64>) -> Option<u64>
 }
 
 impl<'a, 'g, const P: u32> Run<'a, 'g, P> {
-    /// Begins a run with the first caller and the first claimer of a store, or with what they became. Refused, it
-    /// spends both.
+    /// Begins a run with the first caller and the first claimer of a store, or with those that came from them. If it
+    /// fails, both are spent.
     pub fn begin(
         alloc: Global,
         store: &'a Store<'g, P>,
@@ -86,10 +86,10 @@ impl<'a, 'g, const P: u32> Run<'a, 'g, P> {
         })
     }
 
-    /// Empties the lowest bucket with an entry by rounds of light arcs, and copies all words, until all that was to be
-    /// relaxed was: then the bucket is final, and told, before its heavy arcs. Where no entry is left, and no vertex is
-    /// open, all words are final. A bucket that is told is later than each that `heavy` followed. A refusal spends the
-    /// run.
+    /// Empties the lowest bucket with an entry by rounds of light arcs, and copies all words, until no vertex is left
+    /// to relax. Then the bucket is final, and its number is returned before its heavy arcs are relaxed. If no entry is
+    /// left and no vertex is open, all words are final. A bucket that is returned is later than each that `heavy`
+    /// followed. If it fails, the run is spent.
     pub fn settle<R: Threads + Wait + Sync, G: Gate + Sync>(
         &mut self,
         rt: &R,
@@ -117,8 +117,8 @@ impl<'a, 'g, const P: u32> Run<'a, 'g, P> {
         }
     }
 
-    /// One round of the heavy arcs of the vertices that were in a light round since the last such round. What `settle`
-    /// told stays true. A refusal spends the run.
+    /// Runs one round of the heavy arcs of the vertices that were in a light round since the last such round. What
+    /// `settle` returned stays true. If it fails, the run is spent.
     pub fn heavy<R: Threads + Wait + Sync, G: Gate + Sync>(
         &mut self,
         rt: &R,
@@ -148,7 +148,7 @@ impl<'a, 'g, const P: u32> Run<'a, 'g, P> {
         }
     }
 
-    /// Reads the word of a vertex by the run's caller. What `settle` told stays true.
+    /// Reads the word of a vertex by the run's caller. What `settle` returned stays true.
     pub fn read(&mut self, vertex: u32) -> Word<P>
         requires vertex { IsVertex self.old.stage.graph.n vertex }
         requires unspent { IsUnspent self.old }
@@ -164,7 +164,7 @@ impl<'a, 'g, const P: u32> Run<'a, 'g, P> {
         }
     }
 
-    /// Does all that is left, and gives the caller back, which knows the tree's words. A spent run answers Memory.
+    /// Completes the run, and returns its caller, which knows the tree's words. A spent run answers Memory.
     pub fn finish<R: Threads + Wait + Sync, G: Gate + Sync>(
         self,
         rt: &R,

@@ -15,7 +15,8 @@ use std::alloc::Global;
 use std::sync::Wait;
 use std::thread::Threads;
 
-/// What `run_source` answers, by rounds of tasks, with a gate round every offer, and every round shared among the workers.
+/// Returns the answer of `run_source`, by rounds of tasks, with a gate around every offer; every round is shared among
+/// the workers.
 pub fn run_source_with<const P: u32, R: Threads + Wait + Sync, G: Gate + Sync>(
     rt: &R,
     alloc: Global,
@@ -34,7 +35,7 @@ pub fn run_source_with<const P: u32, R: Threads + Wait + Sync, G: Gate + Sync>(
     run_stored(rt, alloc, &store, caller, claimer, workers, gate)
 }
 
-// A whole run over a store.
+// Runs over a store to the end.
 fn run_stored<const P: u32, R: Threads + Wait + Sync, G: Gate + Sync>(
     rt: &R,
     alloc: Global,

@@ -1,4 +1,4 @@
-//! What a copy of all words shows: vertices whose arcs weren't relaxed at their distances.
+//! Finds the vertices whose arcs weren't relaxed at their distances, from a copy of all words.
 ghost use Rattle.std.specs.Prelude.{◌≡◌, ◌<◌, ◌↔◌, [], Some, None, length, All, IsTrue, IfOk, IfSome, IfNone, OnOk};
 ghost use Rattle.sp_paths.specs.Paths.{IsVertex};
 ghost use Rattle.sp_store.specs.Marks.{mark_of};
@@ -15,14 +15,14 @@ use sp_store::Mark;
 use sp_word::Word;
 use std::alloc::{AllocError, Global};
 
-/// Below which distances a vertex must have been relaxed at its distance.
+/// The bounds below which a vertex must have been relaxed at its distance.
 #[derive(Clone, Copy, Debug)]
 pub(crate) struct Bounds {
     pub light: u64,
     pub heavy: u64,
 }
 
-// Whether a vertex was relaxed at its distance.
+// Returns whether a vertex was relaxed at its distance.
 fn is_relaxed(dist: u64, mark: &Mark, bounds: Bounds) -> bool
     ensures { IsTrue result ↔ IsMarkedAt mark.now bounds dist }
 {
@@ -30,7 +30,7 @@ fn is_relaxed(dist: u64, mark: &Mark, bounds: Bounds) -> bool
         && (dist >= bounds.heavy || mark.heavy == Some(dist))
 }
 
-// The mark of a vertex.
+// Returns the mark of a vertex.
 fn mark_of(marks: &[Mark], vertex: u32) -> Mark
     requires { IsVertex (length marks.now) vertex }
     ensures { result ≡ mark_of marks.now vertex }
@@ -38,7 +38,7 @@ fn mark_of(marks: &[Mark], vertex: u32) -> Mark
     marks[(vertex - 1) as usize]
 }
 
-// The entry of a vertex that wasn't relaxed at this distance.
+// Returns the entry of a vertex that wasn't relaxed at this distance.
 fn open_at(vertex: u32, dist: u64, mark: &Mark, bounds: Bounds) -> Option<Entry>
     ensures none { IfNone result (IsMarkedAt mark.now bounds dist) }
     ensures is { IfSome result (λ e. e ≡ record { vertex = vertex; dist = dist }) }
@@ -51,7 +51,7 @@ fn open_at(vertex: u32, dist: u64, mark: &Mark, bounds: Bounds) -> Option<Entry>
     }
 }
 
-// The entry of a vertex that wasn't relaxed at its distance.
+// Returns the entry of a vertex that wasn't relaxed at its distance.
 fn open_entry<const P: u32>(
     words: &[Word<P>],
     marks: &[Mark],
@@ -71,7 +71,7 @@ fn open_entry<const P: u32>(
     }
 }
 
-// An entry for each vertex that wasn't relaxed at its distance.
+// Returns an entry for each vertex that wasn't relaxed at its distance.
 fn open_entries<const P: u32>(
     alloc: Global,
     words: &[Word<P>],
@@ -100,7 +100,7 @@ impl<'a, 'g, const P: u32> Leader<'a, 'g, P> {
         self.store.copy_words(&mut self.caller, &mut self.words);
     }
 
-    /// Copies all words, queues each vertex that wasn't relaxed at its distance, and tells whether there is none.
+    /// Copies all words, queues each vertex that wasn't relaxed at its distance, and returns whether there is none.
     pub(crate) fn queue_open(&mut self, bounds: Bounds) -> Result<bool, AllocError>
         ensures stage { self.new.stage ≡ self.old.stage }
         ensures copied { OnOk result (HasCopied P self.new) }
@@ -115,7 +115,8 @@ impl<'a, 'g, const P: u32> Leader<'a, 'g, P> {
         Ok(open.is_empty())
     }
 
-    /// Queues each vertex whose distance isn't the one last relaxed, light and heavy, and tells whether there is none.
+    /// Queues each vertex whose distance isn't the one last relaxed, light and heavy, and returns whether there is
+    /// none.
     pub(crate) fn sweep(&mut self) -> Result<bool, AllocError>
         ensures stage { self.new.stage ≡ self.old.stage }
         ensures swept { IfOk result (λ none. IsTrue none → HasSwept P self.new) }

@@ -1,4 +1,4 @@
--- What a leader writes down of each vertex.
+-- What a leader records about each vertex.
 use Rattle.std.specs.Prelude.{◌≡◌, ℕ, ◌-◌, ◌⊎◌, List, [], ◌∷◌, ◌++◌, length, slice_index_or, slice_set, Option, Some, None, Bool, true, false}
 use Rattle.sp_paths.specs.Paths.{IsVertex}
 use Rattle.sp_store.specs.declared.marks.Mark.{Mark}
@@ -7,7 +7,7 @@ use Rattle.sp_task.specs.declared.task.TaskKind.{TaskKind}
 use Rattle.sp_task.specs.declared.task.TaskKind.TheVariants.{Light, Heavy}
 use Rattle.sp_task.specs.declared.task.Task.{Task}
 
--- the marks of all vertices, and the vertices that are remembered
+-- These are the marks of all vertices, and the vertices that are remembered.
 pub record Noted : Type 0 where
   pub each : List Mark
   pub remembered : List ℕ
@@ -21,15 +21,15 @@ no_mark = record { light = None; heavy = None; round = 0; remembered = false }
 abbrev pub mark_of : List Mark → (v : ℕ) → Mark
 mark_of marks v = slice_index_or marks (v - 1) no_mark
 
--- the distance at which the light arcs of the vertex were last relaxed
+-- This is the distance at which the light arcs of the vertex were last relaxed.
 abbrev pub light_at : List Mark → (v : ℕ) → Option ℕ
 light_at marks v = (mark_of marks v).light
 
--- and the heavy ones
+-- This is the distance at which its heavy arcs were last relaxed.
 abbrev pub heavy_at : List Mark → (v : ℕ) → Option ℕ
 heavy_at marks v = (mark_of marks v).heavy
 
--- a task of the kind was run at the distance
+-- A task of this kind was run at the distance.
 abbrev pub with_task : TaskKind → (dist : ℕ) → Mark → Mark
 with_task Light dist mark = record mark { light = Some dist }
 with_task Heavy dist mark = record mark { heavy = Some dist }
@@ -37,23 +37,23 @@ with_task Heavy dist mark = record mark { heavy = Some dist }
 abbrev pub marks_with : List Mark → Task → List Mark
 marks_with marks t = slice_set marks (t.vertex - 1) (with_task t.kind t.dist (mark_of marks t.vertex))
 
--- the same distances stand for each vertex
+-- The recorded distances of each vertex stay the same.
 abbrev pub SameDistances : (before after : List Mark) → Type 0
 SameDistances before after = (length after ≡ length before) × ((v : ℕ) → IsVertex (length before) v → (light_at after v ≡ light_at before v) × (heavy_at after v ≡ heavy_at before v))
 
--- a vertex is remembered
+-- The vertex is remembered.
 abbrev pub Remembers : (before after : Noted) → (v : ℕ) → Type 0
 Remembers before after v = (after.remembered ≡ before.remembered) ⊎ (after.remembered ≡ before.remembered ++ v ∷ [])
 
--- heavy arcs are to be relaxed when the bucket is done
+-- The heavy arcs of the vertex are to be relaxed when the bucket is done.
 abbrev pub is_remembered : List Mark → (v : ℕ) → Bool
 is_remembered marks v = (mark_of marks v).remembered
 
--- a vertex enters a round, and is remembered
+-- The vertex enters a round, and is remembered.
 pub record Enters (before after : Noted) (v : ℕ) : Type 0 where
   pub flags : (u : ℕ) → IsVertex (length before.each) u → is_remembered after.each u ≡ true → (u ≡ v) ⊎ (is_remembered before.each u ≡ true)
   pub list : ((is_remembered before.each v ≡ true) × (after.remembered ≡ before.remembered)) ⊎ (after.remembered ≡ before.remembered ++ v ∷ [])
 
--- a vertex is remembered no more
+-- The vertex is no longer remembered.
 abbrev pub Forgets : (before after : List Mark) → (v : ℕ) → Type 0
 Forgets before after v = (u : ℕ) → IsVertex (length before) u → is_remembered after u ≡ true → (u ≡ v → ⊥) × (is_remembered before u ≡ true)

@@ -11,8 +11,8 @@ use Rattle.sp_walks.specs.Walks.{WalksFrom}
 use Rattle.sp_answer.specs.declared.answer.RunError.{RunError}
 use Rattle.sp_answer.specs.declared.answer.RunError.TheVariants.{Memory, TooFar, NoSuchVertex}
 
--- a graph, a source in it, the width of a bucket, which tables the run has for words and for claims, and from how many
--- tasks on a round is shared
+-- A stage is a graph, a source in it, the width of a bucket, the tables that the run has for words and for claims, and
+-- the number of tasks from which a round is shared.
 pub record Stage : Type 0 where
   pub graph : Graph
   pub source : ℕ
@@ -21,14 +21,14 @@ pub record Stage : Type 0 where
   pub claims : TableId
   pub shared_from : ℕ
 
--- the words that the table takes
+-- These are the words that the table takes.
 abbrev pub law_of : (P : ℕ) → Stage → ℕ → Word → Type 0
 law_of P st = lawful P (IsLawful st.graph st.source)
 
 abbrev pub rows_of : Stage → Split
 rows_of st = record { graph = st.graph; delta = st.delta }
 
--- the graph, the source and the width are in the ranges of words with P bits of predecessor
+-- The graph, the source and the width are in the ranges of words with P bits of predecessor.
 pub record IsStage (P : ℕ) (st : Stage) : Type 0 where
   pub layout : is_layout P ≡ true
   pub graph : IsGraph st.graph
@@ -37,32 +37,32 @@ pub record IsStage (P : ℕ) (st : Stage) : Type 0 where
   pub wide : 1 ≤ st.delta
   pub narrow : st.delta ≤ max_dist P
 
--- the stage of a graph
+-- This is a stage of the graph.
 abbrev pub IsOf : Graph → (delta source : ℕ) → Stage → Type 0
 IsOf g delta s st = (st.graph ≡ g) × (st.source ≡ s) × (st.delta ≡ delta)
 
--- the rows of a graph, parted at a width
+-- These are the rows of a graph, split at a width.
 abbrev pub AreRowsOf : Graph → (delta : ℕ) → Split → Type 0
 AreRowsOf g delta rows = (rows.graph ≡ g) × (rows.delta ≡ delta)
 
--- rows and tables are those of the stage
+-- The rows and the tables are those of the stage.
 pub record AreOfStage (st : Stage) (split : Split) (walks : WalksFrom) (words claims : ℕ) : Type 0 where
   pub rows : split ≡ rows_of st
   pub law : walks ≡ record { graph = st.graph; source = st.source }
   pub vertices : words ≡ st.graph.n
   pub slots : st.graph.n ≤ claims
 
--- of no vertex is less known than before
+-- The known word of no vertex has risen.
 abbrev pub Falls : (before after : Table) → Type 0
 Falls before after = (v : ℕ) → IsNoMore (after v) (before v)
 
--- A caller of the stage's table went on: nowhere does it know less than before, and what it knows is lawful.
+-- A caller of the stage's table made further calls: no known word has risen, and all known words are lawful.
 pub record Learns (P : ℕ) (st : Stage) (before after : Knowledge) : Type 0 where
   pub table : after.table ≡ before.table
   pub falls : Falls (known_table before.story) (known_table after.story)
   pub lawful : (v : ℕ) → IsKnownWord (law_of P st) v (known_table after.story v)
 
--- why nothing was stored: the source is no vertex exactly where that is told
+-- This is why no store was made: the error names the source exactly if the source is no vertex.
 abbrev pub IsUnstored : Graph → (s : ℕ) → RunError → Type 0
 IsUnstored g s Memory = IsVertex g.n s
 IsUnstored g s (TooFar v) = ⊥

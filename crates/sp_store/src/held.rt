@@ -12,7 +12,7 @@ pub(crate) enum Held<'r> {
 }
 
 impl<'r> Held<'r> {
-    /// The rows.
+    /// Returns the rows.
     pub(crate) fn rows(&self) -> &Rows
         ensures { result.now ≡ split_of self.now }
     {

@@ -1,4 +1,4 @@
-//! What the leader writes down of each vertex.
+//! What the leader records about each vertex.
 ghost use Rattle.std.specs.Prelude.{◌≡◌, ◌+◌, ◌<◌, [], false, vec_len, replicate, All, IsTrue, IfOk, OnOk};
 ghost use Rattle.sp_paths.specs.Paths.{IsVertex};
 ghost use Rattle.sp_store.specs.Marks.{no_mark, notes_of, mark_of, marks_with, SameDistances, Remembers, Enters, Forgets};
@@ -8,21 +8,21 @@ use sp_task::{Task, TaskKind};
 use std::alloc::{AllocError, Global};
 use std::mem;
 
-/// What the leader writes down of a vertex.
+/// What the leader records about a vertex.
 #[derive(Clone, Copy, Debug)]
 pub struct Mark {
     /// The distance at which its light arcs were last relaxed.
     pub light: Option<u64>,
     /// The distance at which its heavy arcs were last relaxed.
     pub heavy: Option<u64>,
-    /// The last round in which it was.
+    /// The last round in which the vertex took part.
     pub round: u64,
     /// Whether its heavy arcs are to be relaxed when the bucket is done.
     pub remembered: bool,
 }
 
 impl Mark {
-    // Of a vertex that was in no round.
+    // Returns the mark of a vertex that took part in no round.
     fn none() -> Mark
         ensures { result ≡ no_mark }
     {
@@ -39,14 +39,14 @@ impl Mark {
 #[derive(Drop)]
 pub struct Marks {
     pub each: Vec<Mark>,
-    /// Vertices that were in a light round, and in no heavy one since.
+    /// The vertices that were in a light round, and in no heavy round since.
     pub remembered: Vec<u32>,
     /// The number of the last round.
     pub round: u64,
 }
 
 impl Marks {
-    /// Of `n` vertices, before the first round.
+    /// Makes the marks of `n` vertices, before the first round.
     pub fn new(alloc: Global, n: u32) -> Result<Marks, AllocError>
         ensures each { IfOk result (λ m. m.each.items ≡ replicate n no_mark) }
         ensures remembered { IfOk result (λ m. m.remembered.items ≡ []) }
@@ -58,7 +58,7 @@ impl Marks {
         })
     }
 
-    /// The next round begins. The greatest number stays.
+    /// Begins the next round. The number of the round stays once it is the greatest that fits.
     pub fn begin_round(&mut self)
         ensures notes { notes_of self.new ≡ notes_of self.old }
         ensures round { self.old.round + 1 < 18446744073709551616
@@ -67,7 +67,7 @@ impl Marks {
         self.round = self.round.saturating_add(1);
     }
 
-    /// Lets a vertex into the round, and remembers it. It answers whether the vertex wasn't there yet.
+    /// Lets a vertex into the round, and remembers it. Returns whether the vertex wasn't in the round yet.
     pub fn enter(&mut self, vertex: u32) -> Result<bool, AllocError>
         requires { IsVertex (vec_len self.old.each) vertex }
         ensures distances { SameDistances self.old.each.items self.new.each.items }
@@ -95,7 +95,7 @@ impl Marks {
         Ok(true)
     }
 
-    /// Hands out what is remembered.
+    /// Returns the vertices that are remembered.
     pub fn recall(&mut self, alloc: Global) -> Vec<u32>
         ensures result { result.items ≡ self.old.remembered.items }
         ensures remembered { self.new.remembered.items ≡ [] }
@@ -105,7 +105,7 @@ impl Marks {
         mem::replace(&mut self.remembered, Vec::new(alloc))
     }
 
-    /// A vertex that was handed out is remembered no more.
+    /// Stops remembering a vertex that `recall` returned.
     pub fn forget(&mut self, vertex: u32)
         requires { IsVertex (vec_len self.old.each) vertex }
         ensures distances { SameDistances self.old.each.items self.new.each.items }
@@ -116,7 +116,7 @@ impl Marks {
         self.each[(vertex - 1) as usize].remembered = false;
     }
 
-    /// Writes down that tasks were run.
+    /// Records that tasks were run.
     pub fn write(&mut self, tasks: &[Task])
         requires { All (λ t. IsVertex (vec_len self.old.each) t.vertex) tasks.now }
         ensures running { KeepsRunning tasks.now self.old.each.items self.new.each.items }
@@ -128,7 +128,7 @@ impl Marks {
     }
 }
 
-// Writes down that a task was run.
+// Records that a task was run.
 fn mark_task(marks: &mut Vec<Mark>, task: Task)
     requires { IsVertex (vec_len marks.old) task.vertex }
     ensures { marks.new.items ≡ marks_with marks.old.items task }
@@ -140,7 +140,7 @@ fn mark_task(marks: &mut Vec<Mark>, task: Task)
     }
 }
 
-// Writes down that tasks were run.
+// Records that tasks were run.
 fn mark_tasks(marks: &mut Vec<Mark>, tasks: &[Task])
     requires { All (λ t. IsVertex (vec_len marks.old) t.vertex) tasks.now }
     ensures length { vec_len marks.new ≡ vec_len marks.old }

@@ -1,4 +1,4 @@
-//! What a run works on: rows, the table of words, the table of claims.
+//! What a run works on: rows, the table of words, and the table of claims.
 ghost use Rattle.std.specs.Prelude.{◌≡◌, ◌<◌, ◌≤◌, ◌↔◌, [], true, IsTrue, length, vec_len, All, IfOk, IfErr};
 ghost use Rattle.sp_word.specs.Word.{Pair, is_layout, max_pred};
 ghost use Rattle.sp_paths.specs.Paths.{IsVertex, IsArc};
@@ -20,7 +20,7 @@ use std::marker::Model;
 use std::sync::Wait;
 use std::thread::Threads;
 
-/// Who runs a round, and the number by which its tasks are claimed.
+/// What a round needs: its number, by which tasks are claimed, its workers, and the caller and the claimer of its leader.
 #[derive(Drop)]
 pub struct Crew {
     pub alloc: Global,
@@ -30,10 +30,12 @@ pub struct Crew {
     pub claimer: Claimer,
 }
 
-/// The tables of a run from one source of a graph: its rows, parted at `delta`, a word and a claim for each vertex. The rows
-/// are its own, or lent by who runs from several sources. Callers of its table may read and offer while a run goes on.
+/// The tables of a run from one source of a graph: its rows, split at `delta`, and a word and a claim for each vertex.
+/// The rows belong to the store, or are lent by a caller that runs from several sources. Callers of its table may read
+/// and offer while a run continues.
 ///
-/// Contracts see the graph, the source, `delta`, which tables these are, and from how many tasks on a round is shared.
+/// Contracts see the graph, the source, `delta`, which tables these are, and the number of tasks from which a round is
+/// shared.
 #[derive(Drop)]
 pub struct Store<'g, const P: u32> {
     graph: &'g Graph,
@@ -79,7 +81,8 @@ fn is_vertex(graph: &Graph, vertex: u32) -> bool
 }
 
 impl<'g, const P: u32> Store<'g, P> {
-    /// The tables for a run from `source`, with their first caller and their first claimer. Every round is shared.
+    /// Makes the tables for a run from `source`, with their first caller and their first claimer. Every round is
+    /// shared.
     pub fn new(
         alloc: Global,
         graph: &'g Graph,
@@ -106,7 +109,7 @@ impl<'g, const P: u32> Store<'g, P> {
         Store::make(alloc, graph, Held::Own(rows), delta, source).map_err(|_| RunError::Memory)
     }
 
-    /// The same over rows that are lent, so that runs from several sources part the rows of the graph once.
+    /// Makes the tables over rows that are lent, so that runs from several sources split the rows of the graph once.
     pub fn over(
         alloc: Global,
         graph: &'g Graph,
@@ -132,7 +135,7 @@ impl<'g, const P: u32> Store<'g, P> {
         Store::make(alloc, graph, Held::Lent(rows), delta, source).map_err(|_| RunError::Memory)
     }
 
-    // The same for a source that is a vertex.
+    // Makes the tables for a source that is a vertex.
     fn make(
         alloc: Global,
         graph: &'g Graph,
@@ -168,8 +171,8 @@ impl<'g, const P: u32> Store<'g, P> {
         Ok((store, caller, claimer))
     }
 
-    /// The same tables, with rounds of fewer tasks left to the leader alone: starting threads takes longer than a short
-    /// round.
+    /// Returns the same tables, except that the leader alone runs a round of fewer than `tasks` tasks: starting threads
+    /// takes longer than a short round.
     pub fn sharing_from(self, tasks: usize) -> Store<'g, P>
         ensures { result ≡ record self.entry { shared_from = tasks } }
     {
@@ -179,7 +182,7 @@ impl<'g, const P: u32> Store<'g, P> {
         }
     }
 
-    /// How many vertices there are.
+    /// Returns the number of vertices.
     pub fn n(&self) -> u32
         ensures n { result ≡ self.now.graph.n }
         ensures stage { IsStage P self.now }
@@ -187,28 +190,28 @@ impl<'g, const P: u32> Store<'g, P> {
         self.graph.n()
     }
 
-    /// The source.
+    /// Returns the source.
     pub fn source(&self) -> u32
         ensures { result ≡ self.now.source }
     {
         self.source
     }
 
-    /// The width of a bucket.
+    /// Returns the width of a bucket.
     pub fn delta(&self) -> Delta<P>
         ensures { result ≡ self.now.delta }
     {
         self.delta
     }
 
-    /// The graph.
+    /// Returns the graph.
     pub fn graph(&self) -> &'g Graph
         ensures { result.now ≡ self.now.graph }
     {
         self.graph
     }
 
-    /// All arcs.
+    /// Returns all arcs.
     pub fn arcs(&self) -> &[Arc]
         ensures arcs { result.now ≡ self.now.graph.arcs }
         ensures fine { All (IsArc self.now.graph.n) result.now }
@@ -216,7 +219,7 @@ impl<'g, const P: u32> Store<'g, P> {
         self.graph.arcs()
     }
 
-    /// The table. Callers that were split from the first one may read it and offer it lawful pairs.
+    /// Returns the table. Callers that were split from the first one may read it and offer it lawful pairs.
     pub fn table(&self) -> &OfferTable<Walks<'g>, P>
         ensures table { result.now.id ≡ self.now.table }
         ensures vertices { result.now.vertices ≡ self.now.graph.n }
@@ -257,7 +260,7 @@ impl<'g, const P: u32> Store<'g, P> {
         self.table.copy_words(caller, words);
     }
 
-    // How many of the workers share a round of so many tasks.
+    // Returns how many of the workers share a round of `tasks` tasks.
     fn workers_for(&self, tasks: usize, workers: Workers) -> Workers
         ensures { tasks < self.now.shared_from → result ≡ 1 }
     {
@@ -268,7 +271,7 @@ impl<'g, const P: u32> Store<'g, P> {
         }
     }
 
-    /// Runs a round of tasks. The leader is alone in a short one. A refusal spends the crew.
+    /// Runs a round of tasks. The leader runs a short round alone. If the round fails, the crew is spent.
     pub fn relax_tasks<R: Threads + Wait + Sync, G: Gate + Sync>(
         &self,
         rt: &R,
