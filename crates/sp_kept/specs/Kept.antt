@@ -1,4 +1,4 @@
--- The graph that a place keeps, where it keeps one.
+-- The graph that a place keeps, if it keeps one.
 use Rattle.sp_paths.specs.Paths.{Graph}
 use Rattle.std.specs.declared.option.Option.{Option}
 use Rattle.std.specs.declared.option.Option.TheVariants.{None, Some}

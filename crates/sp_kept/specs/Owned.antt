@@ -1,4 +1,4 @@
--- What a pointer owns behind which there is an owner of a graph, or nothing: the box there.
+-- What a pointer owns: a box with an owner of a graph, or nothing.
 use base.Fml.{Fml, ftrue}
 use base.Stored.{Coded}
 use denote.RawPtr.{Ptr}
@@ -9,7 +9,7 @@ use Rattle.std.specs.declared.option.Option.TheVariants.{None, Some}
 use Rattle.std.specs.contracts.impls.GlobalAllocator.TheImpl.{ghosts}
 use Rattle.sp_kept.specs.contracts.shared.graph.SharedGraph.{the_row}
 
--- the C library's heap
+-- This is the heap of the C library.
 abbrev pub heap : Global
 heap = record { memory = record { seal = tt } }
 

@@ -1,4 +1,4 @@
--- The graph of an owner, and of one that is out of its place.
+-- The graph of an owner, and of an owner that is out of its place.
 use Rattle.sp_paths.specs.Paths.{Graph}
 use Rattle.std.specs.Arc.{arc_value}
 use Rattle.sp_kept.specs.declared.shared.graph.SharedGraph.{SharedGraph}

@@ -10,7 +10,7 @@ use std::alloc::{AllocError, Global};
 use std::sync::Arc;
 
 impl SharedGraph {
-    /// The first owner.
+    /// Makes the first owner.
     pub fn new(alloc: Global, graph: Graph) -> Result<SharedGraph, AllocError>
         ensures { IfOk result (λ shared. owned shared ≡ graph) }
     {
@@ -19,7 +19,7 @@ impl SharedGraph {
         })
     }
 
-    /// One more owner of the same graph.
+    /// Makes one more owner of the same graph.
     pub fn another(&self) -> Result<SharedGraph, AllocError>
         ensures { IfOk result (λ shared. owned shared ≡ owned self.now) }
     {
@@ -28,7 +28,7 @@ impl SharedGraph {
         })
     }
 
-    /// The graph.
+    /// Returns the graph.
     pub fn graph(&self) -> &Graph
         ensures { result.now ≡ owned self.now }
     {
@@ -37,7 +37,7 @@ impl SharedGraph {
 }
 
 impl HeldGraph {
-    /// The graph.
+    /// Returns the graph.
     pub fn graph(&self) -> &Graph
         ensures { result.now ≡ held self.now }
     {

@@ -1,4 +1,4 @@
-// A pointer that owns what it leads to, without the type in sight: C takes no pointer to a `Vec`.
+// A pointer that owns what it points to, with the type hidden: C takes no pointer to a `Vec`.
 ghost use Rattle.std.specs.Prelude.{◌≡◌, IsSome, IsNone};
 ghost use Rattle.std.specs.declared.option.Option.{Option};
 ghost use Rattle.std.specs.declared.option.Option.TheVariants.{None, Some};
@@ -12,7 +12,7 @@ use std::alloc::Global;
 use std::marker::Model;
 use std::ptr::null_mut;
 
-/// A pointer with a box of the heap behind it, or with nothing.
+/// A pointer to a box on the heap, or to nothing.
 #[repr(C)]
 pub struct Slot {
     at: *mut u8,
@@ -24,14 +24,14 @@ impl Model for Slot {
 }
 
 impl Slot {
-    /// With nothing.
+    /// Returns a slot that holds nothing.
     pub fn none() -> Slot
         ensures { result.shared ≡ None }
     {
         Slot { at: null_mut() }
     }
 
-    /// With this box.
+    /// Returns a slot that holds this box.
     pub fn of(shared: Box<SharedGraph>) -> Slot
         ensures { result.shared ≡ Some shared.value }
     {
@@ -45,7 +45,7 @@ impl Slot {
         Slot { at: ptr as *mut u8 }
     }
 
-    /// The box again.
+    /// Returns the box.
     pub fn into_box(self, alloc: Global) -> Box<SharedGraph>
         requires { IsSome self.shared }
         ensures { self.shared ≡ Some result.value }
@@ -64,7 +64,7 @@ impl Slot {
         }
     }
 
-    /// Lets go of nothing.
+    /// Ends a slot that holds nothing.
     pub fn end(self)
         requires { IsNone self.shared }
     {
@@ -72,5 +72,5 @@ impl Slot {
     }
 }
 
-// What it leads to may be used and freed by any thread.
+// Any thread may use and free what the slot points to.
 unsafe impl Send for Slot {}

@@ -1,4 +1,4 @@
-//! What is done with a place for a graph.
+//! The operations on a place for a graph.
 ghost use Rattle.std.specs.Prelude.{◌≡◌, IfOk, IfErr, IfSome, IfNone, MatchResult};
 ghost use Rattle.std.specs.declared.option.Option.TheVariants.{None, Some};
 ghost use Rattle.sp_kept.specs.Owners.{held};
@@ -12,7 +12,7 @@ use std::alloc::{AllocError, Global};
 use std::mem::replace;
 
 impl KeptGraph {
-    /// A place that keeps none.
+    /// Returns a place that keeps no graph.
     pub fn none() -> KeptGraph
         ensures { kept result ≡ None }
     {
@@ -22,7 +22,7 @@ impl KeptGraph {
         }
     }
 
-    // A place that keeps what was held.
+    // Returns a place that keeps the graph that was held.
     fn of(graph: HeldGraph) -> KeptGraph
         ensures { kept result ≡ Some (held graph) }
     {
@@ -33,7 +33,7 @@ impl KeptGraph {
         }
     }
 
-    // What is kept, and the place is gone.
+    // Consumes the place, and returns what it kept.
     fn into_held(self, alloc: Global) -> Option<HeldGraph>
         ensures some { IfSome result (λ out. kept self ≡ Some (held out)) }
         ensures none { IfNone result (kept self ≡ None) }
@@ -49,7 +49,7 @@ impl KeptGraph {
         }
     }
 
-    /// Takes out what is kept, where something is; a place that keeps none isn't written.
+    /// Takes out the graph that is kept, if there is one. A place that keeps none isn't written.
     pub fn take(&mut self, alloc: Global) -> Option<HeldGraph>
         ensures rest { kept self.new ≡ None }
         ensures some { IfSome result (λ out. kept self.old ≡ Some (held out)) }
@@ -61,21 +61,21 @@ impl KeptGraph {
         replace(self, KeptGraph::none()).into_held(alloc)
     }
 
-    /// Keeps what was taken out, here or elsewhere; what was kept before loses this owner.
+    /// Keeps a graph that was taken out of this place or of another. The graph that was kept before loses this owner.
     pub fn put(&mut self, alloc: Global, graph: HeldGraph)
         ensures { kept self.new ≡ Some (held graph) }
     {
         drop(replace(self, KeptGraph::of(graph)).into_held(alloc));
     }
 
-    /// Keeps nothing; a graph is freed where this was its last owner.
+    /// Keeps nothing any more. The graph is freed if this was its last owner.
     pub fn clear(&mut self, alloc: Global)
         ensures { kept self.new ≡ None }
     {
         drop(self.take(alloc));
     }
 
-    /// Keeps `graph` in place of what was kept. Where memory is refused, all is as it was.
+    /// Keeps `graph` in place of what was kept. If there is no memory, nothing changes.
     pub fn keep(&mut self, alloc: Global, graph: Graph) -> Result<(), AllocError>
         ensures { MatchResult result (λ _. kept self.new ≡ Some graph) (λ _. self.new ≡ self.old) }
     {
@@ -84,8 +84,8 @@ impl KeptGraph {
         Ok(())
     }
 
-    /// Keeps the same graph in a second place too, in place of what that kept. Where memory is refused, both keep what they
-    /// kept.
+    /// Keeps the same graph in a second place as well, in place of what that kept. If there is no memory, nothing
+    /// changes.
     pub fn share(&mut self, alloc: Global, other: &mut KeptGraph) -> Result<(), AllocError>
         ensures same { kept self.new ≡ kept self.old }
         ensures other { IfOk result (λ _. kept other.new ≡ kept self.old) }
@@ -104,7 +104,7 @@ impl KeptGraph {
 }
 
 impl HeldGraph {
-    /// One more owner of the same graph. It is refused where there is no memory.
+    /// Makes one more owner of the same graph. It fails if there is no memory.
     pub fn another(&self, alloc: Global) -> Result<HeldGraph, AllocError>
         ensures { IfOk result (λ other. held other ≡ held self.now) }
     {

@@ -1,8 +1,8 @@
-// The types alone, so that definitions may name them.
+// This module has the types alone, so that definitions may name them.
 use sp_graph::Graph;
 use std::sync::Arc;
 
-/// One owner of a graph, which is freed with its last.
+/// One owner of a graph, which is freed with its last owner.
 #[derive(Drop)]
 pub struct SharedGraph {
     pub(crate) graph: Arc<Graph>,
