@@ -1,4 +1,4 @@
--- Which offers a law allows, and which a caller knows to be made.
+-- Which offers a law allows, and which offers a caller knows to have been made.
 use Rattle.std.specs.Prelude.{◌≡◌, ℕ, ◌<◌, ◌⊎◌, List, Contains, Some}
 use Rattle.sp_word.specs.Word.{Word}
 use Rattle.sp_machine.specs.Programme.{Programme, IsNumber, item_of}
@@ -10,40 +10,40 @@ use Rattle.sp_actors.specs.Least.{IsOffered}
 
 -- ## What a law allows
 
--- the pair that the item offers
+-- The law allows the pair that the item offers.
 abbrev pub AllowsItem : {P : ℕ} → (ℕ → Word → Type 0) → Item P → Type 0
 AllowsItem allows (Offer v w) = allows v w
 AllowsItem allows (Read v) = Unit {0}
 AllowsItem allows (Relax u v l) = Unit {0}
 
--- each pair that an actor offers
+-- The law allows each pair that an actor offers.
 abbrev pub AllowsOffers : {P : ℕ} → (ℕ → Word → Type 0) → Programme P → Type 0
 AllowsOffers allows p = (v : ℕ) (w : Word) → IsOffered p v w → allows v w
 
 -- ## What is known
 
--- of no vertex is less known than before
+-- The known word of no vertex has risen.
 abbrev pub KnowsNoLess : Story → Story → Type 0
 KnowsNoLess s t = (v : ℕ) → IsNoMore (known_table t v) (known_table s v)
 
--- the vertex's word is at most the pair that the item offers
+-- The vertex's word is at most the pair that the item offers.
 abbrev pub KnowsItem : {P : ℕ} → Story → Item P → Type 0
 KnowsItem s (Offer v w) = IsNoMore (known_table s v) w
 KnowsItem s (Read v) = Unit {0}
 KnowsItem s (Relax u v l) = Unit {0}
 
--- so it is for the actor's first n items
+-- This holds for the actor's first n items.
 abbrev pub KnowsItems : {P : ℕ} → Programme P → (actor n : ℕ) → Story → Type 0
 KnowsItems {P} p actor n s = (k : ℕ) (item : Item P) → k < n → item_of p.rows actor k ≡ Some item → KnowsItem s item
 
--- for all its items
+-- This holds for all its items.
 pub record KnowsActor {P : ℕ} (p : Programme P) (actor : ℕ) (s : Story) : Type 0 where
   pub items : (k : ℕ) (item : Item P) → item_of p.rows actor k ≡ Some item → KnowsItem s item
 
--- for all pairs that actors offer
+-- This holds for all pairs that actors offer.
 abbrev pub KnowsOffers : {P : ℕ} → Programme P → Story → Type 0
 KnowsOffers p s = (v : ℕ) (w : Word) → IsOffered p v w → IsNoMore (known_table s v) w
 
--- it is so for the actors up to the last, but for those that these numbers name
+-- This holds for the actors up to the last, except those that these numbers name.
 abbrev pub KnowsOrAwaits : {P : ℕ} → Programme P → (last : ℕ) → (awaited : List ℕ) → Story → Type 0
 KnowsOrAwaits p last awaited s = (actor : ℕ) → IsNumber last actor → KnowsActor p actor s ⊎ Contains awaited actor

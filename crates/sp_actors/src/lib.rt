@@ -1,4 +1,4 @@
-//! The offers of a programme, made by a thread for each actor, and the words that are left.
+//! Makes the offers of a programme, with a thread for each actor, and finds the words that they leave.
 #![tactic(auto)]
 
 mod law;

@@ -1,4 +1,4 @@
-//! What an actor's thread promises.
+//! The promise of an actor's thread.
 ghost use Rattle.std.specs.Prelude.{◌≡◌};
 ghost use Rattle.sp_actors.specs.Made.{KnowsActor};
 
@@ -7,7 +7,7 @@ use sp_offer::Caller;
 use std::snapshot::Snapshot;
 use std::thread::Promise;
 
-/// The caller that the thread gives back is of the table that it was of, and knows the actor's offers.
+/// The caller that the thread gives back belongs to the same table as before, and knows the actor's offers.
 #[derive(Drop)]
 pub(crate) struct RowMade<const P: u32> {
     pub from: Snapshot<Caller>,

@@ -1,4 +1,4 @@
-//! A thread for each actor.
+//! Runs a thread for each actor.
 ghost use Rattle.std.specs.Prelude.{◌≡◌, ◌≤◌, IfOk, IfErr};
 ghost use Rattle.sp_machine.specs.Programme.{IsNumber};
 ghost use Rattle.sp_actors.specs.Made.{AllowsOffers, KnowsNoLess, KnowsActor, KnowsOffers};
@@ -14,7 +14,7 @@ use std::sync::Wait;
 use std::thread;
 use std::thread::{PromisedHandle, Scope, Threads};
 
-/// Makes the offers of all actors, those of each on a thread of its own. Where a thread can't be started, this thread
+/// Makes the offers of all actors, those of each on a thread of its own. If a thread can't be started, this thread
 /// makes the actor's offers. All callers are joined at the end.
 pub(crate) fn offer_all<L: Lawful + Send + Sync, const P: u32, R: Threads + Wait + Sync>(
     rt: &R,
@@ -45,7 +45,7 @@ pub(crate) fn offer_all<L: Lawful + Send + Sync, const P: u32, R: Threads + Wait
     )
 }
 
-// Starts the threads. The caller that comes back has made the offers of the actors that have none.
+// Starts the threads. The caller that is returned has made the offers of the actors that have no thread.
 fn start_all<'s, E, L: Lawful + Send + Sync, const P: u32>(
     scope: &Scope<'s, E>,
     alloc: Global,
@@ -74,7 +74,8 @@ fn start_all<'s, E, L: Lawful + Send + Sync, const P: u32>(
     Ok((me, others))
 }
 
-// Starts a thread that makes an actor's offers. Where none can be started, they are made, and the caller comes back.
+// Starts a thread that makes an actor's offers. If none can be started, the offers are made here, and the caller is
+// returned.
 fn start<'s, E, L: Lawful + Send + Sync, const P: u32>(
     scope: &Scope<'s, E>,
     table: &'s OfferTable<L, P>,
@@ -131,7 +132,7 @@ fn join_all<L: Lawful, const P: u32, R: Threads>(
     me
 }
 
-// Joins a thread. What it promised is known afterwards, and what was known before.
+// Joins a thread. What it promised is known afterwards, as well as what was known before.
 fn take_in<L: Lawful, const P: u32, R: Threads>(
     rt: &R,
     table: &OfferTable<L, P>,

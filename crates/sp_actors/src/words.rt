@@ -13,8 +13,8 @@ use std::sync::Wait;
 use std::thread::Threads;
 
 /// Makes the offers of all actors of a programme on a table whose words are all unreached, those of each actor on a
-/// thread of its own, and answers the words that are left, that of vertex 1 first. Where a thread can't be started,
-/// the calling thread makes the actor's offers. What a programme reads or relaxes is left out.
+/// thread of its own, and returns the words that are left, that of vertex 1 first. If a thread can't be started, the
+/// calling thread makes the actor's offers. Items of a programme that read or relax are skipped.
 pub fn final_words<const P: u32, R: Threads + Wait + Sync>(
     rt: &R,
     alloc: Global,

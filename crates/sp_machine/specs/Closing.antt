@@ -8,6 +8,6 @@ use Rattle.sp_machine.specs.declared.effect.Relaxation.{Relaxation}
 abbrev pub same_relaxation : Relaxation → Relaxation → Bool
 same_relaxation a b = nat_eq a.tail b.tail && (nat_eq a.head b.head && (nat_eq a.len b.len && option_eq nat_eq a.loaded b.loaded))
 
--- The set has these relaxations and no others.
+-- The set has exactly these relaxations.
 abbrev pub HasJust : {S : Type 0} → HashSet Relaxation S → List Relaxation → Type 0
 HasJust set relaxed = (r : Relaxation) → contains same_relaxation set r ≡ list_any (same_relaxation r) relaxed

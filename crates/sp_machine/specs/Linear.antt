@@ -1,4 +1,4 @@
--- What it is for a run to be linear.
+-- The definition of a linear run.
 use Rattle.std.specs.Prelude.{◌≡◌, ℕ, ◌≤◌, List, map, All, IsPermutation}
 use Rattle.std.specs.List.Sorted.{IsStrictlyIncreasing}
 use Rattle.sp_word.specs.History.{Table, Event, Call as Asked, run, IsLegal}
@@ -12,11 +12,11 @@ abbrev pub question_of : {P : ℕ} → Call P → Asked
 question_of (Offer word found reply) = OfferAsked word found reply
 question_of (Read found) = ReadAsked found
 
--- a finished call as the event of a history
+-- This is a finished call as the event of a history.
 abbrev pub event_of : {P : ℕ} → Finished P → Event
 event_of call = record { by = call.ended.actor; vertex = call.ended.vertex; call = question_of call.ended.call }
 
--- a finished call, and the step at which it acts
+-- This is a finished call, and the step at which it takes effect.
 pub record Point (P : ℕ) : Type 0 where
   pub step : ℕ
   pub call : Finished P
@@ -24,8 +24,9 @@ pub record Point (P : ℕ) : Type 0 where
 abbrev pub history : {P : ℕ} → List (Point P) → List Event
 history points = map (λ point. event_of point.call) points
 
--- Some history, legal from the opening words, consists of the finished calls, each once with its answer, and of
--- nothing else; it has rising step numbers, each from its call's first to its last; and it ends in the final words.
+-- There is a history, legal from the opening words, that consists of exactly the finished calls, each once with its
+-- answer. Its step numbers rise, and each lies between its call's first and last step. The history ends in the final
+-- words.
 pub record IsLinear {P : ℕ} (n : ℕ) (opening : Table) (finished : List (Finished P)) (final : Table) : Type 0 where
   pub points : List (Point P)
   pub each_once : IsPermutation finished (map (λ point. point.call) points)

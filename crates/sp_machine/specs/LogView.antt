@@ -1,4 +1,4 @@
--- A log as the definition of a run has it.
+-- A log as the definition of a run sees it.
 use Rattle.std.specs.Prelude.{ℕ}
 use Rattle.sp_machine.specs.Run as runs
 use Rattle.sp_machine.specs.declared.log.Log.{Log}

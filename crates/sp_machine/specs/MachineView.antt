@@ -10,11 +10,11 @@ use Rattle.sp_machine.specs.declared.machine.Machine.TheInside.{Inside}
 abbrev pub state_of : {P : ℕ} → Inside P → Machine P
 state_of m = record { rows = m.programme.now.rows; words = m.words.items; actors = m.actors.items; last = m.last }
 
--- The sum that a relaxation is about to offer fits.
+-- The sum that a relaxation is about to offer fits a word.
 abbrev pub SumFits : {P : ℕ} → Option (Item P) → (loaded : Option ℕ) → Type 0
 SumFits {P = P} item loaded = (u v l d : ℕ) → item ≡ Some (Relax u v l) → loaded ≡ Some d → d + l ≤ max_dist P
 
--- It has a word for each vertex and a place for each actor, and each sum that is about to be offered fits.
+-- The machine has a word for each vertex and a place for each actor, and each sum that is about to be offered fits.
 pub record IsMachine {P : ℕ} (p : Programme P) (m : Machine P) : Type 0 where
   pub layout : is_layout P ≡ true
   pub few : p.words ≤ 65536

@@ -1,41 +1,41 @@
--- A programme: the words at the start, and what each actor is to do.
+-- A programme: the words at the start, and the items of each actor.
 use Rattle.std.specs.Prelude.{◌≡◌, ℕ, ◌-◌, ◌≤◌, List, [], ◌∷◌, length, replicate, slice_index_or, slice_get, slice_set, All, Option, Some}
 use Rattle.sp_word.specs.Word.{Word, Unreached, IsPair}
 use Rattle.sp_paths.specs.Paths.{IsVertex}
 use Rattle.sp_machine.specs.declared.item.Item.{Item}
 use Rattle.sp_machine.specs.declared.item.Item.TheVariants.{Offer, Read, Relax}
 
--- actors are numbered from 1, as vertices are
+-- Actors are numbered from 1, as vertices are.
 abbrev pub IsNumber : ℕ → ℕ → Type 0
 IsNumber n v = IsVertex n v
 
--- the items of an actor; beyond the last row there are none
+-- These are the items of an actor; beyond the last row there are none.
 abbrev pub row_of : {P : ℕ} → List (List (Item P)) → ℕ → List (Item P)
 row_of rows actor = slice_index_or rows (actor - 1) []
 
--- Item k of an actor, counted from 0.
+-- This is item k of an actor, counted from 0.
 abbrev pub item_of : {P : ℕ} → List (List (Item P)) → ℕ → ℕ → Option (Item P)
 item_of rows actor k = slice_get (row_of rows actor) k
 
 pub record Programme (P : ℕ) : Type 0 where
-  -- how many words and actors there are
+  -- The number of words, and the number of actors.
   pub words : ℕ
   pub actors : ℕ
-  -- vertices that have a word at the start
+  -- The vertices that have a word at the start, with that word.
   pub named : List (ℕ × Word)
-  -- of each actor what it is to do, in order
+  -- The items of each actor, in order.
   pub rows : List (List (Item P))
 
--- these words, and then those that are named
+-- These words are changed at the vertices that are named.
 abbrev pub named_words : List Word → List (ℕ × Word) → List Word
 named_words words [] = words
 named_words words (x ∷ more) = named_words (slice_set words (x.0 - 1) x.1) more
 
--- the words at the start: those that are named, and unreached elsewhere
+-- These are the words at the start: those that are named, and unreached elsewhere.
 abbrev pub opening_words : {P : ℕ} → Programme P → List Word
 opening_words p = named_words (replicate p.words Unreached) p.named
 
--- it speaks of these vertices alone, and offers pairs
+-- The item names only these vertices, and offers only pairs.
 abbrev pub IsItem : {P : ℕ} → ℕ → Item P → Type 0
 IsItem n (Offer v w) = IsNumber n v × IsPair w
 IsItem n (Read v) = IsNumber n v

@@ -15,14 +15,14 @@ pub record IsReportOf {P : ℕ} (p : Programme P) (schedule : List ℕ) (report 
   pub losses : report.losses ≡ (run_of p schedule).log.losses
   pub closed : IsTrue report.closed ↔ IsClosed p (run_of p schedule).machine.words (run_of p schedule).log.relaxed
 
--- the calls that a report tells, from the opening words to its words, are a linear run's
+-- The calls of a report are those of a linear run from the opening words to the report's words.
 abbrev pub IsOfLinearRun : {P : ℕ} → Programme P → Report P → Type 0
 IsOfLinearRun p report = IsLinear p.words (word_at (opening_words p)) report.calls.items (word_at report.words.items)
 
--- where the items relax the arcs of a graph from a source and the run was closed, the words are the tree
+-- If the items relax the arcs of a graph from a source and the run was closed, the words are the tree.
 abbrev pub IsTreeIfClosed : {P : ℕ} → Programme P → Report P → Type 0
 IsTreeIfClosed {P} p report = (s : ℕ) → RelaxesFrom p s → IsTrue report.closed → EndsInTree (graph_of p) s (max_dist P) (word_at report.words.items)
 
--- for each exchange that is won, each other actor loses one at most
+-- For each exchange that is won, each other actor loses at most one.
 abbrev pub HasFewLosses : {P : ℕ} → Programme P → Report P → Type 0
 HasFewLosses p report = report.losses ≤ (p.actors - 1) * report.wins

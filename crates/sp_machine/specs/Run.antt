@@ -13,24 +13,24 @@ use Rattle.sp_paths.specs.Paths.{word_at}
 use Rattle.sp_machine.specs.Programme.{Programme, opening_words}
 use Rattle.sp_machine.specs.Step.{Machine, fresh_actor, machine_after}
 
--- what is known of the steps so far
+-- A log is what is known about the steps so far.
 pub record Log (P : ℕ) : Type 0 where
-  -- how many there were
+  -- The number of steps.
   pub steps : ℕ
-  -- of each actor the first step that it made since its last call ended, if it made one
+  -- For each actor, the first step that it made since its last call ended, if it made one.
   pub begun : List (Option ℕ)
-  -- the calls that ended
+  -- The calls that ended.
   pub calls : List (Finished P)
-  -- the relaxations that were finished
+  -- The relaxations that were finished.
   pub relaxed : List Relaxation
-  -- how many exchanges were won, and how many lost
+  -- The numbers of exchanges that were won and that were lost.
   pub wins : ℕ
   pub losses : ℕ
 
 abbrev pub empty_log : {P : ℕ} → (actors : ℕ) → Log P
 empty_log actors = record { steps = 0; begun = replicate actors None; calls = []; relaxed = []; wins = 0; losses = 0 }
 
--- the first step of the call that the actor's next step belongs to
+-- This is the first step of the call to which the actor's next step belongs.
 abbrev pub first_step : {P : ℕ} → Log P → ℕ → ℕ
 first_step log actor = unwrap_or (slice_index_or log.begun (actor - 1) None) (log.steps + 1)
 
@@ -56,7 +56,7 @@ loss None = 0
 loss (Some Won) = 0
 loss (Some Lost) = 1
 
--- The next step is the actor's and does this.
+-- The next step is made by the actor and has this effect.
 abbrev pub log_after : {P : ℕ} → Log P → (actor : ℕ) → Effect P → Log P
 log_after log actor effect = record {
   steps = log.steps + 1;
@@ -82,7 +82,7 @@ opening_machine p = record {
 abbrev pub opening_run : {P : ℕ} → Programme P → Run P
 opening_run p = record { machine = opening_machine p; log = empty_log p.actors }
 
--- one step of an actor
+-- This is one step of an actor.
 abbrev pub run_step : {P : ℕ} → Run P → ℕ → Run P
 run_step r actor = record { machine = machine_after r.machine actor; log = log_after r.log actor (machine_after r.machine actor).last }
 
@@ -90,17 +90,17 @@ abbrev pub run_from : {P : ℕ} → Run P → List ℕ → Run P
 run_from r [] = r
 run_from r (actor ∷ more) = run_from (run_step r actor) more
 
--- the run of a programme with a list of actors, one step each
+-- This is the run of a programme with a list of actors, one step for each entry.
 abbrev pub run_of : {P : ℕ} → Programme P → List ℕ → Run P
 run_of p actors = run_from (opening_run p) actors
 
--- Where an item is a relaxation whose tail is reached at the end, some finished relaxation of the same arc loaded
--- the tail's final distance.
+-- If an item is a relaxation whose tail is reached at the end, some finished relaxation of the same arc loaded the
+-- tail's final distance.
 abbrev pub IsItemClosed : {P : ℕ} → (words : List Word) → List Relaxation → Item P → Type 0
 IsItemClosed words relaxed (Offer v w) = Unit {0}
 IsItemClosed words relaxed (Read v) = Unit {0}
 IsItemClosed words relaxed (Relax u v l) = (d q : ℕ) → word_at words u ≡ Pair d q → Contains relaxed (record { tail = u; head = v; len = l; loaded = Some d })
 
--- So it is with every item.
+-- This holds for every item.
 abbrev pub IsClosed : {P : ℕ} → Programme P → (words : List Word) → List Relaxation → Type 0
 IsClosed p words relaxed = All (λ row. All (IsItemClosed words relaxed) row) p.rows

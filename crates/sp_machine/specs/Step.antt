@@ -22,7 +22,7 @@ use Rattle.sp_machine.specs.Programme.{item_of}
 
 -- ## What an actor is at
 
--- A relaxation is a read of its tail, and then, where that found a distance, an offer to its head.
+-- A relaxation is a read of its tail and then, if that found a distance, an offer to its head.
 abbrev pub at : {P : ℕ} → Option (Item P) → (loaded : Option ℕ) → At P
 at None loaded = Idle
 at (Some (items.Offer v w)) loaded = Offering v w
@@ -30,7 +30,7 @@ at (Some (items.Read v)) loaded = Reading v
 at (Some (items.Relax u v l)) None = Loading u v l
 at (Some (items.Relax u v l)) (Some d) = Offering v (Pair (d + l) u)
 
--- the vertex whose word the next step looks at
+-- This is the vertex whose word the next step looks at.
 abbrev pub vertex_at : {P : ℕ} → At P → ℕ
 vertex_at Idle = 0
 vertex_at (Offering v w) = v
@@ -39,13 +39,13 @@ vertex_at (Loading u v l) = u
 
 -- ## The eight cases
 
--- A step of an actor at an offer of w before its load (cases 1 and 2), or that holds h (cases 3 to 5), where
--- the word found is x.
+-- This is the step of an actor at an offer of w: before its load (cases 1 and 2), or when it holds h (cases 3 to 5),
+-- where the word found is x.
 abbrev pub offer_turn : (w : Word) → (held : Option Word) → (x : Word) → Turn
 offer_turn w None x = if is_below w x then Holds else Keeps
 offer_turn w (Some h) x = if is_same x h then Wins else if is_below w x then LosesAndHolds else LosesAndKeeps
 
--- A step of an actor before the load of an arc's tail: cases 7 and 8.
+-- This is the step of an actor before the load of an arc's tail: cases 7 and 8.
 abbrev pub load_turn : (max len : ℕ) → (x : Word) → Turn
 load_turn max len Unreached = EndsLoad
 load_turn max len (Pair d p) = if nat_le (d + len) max then GoesOn else EndsLoad
@@ -58,7 +58,7 @@ turn max (Loading u v l) held x = load_turn max l x
 
 -- ## What each case does
 
--- whether the actor's item ends
+-- This says whether the actor's item ends.
 abbrev pub ends_item : Turn → Bool
 ends_item Rests = false
 ends_item Keeps = true
@@ -70,7 +70,7 @@ ends_item EndsRead = true
 ends_item EndsLoad = true
 ends_item GoesOn = false
 
--- before the load of its next item
+-- The actor stands before the load of its next item.
 abbrev pub beyond : {P : ℕ} → Actor P → Actor P
 beyond a = record { next = a.next + 1; loaded = None; held = None }
 
@@ -105,7 +105,7 @@ offer_word (Offering v w) = w
 offer_word (Reading v) = Unreached
 offer_word (Loading u v l) = Unreached
 
--- the call that ends, with its answer
+-- This is the call that ends, with its answer.
 abbrev pub call_ended : {P : ℕ} → At P → Turn → (x : Word) → Option (Call P)
 call_ended place Rests x = None
 call_ended place Keeps x = Some (calls.Offer (offer_word place) x replies.Kept)
@@ -132,7 +132,7 @@ exchange_of EndsRead = None
 exchange_of EndsLoad = None
 exchange_of GoesOn = None
 
--- the relaxation that an item is, with the distance that its read of the tail found
+-- This is the relaxation of an item, with the distance that its read of the tail found.
 abbrev pub relaxation : {P : ℕ} → Option (Item P) → (loaded : Option ℕ) → (x : Word) → Option Relaxation
 relaxation None loaded x = None
 relaxation (Some (items.Offer v w)) loaded x = None
@@ -140,7 +140,7 @@ relaxation (Some (items.Read v)) loaded x = None
 relaxation (Some (items.Relax u v l)) None x = Some (record { tail = u; head = v; len = l; loaded = dist_of x })
 relaxation (Some (items.Relax u v l)) (Some d) x = Some (record { tail = u; head = v; len = l; loaded = Some d })
 
--- It is finished when its last call is.
+-- A relaxation is finished when its last call is.
 abbrev pub effect : {P : ℕ} → ℕ → Option (Item P) → Actor P → Turn → (x : Word) → Effect P
 effect actor item a t x = record {
   ended = with_caller actor (vertex_at (at item a.loaded)) (call_ended (at item a.loaded) t x);
@@ -154,10 +154,10 @@ pub record Machine (P : ℕ) : Type 0 where
   pub rows : List (List (Item P))
   pub words : List Word
   pub actors : List (Actor P)
-  -- what the last step did
+  -- What the last step did.
   pub last : Effect P
 
--- before the load of its first item
+-- The actor stands before the load of its first item.
 abbrev pub fresh_actor : {P : ℕ} → Actor P
 fresh_actor = record { next = 0; loaded = None; held = None }
 
@@ -172,21 +172,21 @@ stepped_by m actor item a t x = record {
   last = effect actor item a t x;
 }
 
--- the item that an actor is at
+-- This is the item at which an actor is.
 abbrev pub item_at : {P : ℕ} → Machine P → ℕ → Option (Item P)
 item_at m actor = item_of m.rows actor (actor_of m actor).next
 
 abbrev pub place_of : {P : ℕ} → Machine P → ℕ → At P
 place_of m actor = at (item_at m actor) (actor_of m actor).loaded
 
--- the vertex whose word the actor's next step looks at
+-- This is the vertex whose word the actor's next step looks at.
 abbrev pub next_vertex : {P : ℕ} → Machine P → ℕ → ℕ
 next_vertex m actor = vertex_at (place_of m actor)
 
--- the word that the actor's next step finds
+-- This is the word that the actor's next step finds.
 abbrev pub found_by : {P : ℕ} → Machine P → ℕ → Word
 found_by m actor = word_at m.words (vertex_at (place_of m actor))
 
--- one step of an actor
+-- This is one step of an actor.
 abbrev pub machine_after : {P : ℕ} → Machine P → ℕ → Machine P
 machine_after {P = P} m actor = stepped_by m actor (item_at m actor) (actor_of m actor) (turn (max_dist P) (place_of m actor) (actor_of m actor).held (found_by m actor)) (found_by m actor)

@@ -1,4 +1,4 @@
--- What holds of every run.
+-- Theorems about every run.
 use Rattle.std.specs.Prelude.{ℕ, ◌-◌, ◌*◌, ◌≤◌, List, All}
 use Rattle.sp_word.specs.Word.{max_dist}
 use Rattle.sp_paths.specs.Paths.{word_at, EndsInTree}
@@ -11,12 +11,12 @@ abbrev pub EveryRunIsLinear : Type 0
 EveryRunIsLinear = (P : ℕ) (p : Programme P) (actors : List ℕ) → IsProgramme p → All (IsNumber p.actors) actors
     → IsLinear p.words (word_at (opening_words p)) (run_of p actors).log.calls (word_at (run_of p actors).machine.words)
 
--- With K actors the lost exchanges are at most K - 1 times the won ones.
+-- With K actors the lost exchanges number at most K - 1 times the won ones.
 abbrev pub LossesAreBounded : Type 0
 LossesAreBounded = (P : ℕ) (p : Programme P) (actors : List ℕ) → IsProgramme p → All (IsNumber p.actors) actors
     → (run_of p actors).log.losses ≤ (p.actors - 1) * (run_of p actors).log.wins
 
--- A closed run of relaxations and reads, whatever its interleaving, ends in the tree of the arcs that it relaxes.
+-- A closed run of relaxations and reads, in any interleaving, ends in the tree of the arcs that it relaxes.
 abbrev pub ClosedRunEndsInTree : Type 0
 ClosedRunEndsInTree = (P : ℕ) (p : Programme P) (actors : List ℕ) (s : ℕ) → IsProgramme p → All (IsNumber p.actors) actors → RelaxesFrom p s → IsClosed p (run_of p actors).machine.words (run_of p actors).log.relaxed
     → EndsInTree (graph_of p) s (max_dist P) (word_at (run_of p actors).machine.words)

@@ -1,23 +1,23 @@
-//! How far an actor has come.
+//! The progress of an actor.
 ghost use Rattle.std.specs.Prelude.{◌≡◌, ◌+◌, ◌<◌, ◌^◌, true};
 ghost use Rattle.sp_machine.specs.Step.{ends_item, fresh_actor, actor_after};
 
 use crate::turn::Turn;
 use sp_word::Word;
 
-/// How far an actor has come with its items.
+/// The progress of an actor through its items.
 #[derive(Clone, Copy, Debug, PartialEq, Eq)]
 pub struct Actor<const P: u32> {
-    /// The item that it is at, counted from 0.
+    /// The item at which the actor is, counted from 0.
     pub next: usize,
-    /// Within a relaxation whose tail was read: the distance found.
+    /// Within a relaxation whose tail was read, the distance found.
     pub loaded: Option<u64>,
-    /// The word that it saw at its offer and holds.
+    /// The word that the actor saw at its offer and holds.
     pub held: Option<Word<P>>,
 }
 
 impl<const P: u32> Actor<P> {
-    /// An actor before the load of its first item.
+    /// Returns an actor before the load of its first item.
     pub(crate) fn fresh() -> Actor<P>
         ensures { result ≡ fresh_actor }
     {
@@ -28,7 +28,7 @@ impl<const P: u32> Actor<P> {
         }
     }
 
-    /// The actor after a step that found this word.
+    /// Returns the actor after a step that found this word.
     pub(crate) fn after(self, turn: Turn, found: Word<P>) -> Actor<P>
         requires { ends_item turn ≡ true → self.next + 1 < 2 ^ 64 }
         ensures { result ≡ actor_after self.entry turn found.entry }

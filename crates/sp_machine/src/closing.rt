@@ -1,4 +1,4 @@
-//! Whether a run is closed.
+//! Finds whether a run is closed.
 ghost use Rattle.std.specs.Prelude.{◌≡◌, ◌↔◌, List, All, IsTrue, IfOk};
 ghost use Rattle.sp_word.specs.Word.{dist_of};
 ghost use Rattle.sp_machine.specs.declared.effect.Relaxation.{Relaxation as Finish};
@@ -12,7 +12,7 @@ use sp_word::Word;
 use std::alloc::{AllocError, Global};
 use std::collections::HashSet;
 
-/// These relaxations as a set.
+/// Returns these relaxations as a set.
 pub(crate) fn set_of(
     alloc: Global,
     relaxed: &[Relaxation],
@@ -70,7 +70,7 @@ fn is_row_closed<const P: u32>(
     true
 }
 
-/// Whether each relaxation item whose tail is reached was finished at the tail's final distance.
+/// Returns whether each relaxation item whose tail is reached was finished at the tail's final distance.
 pub(crate) fn is_closed<const P: u32>(
     rows: &[Vec<Item<P>>],
     words: &[Word<P>],

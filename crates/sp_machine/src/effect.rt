@@ -1,4 +1,4 @@
-//! What a step does besides moving its actor on.
+//! The effects of a step, besides advancing its actor.
 ghost use Rattle.std.specs.Prelude.{◌≡◌, true};
 ghost use Rattle.std.specs.Option.{option_copied};
 ghost use Rattle.sp_word.specs.Word.{is_layout, IsPair};
@@ -10,16 +10,16 @@ use crate::item::Item;
 use crate::turn::{At, Turn, place_of};
 use sp_word::{Reply, Word, decide};
 
-/// What was asked of the word of a vertex, and what was answered.
+/// A call on the word of a vertex, with its answer.
 #[derive(Clone, Copy, Debug, PartialEq, Eq)]
 pub enum Call<const P: u32> {
-    /// The pair offered, the word by which the reply was decided, and the reply.
+    /// An offer: the pair offered, the word that decided the reply, and the reply.
     Offer {
         word: Word<P>,
         found: Word<P>,
         reply: Reply,
     },
-    /// The word read.
+    /// A read: the word found.
     Read {
         found: Word<P>,
     },
@@ -42,16 +42,16 @@ pub struct Relaxation {
     pub loaded: Option<u64>,
 }
 
-/// How an exchange went.
+/// The outcome of an exchange.
 #[derive(Clone, Copy, Debug, PartialEq, Eq)]
 pub enum Exchange {
     /// The word found was the word held, and the offer was stored.
     Won,
-    /// The word found was another one, and nothing was stored.
+    /// The word found was a different one, and nothing was stored.
     Lost,
 }
 
-/// What a step did: the call that it ended, the relaxation that it finished, and its exchange.
+/// The effect of a step: the call that it ended, the relaxation that it finished, and its exchange.
 #[derive(Clone, Copy, Debug, PartialEq, Eq)]
 pub struct Effect<const P: u32> {
     pub ended: Option<Ended<P>>,
@@ -60,7 +60,7 @@ pub struct Effect<const P: u32> {
 }
 
 impl<const P: u32> Effect<P> {
-    /// Nothing was done yet.
+    /// Returns the effect before the first step, which is none.
     pub(crate) fn none() -> Effect<P>
         ensures { result ≡ record { ended = None; relaxed = None; exchange = None } }
     {
@@ -82,7 +82,7 @@ fn offered_word<const P: u32>(place: &At<P>) -> Word<P>
     }
 }
 
-// The call that a step ends, with its answer.
+// Returns the call that a step ends, with its answer.
 fn call_ended<const P: u32>(place: &At<P>, turn: Turn, found: Word<P>) -> Option<Call<P>>
     requires layout { is_layout P ≡ true }
     requires pair { turn ≡ Turn.Wins → IsPair (offer_word place.now) }
@@ -124,7 +124,7 @@ fn ends_item(turn: Turn) -> bool
     )
 }
 
-// The relaxation that an item is, with the distance that its read of the tail found.
+// Returns the relaxation of an item, with the distance that its read of the tail found.
 fn finished_relaxation<const P: u32>(
     item: Option<&Item<P>>,
     loaded: Option<u64>,
@@ -143,7 +143,7 @@ fn finished_relaxation<const P: u32>(
     }
 }
 
-/// What a step of an actor does that is at `item` and finds `found`.
+/// Returns the effect of a step of an actor that is at `item` and finds `found`.
 pub(crate) fn effect_of<const P: u32>(
     actor: u32,
     item: Option<&Item<P>>,

@@ -1,15 +1,15 @@
-//! What an actor is to do.
+//! The items of an actor.
 
 use sp_word::Word;
 
-/// What an actor is to do.
+/// An item that an actor carries out.
 #[derive(Clone, Copy, Debug, PartialEq, Eq)]
 pub enum Item<const P: u32> {
-    /// To offer a pair to a vertex.
+    /// Offers a pair to a vertex.
     Offer { vertex: u32, word: Word<P> },
-    /// To read the word of a vertex.
+    /// Reads the word of a vertex.
     Read { vertex: u32 },
-    /// To relax an arc: to read the tail's word and, where that is a pair and the sum of its distance and
-    /// the length fits a word, to offer the sum and the tail to the head.
+    /// Relaxes an arc: reads the tail's word and, if that is a pair and the sum of its distance and the length fits a
+    /// word, offers the sum and the tail to the head.
     Relax { tail: u32, head: u32, len: u32 },
 }

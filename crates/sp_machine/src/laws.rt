@@ -1,20 +1,20 @@
-//! What holds of every run, whatever the programme and the interleaving.
+//! The theorems about every run, for any programme and any interleaving.
 ghost use Rattle.sp_machine.specs.Theorems.{EveryRunIsLinear, LossesAreBounded, ClosedRunEndsInTree};
 
-/// Every run is linear: its finished calls, each taken at one step between its first and its last, are a
-/// legal history of a table of least offers, which ends in the machine's words.
-/// (Herlihy and Wing, "Linearizability", ACM TOPLAS 12 (1990), section 2.)
+/// States that every run is linear: its finished calls, each taken at one step between its first and its last, are a
+/// legal history of a table of least offers, which ends in the machine's words. (Herlihy and Wing, "Linearizability",
+/// ACM TOPLAS 12 (1990), section 2.)
 pub fn every_run_is_linear()
     ensures { EveryRunIsLinear }
 {}
 
-/// With K actors the lost exchanges of a run are at most K - 1 times the won ones.
+/// States that with K actors the lost exchanges of a run number at most K - 1 times the won ones.
 pub fn losses_are_bounded()
     ensures { LossesAreBounded }
 {}
 
-/// Every closed run of relaxations and reads that opens at a source ends in the shortest-path tree from there:
-/// each vertex whose least length a word can hold has its word of the tree, and every other is unreached.
+/// States that every closed run of relaxations and reads that opens at a source ends in the shortest-path tree from
+/// there: each vertex whose least length a word can hold has its word in the tree, and every other vertex is unreached.
 /// The graph's arcs are those of the relaxation items.
 pub fn closed_run_ends_in_tree()
     ensures { ClosedRunEndsInTree }

@@ -1,4 +1,4 @@
-//! What is known of a run's steps so far.
+//! The log of a run's steps so far.
 ghost use Rattle.std.specs.Prelude.{◌≡◌, ◌+◌, ◌^◌, ◌<◌, ◌≤◌, IfOk, OnOk, vec_len, replicate, None};
 ghost use Rattle.std.specs.Option.{option_copied};
 ghost use Rattle.sp_machine.specs.Programme.{IsNumber};
@@ -8,20 +8,20 @@ use crate::effect::{Effect, Ended, Exchange, Relaxation};
 use crate::report::Finished;
 use std::alloc::{AllocError, Global};
 
-/// What is known of the steps so far.
+/// What is known about the steps so far.
 #[derive(Drop)]
 pub(crate) struct Log<const P: u32> {
-    /// How many there were.
+    /// The number of steps.
     pub steps: u64,
-    /// Of each actor the first step that it made since its last call ended.
+    /// For each actor, the first step that it made since its last call ended.
     pub begun: Vec<Option<u64>>,
     /// The calls that ended.
     pub calls: Vec<Finished<P>>,
     /// The relaxations that were finished.
     pub relaxed: Vec<Relaxation>,
-    /// How many exchanges were won.
+    /// The number of exchanges that were won.
     pub wins: u64,
-    /// How many exchanges were lost.
+    /// The number of exchanges that were lost.
     pub losses: u64,
     ghost counted: { wins + losses ≤ steps },
 }
@@ -30,7 +30,7 @@ impl<const P: u32> Log<P> {
     ghost use Rattle.sp_machine.specs.LogView.{log_of};
     ghost use Rattle.sp_machine.specs.Run.{empty_log, log_after};
 
-    /// Nothing was done yet.
+    /// Makes the log before the first step.
     pub(crate) fn new(alloc: Global, actors: u32) -> Result<Log<P>, AllocError>
         ensures { IfOk result (λ log. log_of log ≡ empty_log actors) }
     {
@@ -44,7 +44,7 @@ impl<const P: u32> Log<P> {
         })
     }
 
-    /// The next step is the actor's and does this.
+    /// Records the next step, which the actor made and which had this effect.
     pub(crate) fn take(&mut self, actor: u32, effect: &Effect<P>) -> Result<(), AllocError>
         requires actor { IsNumber (vec_len self.old.begun) actor }
         requires steps { self.old.steps + 1 < 2 ^ 64 }

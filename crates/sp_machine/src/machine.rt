@@ -1,4 +1,4 @@
-//! The machine: the words, and how far each actor has come.
+//! The machine: the words, and the progress of each actor.
 ghost use Rattle.std.specs.Prelude.{◌≡◌, length, vec_len, true, replicate, All, IfOk};
 ghost use Rattle.sp_word.specs.Word.{Unreached, is_layout};
 ghost use Rattle.sp_paths.specs.Paths.{word_at};
@@ -14,7 +14,7 @@ use sp_word::Word;
 use std::alloc::{AllocError, Global};
 use std::marker::Model;
 
-/// The words, and how far each actor has come with its items.
+/// The words, and the progress of each actor through its items.
 #[derive(Drop)]
 pub struct Machine<'a, const P: u32> {
     programme: &'a Programme<P>,
@@ -38,7 +38,7 @@ impl<'a, const P: u32> Model for Machine<'a, P> {
 }
 
 impl<const P: u32> Programme<P> {
-    /// The machine before any step. It is refused where there is no memory for the words and the actors.
+    /// Makes the machine before its first step. It fails if there is no memory for the words and the actors.
     pub fn machine(&self, alloc: Global) -> Result<Machine<'_, P>, AllocError>
         ensures { IfOk result (λ machine. machine ≡ opening_machine self.now) }
     {
@@ -79,35 +79,35 @@ fn name_words<const P: u32>(words: &mut Vec<Word<P>>, named: &[(u32, Word<P>)])
 }
 
 impl<'a, const P: u32> Machine<'a, P> {
-    /// What the last step did; nothing before the first.
+    /// Returns what the last step did, which is nothing before the first step.
     pub fn last(&self) -> Effect<P>
         ensures { result ≡ self.now.last }
     {
         self.last
     }
 
-    /// The call that the last step ended, if it ended one.
+    /// Returns the call that the last step ended, if it ended one.
     pub fn ended(&self) -> Option<Ended<P>>
         ensures { result ≡ self.now.last.ended }
     {
         self.last.ended
     }
 
-    /// The words, that of vertex `v` at `v - 1`.
+    /// Returns the words, that of vertex `v` at `v - 1`.
     pub fn words(&self) -> &[Word<P>]
         ensures { result.now ≡ self.now.words }
     {
         &self.words
     }
 
-    /// The words, where the machine isn't needed any more.
+    /// Returns the words, and ends the machine.
     pub fn into_words(self) -> Vec<Word<P>>
         ensures { result.items ≡ self.entry.words }
     {
         self.words
     }
 
-    /// The vertex whose word the actor's next step looks at; 0 where it has no further item.
+    /// Returns the vertex whose word the actor's next step looks at, or 0 if the actor has no further item.
     pub fn next_vertex(&self, actor: u32) -> u32
         requires { IsNumber (length self.now.actors) actor }
         ensures { result ≡ next_vertex self.now actor }
@@ -119,7 +119,8 @@ impl<'a, const P: u32> Machine<'a, P> {
         place_of(item, state.loaded).vertex()
     }
 
-    /// One step of an actor, by the cases of a step. An actor without a further item changes nothing but `last`.
+    /// Makes one step of an actor, by the cases of a step. A step of an actor without a further item changes only
+    /// `last`.
     pub fn step(&mut self, actor: u32)
         requires { IsNumber (length self.old.actors) actor }
         ensures { self.new ≡ machine_after self.old actor }
@@ -148,7 +149,7 @@ fn word_found<const P: u32>(words: &[Word<P>], vertex: u32) -> Word<P>
     }
 }
 
-// A win stores the offer.
+// Stores the offer of a win.
 fn store_win<const P: u32>(words: &mut Vec<Word<P>>, place: &At<P>, turn: Turn)
     requires { turn ≡ Turn.Wins → IsNumber (vec_len words.old) (vertex_at place.now) }
     ensures { words.new.items ≡ words_after words.old.items place.now turn }

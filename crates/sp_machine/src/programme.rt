@@ -1,4 +1,4 @@
-//! What a run begins with: the words at the start, and what each actor is to do.
+//! The start of a run: the words at the start, and the items of each actor.
 ghost use Rattle.std.specs.Prelude.{◌≡◌, ◌+◌, ◌^◌, ◌<◌, ◌≤◌, IsSome, IfSome, All, map, true};
 ghost use Rattle.sp_word.specs.Word.{is_layout};
 ghost use Rattle.sp_machine.specs.Programme.{IsNumber, IsItem, item_of};
@@ -7,7 +7,7 @@ use crate::item::Item;
 use sp_word::Word;
 use std::marker::Model;
 
-/// The words at the start, and for each actor its items in order.
+/// The words at the start, and the items of each actor in order.
 #[derive(Drop)]
 pub struct Programme<const P: u32> {
     words: u32,
@@ -34,8 +34,8 @@ impl<const P: u32> Model for Programme<P> {
 impl<const P: u32> Programme<P> {
     ghost use Rattle.sp_machine.specs.Programme.{Programme as ProgrammeModel, IsProgramme};
 
-    /// A programme of so many words and actors, in which these vertices have a word at the start and row
-    /// `a - 1` has the items of actor `a`, in order; actors beyond the last row have none.
+    /// Makes a programme with the given numbers of words and actors, in which these vertices have a word at the start
+    /// and row `a - 1` has the items of actor `a`, in order; actors beyond the last row have none.
     pub fn new(
         words: u32,
         actors: u32,
@@ -64,7 +64,7 @@ impl<const P: u32> Programme<P> {
         }
     }
 
-    /// How many words there are.
+    /// Returns the number of words.
     pub fn words(&self) -> u32
         ensures words { result ≡ self.now.words }
         ensures range { IsNumber 65536 result }
@@ -73,7 +73,7 @@ impl<const P: u32> Programme<P> {
         self.words
     }
 
-    /// How many actors there are.
+    /// Returns the number of actors.
     pub fn actors(&self) -> u32
         ensures actors { result ≡ self.now.actors }
         ensures range { IsNumber 64 result }
@@ -81,7 +81,7 @@ impl<const P: u32> Programme<P> {
         self.actors
     }
 
-    /// Item `k` of an actor in the order of the file, counted from 0.
+    /// Returns item `k` of an actor in the order of the file, counted from 0.
     pub fn item(&self, actor: u32, k: usize) -> Option<Item<P>>
         requires { IsNumber self.now.actors actor }
         ensures item { result ≡ item_of self.now.rows actor k }
@@ -91,7 +91,7 @@ impl<const P: u32> Programme<P> {
         find_item(&self.rows, actor, k)
     }
 
-    /// The vertices that have a word at the start, with it.
+    /// Returns the vertices that have a word at the start, with that word.
     pub(crate) fn named(&self) -> &[(u32, Word<P>)]
         ensures named { result.now ≡ self.now.named }
         ensures vertices { All (λ x. IsNumber self.now.words x.0) result.now }
@@ -99,7 +99,7 @@ impl<const P: u32> Programme<P> {
         &self.named
     }
 
-    /// The items of each actor, in order.
+    /// Returns the items of each actor, in order.
     pub(crate) fn rows(&self) -> &[Vec<Item<P>>]
         ensures rows { map (λ row. row.items) result.now ≡ self.now.rows }
         ensures programme { IsProgramme self.now }

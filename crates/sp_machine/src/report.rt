@@ -1,4 +1,4 @@
-//! What a run did.
+//! The report of a run.
 
 use crate::effect::Ended;
 use sp_word::Word;
@@ -11,16 +11,16 @@ pub struct Finished<const P: u32> {
     pub last: u64,
 }
 
-/// What a run did.
+/// The report of a run.
 #[derive(Drop)]
 pub struct Report<const P: u32> {
     /// The finished calls, by rising last step.
     pub calls: Vec<Finished<P>>,
     /// The words at the end, that of vertex `v` at `v - 1`.
     pub words: Vec<Word<P>>,
-    /// How many exchanges were won.
+    /// The number of exchanges that were won.
     pub wins: u64,
-    /// How many exchanges were lost.
+    /// The number of exchanges that were lost.
     pub losses: u64,
     /// Whether each relaxation whose tail is reached at the end was finished at the tail's final distance.
     pub closed: bool,

@@ -9,11 +9,11 @@ use crate::programme::Programme;
 use crate::report::Report;
 use std::alloc::{AllocError, Global};
 
-/// Runs the programme, one step of each of these actors after the other, and reports what it did.
+/// Runs the programme, with one step of each of these actors in turn, and reports what it did.
 ///
-/// Every run is linear, and with K actors it loses at most K - 1 exchanges for each that it wins. A closed run
-/// of relaxations and reads ends in the shortest-path tree from the vertex that it opens at. It is refused where
-/// a growth was.
+/// Every run is linear, and with K actors it loses at most K - 1 exchanges for each that it wins. A closed run of
+/// relaxations and reads ends in the shortest-path tree from the vertex at which it opens. The call fails only if an
+/// allocation fails.
 pub fn replay<const P: u32>(
     alloc: Global,
     programme: &Programme<P>,

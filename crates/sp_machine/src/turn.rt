@@ -8,23 +8,23 @@ ghost use Rattle.sp_machine.specs.Cases.{IsReady};
 use crate::item::Item;
 use sp_word::Word;
 
-/// What an actor is at.
+/// The place within its item at which an actor is.
 #[derive(Clone, Copy)]
 pub(crate) enum At<const P: u32> {
-    /// It has no further item.
+    /// The actor has no further item.
     Idle,
-    /// An offer, by itself or as a relaxation's second part.
+    /// The actor is at an offer, by itself or as the second part of a relaxation.
     Offering { vertex: u32, word: Word<P> },
-    /// A read.
+    /// The actor is at a read.
     Reading { vertex: u32 },
-    /// A relaxation, before the load of its tail.
+    /// The actor is at a relaxation, before the load of its tail.
     Loading { tail: u32, head: u32, len: u32 },
 }
 
 impl<const P: u32> At<P> {
     ghost use Rattle.sp_machine.specs.Step.{vertex_at};
 
-    /// The vertex whose word the actor's next step looks at; 0 where it is idle.
+    /// Returns the vertex whose word the actor's next step looks at, or 0 if the actor is idle.
     pub(crate) fn vertex(&self) -> u32
         ensures { result ≡ vertex_at self.now }
     {
@@ -36,30 +36,30 @@ impl<const P: u32> At<P> {
     }
 }
 
-/// What a step of an actor does.
+/// The case of a step of an actor.
 #[derive(Clone, Copy)]
 pub(crate) enum Turn {
     /// There is no further item: nothing changes.
     Rests,
-    /// 1: the word loaded is at most the offer, which ends, Kept.
+    /// Case 1: the word loaded is at most the offer, which ends with the reply Kept.
     Keeps,
-    /// 2: the word loaded is greater than the offer, and the actor holds it.
+    /// Case 2: the word loaded is greater than the offer, and the actor holds it.
     Holds,
-    /// 3: the word is the one held; the offer is stored, and ends.
+    /// Case 3: the word is the one held; the offer is stored, and ends.
     Wins,
-    /// 4: the word is another one, at most the offer, which ends, Kept.
+    /// Case 4: the word is a different one and at most the offer, which ends with the reply Kept.
     LosesAndKeeps,
-    /// 5: the word is another one, greater than the offer, and the actor holds it.
+    /// Case 5: the word is a different one and greater than the offer, and the actor holds it.
     LosesAndHolds,
-    /// 6: the read ends.
+    /// Case 6: the read ends.
     EndsRead,
-    /// 7: the tail is unreached, or the sum does not fit; its read ends, and the relaxation with it.
+    /// Case 7: the tail is unreached, or the sum doesn't fit; its read ends, and so does the relaxation.
     EndsLoad,
-    /// 8: the tail's read ends, and the actor is at the offer to the head.
+    /// Case 8: the tail's read ends, and the actor is at the offer to the head.
     GoesOn,
 }
 
-/// What an actor is at, by its item and the distance that it loaded there.
+/// Returns the place of an actor, given its item and the distance that it loaded there.
 pub(crate) fn place_of<const P: u32>(item: Option<&Item<P>>, loaded: Option<u64>) -> At<P>
     requires { IsReady (option_copied item) loaded }
     ensures { result ≡ at (option_copied item.entry) loaded }
@@ -80,7 +80,7 @@ pub(crate) fn place_of<const P: u32>(item: Option<&Item<P>>, loaded: Option<u64>
     }
 }
 
-// A step at an offer: cases 1 and 2 before its load, cases 3 to 5 where a word is held.
+// Returns the case of a step at an offer: cases 1 and 2 before its load, cases 3 to 5 if a word is held.
 fn offer_turn<const P: u32>(offer: Word<P>, held: Option<Word<P>>, found: Word<P>) -> Turn
     ensures { result ≡ offer_turn offer.entry held.entry found.entry }
 {
@@ -94,7 +94,7 @@ fn offer_turn<const P: u32>(offer: Word<P>, held: Option<Word<P>>, found: Word<P
     }
 }
 
-// A step before the load of an arc's tail: cases 7 and 8.
+// Returns the case of a step before the load of an arc's tail: cases 7 and 8.
 fn load_turn<const P: u32>(len: u32, found: Word<P>) -> Turn
     requires { is_layout P ≡ true }
     ensures { result ≡ load_turn (max_dist P) len found.entry }
@@ -105,7 +105,7 @@ fn load_turn<const P: u32>(len: u32, found: Word<P>) -> Turn
     }
 }
 
-/// What a step does where the actor holds `held`, if it does, and finds `found`.
+/// Returns the case of a step in which the actor may hold `held`, and finds `found`.
 pub(crate) fn turn_of<const P: u32>(place: &At<P>, held: Option<Word<P>>, found: Word<P>) -> Turn
     requires { is_layout P ≡ true }
     ensures { result ≡ turn (max_dist P) place.now held.entry found.entry }
