@@ -11,13 +11,13 @@ use Rattle.sp_replay.specs.Replay.{AreKept, IsReplay}
 abbrev pub Keeps : {P : ℕ} → Keeper P → List Line → Type 0
 Keeps k lines = AreKept lines (contains nat_eq k.known) k.named.items k.rows k.steps.items
 
--- One vertex more is known, and it has this word at the start.
+-- One more vertex is known, and it has this word at the start.
 abbrev pub IsNamed : {P : ℕ} → Keeper P → (vertex : ℕ) → Word → Keeper P → Type 0
 IsNamed old vertex word new =
     ((other : ℕ) → contains nat_eq new.known other ≡ (if vertex == other then true else contains nat_eq old.known other))
     × (new.named.items ≡ old.named.items ++ (vertex, word) ∷ [])
 
--- the parts as a programme
+-- These are the parts as a programme.
 abbrev pub plan_of : {P : ℕ} → ReplayParts P → Programme P
 plan_of parts = record { words = parts.words; actors = parts.actors; named = parts.named.items; rows = map (λ row. row.items) parts.rows.items }
 

@@ -9,7 +9,7 @@ use Rattle.sp_replay.specs.Offers.{HasOffers, IsOffers}
 abbrev pub KeepsOffers : {P : ℕ} → OfferKeeper P → List Line → Type 0
 KeepsOffers k lines = (actor : ℕ) → 1 ≤ actor → HasOffers k.rows actor lines
 
--- the parts as a programme
+-- These are the parts as a programme.
 abbrev pub plan_of : {P : ℕ} → OfferParts P → Programme P
 plan_of parts = record { words = parts.words; actors = parts.actors; named = []; rows = map (λ row. row.items) parts.rows.items }
 

@@ -7,36 +7,37 @@ use Rattle.sp_machine.specs.declared.item.Item.TheVariants.{Offer, Read, Relax}
 use Rattle.sp_machine.specs.Programme.{Programme, IsNumber, row_of}
 use Rattle.sp_text.specs.Text.{Item as Line, is_named}
 
--- the number of a line at this place
+-- This is the number of a line at this index.
 abbrev pub number : ℕ → Line → ℕ
 number place line = slice_index line.numbers place
 
--- The place of a line's form is 0 for `i`, 1 for `o`, 2 for `r`, 3 for `a` and 4 for `s`.
+-- The index of a line's form is 0 for `i`, 1 for `o`, 2 for `r`, 3 for `a` and 4 for `s`.
 
--- `i V D P` gives V the word (D, P) at the start
+-- A line `i V D P` gives V the word (D, P) at the start.
 abbrev pub named_by : Line → List (ℕ × Word)
 named_by line = if line.kind == 0 then (number 0 line, Pair (number 1 line) (number 2 line)) ∷ [] else []
 
--- `o A V D P` asks for the offer of (D, P) to V
+-- A line `o A V D P` asks for the offer of (D, P) to V.
 abbrev pub offer_of : {P : ℕ} → List ℕ → Item P
 offer_of ns = Offer (slice_index ns 1) (Pair (slice_index ns 2) (slice_index ns 3))
 
--- what a line of the form at this place with these numbers asks an actor to do: `o A V D P`, `r A V` or `a A U V L`
+-- This is the item that a line gives an actor, by the index of its form and its numbers: `o A V D P`, `r A V` or `a A U
+-- V L`.
 abbrev pub items_of_form : {P : ℕ} → (place : ℕ) → List ℕ → List (Item P)
 items_of_form place ns =
     if place == 1 then offer_of ns ∷ []
     else (if place == 2 then Read (slice_index ns 1) ∷ []
     else (if place == 3 then Relax (slice_index ns 1) (slice_index ns 2) (slice_index ns 3) ∷ [] else []))
 
--- what a line asks actor A to do
+-- This is the item that a line gives actor A.
 abbrev pub item_for : {P : ℕ} → (actor : ℕ) → Line → List (Item P)
 item_for actor line = if number 0 line == actor then items_of_form line.kind line.numbers else []
 
--- `s A` is a step of actor A
+-- A line `s A` is a step of actor A.
 abbrev pub step_by : Line → List ℕ
 step_by line = if line.kind == 4 then number 0 line ∷ [] else []
 
--- The numbers of the problem line and the other lines say this: the words and actors, the words at the start in
+-- The numbers of the problem line and the other lines give these: the words and actors, the words at the start in
 -- order, the items of each actor in order, and the actors of the steps in order.
 pub record IsReplay {P : ℕ} (problem : List ℕ) (lines : List Line) (plan : Programme P) (steps : List ℕ) : Type 0 where
   pub words : plan.words ≡ slice_index problem 0

@@ -5,15 +5,15 @@ use Rattle.sp_text.specs.declared.formats.Field.{Field}
 use Rattle.sp_text.specs.Formats.{LineForm, Format, field}
 use Rattle.sp_replay.specs.declared.formats.TheConstants.{MOST_WORDS, MOST_ACTORS, MOST_ITEMS, MOST_STEPS, LONGEST_ARC}
 
--- V, from 1 to N
+-- V is from 1 to N.
 abbrev pub vertex : Field
 vertex = field 86 1 (Problem 0)
 
--- A, from 1 to K
+-- A is from 1 to K.
 abbrev pub actor : Field
 actor = field 65 1 (Problem 1)
 
--- D and P
+-- D and P are the distance and the predecessor.
 abbrev pub dist : Field
 dist = field 68 0 Dist
 
@@ -30,11 +30,11 @@ actors_line word = record {
   limit = Number 1;
 }
 
--- `i V D P`, with another V in each line
+-- This is `i V D P`, with a different V in each line.
 abbrev pub start_line : LineForm
 start_line = record { words = codes "i" ∷ []; fields = vertex ∷ dist ∷ pred ∷ []; fresh = true; group = 1; limit = Problem 0 }
 
--- an item: its word, and its fields
+-- An item line has its word, and its fields.
 abbrev pub item_line : List ℕ → List Field → LineForm
 item_line word fields = record { words = word ∷ []; fields = fields; fresh = false; group = 0; limit = Number MOST_ITEMS }
 
@@ -54,17 +54,17 @@ relax_line = item_line (codes "a") (actor ∷ field 85 1 (Problem 0) ∷ vertex 
 abbrev pub step_line : LineForm
 step_line = record { words = codes "s" ∷ []; fields = actor ∷ []; fresh = false; group = 2; limit = Number MOST_STEPS }
 
--- `p WORD N K`, and lines of these forms in any order
+-- This is `p WORD N K`, and lines of these forms in any order.
 abbrev pub actors_file : List ℕ → List LineForm → Format
 actors_file word forms = record { problem = actors_line word; items = forms; needed = Number 0 }
 
 abbrev pub replay_lines : List LineForm
 replay_lines = start_line ∷ offer_line ∷ read_line ∷ relax_line ∷ step_line ∷ []
 
--- replay files: `p rep N K`, and the other lines in any order
+-- A replay file has `p rep N K`, and the other lines in any order.
 abbrev pub replay : Format
 replay = actors_file (codes "rep") replay_lines
 
--- offers files: `p off N K`, and the offers
+-- An offers file has `p off N K`, and the offers.
 abbrev pub offers : Format
 offers = actors_file (codes "off") (offer_line ∷ [])

@@ -20,26 +20,26 @@ reply_text Shorter = codes " shorter"
 reply_text SmallerPred = codes " smaller"
 reply_text Kept = codes " kept"
 
--- what was asked and answered: `o A V D P REPLY`, `r A V D P` or `r A V none`
+-- This is a call with its answer: `o A V D P REPLY`, `r A V D P` or `r A V none`.
 abbrev pub asked_text : {P : ℕ} → (actor vertex : ℕ) → Call P → List ℕ
 asked_text actor vertex (Offer word found reply) = codes "o" ++ number_text actor ++ number_text vertex ++ word_text word ++ reply_text reply
 asked_text actor vertex (Read found) = codes "r" ++ number_text actor ++ number_text vertex ++ word_text found
 
--- the line of a finished call, which ends with ` F L`
+-- This is the line of a finished call, which ends with ` F L`.
 abbrev pub call_text : {P : ℕ} → Finished P → List ℕ
 call_text c = asked_text c.ended.actor c.ended.vertex c.ended.call ++ number_text c.first ++ number_text c.last ++ codes "\n"
 
--- `w V D P` for a vertex that is reached
+-- This is `w V D P` for a vertex that is reached.
 abbrev pub reached_text : (vertex : ℕ) → Word → List ℕ
 reached_text vertex Unreached = []
 reached_text vertex (Pair d p) = codes "w" ++ number_text vertex ++ number_text d ++ number_text p ++ codes "\n"
 
--- the lines of the reached vertices among these words, of which the first is that of `vertex`
+-- These are the lines of the reached vertices among these words, the first of which is that of `vertex`.
 abbrev pub reached_from : (vertex : ℕ) → List Word → List ℕ
 reached_from vertex [] = []
 reached_from vertex (word ∷ more) = reached_text vertex word ++ reached_from (vertex + 1) more
 
--- how many of the words are reached
+-- This counts the words that are reached.
 abbrev pub reached_count : List Word → ℕ
 reached_count [] = 0
 reached_count (Unreached ∷ more) = reached_count more
@@ -49,7 +49,7 @@ reached_count (Pair d p ∷ more) = reached_count more + 1
 abbrev pub count_text : (count : ℕ) → List ℕ
 count_text count = codes "e" ++ number_text count ++ codes "\n"
 
--- the lines of the reached vertices, and how many they are
+-- These are the lines of the reached vertices, and their number.
 abbrev pub words_text : List Word → List ℕ
 words_text words = reached_from 1 words ++ count_text (reached_count words)
 
@@ -61,6 +61,6 @@ abbrev pub closed_text : Bool → List ℕ
 closed_text true = codes "closed yes\n"
 closed_text false = codes "closed no\n"
 
--- the finished calls, the reached vertices, the totals, and whether the run is closed
+-- These are the finished calls, the reached vertices, the totals, and whether the run is closed.
 unfoldable pub report_text : {P : ℕ} → Report P → List ℕ
 report_text r = flat_map call_text r.calls.items ++ reached_from 1 r.words.items ++ totals_text r.wins r.losses ++ closed_text r.closed

@@ -5,7 +5,7 @@ ghost use Rattle.sp_replay.specs.ReplayFormat.{replay, offers};
 
 use sp_text::{Field, FileFormat, Form, Top};
 
-// The places of the forms.
+// The indices of the forms.
 pub const START: usize = 0;
 
 pub const OFFER: usize = 1;
@@ -52,16 +52,16 @@ const LEN: Field = Field {
     most: Top::Number(LONGEST_ARC),
 };
 
-/// As many words as a run may have.
+/// The greatest number of words of a run.
 pub const MOST_WORDS: u64 = 65_536;
 
-/// As many actors as a run may have.
+/// The greatest number of actors of a run.
 pub const MOST_ACTORS: u64 = 64;
 
-/// As many items as all actors may have.
+/// The greatest number of items of all actors together.
 pub const MOST_ITEMS: u64 = 1_048_576;
 
-/// As many steps as a run may have.
+/// The greatest number of steps of a run.
 pub const MOST_STEPS: u64 = 16_777_216;
 
 /// The greatest length of an arc.
@@ -143,7 +143,7 @@ const OFFERS: FileFormat = FileFormat {
     needed: Top::Number(0),
 };
 
-/// The line forms of replay files.
+/// Returns the line forms of replay files.
 pub fn replay_format() -> FileFormat
     ensures format { format_of result ≡ replay }
     ensures small { IsSmall result }
@@ -151,7 +151,7 @@ pub fn replay_format() -> FileFormat
     REPLAY
 }
 
-/// The line forms of offers files.
+/// Returns the line forms of offers files.
 pub fn offers_format() -> FileFormat
     ensures format { format_of result ≡ offers }
     ensures small { IsSmall result }

@@ -1,4 +1,4 @@
-//! The lines of a replay file, as they come.
+//! Keeps the lines of a replay file as they come.
 ghost use Rattle.std.specs.Prelude.{◌≡◌, ℕ, ◌+◌, ◌≤◌, ◌∷◌, [], ◌++◌, List, slice_index, map, OnOk, IfOk, true};
 ghost use Rattle.sp_word.specs.Word.{Pair, is_layout};
 ghost use Rattle.sp_text.specs.Keeping.{CanKeep};
@@ -16,7 +16,7 @@ use std::alloc::{AllocError, Global};
 use std::collections::HashSet;
 use std::mem;
 
-/// What the lines so far say.
+/// What the lines so far hold.
 #[derive(Drop)]
 pub struct Keeper<const P: u32> {
     alloc: Global,
@@ -28,7 +28,7 @@ pub struct Keeper<const P: u32> {
     ghost layout: { is_layout P ≡ true },
 }
 
-/// What a replay file says.
+/// What a replay file holds.
 #[derive(Drop)]
 pub struct ReplayParts<const P: u32> {
     pub words: u32,
@@ -48,7 +48,7 @@ fn word_at<const P: u32>(values: &Values, place: usize) -> Word<P>
     Word::pack(values.get(place), values.get(place + 1) as u32)
 }
 
-/// The offer of a line `o A V D P`.
+/// Returns the offer of a line `o A V D P`.
 pub fn offer_at<const P: u32>(values: &Values) -> Item<P>
     requires layout { is_layout P ≡ true }
     requires vertex { slice_index values.now 1 ≤ MOST_WORDS }
@@ -65,7 +65,7 @@ pub fn offer_at<const P: u32>(values: &Values) -> Item<P>
 impl<const P: u32> Keeper<P> {
     ghost use Rattle.sp_replay.specs.Keeping.{Keeps, IsNamed};
 
-    /// Before the first line.
+    /// Returns a keeper before the first line.
     pub fn new(alloc: Global) -> Keeper<P>
         requires { is_layout P ≡ true }
         ensures { Keeps result [] }
@@ -79,7 +79,7 @@ impl<const P: u32> Keeper<P> {
         }
     }
 
-    // The vertex has this word at the start.
+    // Gives the vertex this word at the start.
     fn name(&mut self, vertex: u64, word: Word<P>) -> Result<(), AllocError>
         requires { vertex ≤ MOST_WORDS }
         ensures named { OnOk result (IsNamed self.old vertex word.entry self.new) }

@@ -1,5 +1,5 @@
-//! The files of the step machine: replay files and offers files are read, and the report of a run is written,
-//! or the words that offers leave.
+//! The files of the step machine: reads replay files and offers files, and writes the report of a run, or the words
+//! that offers leave.
 #![tactic(auto)]
 
 mod formats;

@@ -1,4 +1,4 @@
-//! The lines of a report, pushed to a block.
+//! Appends the lines of a report to a block.
 ghost use Rattle.std.specs.Prelude.{◌≡◌, ◌+◌, ◌≤◌, ◌++◌, length};
 ghost use Rattle.sp_replay.specs.ReportText.{word_text, reply_text, asked_text, call_text, reached_text, count_text, totals_text, closed_text};
 
@@ -7,16 +7,16 @@ use sp_machine::{Call, Finished};
 use sp_text::push_number;
 use sp_word::{Reply, Word};
 
-/// As many bytes as the line of a finished call has at most.
+/// The greatest number of bytes of the line of a finished call.
 pub const CALL_ROOM: usize = 136;
 
-/// As many bytes as the line of a reached vertex has at most.
+/// The greatest number of bytes of the line of a reached vertex.
 pub const REACHED_ROOM: usize = 65;
 
-/// As many bytes as the line of the count has at most.
+/// The greatest number of bytes of the line of the count.
 pub const COUNT_ROOM: usize = 23;
 
-/// As many bytes as the last two lines have at most.
+/// The greatest number of bytes of the last two lines together.
 pub const END_ROOM: usize = 55;
 
 fn push_word<const P: u32>(block: &mut Block, word: Word<P>)
@@ -67,7 +67,7 @@ fn push_asked<const P: u32>(block: &mut Block, actor: u32, vertex: u32, call: Ca
     }
 }
 
-/// The line of a finished call.
+/// Appends the line of a finished call.
 pub fn push_call<const P: u32>(block: &mut Block, call: &Finished<P>)
     requires { length block.old + CALL_ROOM ≤ 8192 }
     ensures { block.new ≡ block.old ++ call_text call.now }
@@ -78,7 +78,7 @@ pub fn push_call<const P: u32>(block: &mut Block, call: &Finished<P>)
     block.push(b"\n");
 }
 
-/// The line of a vertex, if it is reached.
+/// Appends the line of a vertex, if it is reached.
 pub fn push_reached<const P: u32>(block: &mut Block, vertex: u64, word: Word<P>)
     requires { length block.old + REACHED_ROOM ≤ 8192 }
     ensures { block.new ≡ block.old ++ reached_text vertex word.entry }
@@ -93,7 +93,7 @@ pub fn push_reached<const P: u32>(block: &mut Block, vertex: u64, word: Word<P>)
     block.push(b"\n");
 }
 
-/// The line that says how many vertices are reached.
+/// Appends the line that says how many vertices are reached.
 pub fn push_count(block: &mut Block, count: u64)
     requires { length block.old + COUNT_ROOM ≤ 8192 }
     ensures { block.new ≡ block.old ++ count_text count }
@@ -103,7 +103,7 @@ pub fn push_count(block: &mut Block, count: u64)
     block.push(b"\n");
 }
 
-/// The line of the totals, and whether the run is closed.
+/// Appends the line of the totals, and the line that says whether the run is closed.
 pub fn push_end(block: &mut Block, wins: u64, losses: u64, closed: bool)
     requires { length block.old + END_ROOM ≤ 8192 }
     ensures { block.new ≡ block.old ++ (totals_text wins losses ++ closed_text closed) }

@@ -14,14 +14,14 @@ use sp_text::{
 };
 use std::alloc::{AllocError, Global};
 
-/// The offers so far.
+/// The offers that were read so far.
 #[derive(Drop)]
 pub struct OfferKeeper<const P: u32> {
     rows: ActorItems<P>,
     ghost layout: { is_layout P ≡ true },
 }
 
-/// What an offers file says.
+/// What an offers file holds.
 #[derive(Drop)]
 pub struct OfferParts<const P: u32> {
     pub words: u32,
@@ -32,7 +32,7 @@ pub struct OfferParts<const P: u32> {
 impl<const P: u32> OfferKeeper<P> {
     ghost use Rattle.sp_replay.specs.OfferKeeping.{KeepsOffers};
 
-    /// Before the first line.
+    /// Returns a keeper before the first line.
     pub fn new(alloc: Global) -> Self
         requires { is_layout P ≡ true }
         ensures { KeepsOffers result [] }
@@ -87,11 +87,12 @@ impl<const P: u32> Keep for OfferKeeper<P> {
     }
 }
 
-/// The programme of the offers file that the bytes of a reader spell from here on, or their first fault. Its
-/// items are the offers, and no word is there at the start.
+/// Reads the rest of a reader's bytes, and returns the programme of the offers file that they spell, or their first
+/// fault. The programme's items are the offers, and it has no word at the start.
 ///
-/// It takes memory for the offers as they come. Where a growth is refused it tells Memory at the line whose
-/// offer found no room, if no line up to it has a fault. How much a refused reader took from its source is open.
+/// It allocates memory for the offers as they come. If an allocation fails, the fault is Memory at the line whose offer
+/// found no room, unless a line up to it has a fault. It is unspecified how much a reader that is refused took from its
+/// source.
 pub fn read_offers<const P: u32, R: Read>(
     alloc: Global,
     reader: &mut R,

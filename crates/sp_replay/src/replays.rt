@@ -11,7 +11,7 @@ use sp_machine::Programme;
 use sp_text::{Collector, DimacsError, Feeder, Kind, read_text};
 use std::alloc::Global;
 
-/// What a replay file says.
+/// What a replay file holds.
 #[derive(Drop)]
 pub struct ReplayFile<const P: u32> {
     /// The words at the start, and the items of each actor.
@@ -20,7 +20,7 @@ pub struct ReplayFile<const P: u32> {
     pub steps: Vec<u32>,
 }
 
-// The file that says this.
+// Returns the file that has these parts.
 fn file_of<const P: u32>(parts: ReplayParts<P>) -> ReplayFile<P>
     requires layout { is_layout P ≡ true }
     requires programme { IsProgramme (plan_of parts) }
@@ -33,10 +33,11 @@ fn file_of<const P: u32>(parts: ReplayParts<P>) -> ReplayFile<P>
     }
 }
 
-/// The replay file that the bytes of a reader spell from here on, or their first fault.
+/// Reads the rest of a reader's bytes, and returns the replay file that they spell, or their first fault.
 ///
-/// It takes memory for the values as they come. Where a growth is refused it tells Memory at the line whose
-/// value found no room, if no line up to it has a fault. How much a refused reader took from its source is open.
+/// It allocates memory for the values as they come. If an allocation fails, the fault is Memory at the line whose value
+/// found no room, unless a line up to it has a fault. It is unspecified how much a reader that is refused took from its
+/// source.
 pub fn read_replay<const P: u32, R: Read>(
     alloc: Global,
     reader: &mut R,

@@ -1,4 +1,4 @@
-//! The report of a run, written to a device.
+//! Writes the report of a run to a device.
 ghost use Rattle.std.specs.Prelude.{◌++◌};
 ghost use Rattle.std.specs.List.{flat_map};
 ghost use Rattle.sp_device.specs.Printing.{IsSending, Sends, Finished as Written};
@@ -69,9 +69,9 @@ fn print_report<const P: u32, W: Write>(report: &Report<P>, out: &mut W) -> Prin
     printer
 }
 
-/// Writes the lines of a report, and tells their number of bytes.
+/// Writes the lines of a report, and returns their number of bytes.
 ///
-/// It takes no memory. Where the writer fails, a beginning of the lines stands.
+/// It allocates no memory. If the writer fails, a prefix of the lines is written.
 pub fn write_report<const P: u32, W: Write>(
     report: &Report<P>,
     out: &mut W,

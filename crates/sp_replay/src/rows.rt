@@ -1,4 +1,4 @@
-//! The items of the actors, a row for each.
+//! The items of the actors, with a row for each.
 ghost use Rattle.std.specs.Prelude.{◌≡◌, ◌≤◌, [], map, take, length, OnOk};
 ghost use Rattle.sp_replay.specs.Rows.{lists_of, HaveSameRows, AddsItem};
 
@@ -8,7 +8,7 @@ use std::alloc::{AllocError, Global};
 use std::marker::Model;
 use std::mem;
 
-/// The items of the actors so far. There are no more rows than actors need.
+/// The items of the actors so far. There are at most as many rows as the actors need.
 #[derive(Drop)]
 pub struct ActorItems<const P: u32> {
     alloc: Global,
@@ -25,7 +25,7 @@ impl<const P: u32> Model for ActorItems<P> {
 }
 
 impl<const P: u32> ActorItems<P> {
-    /// No item.
+    /// Returns rows without items.
     pub fn new(alloc: Global) -> Self
         ensures { result ≡ [] }
     {
@@ -35,7 +35,7 @@ impl<const P: u32> ActorItems<P> {
         }
     }
 
-    /// Puts an item behind those of an actor. Actors are numbered from 1.
+    /// Appends an item to those of an actor. Actors are numbered from 1.
     pub fn push(&mut self, actor: u64, item: Item<P>) -> Result<(), AllocError>
         requires { actor ≤ MOST_ACTORS }
         ensures { OnOk result (AddsItem self.old actor item.entry self.new) }
@@ -43,7 +43,7 @@ impl<const P: u32> ActorItems<P> {
         push_item(self.alloc, &mut self.rows, actor, item)
     }
 
-    /// The rows of so many actors; then it begins again.
+    /// Returns the rows of `actors` actors, and begins again.
     pub fn give(&mut self, actors: u64) -> Vec<Vec<Item<P>>>
         ensures given { map (λ row. row.items) result.items ≡ take actors self.old }
         ensures new { self.new ≡ [] }
@@ -54,7 +54,7 @@ impl<const P: u32> ActorItems<P> {
     }
 }
 
-// Makes so many rows, where there are fewer.
+// Makes `rows` rows, if there are fewer.
 fn grow<const P: u32>(
     alloc: Global,
     rows: &mut Vec<Vec<Item<P>>>,
@@ -69,7 +69,7 @@ fn grow<const P: u32>(
     Ok(())
 }
 
-// Puts an item behind those of an actor. Actors are numbered from 1.
+// Appends an item to those of an actor. Actors are numbered from 1.
 fn push_item<const P: u32>(
     alloc: Global,
     rows: &mut Vec<Vec<Item<P>>>,

@@ -1,4 +1,4 @@
-//! The words that offers leave, written to a device.
+//! Writes the words that offers leave to a device.
 ghost use Rattle.std.specs.Prelude.{◌≡◌, ◌≤◌, ◌++◌, length};
 ghost use Rattle.sp_device.specs.Printing.{IsSending, Sends, Finished as Written};
 ghost use Rattle.sp_replay.specs.ReportText.{reached_count, count_text, words_text};
@@ -8,7 +8,7 @@ use crate::reports::send_words;
 use sp_device::{Printer, Write, WriteFault, finish, make_room};
 use sp_word::Word;
 
-// How many of the words are reached.
+// Counts the words that are reached.
 #[tactic(auto, using(crate::proofs::ReachedWords::count_next, crate::proofs::ReachedWords::unreached_counts_none, crate::proofs::ReachedWords::reached_counts_one))]
 fn count_reached<const P: u32>(words: &[Word<P>]) -> usize
     ensures count { result ≡ reached_count words.now }
@@ -41,10 +41,10 @@ fn print_words<const P: u32, W: Write>(words: &[Word<P>], out: &mut W) -> Printe
     printer
 }
 
-/// Writes the lines of the vertices that are reached, by rising vertex, the first word being that of
-/// vertex 1, and then how many they are. It tells the number of bytes.
+/// Writes the lines of the vertices that are reached, by rising vertex, the first word being that of vertex 1, and then
+/// their number. Returns the number of bytes.
 ///
-/// It takes no memory. Where the writer fails, a beginning of the lines stands.
+/// It allocates no memory. If the writer fails, a prefix of the lines is written.
 pub fn write_words<const P: u32, W: Write>(
     words: &[Word<P>],
     out: &mut W,
