@@ -1,4 +1,4 @@
--- The marks of a run: what each of its steps was.
+-- The marks of a run: what each of its steps did.
 use Rattle.std.specs.Prelude.{◌≡◌, ℕ, List, [], ◌∷◌, nat_eq, if◌then◌else◌, Option, Some, None}
 use Rattle.sp_machine.specs.declared.effect.Exchange.{Exchange}
 use Rattle.sp_machine.specs.declared.effect.Exchange.TheVariants.{Won as IsWon, Lost as IsLost}
@@ -11,11 +11,11 @@ use Rattle.sp_picture.specs.declared.marks.Mark.{Mark}
 use Rattle.sp_picture.specs.declared.marks.Deed.{Deed}
 use Rattle.sp_picture.specs.declared.marks.Deed.TheVariants.{Rest, Load, Won, Lost}
 
--- the mark of an actor's next step
+-- This is the mark of an actor's next step.
 abbrev pub mark_of : {P : ℕ} → Machine P → (actor : ℕ) → Mark P
 mark_of m actor = record { actor = actor; vertex = next_vertex m actor; effect = (machine_after m actor).last }
 
--- the marks of the steps of these actors, one after the other
+-- These are the marks of the steps of these actors, one after another.
 abbrev pub marks_from : {P : ℕ} → Machine P → (actors : List ℕ) → List (Mark P)
 marks_from m [] = []
 marks_from m (actor ∷ more) = mark_of m actor ∷ marks_from (machine_after m actor) more
@@ -25,11 +25,11 @@ deed_by None vertex = if nat_eq vertex 0 then Rest else Load
 deed_by (Some IsWon) vertex = Won
 deed_by (Some IsLost) vertex = Lost
 
--- what a step was
+-- This is what a step was.
 abbrev pub deed_of : {P : ℕ} → Mark P → Deed
 deed_of mark = deed_by mark.effect.exchange mark.vertex
 
--- the word that a call offers, if it is an offer
+-- This is the word that a call offers, if it is an offer.
 abbrev pub offered_by : {P : ℕ} → Call P → Option Word
 offered_by (Offer word found reply) = Some word
 offered_by (Read found) = None
@@ -38,10 +38,10 @@ abbrev pub offered_at : {P : ℕ} → Deed → Option (Ended P) → Option Word
 offered_at Won (Some ended) = offered_by ended.call
 offered_at deed ended = None
 
--- the word that a step stored, if it won an exchange
+-- This is the word that a step stored, if it won an exchange.
 abbrev pub stored_by : {P : ℕ} → Mark P → Option Word
 stored_by mark = offered_at (deed_of mark) mark.effect.ended
 
--- it stored to the word of the vertex
+-- The step stored to the word of the vertex.
 abbrev pub IsStoreTo : {P : ℕ} → (vertex : ℕ) → Mark P → Type 0
 IsStoreTo vertex mark = (mark.vertex ≡ vertex) × (deed_of mark ≡ Won)

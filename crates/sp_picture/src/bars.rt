@@ -5,7 +5,7 @@ use crate::shown::{CallShown, reply_name};
 use sp_machine::{Call, Finished};
 use std::alloc::AllocError;
 
-// What colours a bar.
+// Returns the kind of a call, which gives its bar a colour.
 fn kind_of<const P: u32>(call: &Finished<P>) -> &'static str {
     match call.ended.call {
         Call::Offer { reply, .. } => reply_name(reply),
@@ -13,7 +13,7 @@ fn kind_of<const P: u32>(call: &Finished<P>) -> &'static str {
     }
 }
 
-// A bar from the call's first step to its last.
+// Draws a bar from the call's first step to its last.
 fn draw_bar<const P: u32>(
     text: &mut String,
     layout: &Layout,
@@ -36,7 +36,7 @@ fn draw_bar<const P: u32>(
     )
 }
 
-/// A bar for each call.
+/// Draws a bar for each call.
 pub(crate) fn draw_bars<const P: u32>(
     text: &mut String,
     layout: &Layout,

@@ -1,17 +1,17 @@
-//! How wide the columns of steps are: as wide as what stands in them needs.
+//! The widths of the columns of steps: as wide as their contents need.
 
 use std::alloc::{AllocError, Global};
 
-// From one step to the next it is never nearer, so that bars of one step stand apart.
+// The least distance from one step to the next, so that bars of one step stay apart.
 const NEAREST: u64 = 32;
 
-// In a picture of few steps it is no nearer than this, as long as the lanes are no longer than the legend.
+// The least distance in a picture of few steps, as long as the lanes are no longer than the legend.
 const AMPLE: u64 = 64;
 
-// About as long as the legend.
+// The approximate length of the legend.
 const LEGEND: u64 = 640;
 
-/// How near steps stand at the least in lanes that end at this step.
+/// Returns the least distance between steps in lanes that end at this step.
 pub(crate) fn nearest(end: u64) -> u64 {
     if end == 0 {
         return AMPLE;
@@ -19,18 +19,18 @@ pub(crate) fn nearest(end: u64) -> u64 {
     (LEGEND / end).min(AMPLE).max(NEAREST)
 }
 
-/// What stands from one step to another, and how wide it is.
+/// An item that reaches from one step to another, with its width.
 #[derive(Clone, Copy)]
 pub(crate) struct Span {
     /// The step where it begins; 0 is where the lanes begin.
     pub from: u64,
     /// The later step before which it ends, or the end of the lanes.
     pub until: u64,
-    /// How wide it is.
+    /// Its width.
     pub width: u64,
 }
 
-// Where the next step stands: as far left as the steps before it and what ends before it leave room for.
+// Returns the place of the next step: as far left as the steps before it and the items that end before it allow.
 fn next_place(places: &[u64], spans: &[Span], least: u64) -> u64 {
     let step = places.len() as u64;
     let mut place = places.last().copied().unwrap_or(0).saturating_add(least);
@@ -43,7 +43,8 @@ fn next_place(places: &[u64], spans: &[Span], least: u64) -> u64 {
     place
 }
 
-/// Where the lanes begin, the middle of each step, and where the lanes end, counted from where the lanes begin.
+/// Returns where the lanes begin, the middle of each step, and where the lanes end, all measured from where the lanes
+/// begin.
 pub(crate) fn places_of(alloc: Global, steps: u64, spans: &[Span]) -> Result<Vec<u64>, AllocError> {
     let least = nearest(steps.saturating_add(1));
     let mut places = Vec::new(alloc);
@@ -55,7 +56,7 @@ pub(crate) fn places_of(alloc: Global, steps: u64, spans: &[Span]) -> Result<Vec
     Ok(places)
 }
 
-/// From the middle of one step to that of another, or to the end of the lanes.
+/// Returns the distance from the middle of one step to that of another, or to the end of the lanes.
 pub(crate) fn room_between(places: &[u64], from: u64, until: u64) -> u64 {
     let start = places.get(from as usize).copied().unwrap_or(0);
     let end = places.get(until as usize).copied().unwrap_or(0);

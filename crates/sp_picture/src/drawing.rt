@@ -1,4 +1,4 @@
-//! What a picture shows of a run.
+//! The contents of a picture of a run.
 ghost use Rattle.std.specs.Prelude.{◌≡◌, ◌<◌, ◌↔◌, length, map, All, IfOk, IsErrOf};
 ghost use Rattle.sp_machine.specs.Programme.{IsNumber};
 ghost use Rattle.sp_machine.specs.Run.{opening_machine, run_of};
@@ -12,10 +12,10 @@ use crate::ties::{Tie, ties_of};
 use sp_machine::{Finished, Programme, replay};
 use std::alloc::Global;
 
-/// As many steps as a picture shows at most.
+/// The greatest number of steps that a picture shows.
 pub const MOST_STEPS: usize = 60;
 
-/// What a picture shows of a run.
+/// The contents of a picture of a run.
 #[derive(Drop)]
 pub struct Drawing<const P: u32> {
     /// A bar for each finished call, by rising last step.
@@ -26,7 +26,7 @@ pub struct Drawing<const P: u32> {
     pub ties: Vec<Tie>,
 }
 
-/// What a picture shows of the programme's run with one step of each of these actors after the other.
+/// Draws the programme's run, with one step of each of these actors in turn.
 pub fn draw_run<const P: u32>(
     alloc: Global,
     programme: &Programme<P>,

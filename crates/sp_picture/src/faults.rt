@@ -11,7 +11,7 @@ pub enum NoPicture {
     /// The run has more steps than a picture shows.
     #[error("too many steps for a picture")]
     TooManySteps,
-    /// Memory was refused.
+    /// An allocation failed.
     #[error("memory")]
     Memory,
 }

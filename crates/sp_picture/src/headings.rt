@@ -1,4 +1,4 @@
-//! What a picture shows, in words, for those who don't see it.
+//! The description of a picture in words, for readers who don't see it.
 
 use crate::drawing::Drawing;
 use crate::shown::CallShown;
@@ -6,13 +6,13 @@ use crate::ties::Tie;
 use sp_machine::Finished;
 use std::alloc::AllocError;
 
-// A number of things, and what they are.
+// Writes a number of things, with their name.
 fn write_count(text: &mut String, count: u64, one: &str, more: &str) -> Result<(), AllocError> {
     let what = if count == 1 { one } else { more };
     write!(text, "{count} {what}")
 }
 
-/// The name of a picture: of a run of so many steps, by so many actors, on so many words.
+/// Writes the title of a picture: the numbers of steps, actors and words of its run.
 pub(crate) fn write_title(
     text: &mut String,
     steps: u64,
@@ -28,7 +28,7 @@ pub(crate) fn write_title(
     text.push_str("</title>\n")
 }
 
-// The calls, as their bars tell them.
+// Writes the calls as their bars show them.
 fn write_calls<const P: u32>(text: &mut String, calls: &[Finished<P>]) -> Result<(), AllocError> {
     for call in calls {
         let shown = CallShown { call: *call };
@@ -38,7 +38,7 @@ fn write_calls<const P: u32>(text: &mut String, calls: &[Finished<P>]) -> Result
     Ok(())
 }
 
-// The lost exchanges.
+// Writes the lost exchanges.
 fn write_losses(text: &mut String, ties: &[Tie]) -> Result<(), AllocError> {
     for tie in ties {
         let step = tie.lost.saturating_add(1);
@@ -52,7 +52,7 @@ fn write_losses(text: &mut String, ties: &[Tie]) -> Result<(), AllocError> {
     Ok(())
 }
 
-/// What a picture shows: the calls that ended, and the lost exchanges.
+/// Writes what a picture shows: the calls that ended, and the lost exchanges.
 pub(crate) fn write_description<const P: u32>(
     text: &mut String,
     drawing: &Drawing<P>,

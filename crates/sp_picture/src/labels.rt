@@ -1,4 +1,4 @@
-//! The texts of calls, below or above their bars.
+//! The labels of calls, below or above their bars.
 
 use crate::columns::{Span, nearest};
 use crate::layout::Layout;
@@ -7,7 +7,7 @@ use crate::texts::{LINE, Text, draw_lines, room_for};
 use sp_machine::Finished;
 use std::alloc::{AllocError, Global};
 
-/// Where a text stands at its bar.
+/// The side of its bar on which a label is drawn.
 #[derive(Clone, Copy, PartialEq, Eq)]
 pub(crate) enum Side {
     Below,
@@ -15,7 +15,7 @@ pub(crate) enum Side {
 }
 
 impl Side {
-    // The other one.
+    // Returns the other side.
     fn other(self) -> Side {
         match self {
             Side::Below => Side::Above,
@@ -24,25 +24,25 @@ impl Side {
     }
 }
 
-/// The text of a call at its bar.
+/// The label of a call at its bar.
 #[derive(Drop)]
 pub(crate) struct Label {
-    /// Whose call it is.
+    /// The actor that made the call.
     pub actor: u32,
-    /// Where it stands.
+    /// The side on which the label is drawn.
     pub side: Side,
-    /// What it is.
+    /// Its text.
     pub text: Text,
 }
 
-// Whether the label, in one line, ends before this step even where columns are no wider than this.
+// Returns whether the label, in one line, ends before this step even if columns are no wider than this.
 fn ends_before(label: &Label, step: u64, least: u64) -> bool {
     let steps = step.saturating_sub(label.text.from);
     room_for(label.text.whole.len()) <= steps.saturating_mul(least)
 }
 
-// Where the text of the actor's next call stands: below its bar if the texts there leave room, and else not where
-// the text before it stands.
+// Returns the side for the label of the actor's next call: below its bar if the labels there leave room, and otherwise
+// the side that the label before it doesn't have.
 fn next_side(labels: &[Label], actor: u32, first: u64, least: u64) -> Side {
     let mut is_free = true;
     let mut before = Side::Above;
@@ -55,7 +55,7 @@ fn next_side(labels: &[Label], actor: u32, first: u64, least: u64) -> Side {
     if is_free { Side::Below } else { before.other() }
 }
 
-// What stood on this side of the actor's lane ends before this step.
+// Lets the labels on this side of the actor's lane end before this step.
 fn end_others(labels: &mut Vec<Label>, actor: u32, side: Side, step: u64) {
     for label in labels.iter_mut() {
         if label.actor == actor && label.side == side {
@@ -64,7 +64,7 @@ fn end_others(labels: &mut Vec<Label>, actor: u32, side: Side, step: u64) {
     }
 }
 
-/// The labels of calls, in lanes that end at this step.
+/// Returns the labels of calls, in lanes that end at this step.
 pub(crate) fn labels_of<const P: u32>(
     alloc: Global,
     calls: &[Finished<P>],
@@ -83,7 +83,7 @@ pub(crate) fn labels_of<const P: u32>(
     Ok(labels)
 }
 
-/// Adds what the labels need at the least.
+/// Adds the least widths that the labels need.
 pub(crate) fn add_label_spans(spans: &mut Vec<Span>, labels: &[Label]) -> Result<(), AllocError> {
     for label in labels {
         spans.push(label.text.span())?;
@@ -91,7 +91,7 @@ pub(crate) fn add_label_spans(spans: &mut Vec<Span>, labels: &[Label]) -> Result
     Ok(())
 }
 
-/// Breaks the labels into lines, where the steps stand at these places.
+/// Breaks the labels into lines, given the places of the steps.
 pub(crate) fn wrap_labels(
     alloc: Global,
     labels: &mut Vec<Label>,
@@ -103,7 +103,7 @@ pub(crate) fn wrap_labels(
     Ok(())
 }
 
-/// The most lines that a label on this side of the actor's lane has.
+/// Returns the greatest number of lines of a label on this side of the actor's lane.
 pub(crate) fn most_lines(labels: &[Label], actor: u32, side: Side) -> u64 {
     let mut most = 0u64;
     for label in labels {
@@ -114,7 +114,7 @@ pub(crate) fn most_lines(labels: &[Label], actor: u32, side: Side) -> u64 {
     most
 }
 
-/// The texts of the calls.
+/// Draws the labels of the calls.
 pub(crate) fn draw_labels(
     text: &mut String,
     layout: &Layout,

@@ -5,7 +5,7 @@ use crate::stretches::{Lane, Stretch};
 use crate::texts::draw_lines;
 use std::alloc::AllocError;
 
-// A step's number, and a line below it.
+// Draws the number of a step, and a line below it.
 fn draw_step(text: &mut String, layout: &Layout, step: u64) -> Result<(), AllocError> {
     let x = layout.across(step);
     let bottom = layout.bottom();
@@ -16,7 +16,7 @@ fn draw_step(text: &mut String, layout: &Layout, step: u64) -> Result<(), AllocE
     )
 }
 
-/// The numbers of the steps.
+/// Draws the numbers of the steps.
 pub(crate) fn draw_axis(text: &mut String, layout: &Layout) -> Result<(), AllocError> {
     let x = layout.across(0) - 12;
     writeln!(
@@ -29,7 +29,7 @@ pub(crate) fn draw_axis(text: &mut String, layout: &Layout) -> Result<(), AllocE
     Ok(())
 }
 
-// The name of a lane left of it, and again along it.
+// Draws the name of a lane to the left of it, and again along it.
 fn draw_name(
     text: &mut String,
     layout: &Layout,
@@ -51,7 +51,7 @@ fn draw_name(
     Ok(())
 }
 
-// The name of an actor, and a line on which its marks stand.
+// Draws the name of an actor, and the line that carries its marks.
 fn draw_actor(text: &mut String, layout: &Layout, actor: u32) -> Result<(), AllocError> {
     let y = layout.actor_lane(actor);
     let (start, end) = (layout.across(0), layout.end());
@@ -63,7 +63,7 @@ fn draw_actor(text: &mut String, layout: &Layout, actor: u32) -> Result<(), Allo
     )
 }
 
-/// The lanes of the actors.
+/// Draws the lanes of the actors.
 pub(crate) fn draw_actors(
     text: &mut String,
     layout: &Layout,
@@ -75,7 +75,7 @@ pub(crate) fn draw_actors(
     Ok(())
 }
 
-// A stretch in the lane of this place.
+// Draws a stretch in the lane with this index.
 fn draw_stretch<const P: u32>(
     text: &mut String,
     layout: &Layout,
@@ -103,7 +103,7 @@ fn draw_stretch<const P: u32>(
     draw_lines(text, "value", (left + 4, base), lines)
 }
 
-// The lane of a word: what it holds, from each store to the next.
+// Draws the lane of a word: what it holds, from each store to the next.
 fn draw_word<const P: u32>(
     text: &mut String,
     layout: &Layout,
@@ -118,7 +118,7 @@ fn draw_word<const P: u32>(
     Ok(())
 }
 
-/// The lanes of the words.
+/// Draws the lanes of the words.
 pub(crate) fn draw_words<const P: u32>(
     text: &mut String,
     layout: &Layout,

@@ -1,34 +1,34 @@
-//! Where things stand in a picture, in pixels from its left upper corner.
+//! The layout of a picture, in pixels from its upper left corner.
 ghost use Rattle.std.specs.Prelude.{◌≡◌, ◌≤◌, ◌+◌, IfOk};
 
 use crate::labels::{Label, Side, most_lines};
 use crate::texts::LINE;
 use std::alloc::{AllocError, Global};
 
-// What stands left of all steps: the names of lanes.
+// The width to the left of all steps, which the names of lanes take.
 const LEFT: u64 = 100;
 
-// What stands above all lanes: the numbers of steps.
+// The height above all lanes, which the numbers of steps take.
 const TOP: u64 = 34;
 
-// Between two lanes of words.
+// The space between two lanes of words.
 const BETWEEN: u64 = 8;
 
-// Between the lanes of words and those of actors.
+// The space between the lanes of words and those of actors.
 const GAP: u64 = 12;
 
-// Of an actor's lane, what stands above its middle and below it, but for texts.
+// The height of an actor's lane above its middle and below it, without labels.
 const ABOVE: u64 = 24;
 
 const BELOW: u64 = 24;
 
-// No coordinate is beyond this one and the height of the legend.
+// No coordinate exceeds the sum of this one and the height of the legend.
 const FARTHEST: u64 = 1 << 20;
 
-// Names of lanes are written again after so many pixels.
+// The names of lanes are repeated after this many pixels.
 const AGAIN: u64 = 600;
 
-// About as wide as a name is.
+// The approximate width of a name.
 const NAME: u64 = 80;
 
 // The height of a line of names.
@@ -40,33 +40,34 @@ pub(crate) const LEGEND_WIDTH: u64 = 780;
 /// The height of the legend.
 pub(crate) const LEGEND_HEIGHT: u64 = 140;
 
-// Where the lane of an actor stands, from the top of all lanes.
+// The position of an actor's lane, from the top of all lanes.
 #[derive(Clone, Copy)]
 struct Band {
-    // The line of its names that are written again.
+    // The line of its repeated names.
     names: u64,
     middle: u64,
 }
 
-/// Where things stand.
+/// The layout of a picture.
 #[derive(Drop)]
 pub(crate) struct Layout {
-    // Where the lanes begin, the middles of steps, and where the lanes end, from where the lanes begin.
+    // Where the lanes begin, the middles of the steps, and where the lanes end, all measured from where the lanes
+    // begin.
     places: Vec<u64>,
     // The lanes of actors.
     actors: Vec<Band>,
-    // Where the lanes end below, from the top of all lanes.
+    // The lower end of the lanes, from the top of all lanes.
     height: u64,
-    // The height of what a word's lane shows.
+    // The height of the contents of a word's lane.
     cell: u64,
 }
 
-// How often names are written again in lanes that are as long.
+// Returns how often names are repeated in lanes of this length.
 fn repeats_in(length: u64) -> u64 {
     length.saturating_sub(NAME).min(FARTHEST) / AGAIN
 }
 
-// The height of the line of names above each lane, if there is one.
+// Returns the height of the line of names above each lane, if there is one.
 fn names_height(repeats: u64) -> u64
     ensures { result ≤ NAMES }
 {
@@ -74,7 +75,8 @@ fn names_height(repeats: u64) -> u64
 }
 
 impl Layout {
-    /// The layout of a picture whose steps stand at these places, and whose lanes of words, so many, show things of this height.
+    /// Returns the layout of a picture whose steps have these places, with this number of word lanes, whose contents
+    /// have this height.
     pub(crate) fn new(
         alloc: Global,
         places: Vec<u64>,
@@ -103,7 +105,7 @@ impl Layout {
         })
     }
 
-    /// The middle of a step, numbered from 1; that of 0 is where the lanes begin.
+    /// Returns the middle of a step, numbered from 1; the middle of step 0 is where the lanes begin.
     pub(crate) fn across(&self, step: u64) -> u64
         ensures low { LEFT ≤ result }
         ensures high { result ≤ LEFT + FARTHEST }
@@ -112,7 +114,7 @@ impl Layout {
         LEFT + place.min(FARTHEST)
     }
 
-    /// Where the lanes end.
+    /// Returns where the lanes end.
     pub(crate) fn end(&self) -> u64
         ensures low { LEFT ≤ result }
         ensures high { result ≤ LEFT + FARTHEST }
@@ -121,36 +123,36 @@ impl Layout {
         LEFT + place.min(FARTHEST)
     }
 
-    /// How many steps there are.
+    /// Returns the number of steps.
     pub(crate) fn steps(&self) -> u64 {
         (self.places.len() as u64).saturating_sub(2)
     }
 
-    /// How often the names of lanes are written again.
+    /// Returns how often the names of lanes are repeated.
     pub(crate) fn repeats(&self) -> u64 {
         repeats_in(self.end() - LEFT)
     }
 
-    /// Where the names of lanes are written again, the first time for 1.
+    /// Returns where the names of lanes are repeated for this time, counted from 1.
     pub(crate) fn again(&self, time: u64) -> u64 {
         AGAIN.saturating_mul(time).saturating_add(LEFT)
     }
 
-    // The height of the line of names above each lane, if there is one.
+    // Returns the height of the line of names above each lane, if there is one.
     fn head(&self) -> u64
         ensures { result ≤ NAMES }
     {
         names_height(self.repeats())
     }
 
-    /// The height of what the lane of a word shows.
+    /// Returns the height of the contents of a word's lane.
     pub(crate) fn cell(&self) -> u64
         ensures { result ≤ FARTHEST }
     {
         self.cell.min(FARTHEST)
     }
 
-    /// The middle of what the lane of a word shows, by its place among those that have one.
+    /// Returns the middle of the contents of a word's lane, given its index among the words that have a lane.
     pub(crate) fn word_lane(&self, place: usize) -> u64
         ensures low { TOP ≤ result }
         ensures high { result ≤ TOP + NAMES + FARTHEST + FARTHEST }
@@ -160,12 +162,12 @@ impl Layout {
         TOP + start + self.head() + self.cell() / 2
     }
 
-    /// Where the names of a word's lane are written again.
+    /// Returns where the names of a word's lane are repeated.
     pub(crate) fn word_names(&self, place: usize) -> u64 {
         self.word_lane(place).saturating_sub(self.cell() / 2 + 4)
     }
 
-    // The lane of an actor, numbered from 1.
+    // Returns the lane of an actor, numbered from 1.
     fn band(&self, actor: u32) -> Band {
         let place = actor.saturating_sub(1) as usize;
         match self.actors.get(place) {
@@ -177,7 +179,7 @@ impl Layout {
         }
     }
 
-    /// The middle of the lane of an actor, numbered from 1.
+    /// Returns the middle of the lane of an actor, numbered from 1.
     pub(crate) fn actor_lane(&self, actor: u32) -> u64
         ensures low { TOP ≤ result }
         ensures high { result ≤ TOP + FARTHEST }
@@ -185,14 +187,14 @@ impl Layout {
         TOP + self.band(actor).middle.min(FARTHEST)
     }
 
-    /// Where the names of an actor's lane are written again.
+    /// Returns where the names of an actor's lane are repeated.
     pub(crate) fn actor_names(&self, actor: u32) -> u64
         ensures { result ≤ TOP + FARTHEST }
     {
         TOP - 4 + self.band(actor).names.min(FARTHEST)
     }
 
-    /// Where the lanes end below.
+    /// Returns the lower end of the lanes.
     pub(crate) fn bottom(&self) -> u64
         ensures { result ≤ TOP + FARTHEST }
     {

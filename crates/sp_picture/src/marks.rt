@@ -11,15 +11,15 @@ use std::alloc::{AllocError, Global};
 /// A step of a run.
 #[derive(Clone, Copy, Debug, PartialEq, Eq)]
 pub struct Mark<const P: u32> {
-    /// Whose step it was.
+    /// The actor that made the step.
     pub actor: u32,
-    /// The vertex whose word it looked at; 0 where the actor had no call left.
+    /// The vertex whose word it looked at, or 0 if the actor had no call left.
     pub vertex: u32,
     /// What it did.
     pub effect: Effect<P>,
 }
 
-/// What a step was.
+/// The kind of a step.
 #[derive(Clone, Copy, Debug, PartialEq, Eq)]
 pub enum Deed {
     /// The actor had no call left.
@@ -35,7 +35,7 @@ pub enum Deed {
 impl<const P: u32> Mark<P> {
     ghost use Rattle.sp_picture.specs.Marks.{deed_of, stored_by, IsStoreTo};
 
-    /// What the step was.
+    /// Returns the kind of the step.
     pub fn deed(&self) -> Deed
         ensures { result ≡ deed_of self.now }
     {
@@ -47,21 +47,21 @@ impl<const P: u32> Mark<P> {
         }
     }
 
-    /// Whether a call acted at the step, and so ended with it.
+    /// Returns whether a call took effect at the step, and so ended with it.
     pub fn acts(&self) -> bool
         ensures { result ≡ is_some self.now.effect.ended }
     {
         self.effect.ended.is_some()
     }
 
-    /// Whether it stored to the word of the vertex.
+    /// Returns whether the step stored to the word of the vertex.
     pub fn is_store_to(&self, vertex: u32) -> bool
         ensures { IsTrue result ↔ IsStoreTo vertex self.now }
     {
         self.vertex == vertex && self.deed() == Deed::Won
     }
 
-    /// The word that it stored, if it won an exchange.
+    /// Returns the word that the step stored, if it won an exchange.
     pub fn stored(&self) -> Option<Word<P>>
         ensures { result ≡ stored_by self.now }
     {
@@ -75,7 +75,7 @@ impl<const P: u32> Mark<P> {
     }
 }
 
-// The word that the call offered, if it is an offer.
+// Returns the word that the call offered, if it is an offer.
 fn offered<const P: u32>(ended: &Ended<P>) -> Option<Word<P>>
     ensures { result ≡ offered_by ended.now.call }
 {
@@ -85,7 +85,7 @@ fn offered<const P: u32>(ended: &Ended<P>) -> Option<Word<P>>
     }
 }
 
-// The steps of a run, one of each of these actors after the other.
+// Returns the steps of a run, with one step of each of these actors in turn.
 pub(crate) fn marks_of<const P: u32>(
     alloc: Global,
     programme: &Programme<P>,

@@ -1,4 +1,4 @@
-//! Pictures, and how they are written.
+//! Makes pictures, and writes them.
 ghost use Rattle.std.specs.Prelude.{◌≡◌, ◌<◌, ◌↔◌, length, map, All, IfOk, IsErrOf};
 ghost use Rattle.std.specs.String.{string_bytes};
 ghost use Rattle.sp_device.specs.Printing.{Finished as Written};
@@ -26,13 +26,13 @@ use std::alloc::{AllocError, Global};
 /// A picture of a run.
 #[derive(Drop)]
 pub struct Picture<const P: u32> {
-    /// What it shows.
+    /// Its contents.
     pub drawing: Drawing<P>,
     /// Its text, as SVG.
     pub text: String,
 }
 
-// What is drawn of a run, and where.
+// What is drawn of a run, with its layout.
 #[derive(Drop)]
 struct Plan<const P: u32> {
     lanes: Vec<Lane<P>>,
@@ -40,7 +40,7 @@ struct Plan<const P: u32> {
     layout: Layout,
 }
 
-// The beginning of a picture, and its ground.
+// Draws the start of a picture, and its background.
 fn draw_ground(text: &mut String, layout: &Layout) -> Result<(), AllocError> {
     let width = (layout.end() + 16).max(LEGEND_WIDTH);
     let height = layout.bottom() + LEGEND_HEIGHT;
@@ -52,7 +52,7 @@ fn draw_ground(text: &mut String, layout: &Layout) -> Result<(), AllocError> {
     text.push_str("aria-labelledby='run-title' aria-describedby='run-desc'>\n")
 }
 
-// What the marks and lines mean, and the end of a picture.
+// Draws the legend, which explains the marks and lines, and the end of a picture.
 fn draw_legend(text: &mut String, layout: &Layout) -> Result<(), AllocError> {
     let (x, y) = (layout.across(0), layout.bottom() + 26);
     writeln!(text, "<g transform='translate({x} {y})'>")?;
@@ -60,7 +60,7 @@ fn draw_legend(text: &mut String, layout: &Layout) -> Result<(), AllocError> {
     text.push_str("</g>\n</svg>\n")
 }
 
-// Where the things of a drawing stand: first how wide columns have to be, and then the lines of texts between them.
+// Lays out a drawing: first the widths of the columns, and then the lines of texts between them.
 fn plan_of<const P: u32>(
     alloc: Global,
     programme: &Programme<P>,
@@ -85,7 +85,7 @@ fn plan_of<const P: u32>(
     })
 }
 
-// The text of a picture: what stands below is drawn first.
+// Returns the text of a picture. What lies underneath is drawn first.
 fn text_of<const P: u32>(
     alloc: Global,
     programme: &Programme<P>,
@@ -116,8 +116,8 @@ fn text_of<const P: u32>(
     Ok(text)
 }
 
-/// The picture of the programme's run with one step of each of these actors after the other. It is refused where there are
-/// more steps than it shows, and where memory was.
+/// Makes the picture of the programme's run, with one step of each of these actors in turn. It fails if there are more
+/// steps than a picture shows, or if there is no memory.
 pub fn picture_of<const P: u32>(
     alloc: Global,
     programme: &Programme<P>,
@@ -139,9 +139,9 @@ pub fn picture_of<const P: u32>(
     Ok(Picture { drawing, text })
 }
 
-/// Writes the text of a picture, and tells its number of bytes.
+/// Writes the text of a picture, and returns its number of bytes.
 ///
-/// It takes no memory. Where the writer fails, a beginning of the text stands.
+/// It allocates no memory. If the writer fails, a prefix of the text is written.
 pub fn write_picture<const P: u32, W: Write>(
     picture: &Picture<P>,
     out: &mut W,

@@ -1,4 +1,4 @@
-//! The marks of steps, and the lines between them.
+//! Draws the marks of steps, and the lines between them.
 
 use crate::layout::Layout;
 use crate::marks::{Deed, Mark};
@@ -14,7 +14,7 @@ struct Point {
     y: u64,
 }
 
-// Where the mark of the step at this place stands.
+// Returns where the mark of the step at this index is drawn.
 fn point_of<const P: u32>(layout: &Layout, place: usize, mark: &Mark<P>) -> Point {
     Point {
         x: layout.across((place as u64).saturating_add(1)),
@@ -22,7 +22,7 @@ fn point_of<const P: u32>(layout: &Layout, place: usize, mark: &Mark<P>) -> Poin
     }
 }
 
-// What a step was, in words.
+// Writes what a step was, in words.
 fn tell_step<const P: u32>(
     text: &mut String,
     place: usize,
@@ -47,7 +47,7 @@ fn tell_step<const P: u32>(
     Ok(())
 }
 
-// The shape of a step.
+// Draws the shape of a step.
 fn draw_shape(text: &mut String, deed: Deed, at: Point) -> Result<(), AllocError> {
     let (x, y) = (at.x, at.y);
     match deed {
@@ -70,7 +70,7 @@ fn draw_shape(text: &mut String, deed: Deed, at: Point) -> Result<(), AllocError
     }
 }
 
-// The mark of the step at this place.
+// Draws the mark of the step at this index.
 fn draw_mark<const P: u32>(
     text: &mut String,
     layout: &Layout,
@@ -96,7 +96,7 @@ fn draw_mark<const P: u32>(
     text.push_str("</g>\n")
 }
 
-/// A mark for each step.
+/// Draws a mark for each step.
 pub(crate) fn draw_marks<const P: u32>(
     text: &mut String,
     layout: &Layout,
@@ -108,7 +108,7 @@ pub(crate) fn draw_marks<const P: u32>(
     Ok(())
 }
 
-// A line from the lane of the word to the step that stored to it.
+// Draws a line from the lane of the word to the step that stored to it.
 fn draw_store<const P: u32>(
     text: &mut String,
     layout: &Layout,
@@ -129,7 +129,7 @@ fn draw_store<const P: u32>(
     )
 }
 
-/// A line for each store, from the lane of its word.
+/// Draws a line for each store, from the lane of its word.
 pub(crate) fn draw_stores<const P: u32>(
     text: &mut String,
     layout: &Layout,
@@ -144,7 +144,7 @@ pub(crate) fn draw_stores<const P: u32>(
     Ok(())
 }
 
-// From a lost exchange back to the load whose word it expected.
+// Draws a line from a lost exchange back to the load whose word it expected.
 fn draw_expected(text: &mut String, lost: Point, load: Point) -> Result<(), AllocError> {
     let (x, start) = (lost.x, load.x);
     let (y, top) = (lost.y.saturating_sub(11), lost.y.saturating_sub(26));
@@ -155,7 +155,7 @@ fn draw_expected(text: &mut String, lost: Point, load: Point) -> Result<(), Allo
     text.push_str("<title>it expected the word of this load</title></path>\n")
 }
 
-// From the store that beat it to a lost exchange.
+// Draws a line to a lost exchange from the store that beat it.
 fn draw_beaten(text: &mut String, lost: Point, store: Point) -> Result<(), AllocError> {
     let (x, y) = (lost.x, lost.y);
     let (start, top) = (store.x, store.y);
@@ -166,7 +166,7 @@ fn draw_beaten(text: &mut String, lost: Point, store: Point) -> Result<(), Alloc
     text.push_str("<title>it was lost by this store</title></line>\n")
 }
 
-// The lines of a lost exchange.
+// Draws the lines of a lost exchange.
 fn draw_tie<const P: u32>(
     text: &mut String,
     layout: &Layout,
@@ -190,7 +190,7 @@ fn draw_tie<const P: u32>(
     Ok(())
 }
 
-/// The lines of the lost exchanges.
+/// Draws the lines of the lost exchanges.
 pub(crate) fn draw_ties<const P: u32>(
     text: &mut String,
     layout: &Layout,

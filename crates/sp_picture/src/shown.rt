@@ -1,10 +1,10 @@
-//! Words and calls as a picture's texts show them.
+//! Words and calls as the texts of a picture show them.
 
 use sp_machine::{Call, Finished};
 use sp_word::{Reply, Word};
 use std::fmt;
 
-/// A word as `5 by 3`, or `unreached`.
+/// A word, shown as `5 by 3`, or `unreached`.
 #[derive(Clone, Copy)]
 pub(crate) struct WordShown<const P: u32> {
     pub word: Word<P>,
@@ -19,7 +19,7 @@ impl<const P: u32> fmt::Display for WordShown<P> {
     }
 }
 
-/// A finished call as its line of the report has it, without its steps: `o 1 1 5 3 shorter`.
+/// A finished call, shown as its line of the report without its steps: `o 1 1 5 3 shorter`.
 #[derive(Clone, Copy)]
 pub(crate) struct CallShown<const P: u32> {
     pub call: Finished<P>,
@@ -43,7 +43,7 @@ impl<const P: u32> fmt::Display for CallShown<P> {
     }
 }
 
-// ` D P`, or ` none`.
+// Writes ` D P`, or ` none`.
 fn write_pair<const P: u32, W: fmt::Write>(
     f: &mut fmt::Formatter<W>,
     word: Word<P>,
@@ -54,7 +54,7 @@ fn write_pair<const P: u32, W: fmt::Write>(
     }
 }
 
-/// A reply as the report has it.
+/// Returns the name of a reply in the report.
 pub(crate) fn reply_name(reply: Reply) -> &'static str {
     match reply {
         Reply::Shorter => "shorter",

@@ -1,4 +1,4 @@
-//! What words hold, from each store to the next.
+//! The contents of words, from each store to the next.
 
 use crate::columns::Span;
 use crate::marks::Mark;
@@ -8,25 +8,25 @@ use sp_machine::Programme;
 use sp_word::Word;
 use std::alloc::{AllocError, Global};
 
-/// What a word holds from one step to another, and its text.
+/// What a word holds from one step to another, with its text.
 #[derive(Drop)]
 pub(crate) struct Stretch<const P: u32> {
     /// What it holds.
     pub word: Word<P>,
-    /// Its text, from the one step to the other.
+    /// Its text, from the first of these steps to the other.
     pub text: Text,
 }
 
 /// A word that has a lane.
 #[derive(Drop)]
 pub(crate) struct Lane<const P: u32> {
-    /// Whose word it is.
+    /// The vertex whose word it is.
     pub vertex: u32,
     /// What it holds, from the start to the end.
     pub stretches: Vec<Stretch<P>>,
 }
 
-// A stretch, and its text.
+// Returns a stretch with its text.
 fn stretch_of<const P: u32>(
     alloc: Global,
     word: Word<P>,
@@ -41,7 +41,7 @@ fn stretch_of<const P: u32>(
     })
 }
 
-// What the step stored to the word of the vertex.
+// Returns what the step stored to the word of the vertex, if it did.
 fn stored_to<const P: u32>(mark: &Mark<P>, vertex: u32) -> Option<Word<P>> {
     if mark.vertex == vertex {
         mark.stored()
@@ -50,7 +50,7 @@ fn stored_to<const P: u32>(mark: &Mark<P>, vertex: u32) -> Option<Word<P>> {
     }
 }
 
-// What the word of the vertex holds, if at first it holds this.
+// Returns what the word of the vertex holds over time, given what it holds at first.
 fn stretches_of<const P: u32>(
     alloc: Global,
     vertex: u32,
@@ -73,7 +73,7 @@ fn stretches_of<const P: u32>(
     Ok(stretches)
 }
 
-/// The words that a step looked at, by rising vertex.
+/// Returns the words at which some step looked, by rising vertex.
 pub(crate) fn lanes_of<const P: u32>(
     alloc: Global,
     programme: &Programme<P>,
@@ -92,7 +92,7 @@ pub(crate) fn lanes_of<const P: u32>(
     Ok(lanes)
 }
 
-// Adds what the texts of a lane need at the least.
+// Adds the least widths that the texts of a lane need.
 fn add_lane_spans<const P: u32>(spans: &mut Vec<Span>, lane: &Lane<P>) -> Result<(), AllocError> {
     for stretch in &lane.stretches {
         spans.push(stretch.text.span())?;
@@ -100,7 +100,7 @@ fn add_lane_spans<const P: u32>(spans: &mut Vec<Span>, lane: &Lane<P>) -> Result
     Ok(())
 }
 
-/// Adds what the texts of these lanes need at the least.
+/// Adds the least widths that the texts of these lanes need.
 pub(crate) fn add_word_spans<const P: u32>(
     spans: &mut Vec<Span>,
     lanes: &[Lane<P>],
@@ -123,7 +123,7 @@ fn wrap_lane<const P: u32>(
     Ok(())
 }
 
-/// Breaks the texts of these lanes into lines, where the steps stand at these places.
+/// Breaks the texts of these lanes into lines, given the places of the steps.
 pub(crate) fn wrap_words<const P: u32>(
     alloc: Global,
     lanes: &mut Vec<Lane<P>>,
@@ -135,7 +135,7 @@ pub(crate) fn wrap_words<const P: u32>(
     Ok(())
 }
 
-// The most lines that a text of the lane has.
+// Returns the greatest number of lines of a text of the lane.
 fn lines_in<const P: u32>(lane: &Lane<P>) -> usize {
     let mut most = 0usize;
     for stretch in &lane.stretches {
@@ -144,7 +144,7 @@ fn lines_in<const P: u32>(lane: &Lane<P>) -> usize {
     most
 }
 
-/// How high what the lanes show has to be, for the most lines that a text there has.
+/// Returns the height of the contents of the lanes, for the text with the most lines.
 pub(crate) fn cell_height<const P: u32>(lanes: &[Lane<P>]) -> u64 {
     let mut most = 1usize;
     for lane in lanes {

@@ -1,6 +1,6 @@
-//! The parts of a picture that are the same in each.
+//! The parts that every picture has.
 
-/// How things look, on a light page and on a dark one.
+/// The appearance of a picture, on a light page and on a dark one.
 pub(crate) const STYLE: &str = "\
 <style>
 text { font: 12px sans-serif; fill: #222 }
@@ -51,7 +51,7 @@ text { fill: #e6e6e6 }
 <rect class='ground' width='100%' height='100%'/>
 ";
 
-/// What the marks and lines mean.
+/// The legend, which explains the marks and lines.
 pub(crate) const LEGEND: &str = "\
 <circle class='dot' cx='8' cy='0' r='4'/>
 <text class='note' x='34' y='4'>a load</text>

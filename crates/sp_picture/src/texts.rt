@@ -1,18 +1,18 @@
-//! Texts that stand from one step to another, in as many lines as they need there.
+//! Texts that reach from one step to another, in as many lines as they need there.
 
 use crate::columns::{Span, room_between};
 use std::alloc::{AllocError, Global};
 
-// Ten times the width of a character, of a font whose characters are all as wide.
+// Ten times the width of a character, in a font whose characters all have the same width.
 const TEN_CHARACTERS: u64 = 67;
 
-// Between a text and what stands right of it, with what it stands left of its room's end.
+// The space between a text and what is to its right, together with the space to the left of the end of its room.
 const APART: u64 = 8;
 
-// A text of so many characters is never broken.
+// A text of at most this many characters is never broken.
 const SHORT: usize = 10;
 
-/// From a line of a text to the next.
+/// The height from one line of a text to the next.
 pub(crate) const LINE: u64 = 12;
 
 /// A text that begins at one step and ends before another.
@@ -29,7 +29,7 @@ pub(crate) struct Text {
 }
 
 impl Text {
-    /// A text without lines as yet.
+    /// Makes a text without lines.
     pub(crate) fn new(alloc: Global, from: u64, until: u64, whole: String) -> Text {
         Text {
             from,
@@ -39,7 +39,7 @@ impl Text {
         }
     }
 
-    /// What it needs at the least: room for its longest part.
+    /// Returns the least width that it needs: room for its longest part.
     pub(crate) fn span(&self) -> Span {
         Span {
             from: self.from,
@@ -48,7 +48,7 @@ impl Text {
         }
     }
 
-    /// Breaks it into lines, between fields, where the steps stand at these places.
+    /// Breaks it into lines, between fields, given the places of the steps.
     pub(crate) fn wrap(&mut self, alloc: Global, places: &[u64]) -> Result<(), AllocError> {
         let room = room_between(places, self.from, self.until);
         self.lines = lines_of(alloc, &self.whole, room)?;
@@ -56,12 +56,13 @@ impl Text {
     }
 }
 
-/// How much room a line of so many characters needs.
+/// Returns the width that a line of this many characters needs.
 pub(crate) fn room_for(characters: usize) -> u64 {
     ((characters as u64).saturating_mul(TEN_CHARACTERS) / 10).saturating_add(APART)
 }
 
-// The number of characters of the longest part of a text that is not broken: a field, or the whole of a short one.
+// Returns the number of characters of the longest part of a text that isn't broken: a field, or the whole of a short
+// text.
 fn longest_part(text: &str) -> usize {
     if text.len() <= SHORT {
         return text.len();
@@ -73,7 +74,7 @@ fn longest_part(text: &str) -> usize {
     longest
 }
 
-// The text in lines that fit the room, as long as each field does.
+// Returns the text in lines that fit the room, unless a single field is longer.
 fn lines_of(alloc: Global, text: &str, room: u64) -> Result<Vec<String>, AllocError> {
     let mut lines = Vec::new(alloc);
     let mut line = String::new(alloc);

@@ -1,4 +1,4 @@
-//! What lost exchanges are tied to.
+//! The load and the store to which a lost exchange is tied.
 ghost use Rattle.std.specs.Prelude.{◌≡◌, ◌<◌, length, map, All, IfOk};
 ghost use Rattle.sp_picture.specs.Marks.{IsStoreTo};
 ghost use Rattle.sp_picture.specs.Ties.{IsLast, IsTie, lost_from};
@@ -6,18 +6,19 @@ ghost use Rattle.sp_picture.specs.Ties.{IsLast, IsTie, lost_from};
 use crate::marks::{Deed, Mark};
 use std::alloc::{AllocError, Global};
 
-/// What a lost exchange is tied to. Places are those of steps, counted from 0.
+/// The load and the store to which a lost exchange is tied. All three are given by the indices of their steps, counted
+/// from 0.
 #[derive(Clone, Copy, Debug, PartialEq, Eq)]
 pub struct Tie {
-    /// The place of the lost exchange.
+    /// The index of the lost exchange.
     pub lost: usize,
-    /// That of its actor's step before, a load of the word that it expected.
+    /// The index of its actor's step before it, a load of the word that it expected.
     pub load: Option<usize>,
-    /// That of the last store to its word before it, which beat it.
+    /// The index of the last store to its word before it, which beat it.
     pub store: Option<usize>,
 }
 
-// The last of these steps that the actor made.
+// Returns the last of these steps that the actor made.
 fn last_step<const P: u32>(marks: &[Mark<P>], actor: u32) -> Option<usize>
     ensures { IsLast (λ mark. mark.actor ≡ actor) marks.now result }
 {
@@ -30,7 +31,7 @@ fn last_step<const P: u32>(marks: &[Mark<P>], actor: u32) -> Option<usize>
     last
 }
 
-// The last of these steps that stored to the word of the vertex.
+// Returns the last of these steps that stored to the word of the vertex.
 fn last_store<const P: u32>(marks: &[Mark<P>], vertex: u32) -> Option<usize>
     ensures { IsLast (IsStoreTo vertex) marks.now result }
 {
@@ -43,7 +44,7 @@ fn last_store<const P: u32>(marks: &[Mark<P>], vertex: u32) -> Option<usize>
     last
 }
 
-// The tie of the exchange at this place.
+// Returns the tie of the exchange at this index.
 fn tie_at<const P: u32>(marks: &[Mark<P>], lost: usize) -> Tie
     requires { lost < length marks.now }
     ensures lost { result.lost ≡ lost }
@@ -58,7 +59,7 @@ fn tie_at<const P: u32>(marks: &[Mark<P>], lost: usize) -> Tie
     }
 }
 
-// The ties of the lost exchanges among these steps, in their order.
+// Returns the ties of the lost exchanges among these steps, in their order.
 pub(crate) fn ties_of<const P: u32>(
     alloc: Global,
     marks: &[Mark<P>],

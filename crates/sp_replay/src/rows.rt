@@ -54,7 +54,7 @@ impl<const P: u32> ActorItems<P> {
     }
 }
 
-// Makes `rows` rows, if there are fewer.
+// Adds empty rows until there are at least `len`.
 fn grow<const P: u32>(
     alloc: Global,
     rows: &mut Vec<Vec<Item<P>>>,
