@@ -1,4 +1,4 @@
--- Exit statuses, and which faults have which.
+-- Exit statuses, and the faults that have each of them.
 use Rattle.std.specs.Prelude.{ℕ, Bool, true, false}
 use Rattle.sp_command.specs.declared.faults.Status.{Status}
 use Rattle.sp_command.specs.declared.faults.Status.TheVariants as status
@@ -7,7 +7,7 @@ use Rattle.sp_command.specs.declared.faults.Fault.TheVariants as fault
 use Rattle.sp_text.specs.declared.faults.Kind.{Kind}
 use Rattle.sp_text.specs.declared.faults.Kind.TheVariants as kind
 
--- the number that the process ends with
+-- This is the number with which the process ends.
 abbrev pub code_of : Status → ℕ
 code_of status.Done = 0
 code_of status.Usage = 1
@@ -17,14 +17,14 @@ code_of status.TooFar = 4
 code_of status.Memory = 5
 code_of status.Failed = 6
 
--- the command was done, and nothing stands on standard error
+-- The command was carried out, and it wrote nothing to standard error.
 abbrev pub is_done : Status → Bool
 is_done status.Done = true
 is_done status.CheckedNo = true
 is_done status.TooFar = true
 is_done _ = false
 
--- a text is refused, but for a growth or a read that failed
+-- This is the status of a text that is refused, unless the reason is a failed allocation or a failed read.
 abbrev pub status_of_kind : Kind → Status
 status_of_kind kind.Memory = status.Memory
 status_of_kind kind.Read = status.Failed

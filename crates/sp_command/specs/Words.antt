@@ -4,7 +4,7 @@ use Rattle.sp_command.specs.declared.layout.PredBits.{PredBits}
 use Rattle.sp_command.specs.declared.layout.PredBits.TheVariants.{Bits20, Bits24, Bits28, Bits32}
 use Rattle.sp_command.specs.declared.layout.NoPredBits.{NoPredBits}
 
--- the bits of predecessor themselves
+-- This is the number of bits of predecessor.
 abbrev pub bits_in : PredBits → ℕ
 bits_in Bits20 = 20
 bits_in Bits24 = 24
@@ -17,7 +17,7 @@ spelling_of Bits24 = codes "24"
 spelling_of Bits28 = codes "28"
 spelling_of Bits32 = codes "32"
 
--- a text is read exactly where it is a spelling
+-- A text is accepted exactly if it is a spelling.
 pub record ReadsSpelling (text : List ℕ) (result : Result PredBits NoPredBits) : Type 0 where
   pub spelled : IfOk result (λ bits. text ≡ spelling_of bits)
   pub read : (bits : PredBits) → text ≡ spelling_of bits → result ≡ Ok bits

@@ -1,30 +1,30 @@
-//! What to do about a line that a reader refused.
+//! Advice about a line that a reader refused.
 use crate::faults::FileKind;
 use crate::layout::PredBits;
 use std::fmt;
 
-/// What to do about a line that a reader refused. It displays without an end.
+/// Advice about a line that a reader refused. It displays without a line end.
 #[derive(Clone, Copy, Debug)]
 pub enum Advice<'a> {
-    /// A comment begins otherwise.
+    /// Comments begin differently.
     Comment,
     /// A file of this kind has no comments.
     NoComments(FileKind),
-    /// The line is of a file of another kind than the command wants.
+    /// The line belongs to a file of another kind than the command wants.
     OtherFile {
         command: &'a str,
         found: FileKind,
         wanted: FileKind,
     },
-    /// The file has no problem line, or not at its beginning.
+    /// The file has no problem line, or not at its start.
     NoProblem(FileKind),
-    /// What lines the file has.
+    /// The lines that a file of this kind has.
     Lines(FileKind),
-    /// What the number of arcs, of sources or of pairs is.
+    /// The meaning of the number of arcs, of sources or of pairs.
     Count(FileKind),
-    /// A line has its most bytes.
+    /// The greatest number of bytes of a line.
     LongLine,
-    /// A vertex is numbered from 1, up to this number where it is known.
+    /// A vertex is numbered from 1, up to this number if it is known.
     Vertex(Option<u64>),
     /// Vertices may be numbered from 0.
     FromZero,
@@ -32,7 +32,7 @@ pub enum Advice<'a> {
     Length,
     /// Lengths may have fractions.
     FractionOfLength,
-    /// How a number is spelled.
+    /// The spelling of a number.
     Spelling,
     /// A field is a number from a first one to a last.
     Range {
@@ -40,15 +40,15 @@ pub enum Advice<'a> {
         first: u64,
         last: u64,
     },
-    /// The vertex of a line of a tree is greater than the one before.
+    /// The vertex of each line of a tree is greater than the one before.
     Rising,
-    /// The number of the last line of a tree.
+    /// The number in the last line of a tree.
     Rows,
     /// The file of trees has several blocks.
     Blocks,
     /// The file of a tree ends too early.
     CutTree,
-    /// A source was too far for its layout, and this one reaches farther, if one does.
+    /// A source was too far for its layout. This is a layout that reaches farther, if there is one.
     TooFar(Option<PredBits>),
 }
 
@@ -88,7 +88,7 @@ impl fmt::Display for Advice<'_> {
 const TOO_FAR: &str = "an x line, of a source for which a vertex was too far";
 
 impl Advice<'_> {
-    // The words of one that has no more to tell.
+    // Returns the words of advice that has no parameters to show.
     fn words(&self) -> &'static str {
         match self {
             Advice::Comment => "comments begin with `c`, and a blank parts it from the rest",
@@ -113,7 +113,7 @@ impl Advice<'_> {
     }
 }
 
-// What a file is, in a sentence.
+// Returns what a file is, for a sentence.
 fn of_kind(file: FileKind) -> &'static str {
     match file {
         FileKind::Graph => "a .gr file",
@@ -125,7 +125,7 @@ fn of_kind(file: FileKind) -> &'static str {
     }
 }
 
-// The problem line of a file.
+// Returns the problem line of a file.
 fn problem(file: FileKind) -> &'static str {
     match file {
         FileKind::Graph => "`p sp N M`",
@@ -137,7 +137,7 @@ fn problem(file: FileKind) -> &'static str {
     }
 }
 
-// What the counted lines of a file are as many as.
+// Returns what the number of counted lines of a file must equal.
 fn count(file: FileKind) -> &'static str {
     match file {
         FileKind::Graph => "M of the line `p sp N M` is the number of `a` lines",
@@ -147,7 +147,7 @@ fn count(file: FileKind) -> &'static str {
     }
 }
 
-/// The lines of a file of a kind, as a sentence says them.
+/// The lines of a file of a kind, as a sentence names them.
 #[derive(Clone, Copy)]
 struct Lines(FileKind);
 

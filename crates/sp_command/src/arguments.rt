@@ -1,16 +1,16 @@
-//! Arguments of commands.
+//! The arguments of commands.
 use clap::{Arg, ArgAction};
 use std::alloc::Global;
 
-/// What `clap` knows the option by that names places of sources.
+/// The identifier for `clap` of the option that names places of sources.
 pub const PLACES: &str = "sources";
 
-/// A file that a command needs.
+/// Returns the argument for a file that a command needs.
 pub fn file<'a>(alloc: Global, name: &'a str, about: &'a str) -> Arg<'a> {
     Arg::new(alloc, name).help(about).required(true)
 }
 
-/// An option without a value.
+/// Returns an option without a value.
 pub fn flag<'a>(alloc: Global, name: &'a str, about: &'a str) -> Arg<'a> {
     Arg::new(alloc, name)
         .long(name)
@@ -18,7 +18,7 @@ pub fn flag<'a>(alloc: Global, name: &'a str, about: &'a str) -> Arg<'a> {
         .help(about)
 }
 
-/// An option with a value, which help calls so, and what there is to know of it: in short, and all of it.
+/// Returns an option with a value, with the name of the value in help, and the description in a short form and in full.
 pub fn valued<'a>(
     alloc: Global,
     name: &'a str,

@@ -1,4 +1,4 @@
-//! What a command is, and several of them as one.
+//! Commands, and several of them as one.
 ghost use Rattle.sp_command.specs.Either.{either_of};
 
 use crate::faults::{Fault, FileKind, Status};
@@ -14,42 +14,42 @@ use std::thread::Threads;
 /// The words of a command, or of the program.
 pub type Words<'a> = Result<clap::Command<'a>, AllocError>;
 
-/// A command that a command line can order.
+/// A command that a command line can name.
 pub trait Command<'a>: Drop {
-    /// The word that orders it.
+    /// The word that names it.
     const NAME: &'static str;
 
     /// What it does.
     const ABOUT: &'static str;
 
-    /// The same, with all that there is to know of it.
+    /// What it does, in full.
     const LONG_ABOUT: &'static str;
 
-    /// Its files, what it writes, an example, faults and exit statuses.
+    /// The text that ends its help: its files, what it writes, an example, faults and exit statuses.
     const AFTER_HELP: &'static str;
 
-    /// Its name, and the arguments that it has beside the layout and the file of its output.
+    /// Returns its name, and the arguments that it has besides the layout and the file of its output.
     fn words(alloc: Global) -> Words<'a>;
 
-    /// Reads its arguments, or finds a fault of the words that `clap` let through.
+    /// Reads its arguments, or finds a fault in words that `clap` accepted.
     fn read(alloc: Global, given: &ArgMatches<'a>) -> Result<Option<Self>, Error>;
 
-    /// The path of its file of this kind, if it has one.
+    /// Returns the path of its file of this kind, if it has one.
     fn path_of(&self, file: FileKind) -> Option<&'a str>;
 }
 
-/// One command or several. A value is one of them.
+/// One command, or a choice of several. A value is one of them.
 pub trait Commands<'a>: Drop {
-    /// Adds the words of each to those of the program.
+    /// Adds the words of each command to those of the program.
     fn add_to(program: clap::Command<'a>, alloc: Global) -> Words<'a>;
 
     /// Reads the arguments of the command that has this name.
     fn read_named(alloc: Global, name: &str, given: &ArgMatches<'a>) -> Result<Option<Self>, Error>;
 
-    /// The word that orders it.
+    /// Returns the word that names the command.
     fn name(&self) -> &'a str;
 
-    /// The path of its file of this kind, if it has one.
+    /// Returns the path of its file of this kind, if it has one.
     fn path(&self, file: FileKind) -> Option<&'a str>;
 }
 

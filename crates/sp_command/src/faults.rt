@@ -1,4 +1,4 @@
-//! What keeps a command from being done: its line on standard error, and its exit status.
+//! The faults that keep a command from being carried out: the line on standard error, and the exit status.
 ghost use Rattle.std.specs.Prelude.{◌≡◌, ◌≤◌, ◌⊎◌, false, IfOk, IfErr, codes};
 ghost use Rattle.sp_command.specs.Faults.{code_of, is_done, status_of};
 ghost use Rattle.sp_command.specs.Scene.{IsOpened};
@@ -14,9 +14,9 @@ use thiserror::Error;
 /// How a run of the program ended. Its number is the exit status.
 #[derive(Clone, Copy, Debug, PartialEq, Eq)]
 pub enum Status {
-    /// All was done.
+    /// The command was carried out.
     Done = 0,
-    /// The words are no order.
+    /// The words name no valid command.
     Usage = 1,
     /// An input was refused.
     Refused = 2,
@@ -24,14 +24,14 @@ pub enum Status {
     CheckedNo = 3,
     /// For some source, or some pair, a vertex is too far.
     TooFar = 4,
-    /// Memory was refused.
+    /// An allocation failed.
     Memory = 5,
     /// A file could not be opened or read, or the output could not be written.
     Failed = 6,
 }
 
 impl Status {
-    /// The exit status.
+    /// Returns the exit status.
     pub fn code(self) -> u8
         ensures exact { result ≡ code_of self }
         ensures range { result ≤ 6 }
@@ -40,7 +40,7 @@ impl Status {
     }
 }
 
-/// What a file is to a command.
+/// The role of a file in a command.
 #[derive(Clone, Copy, Debug, PartialEq, Eq)]
 pub enum FileKind {
     Graph,
@@ -52,7 +52,7 @@ pub enum FileKind {
 }
 
 impl FileKind {
-    /// Opens the file at its beginning.
+    /// Opens the file at its start.
     pub fn open<F: Inputs>(self, files: &F, path: &str) -> Result<F::File, Fault>
         ensures opened { IfOk result
             (λ file. IsOpened (F.text files.now path.now) (F.File.left file)) }
@@ -64,7 +64,7 @@ impl FileKind {
         }
     }
 
-    /// Opens a graph and then a file of this kind, each at its beginning. Standard input can be one of them.
+    /// Opens a graph and then a file of this kind, each at its start. Standard input can be one of them.
     pub fn open_with_graph<F: Inputs>(
         self,
         files: &F,
@@ -88,7 +88,7 @@ impl FileKind {
         Ok((gr, self.open(files, path)?))
     }
 
-    /// Where standard input stands in a command's words if it is this file.
+    /// Returns where standard input appears in a command's words if it is this file.
     pub fn place(self) -> &'static str {
         match self {
             FileKind::Graph => "- ..",
@@ -97,7 +97,7 @@ impl FileKind {
         }
     }
 
-    /// The fault of a command whose file has this one.
+    /// Returns the fault of a command whose file has this fault.
     pub fn fault(self, error: DimacsError) -> Fault
         ensures { result ≡ Input self error }
     {
@@ -118,25 +118,25 @@ impl fmt::Display for FileKind {
     }
 }
 
-/// Why a command was not done. It displays as what stands on standard error, with the ends of lines.
+/// Why a command wasn't carried out. It displays as the text on standard error, with line ends.
 #[derive(Debug, Drop, Error)]
 pub enum Fault {
-    /// The words are no order.
+    /// The words name no valid command.
     #[error(transparent)]
     Usage(clap::Error),
-    /// The delta is greater than the distances of the words.
+    /// The delta is greater than the greatest distance of the words.
     #[error("spt: delta out of range\n")]
     DeltaOutOfRange,
     /// Standard input was named for both files.
     #[error("spt: standard input twice\n")]
     InputTwice,
-    /// The places of sources are not spelled as two numbers.
+    /// The places of sources aren't spelled as two numbers.
     #[error("spt: sources are not A-B\n")]
     NoPlaces,
-    /// A file could not be opened.
+    /// A file couldn't be opened.
     #[error("spt: {0}: cannot open\n")]
     CannotOpen(FileKind),
-    /// A file's text has a fault, its device failed, or its values found no memory.
+    /// A file's text has a fault, its device failed, or there was no memory for its values.
     #[error("spt: {file}: {error}\n")]
     Input { file: FileKind, error: DimacsError },
     /// A source, or a target, is no vertex of the graph.
@@ -145,19 +145,19 @@ pub enum Fault {
     /// A run has more steps than a picture shows.
     #[error("spt: replay: more than 60 steps\n")]
     TooManySteps,
-    /// Memory was refused.
+    /// An allocation failed.
     #[error("spt: memory\n")]
     Memory,
     /// The output failed.
     #[error("spt: write failed\n")]
     WriteFailed,
-    /// The file of the output can't be made, or can't have its name.
+    /// The file of the output can't be created, or can't be given its name.
     #[error("spt: output: cannot write\n")]
     CannotWrite,
 }
 
 impl Fault {
-    /// The exit status.
+    /// Returns the exit status.
     pub fn status(&self) -> Status
         ensures exact { result ≡ status_of self.now }
         ensures fails { is_done result ≡ false }

@@ -1,7 +1,8 @@
 //! The texts of help that commands share.
 
-/// The end of a help: a text, the kinds of faults that lines of a file have, with a command's own ones, what else is told, and the
-/// exit statuses, with a command's own ones and the names of what it reads and writes.
+/// Builds the end of a help text: a text, the kinds of faults of a file's lines, including those of the command,
+/// further information, and the exit statuses, including those of the command and the names of what it reads and
+/// writes.
 #[macro_export]
 macro_rules! after_help {
     (

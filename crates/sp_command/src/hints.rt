@@ -1,4 +1,4 @@
-//! Second lines of faults: what the system said, or what to do.
+//! Second lines of faults: the reason that the system gave, or advice.
 use crate::advice::Advice;
 use crate::commands::Commands;
 use crate::faults::{Fault, FileKind};
@@ -8,7 +8,7 @@ use crate::names::{Quoted, Shown};
 use sp_text::Kind;
 use std::{fmt, io};
 
-/// What a file is that is no plain text as it stands.
+/// The form of a file that isn't plain text.
 #[derive(Clone, Copy, Debug, PartialEq, Eq)]
 pub enum Form {
     Gzip,
@@ -16,13 +16,13 @@ pub enum Form {
     Xz,
     Zstd,
     Zip,
-    /// Text behind a byte order mark.
+    /// Text after a byte order mark.
     Marked,
     Utf16,
 }
 
 impl Form {
-    /// What a file is that begins so, if it is one of these.
+    /// Returns the form of a file that begins with these bytes, if it is one of these.
     pub fn of(beginning: &[u8]) -> Option<Form> {
         match beginning {
             [0x1f, 0x8b, ..] => Some(Form::Gzip),
@@ -36,7 +36,7 @@ impl Form {
         }
     }
 
-    // The program that makes plain text of it.
+    // Returns the program that makes plain text of it.
     fn tool(self) -> &'static str {
         match self {
             Form::Gzip => "zcat",
@@ -85,10 +85,10 @@ impl fmt::Display for PlacesFault {
     }
 }
 
-/// Where a number stands that is no vertex of its graph.
+/// Where a number is given that is no vertex of its graph.
 #[derive(Clone, Copy, Debug)]
 pub enum Naming<'a> {
-    /// At the option `--source`.
+    /// In the option `--source`.
     Option,
     /// On a line of a file, as a source.
     Source { path: &'a str, line: u64 },
@@ -98,33 +98,33 @@ pub enum Naming<'a> {
     Unseen,
 }
 
-/// The second line of a fault. It displays with its end.
+/// The second line of a fault. It displays with its line end.
 #[derive(Clone, Copy, Debug)]
 pub enum Hint<'a> {
-    /// Why the system didn't open, read or write.
+    /// The system's reason for not opening, reading or writing.
     Reason {
         name: &'a str,
         reason: io::Error,
     },
-    /// What makes plain text of a file of a command.
+    /// The program that makes plain text of a command's file.
     Form {
         command: &'a str,
         file: FileKind,
         path: &'a str,
         form: Form,
     },
-    /// The layout for a graph of so many vertices.
+    /// The layout for a graph with this many vertices.
     Layout {
         path: &'a str,
         vertices: u64,
         pred_bits: PredBits,
     },
-    /// What to do about a line of the file of this path.
+    /// Advice about a line of the file with this path.
     Advice {
         path: &'a str,
         advice: Advice<'a>,
     },
-    /// Where a number stands that is no vertex, and how many there are, as far as that can be told.
+    /// Where a number is given that is no vertex, and how many vertices there are, as far as that can be found.
     Vertex {
         naming: Naming<'a>,
         vertex: u32,
@@ -135,11 +135,11 @@ pub enum Hint<'a> {
         word: &'a str,
         why: PlacesFault,
     },
-    /// The deltas of a layout.
+    /// The range of delta for a layout.
     Delta(PredBits),
-    /// What a delta is.
+    /// The range of delta in general.
     AnyDelta,
-    /// What stands for a file of sources.
+    /// What can take the place of a file of sources.
     NoSources,
 }
 
@@ -187,7 +187,8 @@ impl fmt::Display for Hint<'_> {
     }
 }
 
-// Where a shell shows all of the path, the command names it.
+// Writes the form of a file, and a command that reads it as plain text. The command names the path only if a terminal
+// shows all of it.
 fn write_form<W: fmt::Write>(
     f: &mut fmt::Formatter<W>,
     command: &str,
@@ -228,13 +229,13 @@ fn write_vertex<W: fmt::Write>(
     }
 }
 
-// How a line names the file of a path.
+// Returns the name by which a line refers to the file of a path.
 fn name_of(path: &str) -> &str {
     if path == "-" { "standard input" } else { path }
 }
 
-/// The second line of a fault of a command, where there is one that no file has to be read for. The output goes to the file of
-/// this path, if to one.
+/// Returns the second line of a command's fault, if there is one that needs no file to be read. The output goes to the
+/// file of this path, if there is one.
 pub fn hint_of<'a, C: Commands<'a>, F: Inputs>(
     fault: &Fault,
     command: &C,
@@ -249,7 +250,7 @@ pub fn hint_of<'a, C: Commands<'a>, F: Inputs>(
     }
 }
 
-/// What the system said of the output, which goes to the file of this path, if to one.
+/// Returns the system's reason for a failure of the output, which goes to the file of this path, if there is one.
 pub fn output_hint<'a, F: Inputs>(output: Option<&'a str>, files: &F) -> Option<Hint<'a>> {
     reason_of(output.unwrap_or("standard output"), files)
 }

@@ -1,4 +1,4 @@
-//! Where the files of a command line come from, and where it tells how far it is.
+//! The files of a command line, and the reports of progress.
 ghost use Rattle.std.specs.Prelude.{ℕ, List, Option, None, IfSome};
 ghost use Rattle.sp_command.specs.Scene.{IsOpened};
 
@@ -13,33 +13,34 @@ pub trait Inputs {
     /// An opened file.
     type File: Read + Drop;
 
-    /// The text of the file of a path, where it is known: no contract can tell what a file of the system holds.
+    /// The text of the file of a path, if it is known: no contract can say what a file of the system holds.
     ghost text: { Self → List ℕ → Option (List ℕ) } = { λ _ _. None };
 
-    /// Opens a file at its beginning, or answers `None` where it cannot be opened. The path `-` is standard input, which
-    /// begins where it stands.
+    /// Opens a file at its start, or returns `None` if it can't be opened. The path `-` is standard input, which is
+    /// read from its current position.
     fn open_input(&self, path: &str) -> Option<Self::File>
         ensures { IfSome result (λ file. IsOpened (text self.now path.now) (Self.File.left file)) };
 
-    /// Tells the user how far a command is. Where it can't be told nothing else changes.
+    /// Reports the progress of a command to the user. A failure to report changes nothing else.
     fn tell(&self, _report: Report) {}
 
-    /// Where the workers of a run count what they have relaxed, if anybody looks at that while they work.
+    /// Returns the meter on which the workers of a run count the vertices that they have relaxed, if the count is
+    /// watched while they work.
     fn meter(&self) -> Option<&Meter> {
         None
     }
 
-    /// Opens a file once more, or answers `None` where it can't be read twice, as standard input or a pipe.
+    /// Opens a file again, or returns `None` if it can't be read twice, as with standard input or a pipe.
     fn open_again(&self, _path: &str) -> Option<Self::File> {
         None
     }
 
-    /// What the system said last of a file or a stream that failed, if it is known.
+    /// Returns the system's last reason for a failure of a file or a stream, if it is known.
     fn reason(&self) -> Option<io::Error> {
         None
     }
 
-    /// What the file is whose reading began last, if that is known and no plain text.
+    /// Returns the form of the file that was last begun to be read, if it is known and isn't plain text.
     fn form(&self) -> Option<Form> {
         None
     }

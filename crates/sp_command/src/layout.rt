@@ -1,4 +1,4 @@
-//! The layouts of a word, and the option that picks one. All that lists them stands here.
+//! The layouts of a word, and the option that selects one. Every list of the layouts is in this module.
 ghost use denote.Param.Send.{IsSync};
 ghost use Rattle.std.specs.Prelude.{◌≡◌, ◌<◌, ◌≤◌, true, IfNone, IfOk, IfErr, IfSome};
 ghost use Rattle.sp_word.specs.Word.{is_layout, max_dist, max_pred};
@@ -28,7 +28,7 @@ the distance. So distances D and predecessors P range
 
 static SPELLINGS: [&str; 4] = ["20", "24", "28", "32"];
 
-/// How many bits of a word hold the predecessor.
+/// The number of bits of a word that hold the predecessor.
 #[derive(Clone, Copy, Debug, PartialEq, Eq)]
 pub enum PredBits {
     Bits20,
@@ -58,10 +58,10 @@ impl FromStr for PredBits {
 }
 
 impl PredBits {
-    /// What `clap` knows the option by.
+    /// The identifier of the option for `clap`.
     pub const ID: &'static str = "pred-bits";
 
-    /// The option that says how many.
+    /// Returns the option that gives the number of bits.
     pub fn option<'a>(alloc: Global) -> Arg<'a> {
         let about = "Bits of a word that hold the predecessor\n";
         valued(alloc, Self::ID, "P", about, HELP)
@@ -69,7 +69,7 @@ impl PredBits {
             .default_value("28")
     }
 
-    /// The greatest distance of a word of this layout.
+    /// Returns the greatest distance of a word of this layout.
     pub fn max_dist(self) -> u64
         ensures { result ≡ max_dist (bits_in self) }
     {
@@ -81,7 +81,7 @@ impl PredBits {
         }
     }
 
-    /// The greatest predecessor, and vertex, of a word of this layout.
+    /// Returns the greatest predecessor of a word of this layout, which is also the greatest vertex.
     pub fn max_pred(self) -> u32
         ensures { result ≡ max_pred (bits_in self) }
     {
@@ -93,7 +93,7 @@ impl PredBits {
         }
     }
 
-    /// The fewest bits that hold every vertex of a graph of so many, if some do.
+    /// Returns the least number of bits that can name every vertex of a graph with this many vertices, if one can.
     pub fn least_for(vertices: u64) -> Option<PredBits>
         ensures holds { IfSome result (λ bits. vertices ≤ max_pred (bits_in bits)) }
         ensures fewest { IfSome result (λ bits. (other : PredBits) →
@@ -125,12 +125,12 @@ impl fmt::Display for PredBits {
     }
 }
 
-/// What runs in words with `P` bits of predecessor.
+/// A command that can run in words with `P` bits of predecessor.
 pub trait Run<const P: u32> {
-    /// What its answer says of the texts of its files and of what is written then.
+    /// The meaning of its answer, for the texts of its files and what is then written.
     ghost answers: { Meaning Self };
 
-    /// Runs it. Its output goes to `out`.
+    /// Runs the command. Its output goes to `out`.
     fn run<R: Threads + Wait + Sync, F: Inputs, W: Write>(
         &self,
         rt: &R,
@@ -146,7 +146,7 @@ pub trait Run<const P: u32> {
             (λ fault. code_of (status_of fault) ≤ 2 → out.new ≡ out.old) };
 }
 
-/// Runs it in the layout that has so many bits of predecessor.
+/// Runs the command in the layout that has this many bits of predecessor.
 pub fn run_in<C, R: Threads + Wait + Sync, F: Inputs, W: Write>(
     command: &C,
     pred_bits: PredBits,

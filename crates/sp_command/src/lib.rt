@@ -1,9 +1,9 @@
 //! What the commands of the program `spt` share: what a command is, and how it runs.
 //!
-//! A command has its words, its help and its run (`commands`, `help`), in words of several layouts (`layout`), over the files that a
-//! command line names (`inputs`, `outputs`). What keeps it from being done is a fault, with its line on standard error and its exit status
-//! (`faults`), and often a second line, which says why, or what to do (`hints`, `advice`), with the names of files as a terminal shows them
-//! (`names`).
+//! A command has its words, its help and its run (`commands`, `help`), in words of several layouts (`layout`), over the
+//! files that a command line names (`inputs`, `outputs`). If it can't be carried out, it returns a fault, with its line
+//! on standard error and its exit status (`faults`), and often a second line, which gives a reason or advice (`hints`,
+//! `advice`), with the names of files as a terminal shows them (`names`).
 #![tactic(auto)]
 
 mod advice;

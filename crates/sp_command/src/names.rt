@@ -1,8 +1,8 @@
-//! Names of files as lines show them and as commands for the shell have them.
+//! Names of files, as lines show them and as shell commands spell them.
 use std::fmt;
 
-/// Whether a character is none that a terminal shows as it stands: a control character, or one that hides or turns what is
-/// beside it.
+/// Returns whether a terminal can't show a character as it is: it is a control character, or one that hides or reorders
+/// the characters beside it.
 pub fn is_unprintable(c: char) -> bool {
     c.is_control()
         || matches!(
@@ -16,7 +16,7 @@ pub fn is_unprintable(c: char) -> bool {
         )
 }
 
-/// A name in a line. It displays with `?` for what a terminal doesn't show.
+/// A name in a line. It displays with `?` for each character that a terminal doesn't show.
 #[derive(Clone, Copy, Debug)]
 pub struct Shown<'a>(pub &'a str);
 
@@ -29,14 +29,14 @@ impl fmt::Display for Shown<'_> {
     }
 }
 
-/// A name of a file as a word of a command for the shell.
+/// The name of a file as a word of a shell command.
 #[derive(Clone, Copy, Debug)]
 pub struct Quoted<'a> {
     name: &'a str,
 }
 
 impl<'a> Quoted<'a> {
-    /// The word, if a terminal shows all of the name.
+    /// Returns the word, if a terminal shows the whole name.
     pub fn new(name: &'a str) -> Option<Quoted<'a>> {
         if name.chars().any(is_unprintable) {
             return None;
@@ -47,7 +47,7 @@ impl<'a> Quoted<'a> {
 
 impl fmt::Display for Quoted<'_> {
     fn fmt<W: fmt::Write>(&self, f: &mut fmt::Formatter<W>) -> fmt::Result {
-        // An option of the command begins so.
+        // A word that begins with `-` would be an option of the command.
         let folder = if self.name.starts_with('-') { "./" } else { "" };
         if !self.name.is_empty() && self.name.chars().all(is_word) {
             f.write_str(folder)?;
@@ -66,7 +66,7 @@ impl fmt::Display for Quoted<'_> {
     }
 }
 
-// Whether the shell reads a character of a word as itself.
+// Returns whether the shell reads a character of a word as itself.
 fn is_word(c: char) -> bool {
     matches!(c, 'a'..='z' | 'A'..='Z' | '0'..='9' | '.' | '_' | '-' | '/' | ',' | '+' | ':' | '@' | '%' | '=')
 }

@@ -1,22 +1,22 @@
-//! What is told of a command while it runs.
+//! Reports of the progress of a command.
 use crate::faults::FileKind;
 use std::fmt;
 
-/// How far a command is.
+/// The progress of a command.
 #[derive(Clone, Copy)]
 pub enum Report {
-    /// So many bytes of a file are read.
+    /// This many bytes of a file are read.
     Read { file: FileKind, bytes: u64 },
-    /// The files are read, and the graph's rows are made.
+    /// The files are read, and the graph's rows are built.
     Graph { vertices: u32, arcs: u64 },
-    /// Of so many sources the trees of the first ones are written, in so many bytes.
+    /// The trees of the first `done` of `count` sources are written, in this many bytes.
     Sources { done: u64, count: u64, bytes: u64 },
-    /// Of so many pairs the answers to the first ones are found.
+    /// The answers to the first `done` of `count` pairs are found.
     Pairs { done: u64, count: u64 },
 }
 
 impl Report {
-    /// Whether both are of one thing that a command does.
+    /// Returns whether both reports are about the same stage of a command.
     pub fn is_like(self, other: Report) -> bool {
         match (self, other) {
             (Report::Read { file, .. }, Report::Read { file: next, .. }) => file == next,

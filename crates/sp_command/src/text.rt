@@ -19,7 +19,7 @@ impl<W: Write> fmt::Write for TextWriter<'_, W> {
     }
 }
 
-/// A writer of lines, which writes `?` for what a terminal doesn't show.
+/// A writer of lines, which writes `?` for each character that a terminal doesn't show.
 #[derive(Drop)]
 struct LineWriter<'a, W> {
     inner: TextWriter<'a, W>,
@@ -37,12 +37,13 @@ impl<W: Write> fmt::Write for LineWriter<'_, W> {
     }
 }
 
-// Whether a terminal shows no such character in lines.
+// Returns whether a character of a line is hidden, because a terminal doesn't show it.
 fn is_hidden(c: char) -> bool {
     c != '\n' && is_unprintable(c)
 }
 
-/// Writes what a value shows, with `?` for what a terminal doesn't show. It takes no memory.
+/// Writes the display form of a value, with `?` for each character that a terminal doesn't show. It allocates no
+/// memory.
 pub fn print<W: Write, D: fmt::Display>(out: &mut W, shown: &D) -> Result<(), WriteFault> {
     let mut writer = LineWriter {
         inner: TextWriter { device: out },
