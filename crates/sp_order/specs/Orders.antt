@@ -1,4 +1,4 @@
--- What is answered to an order.
+-- The answer to an order.
 use Rattle.std.specs.Prelude.{◌≡◌, Some, None, Result, IfOk}
 use Rattle.sp_command.specs.declared.faults.Fault.{Fault}
 use Rattle.sp_command.specs.declared.faults.Status.{Status}
@@ -9,14 +9,16 @@ use Rattle.sp_command.specs.Scene.{Scene, Meaning, IsUnwritten}
 use Rattle.sp_order.specs.declared.words.Order.{Order}
 use Rattle.sp_order.specs.declared.words.Order.TheVariants.{Show, Run}
 
--- What a command's answer says in words with so many bits of predecessor, of what it says with each number of them.
+-- This is the meaning of a command's answer in words with this many bits of predecessor, chosen from its meanings for
+-- each number of bits.
 abbrev pub said_with : {Command : Type 0} → (with_20 with_24 with_28 with_32 : Meaning Command) → PredBits → Meaning Command
 said_with with_20 with_24 with_28 with_32 Bits20 = with_20
 said_with with_20 with_24 with_28 with_32 Bits24 = with_24
 said_with with_20 with_24 with_28 with_32 Bits28 = with_28
 said_with with_20 with_24 with_28 with_32 Bits32 = with_32
 
--- A text is shown; or a command answers so, in the layout that is ordered; or its output goes to a file, and nothing to standard output.
+-- A text is shown; or a command answers in the layout that was ordered; or its output goes to a file, and nothing is
+-- written to standard output.
 abbrev pub Obeys : {Command : Type 0} → (with_20 with_24 with_28 with_32 : Meaning Command) → Order Command → Scene → Result Status Fault → Type 0
 Obeys with_20 with_24 with_28 with_32 (Show text) s result = IfOk result (λ end. end ≡ status.Done)
 Obeys with_20 with_24 with_28 with_32 (Run command pred_bits None places) s result = said_with with_20 with_24 with_28 with_32 pred_bits command s result

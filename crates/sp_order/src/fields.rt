@@ -1,10 +1,10 @@
-//! The fields of a line, for what is told of it.
+//! The fields of a line, for advice about it.
 use std::str::from_utf8;
 
-// As many as the longest line of any file has.
+// The greatest number of fields of a line of any file.
 const MOST: usize = 5;
 
-/// The first fields of a line, and how many it has.
+/// The first fields of a line, and the number of all its fields.
 #[derive(Clone, Copy, Debug)]
 pub struct Fields<'l> {
     kept: [&'l str; MOST],
@@ -12,7 +12,7 @@ pub struct Fields<'l> {
 }
 
 impl<'l> Fields<'l> {
-    /// The fields of a line; none where it is no text.
+    /// Returns the fields of a line. A line that isn't text has none.
     pub fn of(line: &'l [u8]) -> Fields<'l> {
         let mut fields = Fields {
             kept: [""; MOST],
@@ -34,12 +34,13 @@ impl<'l> Fields<'l> {
         self.count = self.count.saturating_add(1);
     }
 
-    /// The field at this place, counted from 0; empty where there is none, or where none of a line stands so far behind.
+    /// Returns the field at this index, counted from 0; or an empty field if there is none, or if no line of any file
+    /// has a field there.
     pub fn at(&self, place: usize) -> &'l str {
         self.kept.get(place).copied().unwrap_or("")
     }
 
-    /// The field at this place, where it is a number.
+    /// Returns the field at this index if it is a number.
     pub fn number(&self, place: usize) -> Option<u64> {
         self.at(place).parse().ok()
     }

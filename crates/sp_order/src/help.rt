@@ -1,10 +1,10 @@
-//! The texts of help of the program.
+//! The help texts of the program.
 use sp_command::after_help;
 
 /// What the program is.
 pub const PROGRAM: &str = "A shortest-path tree engine";
 
-/// How a run of the program ends, and how to begin.
+/// The exit statuses of the program, and how to start.
 pub const PROGRAM_MORE: &str = after_help!(
     "\
 A command reads its files, one of which may be `-` for standard input, and

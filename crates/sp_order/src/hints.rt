@@ -1,4 +1,4 @@
-//! How a fault is told, and the layout that a graph needs.
+//! The report of a fault, and the layout that a graph needs.
 ghost use Rattle.std.specs.Prelude.{◌≡◌};
 
 use crate::fields::Fields;
@@ -12,7 +12,7 @@ use sp_dimacs::Lines;
 use sp_text::{DimacsError, Kind};
 use std::io::ErrorKind;
 
-/// What is told of a fault.
+/// The text about a fault.
 #[derive(Clone, Copy)]
 enum Telling<'a> {
     Nothing,
@@ -20,7 +20,7 @@ enum Telling<'a> {
     Lines(Hint<'a>),
 }
 
-/// A fault, with what is told of it.
+/// A fault, with the text about it.
 #[derive(Drop)]
 pub struct Refusal<'a> {
     pub fault: Fault,
@@ -28,7 +28,7 @@ pub struct Refusal<'a> {
 }
 
 impl<'a> Refusal<'a> {
-    /// The refusal of an order. Where nobody reads standard output any more, nothing is told.
+    /// Makes the refusal of an order. If standard output has lost its reader, the refusal has no text.
     pub fn new<C: Commands<'a>, F: Inputs>(fault: Fault, order: &Order<'a, C>, files: &F) -> Self
         ensures { result.fault ≡ fault }
     {
@@ -40,7 +40,7 @@ impl<'a> Refusal<'a> {
         Refusal { fault, telling }
     }
 
-    /// Writes the lines. Whether the device takes them changes nothing.
+    /// Writes the lines. It makes no difference whether the device takes them.
     pub fn tell<E: Write>(&self, err: &mut E) {
         if let Telling::Nothing = self.telling {
             return;
@@ -67,7 +67,7 @@ impl From<Fault> for Refusal<'_> {
     }
 }
 
-// Whether the reader of standard output has closed it.
+// Returns whether the reader of standard output has closed it.
 fn is_unread<C>(fault: &Fault, order: &Order<'_, C>, hint: &Hint<'_>) -> bool {
     let (Fault::WriteFailed, Hint::Reason { reason, .. }) = (fault, hint) else {
         return false;
@@ -75,7 +75,7 @@ fn is_unread<C>(fault: &Fault, order: &Order<'_, C>, hint: &Hint<'_>) -> bool {
     reason.kind() == ErrorKind::BrokenPipe && order.output().is_none()
 }
 
-// The second line of a fault of the words, if it has one.
+// Returns the second line of a fault in the words, if it has one.
 fn told_of_words<'a>(fault: &Fault) -> Option<Hint<'a>> {
     match fault {
         Fault::Usage(error) => usage_hint(error),
@@ -83,7 +83,7 @@ fn told_of_words<'a>(fault: &Fault) -> Option<Hint<'a>> {
     }
 }
 
-// The second line of a fault, if it has one.
+// Returns the second line of a fault, if it has one.
 fn second_line<'a, C: Commands<'a>, F: Inputs>(
     fault: &Fault,
     order: &Order<'a, C>,
@@ -109,8 +109,8 @@ fn second_line<'a, C: Commands<'a>, F: Inputs>(
     }
 }
 
-// The second line of a fault of a file's text, if it has one: how to unpack the file, the layout that its graph needs, or what
-// to do about its line.
+// Returns the second line of a fault in a file's text, if it has one: how to unpack the file, the layout that its graph
+// needs, or advice about its line.
 fn input_hint<'a, C: Commands<'a>, F: Inputs>(
     fault: &Fault,
     file: FileKind,
@@ -140,7 +140,8 @@ fn input_hint<'a, C: Commands<'a>, F: Inputs>(
     Some(Hint::Advice { path, advice })
 }
 
-// What to do where a graph has too many vertices for the layout, if another holds them. The graph is read again, up to its line `p`.
+// Returns the advice for a graph with too many vertices for the layout, if another layout holds them. The graph is read
+// again up to its line `p`.
 fn layout_hint<'a, F: Inputs>(
     file: FileKind,
     error: DimacsError,
@@ -169,7 +170,7 @@ fn layout_hint<'a, F: Inputs>(
     })
 }
 
-// The number N of the line `p sp N M`, which is the line of this number.
+// Returns the number N of the line `p sp N M`, which is the line with this number.
 fn vertices_on<R: Read + Drop>(file: R, line: u64) -> Option<u64> {
     let mut lines = Lines::new(file);
     for _ in 1..line {

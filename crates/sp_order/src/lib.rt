@@ -1,7 +1,7 @@
-//! The command line of the program `spt`: what its words order, the run of that, and how a fault is told.
+//! The command line of the program `spt`: reads the order that its words give, carries it out, and reports a fault.
 //!
-//! The commands are a type, `C`: what is done with all of them, to add their words, to read the one that is named and to run it, is
-//! done by its impls of `Commands` and `Run`.
+//! The commands are a type, `C`. Its impls of `Commands` and `Run` do what concerns all commands: they add their words,
+//! read the one that is named, and run it.
 #![tactic(auto)]
 
 mod fields;

@@ -1,23 +1,23 @@
-//! What is told of a line that a reader refused, from its text where that can be read again.
+//! Advice about a line that a reader refused, from its text if that can be read again.
 use crate::fields::Fields;
 use sp_command::{Advice, FileKind, PredBits};
 use sp_device::Read;
 use sp_dimacs::Lines;
 use sp_text::Kind;
 
-/// Where a line was refused, and of what.
+/// Where a line was refused, and why.
 #[derive(Clone, Copy)]
 pub struct Refused<'a> {
-    /// The word that orders the command.
+    /// The word that names the command.
     pub command: &'a str,
     pub file: FileKind,
     pub kind: Kind,
     pub pred_bits: PredBits,
-    /// The number of vertices of the graph, where it is known.
+    /// The number of vertices of the graph, if it is known.
     pub vertices: Option<u64>,
 }
 
-/// What is to be done about the line of this number of a file.
+/// Returns the advice about the line with this number of a file.
 pub fn advice_in<'a, R: Read + Drop>(
     refused: Refused<'a>,
     file: R,
@@ -37,7 +37,7 @@ pub fn advice_in<'a, R: Read + Drop>(
     }
 }
 
-/// The same where the line can't be read.
+/// Returns the advice if the line can't be read.
 pub fn advice_without<'a>(refused: Refused<'a>) -> Option<Advice<'a>> {
     let file = refused.file;
     match refused.kind {
@@ -58,7 +58,7 @@ pub fn advice_without<'a>(refused: Refused<'a>) -> Option<Advice<'a>> {
     }
 }
 
-// The same of a line, before which a problem line stands or none.
+// Returns the advice about a line, given whether a problem line comes before it.
 fn advice_on<'a>(refused: Refused<'a>, line: &[u8], has_problem: bool) -> Option<Advice<'a>> {
     let file = refused.file;
     let fields = Fields::of(line);
@@ -71,7 +71,7 @@ fn advice_on<'a>(refused: Refused<'a>, line: &[u8], has_problem: bool) -> Option
         }),
         Kind::OutOfRange(field) => Some(match range_of(refused, field) {
             Advice::Vertex(_) if is_zero(fields, field) => Advice::FromZero,
-            // An earlier such line may have the same vertex.
+            // An earlier line of this form may have the same vertex.
             Advice::Vertex(_) if fields.at(0) == "i" => Advice::Lines(file),
             advice => advice,
         }),
@@ -79,7 +79,7 @@ fn advice_on<'a>(refused: Refused<'a>, line: &[u8], has_problem: bool) -> Option
     }
 }
 
-// What is to be done about a line that is of no form, or stands before the problem line.
+// Returns the advice about a line that has no form, or comes before the problem line.
 fn advice_on_form<'a>(refused: Refused<'a>, line: &[u8], has_problem: bool) -> Advice<'a> {
     let file = refused.file;
     let fields = Fields::of(line);
@@ -110,7 +110,7 @@ fn advice_on_form<'a>(refused: Refused<'a>, line: &[u8], has_problem: bool) -> A
     }
 }
 
-// Whether a line is a comment as other formats have them, or one whose `c` stands at a word.
+// Returns whether a line is a comment of another format, or one whose `c` is joined to a word.
 fn is_foreign_comment(line: &[u8]) -> bool {
     match line.trim_ascii_start() {
         [b'#' | b'%' | b';', ..] | [b'/', b'/' | b'*', ..] => true,
@@ -119,7 +119,7 @@ fn is_foreign_comment(line: &[u8]) -> bool {
     }
 }
 
-// Which file has a line like this, if it is known. Steps and offers share letters with other files.
+// Returns the kind of file that has a line like this, if it is known. Steps and offers share letters with other files.
 fn kind_of(fields: Fields<'_>, wanted: FileKind) -> Option<FileKind> {
     let is_run = wanted == FileKind::Replay || wanted == FileKind::Offers;
     match (fields.at(0), fields.at(1), fields.count) {
@@ -148,7 +148,8 @@ fn too_far(refused: Refused<'_>) -> Advice<'_> {
     }
 }
 
-// The place of the first field that is to be a number, and is none, on a line that has as many fields as it is to have.
+// Returns the index of the first field that should be a number and isn't, on a line that has the right number of
+// fields.
 fn misspelled(fields: Fields<'_>, file: FileKind) -> Option<usize> {
     let (first, count) = numbers_on(fields.at(0), file)?;
     if fields.count != count {
@@ -157,7 +158,7 @@ fn misspelled(fields: Fields<'_>, file: FileKind) -> Option<usize> {
     (first..count).find(|place| !is_number(fields.at(*place)))
 }
 
-// Where the numbers of a line begin that has this first field, and how many fields it has.
+// Returns where the numbers begin on a line with this first field, and how many fields the line has.
 fn numbers_on(word: &str, file: FileKind) -> Option<(usize, usize)> {
     match (file, word) {
         (FileKind::Sources, "p") => Some((4, 5)),
@@ -179,7 +180,7 @@ fn is_digit(byte: u8) -> bool {
     byte.is_ascii_digit()
 }
 
-// What is to be done about a field that is no number.
+// Returns the advice about a field that is no number.
 fn advice_on_number<'a>(refused: Refused<'a>, fields: Fields<'_>, place: usize) -> Advice<'a> {
     let field = fields.at(place);
     let is_digits = field.bytes().all(is_digit);
@@ -196,7 +197,7 @@ fn advice_on_number<'a>(refused: Refused<'a>, fields: Fields<'_>, place: usize) 
     }
 }
 
-// Whether the vertex of this letter is 0.
+// Returns whether the vertex of this letter is 0.
 fn is_zero(fields: Fields<'_>, field: u8) -> bool {
     let place = match (fields.at(0), field, fields.count) {
         ("a", b'U', 4) | ("s" | "i", b'V', _) | ("q", b'S', _) => 1,
@@ -206,7 +207,7 @@ fn is_zero(fields: Fields<'_>, field: u8) -> bool {
     fields.at(place) == "0"
 }
 
-// What a field of this letter holds.
+// Returns the advice about the range of a field with this letter.
 fn range_of(refused: Refused<'_>, field: u8) -> Advice<'_> {
     let pred = u64::from(refused.pred_bits.max_pred());
     let dist = refused.pred_bits.max_dist();

@@ -13,9 +13,9 @@ use std::alloc::Global;
 use std::sync::Wait;
 use std::thread::Threads;
 
-/// Runs the command that the words order, the program's name first among them, and answers the exit
-/// status. Its output goes to `out`, or to the file that the words name for it, and the text of a fault to `err`; whether `err`
-/// takes that text changes no status.
+/// Runs the command that the words name, where the first word is the program's name, and returns the exit status. The
+/// command's output goes to `out`, or to the file that the words name for it, and the text of a fault to `err`; whether
+/// `err` takes that text changes no status.
 pub fn run_line<'a, C, R: Threads + Wait + Sync, F: Inputs + Outputs, W: Write, E: Write>(
     rt: &R,
     alloc: Global,
@@ -62,7 +62,7 @@ where
     }
 }
 
-// Does what is ordered. Where that names a file for the output, nothing goes to `out`.
+// Carries out the order. If it names a file for the output, nothing is written to `out`.
 fn carry_out<C, R: Threads + Wait + Sync, F: Inputs + Outputs, W: Write>(
     rt: &R,
     alloc: Global,
@@ -99,7 +99,7 @@ where
     }
 }
 
-// Runs a command into a file, which takes its name once the command is done.
+// Runs a command into a file, which gets its name once the command is done.
 fn run_into<C, R: Threads + Wait + Sync, F: Inputs + Outputs>(
     rt: &R,
     alloc: Global,

@@ -1,11 +1,11 @@
-//! What is told of words that are no order, below what `clap` tells.
+//! Second lines for words that name no valid command, below the text of `clap`.
 use clap::Error;
 use clap::error::ErrorKind;
 use sp_command::{Hint, PlacesFault};
 use std::fmt;
 use std::fmt::Write as _;
 
-/// What is told of words that `clap` refuses, if more is to be said.
+/// Returns the second line for words that `clap` refuses, if there is one.
 pub fn usage_hint<'a>(error: &Error) -> Option<Hint<'a>> {
     match error.kind() {
         ErrorKind::ValueValidation if tells(error, "for '--delta <D>'") => Some(Hint::AnyDelta),
@@ -14,7 +14,7 @@ pub fn usage_hint<'a>(error: &Error) -> Option<Hint<'a>> {
     }
 }
 
-/// What is wrong with a word for places of sources, which was refused.
+/// Returns what is wrong with a word for places of sources that was refused.
 pub fn places_hint(word: &str) -> Hint<'_> {
     Hint::Places {
         word,
@@ -30,13 +30,13 @@ fn places_fault(word: &str) -> PlacesFault {
     }
 }
 
-// The numbers of `A-B`.
+// Returns the numbers of `A-B`.
 fn numbers_of(word: &str) -> Option<(u32, u32)> {
     let (first, last) = word.split_once('-')?;
     Some((first.parse().ok()?, last.parse().ok()?))
 }
 
-/// A writer that looks for some words in a text.
+/// A writer that searches a text for some words.
 struct Finder<'w> {
     words: &'w str,
     has_found: bool,
@@ -49,7 +49,7 @@ impl fmt::Write for Finder<'_> {
     }
 }
 
-// Whether the text of a fault has these words. It shows it in one piece.
+// Returns whether the text of a fault has these words. The text is written in one piece.
 fn tells(error: &Error, words: &str) -> bool {
     let mut finder = Finder {
         words,

@@ -1,10 +1,11 @@
-//! Where a number stands that is no vertex of its graph.
+//! Finds where a number is given that is no vertex of its graph.
 use crate::fields::Fields;
 use sp_command::{Commands, FileKind, Hint, Inputs, Naming};
 use sp_device::Read;
 use sp_dimacs::Lines;
 
-/// What is told of a vertex that a graph doesn't have. The sources may be those at the places of a word.
+/// Returns the second line about a vertex that a graph doesn't have. The sources may be selected by a word for their
+/// places.
 pub fn vertex_hint<'a, C: Commands<'a>, F: Inputs>(
     vertex: u32,
     command: &C,
@@ -18,7 +19,7 @@ pub fn vertex_hint<'a, C: Commands<'a>, F: Inputs>(
     }
 }
 
-/// The number of vertices that the line `p sp N M` of a graph tells, if it can be read again.
+/// Returns the number of vertices in the line `p sp N M` of a graph, if it can be read again.
 pub fn vertices_in<F: Inputs>(graph: Option<&str>, files: &F) -> Option<u64> {
     let mut lines = Lines::new(files.open_again(graph?)?);
     for _ in 0..u64::MAX {
@@ -32,7 +33,7 @@ pub fn vertices_in<F: Inputs>(graph: Option<&str>, files: &F) -> Option<u64> {
     None
 }
 
-// Where a command is given the number.
+// Returns where the command was given the number.
 fn naming_of<'a, C: Commands<'a>, F: Inputs>(
     vertex: u32,
     command: &C,
@@ -51,13 +52,13 @@ fn naming_of<'a, C: Commands<'a>, F: Inputs>(
     }
 }
 
-// The first place of `A-B`.
+// Returns the first place of `A-B`.
 fn first_place(word: &str) -> Option<u64> {
     word.split_once('-')?.0.parse().ok()
 }
 
-// The first line of a file of pairs that names the number: it is that of the pair that is refused first. In a pair the source is
-// judged before the target.
+// Finds the first line of a file of pairs that names the number, which is the line of the pair that is refused first.
+// In a pair the source is tested before the target.
 fn naming_pair<'a, F: Inputs>(vertex: u32, path: &'a str, files: &F) -> Option<Naming<'a>> {
     let mut lines = Lines::new(files.open_again(path)?);
     for line in 1..u64::MAX {
@@ -75,7 +76,7 @@ fn naming_pair<'a, F: Inputs>(vertex: u32, path: &'a str, files: &F) -> Option<N
     None
 }
 
-// The first line of a file of sources that names the number, from this place of the list on.
+// Finds the first line of a file of sources that names the number, from this place of the list on.
 fn naming_source<'a, F: Inputs>(
     vertex: u32,
     path: &'a str,

@@ -11,13 +11,14 @@ use clap::{ArgMatches, Command, Error};
 use sp_command::{Commands, Fault, OUTPUT, PLACES, PredBits};
 use std::alloc::Global;
 
-/// What a command line orders.
+/// The order that a command line gives.
 #[derive(Drop)]
 pub enum Order<'a, C> {
-    /// To show a text of help, or the version.
+    /// Shows a text of help, or the version.
     Show(Error),
-    /// To run a command, in words with so many bits of predecessor. Its output goes to a file where one is named, else to
-    /// standard output. The word for places of its sources stands here too, where there is one, for what is told of it.
+    /// Runs a command, in words with this many bits of predecessor. Its output goes to a file if one is named, and
+    /// otherwise to standard output. The order also keeps the word for places of its sources, if there is one, for the
+    /// report of a fault.
     Run {
         command: C,
         pred_bits: PredBits,
@@ -27,7 +28,7 @@ pub enum Order<'a, C> {
 }
 
 impl<'a, C> Order<'a, C> {
-    /// The file that the output goes to, if to one.
+    /// Returns the file to which the output goes, if there is one.
     pub fn output(&self) -> Option<&'a str>
         ensures { IsSome result ↔ (names_output self.now ≡ true) }
     {
@@ -38,7 +39,7 @@ impl<'a, C> Order<'a, C> {
     }
 }
 
-/// Reads the words, of which the first is the program's name.
+/// Reads the words, the first of which is the program's name.
 pub fn read_order<'a, C: Commands<'a>>(
     alloc: Global,
     words: &'a [&'a str],
@@ -49,7 +50,7 @@ pub fn read_order<'a, C: Commands<'a>>(
     }
 }
 
-/// What to do where `clap` found no order in the words. It answers a text of help in that way too.
+/// Returns the order for the case that `clap` found none in the words. A request for help arrives in this way too.
 pub fn answer_to<'a, C: Drop>(error: Error) -> Result<Order<'a, C>, Fault>
     ensures memory { kind_of error ≡ ErrorKind.OutOfMemory → result ≡ Err Memory }
     ensures text { is_text (kind_of error) ≡ true → result ≡ Ok (Show error) }
@@ -71,7 +72,7 @@ fn match_words<'a, C: Commands<'a>>(
     let matches = program.try_get_matches_from_mut(words)?;
     match order_of(alloc, &matches)? {
         Some(order) => Ok(order),
-        // A command whose words let something through that it can't read.
+        // The command's words contain something that `clap` accepted and the command can't read.
         None => Err(program.error(ErrorKind::MissingSubcommand, "a command is needed")?),
     }
 }
@@ -95,7 +96,7 @@ fn order_of<'a, C: Commands<'a>>(
     }
 }
 
-// The file that the output goes to, if it isn't standard output.
+// Returns the file to which the output goes, if it isn't standard output.
 fn output_of<'a>(given: &ArgMatches<'a>) -> Option<&'a str> {
     match given.get_str(OUTPUT) {
         Some("-") => None,
@@ -103,7 +104,7 @@ fn output_of<'a>(given: &ArgMatches<'a>) -> Option<&'a str> {
     }
 }
 
-// What help says of all commands.
+// Returns what help says about all commands.
 fn told_of_all<'a>(alloc: Global) -> Command<'a> {
     Command::new(alloc, "spt")
         .version("0.2.0")

@@ -1,4 +1,4 @@
--- What `check` says of the texts of its files.
+-- The answer of `check` to the texts of its files.
 use Rattle.std.specs.Prelude.{◌≡◌, ℕ, Bool, true, false, List, Some, Option, Result, Err}
 use Rattle.std.specs.List.{flat_map}
 use Rattle.sp_text.specs.declared.faults.DimacsError.{DimacsError}
@@ -31,7 +31,7 @@ pub record TreeJudged (P : ℕ) (gr tree : List ℕ) (verdict : Verdict) : Type 
   pub block : tree ≡ tree_text table
   pub says : IsVerdict P (graph_of file) table verdict
 
--- the first fault of the graph's text; or, where that has none, of the tree's
+-- This is the first fault of the graph's text, or, if that has none, of the tree's text.
 abbrev pub IsTreeRefused : (P : ℕ) → (gr tree : List ℕ) → FileKind → DimacsError → Type 0
 IsTreeRefused P gr tree kind.Graph e = GraphIn P gr (Err e)
 IsTreeRefused P gr tree kind.Tree e = (file : GrFile) × SpellsGraph P gr file × TreeIn P tree (Err e)
@@ -42,13 +42,13 @@ TellsVerdict P gr tree s result = Tells (TreeJudged P gr tree) verdict_text verd
 
 -- ## One tree or more
 
--- The texts spell a graph and trees, and these are the verdicts on them.
+-- The texts spell a graph and trees, and these are the verdicts on the trees.
 pub record TreesJudged (P : ℕ) (gr trees : List ℕ) (all : List Judged) : Type 0 where
   pub file : GrFile
   pub graph : SpellsGraph P gr file
   pub says : FileJudged P (graph_of file) trees all
 
--- the first fault of the graph's text; or, where that has none, of the trees'
+-- This is the first fault of the graph's text, or, if that has none, of the trees' text.
 abbrev pub AreTreesRefused : (P : ℕ) → (gr trees : List ℕ) → FileKind → DimacsError → Type 0
 AreTreesRefused P gr trees kind.Graph e = GraphIn P gr (Err e)
 AreTreesRefused P gr trees kind.Tree e = (file : GrFile) × SpellsGraph P gr file × ((failed : Bool) × IsFileFault P trees failed e)
@@ -62,7 +62,7 @@ TellsVerdicts P gr trees s result = Tells (TreesJudged P gr trees) judged_texts 
 
 -- ## The command
 
--- the texts of its files
+-- These are the texts of the command's files.
 abbrev pub GiveTexts : (List ℕ → Option (List ℕ)) → Check → (gr tree : List ℕ) → Type 0
 GiveTexts texts c gr tree = (texts c.graph.now ≡ Some gr) × (texts c.tree.now ≡ Some tree)
 
@@ -70,6 +70,7 @@ abbrev pub SaysOf : (P : ℕ) → (all : Bool) → (gr tree : List ℕ) → Scen
 SaysOf P true gr tree s result = TellsVerdicts P gr tree s result
 SaysOf P false gr tree s result = TellsVerdict P gr tree s result
 
--- The verdict on the tree of its second file, or with `all` those on its trees, against the graph of its first file.
+-- The answer is the verdict on the tree of the second file, or with `all` the verdicts on its trees, against the graph
+-- of the first file.
 abbrev pub CheckAnswers : (P : ℕ) → Meaning Check
 CheckAnswers P c s result = (gr tree : List ℕ) → GiveTexts s.texts c gr tree → SaysOf P c.all gr tree s result

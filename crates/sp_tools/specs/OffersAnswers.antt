@@ -1,4 +1,4 @@
--- What `offers` says of the text of its file.
+-- The answer of `offers` to the text of its file.
 use Rattle.std.specs.Prelude.{ℕ, Bool, List, Option, Result, Err}
 use Rattle.sp_text.specs.declared.faults.DimacsError.{DimacsError}
 use Rattle.sp_text.specs.Text.{Item as Line, Spells}
@@ -22,17 +22,17 @@ use Rattle.sp_tools.specs.ReplayAnswers.{done}
 abbrev pub SpellsOffers : {P : ℕ} → (text : List ℕ) → Programme P → Type 0
 SpellsOffers {P} text p = (problem : List ℕ) × (lines : List Line) × Spells offers (ranges_of P) text problem lines × IsOffers problem lines p
 
--- what a reader answers to the text
+-- This is the answer of a reader to the text.
 abbrev pub OffersIn : {P : ℕ} → (text : List ℕ) → Result (Programme P) DimacsError → Type 0
 OffersIn text result = (left : Option (List ℕ)) × (failed : Bool) × OffersRead text left failed result
 
--- The text spells offers, and these words are the least of them, vertex by vertex.
+-- The text spells offers, and these words are the least of them for each vertex.
 pub record AreLeft (P : ℕ) (text : List ℕ) (words : List Word) : Type 0 where
   pub programme : Programme P
   pub spelled : SpellsOffers text programme
   pub least : AreLeast programme words
 
--- the first fault of the text
+-- This is the first fault of the text.
 abbrev pub IsOffersRefused : (P : ℕ) → (text : List ℕ) → FileKind → DimacsError → Type 0
 IsOffersRefused P text kind.Offers e = OffersIn {P = P} text (Err e)
 IsOffersRefused P text _ e = ⊥
@@ -40,6 +40,6 @@ IsOffersRefused P text _ e = ⊥
 abbrev pub TellsWords : (P : ℕ) → (text : List ℕ) → Scene → Result Status Fault → Type 0
 TellsWords P text s result = Tells (AreLeft P text) words_text done (IsOffersRefused P text) s result
 
--- The words that the offers of its file leave.
+-- The answer is the words that the offers of the file leave.
 abbrev pub OffersAnswers : (P : ℕ) → Meaning Offers
 OffersAnswers P c s result = (text : List ℕ) → HasText s c.file.now text → TellsWords P text s result

@@ -1,4 +1,4 @@
--- What is read of the texts of files, whatever is left of them.
+-- What is read from the texts of files, of which a part may be left.
 use Rattle.std.specs.Prelude.{ℕ, Bool, List, Option, Result, Err}
 use Rattle.sp_text.specs.declared.faults.DimacsError.{DimacsError}
 use Rattle.sp_text.specs.Text.{Item as Line, Spells}
@@ -17,7 +17,7 @@ use Rattle.sp_command.specs.declared.faults.Fault.{Fault}
 use Rattle.sp_command.specs.declared.faults.Fault.TheVariants.{Input, Memory}
 use Rattle.sp_command.specs.declared.faults.FileKind.TheVariants as kind
 
--- what a reader answers to the text
+-- This is the answer of a reader to the text.
 abbrev pub GraphIn : (P : ℕ) → (text : List ℕ) → Result GrFile DimacsError → Type 0
 GraphIn P text result = (left : Option (List ℕ)) × (failed : Bool) × GraphRead P text left failed result
 
@@ -27,11 +27,11 @@ TreeIn P text result = (left : Option (List ℕ)) × (failed : Bool) × TreeRead
 abbrev pub ReplayIn : {P : ℕ} → (text : List ℕ) → Result (ReplayFile P) DimacsError → Type 0
 ReplayIn text result = (left : Option (List ℕ)) × (failed : Bool) × ReplayRead text left failed result
 
--- The text spells a graph with these arcs, perhaps in another order.
+-- The text spells a graph with these arcs, possibly in a different order.
 abbrev pub IsGraphIn : (P : ℕ) → (text : List ℕ) → Graph → Type 0
 IsGraphIn P text g = (file : GrFile) × SpellsGraph P text file × AreSame g (graph_of file)
 
--- The first fault of a graph's text is told; or memory was refused.
+-- The fault is the first one of a graph's text, or there was no memory.
 abbrev pub IsGraphFault : (P : ℕ) → (text : List ℕ) → Fault → Type 0
 IsGraphFault P text (Input kind.Graph e) = GraphIn P text (Err e)
 IsGraphFault P text Memory = Unit {0}

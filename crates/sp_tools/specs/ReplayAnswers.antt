@@ -1,4 +1,4 @@
--- What `replay` says of the text of its file.
+-- The answer of `replay` to the text of its file.
 use Rattle.std.specs.Prelude.{◌≡◌, ◌<◌, ◌≤◌, ◌⊎◌, ℕ, Bool, true, false, List, length, map, All, Result, Ok, Err}
 use Rattle.std.specs.String.{string_bytes}
 use Rattle.sp_text.specs.declared.faults.DimacsError.{DimacsError}
@@ -28,21 +28,21 @@ pub record IsReplayed {P : ℕ} (text : List ℕ) (report : Report P) : Type 0 w
   pub spelled : SpellsReplay text file
   pub is : IsReportOf file.programme file.steps.items report
 
--- It shows the calls, the steps and the lost exchanges of the run, each tied as it should be.
+-- The picture shows the calls, the steps and the lost exchanges of the run, each tied to the right load and store.
 pub record IsPictureOf {P : ℕ} (p : Programme P) (steps : List ℕ) (picture : Picture P) : Type 0 where
   pub bars : picture.drawing.bars.items ≡ (run_of p steps).log.calls
   pub marks : picture.drawing.marks.items ≡ marks_from (opening_machine p) steps
   pub lost : map (λ tie. tie.lost) picture.drawing.ties.items ≡ lost_from 0 picture.drawing.marks.items
   pub tied : All (IsTie picture.drawing.marks.items) picture.drawing.ties.items
 
--- The text spells a programme and steps, few enough for a picture, and this is one of their run.
+-- The text spells a programme and steps, few enough for a picture, and this is a picture of their run.
 pub record IsDrawn {P : ℕ} (text : List ℕ) (picture : Picture P) : Type 0 where
   pub file : ReplayFile P
   pub spelled : SpellsReplay text file
   pub few : length file.steps.items ≤ 60
   pub is : IsPictureOf file.programme file.steps.items picture
 
--- the first fault of the text
+-- This is the first fault of the text.
 abbrev pub IsReplayRefused : (P : ℕ) → (text : List ℕ) → FileKind → DimacsError → Type 0
 IsReplayRefused P text kind.Replay e = ReplayIn {P = P} text (Err e)
 IsReplayRefused P text _ e = ⊥
@@ -56,7 +56,7 @@ TellsReport P text s result = Tells (IsReplayed {P = P} text) report_text done (
 abbrev pub picture_text : {P : ℕ} → Picture P → List ℕ
 picture_text picture = string_bytes picture.text
 
--- Too many steps were spelled for a picture, and nothing was written.
+-- The text spells too many steps for a picture, and nothing was written.
 abbrev pub HasTooMany : (P : ℕ) → (text : List ℕ) → Scene → Fault → Type 0
 HasTooMany P text s why = (why ≡ TooManySteps) × IsUnwritten s × ((file : ReplayFile P) × SpellsReplay text file × (60 < length file.steps.items))
 
@@ -68,6 +68,6 @@ abbrev pub SaysOf : (P : ℕ) → (svg : Bool) → (text : List ℕ) → Scene �
 SaysOf P true text s result = TellsPicture P text s result
 SaysOf P false text s result = TellsReport P text s result
 
--- The report of the run of its file, or with `svg` a picture of it.
+-- The answer is the report of the run of the file, or with `svg` a picture of it.
 abbrev pub ReplayAnswers : (P : ℕ) → Meaning Replay
 ReplayAnswers P c s result = (text : List ℕ) → HasText s c.file.now text → SaysOf P c.svg text s result

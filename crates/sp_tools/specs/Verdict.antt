@@ -1,4 +1,4 @@
--- What `check` says of a tree, and how it ends.
+-- The verdict of `check` on a tree, and its exit status.
 use Rattle.std.specs.Prelude.{ℕ, List, ◌++◌, codes, decimal}
 use Rattle.sp_word.specs.Word.{max_dist}
 use Rattle.sp_paths.specs.Paths.{Graph}
@@ -10,12 +10,12 @@ use Rattle.sp_command.specs.declared.faults.Status.TheVariants as status
 use Rattle.sp_tools.specs.declared.check.Verdict.{Verdict}
 use Rattle.sp_tools.specs.declared.check.Verdict.TheVariants.{Yes, No}
 
--- the tree is certified; or this is its first fault
+-- The tree is certified, or this is its first fault.
 abbrev pub IsVerdict : (P : ℕ) → Graph → TreeTable → Verdict → Type 0
 IsVerdict P g t Yes = IsCertified P g t
 IsVerdict P g t (No v rule) = IsFirstFault g (max_dist P) t.n t.source (table_of t) v rule
 
--- `yes`, or `no V R`
+-- This is `yes`, or `no V R`.
 abbrev pub verdict_text : Verdict → List ℕ
 verdict_text Yes = codes "yes\n"
 verdict_text (No v rule) = codes "no " ++ decimal v ++ codes " " ++ decimal (number_of rule) ++ codes "\n"

@@ -1,4 +1,4 @@
--- What `check --all` says of the blocks of a tree file, and how it ends.
+-- The verdicts of `check --all` on the blocks of a tree file, and its exit status.
 use Rattle.std.specs.Prelude.{◌≡◌, ℕ, Bool, true, false, List, [], ◌∷◌, ◌++◌, codes, decimal, if◌then◌else◌}
 use Rattle.sp_paths.specs.Paths.{Graph}
 use Rattle.sp_answer.specs.Table.{TreeTable}
@@ -14,24 +14,24 @@ use Rattle.sp_tools.specs.declared.check.Verdict.TheVariants.{Yes, No}
 use Rattle.sp_tools.specs.declared.check_all.Judged.{Judged}
 use Rattle.sp_tools.specs.Verdict.{IsVerdict}
 
--- Each of these trees is judged, in their order, beside its source.
+-- Each of these trees has its verdict, in their order, with its source.
 abbrev pub AreJudged : (P : ℕ) → Graph → List TreeTable → List Judged → Type 0
 AreJudged P g [] [] = Unit {0}
 AreJudged P g [] (judged ∷ more) = ⊥
 AreJudged P g (tree ∷ trees) [] = ⊥
 AreJudged P g (tree ∷ trees) (judged ∷ more) = (judged.source ≡ tree.source) × IsVerdict P g tree judged.verdict × AreJudged P g trees more
 
--- The first fault of the file is told; or memory was refused.
+-- The fault is the first one of the file, or there was no memory.
 abbrev pub TellsFault : (P : ℕ) → (text : List ℕ) → (failed : Bool) → Fault → Type 0
 TellsFault P text failed (fault.Input file.Tree e) = IsFileFault P text failed e
 TellsFault P text failed fault.Memory = Unit {0}
 TellsFault P text failed _ = ⊥
 
--- The text is that of one tree or more, and each is judged.
+-- The text is that of one tree or more, and each has its verdict.
 abbrev pub FileJudged : (P : ℕ) → Graph → (text : List ℕ) → List Judged → Type 0
 FileJudged P g text all = (trees : List TreeTable) × IsFile P text trees × AreJudged P g trees all
 
--- `yes`, or `no S V R`
+-- This is `yes`, or `no S V R`.
 abbrev pub text_of : (source : ℕ) → Verdict → List ℕ
 text_of source Yes = codes "yes\n"
 text_of source (No v rule) = codes "no " ++ decimal source ++ codes " " ++ decimal v ++ codes " " ++ decimal (number_of rule) ++ codes "\n"
@@ -43,7 +43,7 @@ abbrev pub is_yes : Verdict → Bool
 is_yes Yes = true
 is_yes (No v rule) = false
 
--- done where each answer is yes
+-- The status is done if each answer is yes.
 abbrev pub end_of : List Judged → Status
 end_of [] = status.Done
 end_of (judged ∷ more) = if is_yes judged.verdict then end_of more else status.CheckedNo

@@ -1,4 +1,4 @@
-//! `spt check`: whether a tree file holds the shortest-path tree of its source.
+//! `spt check`: checks whether a tree file holds the shortest-path tree of its source.
 ghost use Rattle.std.specs.Prelude.{◌≡◌, ◌≢◌, ℕ, List, ◌++◌, true, IfOk, IfErr};
 ghost use Rattle.sp_word.specs.Word.{is_layout};
 ghost use Rattle.sp_device.specs.Printing.{IsSending, Finished};
@@ -22,14 +22,14 @@ use std::alloc::{AllocError, Global};
 use std::sync::Wait;
 use std::thread::Threads;
 
-/// What `check` is given, with the names of its files.
+/// The arguments of `check`, with the names of its files.
 #[derive(Drop)]
 pub struct Check<'a> {
     /// The path of the graph.
     pub graph: &'a str,
     /// The path of the tree.
     pub tree: &'a str,
-    /// Whether the file has one block or more, each of which is checked.
+    /// Whether the file may have several blocks, each of which is checked.
     pub all: bool,
 }
 
@@ -160,7 +160,7 @@ fn check_file<const P: u32, R: Threads + Sync, F: Inputs, W: Write>(
     Ok(verdict.status())
 }
 
-// What the checker says of the tree in a file, against the graph in another.
+// Returns the verdict on the tree in a file, against the graph in another.
 fn find_verdict<const P: u32, R: Threads + Sync, F: Inputs>(
     rt: &R,
     alloc: Global,
@@ -183,17 +183,17 @@ fn find_verdict<const P: u32, R: Threads + Sync, F: Inputs>(
     Ok(judge(rt, alloc, &graph, &tree)?)
 }
 
-/// What the checker says.
+/// The verdict of the checker.
 #[derive(Clone, Copy, Debug, PartialEq, Eq)]
 pub enum Verdict {
-    /// It is the tree.
+    /// The tree is the shortest-path tree.
     Yes,
-    /// This rule fails first, at this vertex.
+    /// This is the first rule that fails, at this vertex.
     No { vertex: u32, rule: Rule },
 }
 
 impl Verdict {
-    /// How the run ends.
+    /// Returns the exit status of this verdict.
     fn status(self) -> Status
         ensures exact { result ≡ verdict_end self }
     {
@@ -204,7 +204,7 @@ impl Verdict {
     }
 }
 
-/// What the checker says of a tree.
+/// Returns the verdict of the checker on a tree.
 pub fn judge<const P: u32, R: Threads + Sync>(
     rt: &R,
     alloc: Global,

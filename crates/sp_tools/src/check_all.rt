@@ -1,4 +1,4 @@
-//! `spt check --all`: whether each block of a tree file holds the shortest-path tree of its source.
+//! `spt check --all`: checks whether each block of a tree file holds the shortest-path tree of its source.
 ghost use Rattle.std.specs.Prelude.{◌≡◌, ◌≢◌, ℕ, List, Some, true, IfOk, IfErr};
 ghost use Rattle.std.specs.List.{flat_map};
 ghost use Rattle.sp_word.specs.Word.{is_layout};
@@ -18,7 +18,7 @@ use sp_tree::TreeBlocks;
 use std::alloc::Global;
 use std::thread::Threads;
 
-/// What the checker says of a block.
+/// The verdict of the checker on a block.
 #[derive(Clone, Copy, Debug, PartialEq, Eq)]
 pub struct Judged {
     pub source: u32,
@@ -45,7 +45,7 @@ pub fn check_all_files<const P: u32, R: Threads + Sync, F: Inputs, W: Write>(
     Ok(status_of(&all))
 }
 
-// What the checker says of each block of a file, against the graph in another.
+// Returns the verdict on each block of a file, against the graph in another.
 fn find_verdicts<const P: u32, R: Threads + Sync, F: Inputs>(
     rt: &R,
     alloc: Global,
@@ -64,7 +64,7 @@ fn find_verdicts<const P: u32, R: Threads + Sync, F: Inputs>(
     judge_blocks::<P, R, _>(rt, alloc, &graph, &mut trees)
 }
 
-// What the checker says of each block of a tree file.
+// Returns the verdict on each block of a tree file.
 fn judge_blocks<const P: u32, R: Threads + Sync, D: Read>(
     rt: &R,
     alloc: Global,
@@ -95,7 +95,7 @@ fn judge_blocks<const P: u32, R: Threads + Sync, D: Read>(
     }
 }
 
-// How the run ends.
+// Returns the exit status.
 fn status_of(all: &[Judged]) -> Status
     ensures exact { result ≡ end_of all.now }
     ensures done { is_done result ≡ true }

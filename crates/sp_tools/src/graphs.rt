@@ -1,4 +1,4 @@
-//! The graph of a file.
+//! Reads the graph of a file.
 ghost use Rattle.std.specs.Prelude.{◌≡◌, ◌≢◌, ℕ, List, Some, true, IfOk, IfErr};
 ghost use Rattle.sp_word.specs.Word.{is_layout};
 ghost use Rattle.sp_tools.specs.Reading.{IsGraphIn, IsGraphFault};
@@ -9,7 +9,7 @@ use sp_dimacs::read_gr;
 use sp_graph::Graph;
 use std::alloc::Global;
 
-/// Reads a graph, and makes its rows.
+/// Reads a graph, and builds its rows.
 pub fn read_graph<const P: u32, D: Read>(alloc: Global, gr: &mut D) -> Result<Graph, Fault>
     requires { is_layout P ≡ true }
     ensures graph { (text : List ℕ) → D.left gr.old ≡ Some text

@@ -1,4 +1,4 @@
-//! The commands of the program `spt` beside those that run from sources: `check`, `replay` and `offers`.
+//! The commands of the program `spt` other than those that run from sources: `check`, `replay` and `offers`.
 #![tactic(auto)]
 
 mod check;

@@ -1,4 +1,4 @@
-//! `spt offers`: the offers of several actors, made on threads.
+//! `spt offers`: makes the offers of several actors on threads.
 ghost use Rattle.std.specs.Prelude.{◌≡◌, ◌≢◌, ℕ, List, Some, true, IfOk, IfErr};
 ghost use Rattle.sp_word.specs.Word.{is_layout};
 ghost use Rattle.sp_command.specs.declared.faults.Status.TheVariants.{Done};
@@ -16,7 +16,7 @@ use std::alloc::Global;
 use std::sync::Wait;
 use std::thread::Threads;
 
-/// What `offers` is given, with the name of its file.
+/// The arguments of `offers`, with the name of its file.
 #[derive(Drop)]
 pub struct Offers<'a> {
     /// The path of the file.

@@ -1,4 +1,4 @@
-//! `spt replay`: the run of a replay file, and its report or its picture.
+//! `spt replay`: runs a replay file, and writes its report or its picture.
 ghost use Rattle.std.specs.Prelude.{◌≡◌, ◌≢◌, ◌<◌, ◌≤◌, ◌⊎◌, ◌↔◌, ℕ, List, Some, true, length, All, IfOk, IfErr};
 ghost use Rattle.sp_word.specs.Word.{is_layout};
 ghost use Rattle.sp_command.specs.declared.faults.Fault.TheVariants.{Memory, TooManySteps, WriteFailed};
@@ -18,12 +18,12 @@ use std::alloc::Global;
 use std::sync::Wait;
 use std::thread::Threads;
 
-/// What `replay` is given: the name of its file, and whether a picture is to be written in place of the report.
+/// The arguments of `replay`: the name of its file, and whether a picture is written in place of the report.
 #[derive(Drop)]
 pub struct Replay<'a> {
     /// The path of the file.
     pub file: &'a str,
-    /// Whether a picture is to be written.
+    /// Whether a picture is written.
     pub svg: bool,
 }
 
@@ -191,7 +191,7 @@ fn report<const P: u32, F: Inputs, W: Write>(
     Ok(Status::Done)
 }
 
-// The fault of a command that has no picture of its run.
+// Returns the fault of a command that has no picture of its run.
 fn fault_of(error: NoPicture) -> Fault
     ensures steps { (result ≡ TooManySteps) ↔ (error ≡ NoPicture.TooManySteps) }
     ensures memory { (result ≡ Memory) ↔ (error ≡ NoPicture.Memory) }
@@ -203,7 +203,7 @@ fn fault_of(error: NoPicture) -> Fault
     }
 }
 
-// The picture of the run of the steps of a file.
+// Returns the picture of the run of the steps of a file.
 fn picture_in<const P: u32>(alloc: Global, file: &ReplayFile<P>) -> Result<Picture<P>, Fault>
     requires { All (IsNumber file.now.programme.actors) file.now.steps.items }
     ensures picture { IfOk result (IsPictureOf file.now.programme file.now.steps.items) }
