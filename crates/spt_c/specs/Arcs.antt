@@ -7,6 +7,6 @@ use Rattle.spt_c.specs.declared.arcs.SptArc.{SptArc}
 abbrev pub arc_of : SptArc → Arc
 arc_of a = record { tail = a.tail; head = a.head; len = a.len }
 
--- n vertices, and an arc for each that is passed
+-- The graph has n vertices, and an arc for each one that is passed.
 abbrev pub graph_of : (n : ℕ) → List SptArc → Graph
 graph_of n arcs = record { n = n; arcs = map arc_of arcs }

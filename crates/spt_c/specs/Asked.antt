@@ -7,7 +7,7 @@ use Rattle.spt_c.specs.declared.answers.Told.TheVariants.{BadSize, BadDelta, Bad
 use Rattle.spt_c.specs.Arcs.{arc_of}
 use Rattle.spt_c.specs.Limits.{IsCount, reach}
 
--- the trees from these sources in the graph of n vertices with these arcs, by buckets of width delta
+-- This asks for the trees from these sources in the graph of n vertices with these arcs, with buckets of width delta.
 pub record Asked : Type 0 where
   pub arcs : List SptArc
   pub n : ℕ
@@ -19,22 +19,22 @@ asked arcs n sources delta = record { arcs = arcs; n = n; sources = sources; del
 
 -- ## What is tested
 
--- there may be n vertices, and there are as many places for each block
+-- A graph may have n vertices, and each block has n places.
 abbrev pub HasRoom : (n blocks places : ℕ) → Type 0
 HasRoom n blocks places = IsCount n × (blocks * n ≤ places)
 
--- it leads from a vertex to a vertex, and has a length
+-- The arc leads from a vertex to a vertex, and has a positive length.
 abbrev pub IsArcOf : (n : ℕ) → SptArc → Type 0
 IsArcOf n a = IsArc n (arc_of a)
 
--- what stands at the place lacks the property, and all before has it
+-- The item at this index lacks the property, and all items before it have it.
 pub record IsFirstWithout {A : Type 0} (P : A → Type 0) (items : List A) (place : ℕ) : Type 0 where
   pub item : A
   pub there : slice_get items place ≡ Some item
   pub lacks : P item → ⊥
   pub before : (k : ℕ) (other : A) → k < place → slice_get items k ≡ Some other → P other
 
--- nothing is wrong, where both slices have so many places
+-- Nothing is wrong, given this number of places in both slices.
 pub record IsGood (q : Asked) (places : ℕ) : Type 0 where
   pub room : HasRoom q.n (length q.sources) places
   pub delta : q.delta ≤ reach q.n
@@ -49,7 +49,7 @@ IsBadSize q places = HasRoom q.n (length q.sources) places → ⊥
 abbrev pub IsBadDelta : Asked → Type 0
 IsBadDelta q = reach q.n < q.delta
 
--- the first that is wrong, of the size, the delta, the sources and the arcs in turn
+-- This is the first thing that is wrong, among the size, the delta, the sources and the arcs, in this order.
 abbrev pub IsRefused : Asked → (places : ℕ) → Told → Type 0
 IsRefused q places BadSize = IsBadSize q places
 IsRefused q places BadDelta = HasRoom q.n (length q.sources) places × IsBadDelta q

@@ -1,4 +1,4 @@
--- What is told of slices that C passes as a tree.
+-- The verdict on slices that C passes as a tree.
 use Rattle.std.specs.Prelude.{◌<◌, ◌-◌, ◌⊎◌, ℕ, List, [], ◌∷◌, Some}
 use Rattle.sp_paths.specs.Paths.{Graph, IsVertex, IsFar}
 use Rattle.spt_c.specs.declared.arcs.SptArc.{SptArc}
@@ -10,19 +10,19 @@ use Rattle.spt_c.specs.Asked.{asked, IsGood, IsRefused}
 use Rattle.spt_c.specs.Blocks.{Slices, HasSameAt, HasTreeAt}
 use Rattle.spt_c.specs.Told.{places}
 
--- v is the first of n vertices at which the slices differ
+-- The vertex v is the first of n vertices at which the slices differ.
 pub record IsFirstOther (n : ℕ) (right there : Slices) (v : ℕ) : Type 0 where
   pub vertex : IsVertex n v
   pub differs : HasSameAt right there (v - 1) → ⊥
   pub before : (k : ℕ) → k < v - 1 → HasSameAt right there k
 
--- the first vertex at which they differ from slices with the tree from s
+-- This is the first vertex at which the slices differ from those with the tree from s.
 pub record IsFirstWrong (max : ℕ) (g : Graph) (s : ℕ) (there : Slices) (v : ℕ) : Type 0 where
   pub right : Slices
   pub tree : HasTreeAt max g s 0 right
   pub other : IsFirstOther g.n right there v
 
--- they hold the tree from s, or where they don't, or why there is none
+-- The slices hold the tree from s, or this is where they don't, or why there is no tree.
 abbrev pub IsVerdict : (max : ℕ) → Graph → (s : ℕ) → Slices → Told → Type 0
 IsVerdict max g s there Tree = HasTreeAt max g s 0 there
 IsVerdict max g s there (Wrong v) = IsFirstWrong max g s there v
@@ -30,6 +30,6 @@ IsVerdict max g s there (TooFar v) = IsFar g s max (Some v)
 IsVerdict max g s there Memory = Unit {0}
 IsVerdict max g s there told = ⊥
 
--- something is wrong with the call; or nothing is, and it is the verdict
+-- Something is wrong with the call; or nothing is, and this is the verdict.
 abbrev pub IsChecked : (n : ℕ) → List SptArc → (s : ℕ) → Slices → Told → Type 0
 IsChecked n arcs s there told = IsRefused (asked arcs n (s ∷ []) 0) (places there) told ⊎ (IsGood (asked arcs n (s ∷ []) 0) (places there) × IsVerdict (reach n) (graph_of n arcs) s there told)

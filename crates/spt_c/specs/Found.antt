@@ -1,4 +1,4 @@
--- What is told of one target.
+-- The answer for one target.
 use Rattle.std.specs.Prelude.{◌≡◌, ◌⊎◌, ℕ, List, [], ◌∷◌}
 use Rattle.std.specs.declared.option.Option.{Option}
 use Rattle.std.specs.declared.option.Option.TheVariants.{None, Some}
@@ -15,24 +15,25 @@ use Rattle.spt_c.specs.Limits.{reach}
 use Rattle.spt_c.specs.Asked.{Asked, asked, IsGood, IsRefused}
 use Rattle.spt_c.specs.Told.{answer_of}
 
--- the numbers of the header: where there is no cell, what a tree's call tells
+-- These are the numbers of the header. If there is no cell, they are what a call for a tree tells.
 abbrev pub found_of : Found → SptFound
 found_of (Cell d p) = record { status = 0; pred = p; dist = d; index = 0 }
 found_of (Not told) = record { status = (answer_of told).status; pred = (answer_of told).vertex; dist = 0; index = (answer_of told).index }
 
--- the distance and the predecessor of an answer; the greatest number and 0 where no walk leads there
+-- This is the distance and the predecessor of an answer, or the greatest number and 0 if no walk leads to the target.
 abbrev pub IsPairCell : PairAnswer → (d p : ℕ) → Type 0
 IsPairCell (FoundPair e q) d p = (d ≡ e) × (p ≡ q)
 IsPairCell (FarVertex v) d p = ⊥
 IsPairCell NoWay d p = (d ≡ 18446744073709551615) × (p ≡ 0)
 
--- those of t's answer from s
+-- This is the cell of the answer for t from s.
 pub record HasCell (max : ℕ) (g : Graph) (s t d p : ℕ) : Type 0 where
   pub answer : PairAnswer
   pub pair : IsPair g s t max answer
   pub cell : IsPairCell answer d p
 
--- why it has none: it is too far or no walk leads there, and this is the smallest vertex that is too far; or there is no memory
+-- This is why there is no cell: the target is too far or no walk leads to it, and this is the smallest vertex that is
+-- too far; or there was no memory.
 abbrev pub HasNoCell : (max : ℕ) → Graph → (s t : ℕ) → Told → Type 0
 HasNoCell max g s t (TooFar v) = IsPair g s t max (FarVertex v)
 HasNoCell max g s t Memory = Unit {0}
@@ -42,20 +43,20 @@ abbrev pub IsFoundIn : (max : ℕ) → Graph → (s t : ℕ) → Found → Type 
 IsFoundIn max g s t (Cell d p) = HasCell max g s t d p
 IsFoundIn max g s t (Not told) = HasNoCell max g s t told
 
--- nothing is written, so no slice is too short
+-- Nothing is written, so no slice is too short.
 abbrev pub unlimited : ℕ
 unlimited = 18446744073709551615
 
--- something is wrong with the call; or nothing is, and it is found
+-- Something is wrong with the call; or nothing is, and this is found.
 abbrev pub IsFoundBy : Asked → Graph → (s t : ℕ) → Found → Type 0
 IsFoundBy q g s t (Cell d p) = IsGood q unlimited × HasCell (reach q.n) g s t d p
 IsFoundBy q g s t (Not told) = IsRefused q unlimited told ⊎ (IsGood q unlimited × HasNoCell (reach q.n) g s t told)
 
--- the source and the target are tested as two sources are
+-- The source and the target are tested in the same way as two sources.
 abbrev pub IsFound : (n : ℕ) → List SptArc → (s t delta : ℕ) → Found → Type 0
 IsFound n arcs s t delta found = IsFoundBy (asked arcs n (s ∷ t ∷ []) delta) (graph_of n arcs) s t found
 
--- the same in a graph that is kept, where one is; no arcs are passed
+-- This says the same of the graph that is kept, if there is one; no arcs are passed.
 abbrev pub IsFoundOfKept : Option Graph → (s t delta : ℕ) → Found → Type 0
 IsFoundOfKept None s t delta found = found ≡ Not NoGraph
 IsFoundOfKept (Some g) s t delta found = IsFoundBy (asked [] g.n (s ∷ t ∷ []) delta) g s t found

@@ -1,4 +1,4 @@
--- What a call tells C of a graph that is kept between calls.
+-- What a call tells C about a graph that is kept between calls.
 use Rattle.std.specs.Prelude.{◌≡◌, ◌⊎◌, ℕ, List, [], All, length}
 use Rattle.std.specs.declared.option.Option.{Option}
 use Rattle.std.specs.declared.option.Option.TheVariants.{None, Some}
@@ -19,47 +19,47 @@ use Rattle.spt_c.specs.Told.{places, IsRefusal}
 
 -- ## A graph is made
 
--- the numbers of the header
+-- These are the numbers of the header.
 abbrev pub made_of : Made → SptAnswer
 made_of Kept = record { status = 0; vertex = 0; index = 0 }
 made_of BadSize = record { status = 1; vertex = 0; index = 0 }
 made_of (BadArc place) = record { status = 3; vertex = 0; index = place }
 made_of Memory = record { status = 6; vertex = 0; index = 0 }
 
--- the graph of n vertices with these arcs is kept, as many of them
+-- The graph of n vertices with exactly these arcs is kept.
 abbrev pub Keeps : (n : ℕ) → List SptArc → Option Graph → Type 0
 Keeps n arcs None = ⊥
 Keeps n arcs (Some graph) = AreSame graph (graph_of n arcs) × (length graph.arcs ≡ length arcs)
 
--- there may be n vertices, and all are arcs
+-- A graph may have n vertices, and all arcs are valid.
 abbrev pub HasGraph : (n : ℕ) → List SptArc → Type 0
 HasGraph n arcs = IsCount n × All (IsArcOf n) arcs
 
--- the graph is kept, or what was kept before
+-- The graph is kept, or the one that was kept before.
 abbrev pub IsMade : (n : ℕ) → List SptArc → (old new : Option Graph) → Made → Type 0
 IsMade n arcs old new Kept = HasGraph n arcs × Keeps n arcs new
 IsMade n arcs old new BadSize = (IsCount n → ⊥) × (new ≡ old)
 IsMade n arcs old new (BadArc place) = IsCount n × IsFirstWithout (IsArcOf n) arcs place × (new ≡ old)
 IsMade n arcs old new Memory = HasGraph n arcs × (new ≡ old)
 
--- the second place keeps what the first does, or what it kept
+-- The second place keeps what the first keeps, or what it kept before.
 abbrev pub IsShared : (first old new : Option Graph) → Made → Type 0
 IsShared first old new Kept = new ≡ first
 IsShared first old new Memory = new ≡ old
 IsShared first old new made = ⊥
 
--- its n vertices and m arcs, where there is one
+-- These are its n vertices and m arcs, if there is a graph.
 abbrev pub counts_of : Option Graph → SptCounts
 counts_of None = record { status = 10; n = 0; m = 0 }
 counts_of (Some g) = record { status = 0; n = g.n; m = length g.arcs }
 
 -- ## Its trees
 
--- a call for the trees of a graph that is there passes no arcs
+-- A call for the trees of a graph that is kept passes no arcs.
 abbrev pub asked_of : Graph → (sources : List ℕ) → (delta : ℕ) → Asked
 asked_of g sources delta = asked [] g.n sources delta
 
--- nothing is wrong, and the trees of the sources stand, up to the first that has none
+-- Nothing is wrong, and the slices hold the trees of the sources up to the first that has none.
 pub record IsAnswerOf (g : Graph) (sources : List ℕ) (delta : ℕ) (old new : Slices) (b : Batch) : Type 0 where
   pub good : IsGood (asked_of g sources delta) (places old)
   pub solved : AreSolved (reach g.n) g sources old new b
@@ -67,7 +67,7 @@ pub record IsAnswerOf (g : Graph) (sources : List ℕ) (delta : ℕ) (old new : 
 abbrev pub IsToldOf : Graph → (sources : List ℕ) → (delta : ℕ) → (old new : Slices) → Batch → Type 0
 IsToldOf g sources delta old new b = IsRefusal (asked_of g sources delta) old new b ⊎ IsAnswerOf g sources delta old new b
 
--- no graph is kept, and nothing is written
+-- No graph is kept, and nothing is written.
 pub record IsWithoutGraph (old new : Slices) (b : Batch) : Type 0 where
   pub why : b.told ≡ NoGraph
   pub none : b.done ≡ 0

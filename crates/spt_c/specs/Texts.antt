@@ -1,4 +1,4 @@
--- What a call tells C of a text, and what then stands in the caller's slice.
+-- What a call tells C about a text, and what the caller's slice then holds.
 use Rattle.std.specs.Prelude.{◌≡◌, ◌<◌, ◌≤◌, ◌^◌, ◌⊎◌, ℕ, List, [], length, slice_get, Some, Result, Ok, Err}
 use Rattle.sp_text.specs.declared.faults.DimacsError.{DimacsError}
 use Rattle.sp_text.specs.declared.faults.Kind.{Kind}
@@ -17,7 +17,7 @@ use Rattle.spt_c.specs.declared.texts.Read.TheVariants.{Graph, Room, Fault, Long
 
 -- ## Numbers
 
--- of the kinds, as every message of the program has them
+-- These are the numbers of the kinds of faults, as in every message of the program.
 abbrev pub kind_of : Kind → ℕ
 kind_of LongLine = 1
 kind_of BadLine = 2
@@ -29,7 +29,7 @@ kind_of TooFew = 7
 kind_of Memory = 8
 kind_of Read = 9
 
--- the field's letter, 0 where the fault isn't of a field
+-- This is the letter of the field, or 0 if the fault isn't about a field.
 abbrev pub letter_of : Kind → ℕ
 letter_of LongLine = 0
 letter_of BadLine = 0
@@ -41,7 +41,7 @@ letter_of TooFew = 0
 letter_of Memory = 0
 letter_of Read = 0
 
--- of the header
+-- These are the numbers of the header.
 abbrev pub text_of : Told → SptText
 text_of (Graph n m) = record { status = 0; n = n; m = m; kind = 0; letter = 0; line = 0 }
 text_of (Room n m) = record { status = 1; n = n; m = m; kind = 0; letter = 0; line = 0 }
@@ -50,7 +50,7 @@ text_of Long = record { status = 8; n = 0; m = 0; kind = 0; letter = 0; line = 0
 
 -- ## Texts
 
--- the first fault of the text, or an arc for which memory was refused, with no fault up to its line
+-- This is the first fault of the text; or an arc for which there was no memory, where no line up to it has a fault.
 abbrev pub IsFaultOf : (text : List ℕ) → DimacsError → Type 0
 IsFaultOf text e = Refused (judge gr (ranges_of 32)) [] text e ⊎ IsToldOf (judge gr (ranges_of 32)) text e
 
@@ -58,18 +58,18 @@ abbrev pub GraphTold : (text : List ℕ) → Result GrFile DimacsError → Type 
 GraphTold text (Ok file) = SpellsGraph 32 text file
 GraphTold text (Err e) = IsFaultOf text e
 
--- the first m arcs stand at the front, and all behind is as it was
+-- The first m arcs are at the front of the slice, and everything after them is unchanged.
 pub record HasArcs (m : ℕ) (arcs : List Arc) (old new : List SptArc) : Type 0 where
   pub front : (k : ℕ) (a : Arc) → k < m → slice_get arcs k ≡ Some a → slice_get new k ≡ Some (record { tail = a.tail; head = a.head; len = a.len })
   pub rest : (k : ℕ) → m ≤ k → slice_get new k ≡ slice_get old k
 
--- the text spells this graph, of n vertices and m arcs
+-- The text spells this graph, with n vertices and m arcs.
 pub record IsSpelled (text : List ℕ) (n m : ℕ) (file : GrFile) : Type 0 where
   pub spells : SpellsGraph 32 text file
   pub vertices : n ≡ file.n
   pub arcs : m ≡ length file.arcs.items
 
--- what is told is right, and what stands in the slice
+-- The answer is correct, and the slice holds what it says.
 abbrev pub IsRead : (text : List ℕ) → (old new : List SptArc) → Told → Type 0
 IsRead text old new (Graph n m) = (file : GrFile) × IsSpelled text n m file × HasArcs m file.arcs.items old new
 IsRead text old new (Room n m) = (file : GrFile) × IsSpelled text n m file × (length old < m) × (new ≡ old)

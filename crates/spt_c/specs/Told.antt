@@ -1,4 +1,4 @@
--- What a call tells C, and what then stands in the caller's slices.
+-- What a call tells C, and what the caller's slices then hold.
 use Rattle.std.specs.Prelude.{◌≡◌, ◌⊎◌, ℕ, length, min}
 use Rattle.spt_c.specs.declared.answers.SptAnswer.{SptAnswer}
 use Rattle.spt_c.specs.declared.answers.SptBatch.{SptBatch}
@@ -10,7 +10,7 @@ use Rattle.spt_c.specs.Limits.{reach}
 use Rattle.spt_c.specs.Asked.{Asked, IsGood, IsRefused}
 use Rattle.spt_c.specs.Blocks.{Slices, AreSolved}
 
--- the numbers of the header
+-- These are the numbers of the header.
 abbrev pub answer_of : Told → SptAnswer
 answer_of Tree = record { status = 0; vertex = 0; index = 0 }
 answer_of BadSize = record { status = 1; vertex = 0; index = 0 }
@@ -25,17 +25,17 @@ answer_of NoGraph = record { status = 10; vertex = 0; index = 0 }
 abbrev pub batch_of : Batch → SptBatch
 batch_of b = record { status = (answer_of b.told).status; vertex = (answer_of b.told).vertex; index = (answer_of b.told).index; done = b.done }
 
--- how many places both slices have
+-- This is the number of places that both slices have.
 abbrev pub places : Slices → ℕ
 places s = min (length s.dist) (length s.pred)
 
--- something is wrong with the call, and nothing is written
+-- Something is wrong with the call, and nothing is written.
 pub record IsRefusal (q : Asked) (old new : Slices) (b : Batch) : Type 0 where
   pub why : IsRefused q (places old) b.told
   pub none : b.done ≡ 0
   pub same : new ≡ old
 
--- nothing is wrong, and the trees of the sources stand, up to the first that has none
+-- Nothing is wrong, and the slices hold the trees of the sources up to the first that has none.
 pub record IsAnswer (q : Asked) (old new : Slices) (b : Batch) : Type 0 where
   pub good : IsGood q (places old)
   pub solved : AreSolved (reach q.n) (graph_of q.n q.arcs) q.sources old new b

@@ -1,9 +1,9 @@
-//! What a call tells.
+//! The answers of calls.
 ghost use Rattle.std.specs.Prelude.{◌≡◌};
 ghost use Rattle.spt_c.specs.Told.{answer_of, batch_of};
 
-/// What a call for one source tells: a status, the vertex that is too far, and the place of the arc or of the
-/// source that is none. What a status doesn't speak of is 0.
+/// The answer of a call for one source: a status, the vertex that is too far, and the index of the arc or of the source
+/// that is invalid. A field that the status doesn't use is 0.
 #[repr(C)]
 #[derive(Clone, Copy, Debug, PartialEq, Eq)]
 pub struct SptAnswer {
@@ -12,8 +12,8 @@ pub struct SptAnswer {
     pub index: u64,
 }
 
-/// What a call for several sources tells: how many of them, from the first on, have their trees; and where that
-/// isn't all, what is told of the next one, or of the call.
+/// The answer of a call for several sources: how many of them, from the first on, have their trees; and, if that isn't
+/// all of them, the answer for the next one, or for the call.
 #[repr(C)]
 #[derive(Clone, Copy, Debug, PartialEq, Eq)]
 pub struct SptBatch {
@@ -23,30 +23,30 @@ pub struct SptBatch {
     pub done: u64,
 }
 
-/// Why a call ends, by cases.
+/// Why a call ends.
 #[derive(Clone, Copy, Debug, PartialEq, Eq)]
 pub(crate) enum Told {
     /// Each source has its tree.
     Tree,
-    /// There is no vertex, or there are too many, or a slice has no place for each vertex of each source.
+    /// The number of vertices is 0 or too great, or a slice has fewer than one place for each vertex of each source.
     BadSize,
     /// The width of a bucket is greater than the greatest distance.
     BadDelta,
-    /// The arc at this place is none.
+    /// The arc at this index is invalid.
     BadArc(usize),
-    /// The source at this place isn't a vertex.
+    /// The source at this index isn't a vertex.
     NoSuchVertex(usize),
     /// The least length of this vertex is above the greatest distance.
     TooFar(u32),
-    /// Memory was refused.
+    /// An allocation failed.
     Memory,
-    /// The slices that were passed hold another tree, from this vertex on.
+    /// The slices that were passed hold a different tree, from this vertex on.
     Wrong(u32),
     /// The place keeps no graph.
     NoGraph,
 }
 
-/// How many sources have their trees, and why there are no more.
+/// How many sources have their trees, and why no more have.
 #[derive(Clone, Copy, Debug, PartialEq, Eq)]
 pub(crate) struct Batch {
     pub done: usize,
@@ -64,7 +64,7 @@ fn reply(status: u32, vertex: u32, place: usize) -> SptAnswer
 }
 
 impl Told {
-    /// As C is told.
+    /// Returns the answer in the form for C.
     pub(crate) fn answer(self) -> SptAnswer
         ensures { result ≡ answer_of self }
     {
@@ -83,7 +83,7 @@ impl Told {
 }
 
 impl Batch {
-    /// As C is told.
+    /// Returns the answer in the form for C.
     pub(crate) fn answer(self) -> SptBatch
         ensures { result ≡ batch_of self }
     {

@@ -1,4 +1,4 @@
-//! Arcs as C has them.
+//! Arcs in the form that C passes.
 ghost use Rattle.std.specs.Prelude.{◌≡◌, ◌≤◌, ◌↔◌, IsTrue, IfSome, IfNone, IfOk, All, length, map};
 ghost use Rattle.sp_paths.specs.Paths.{IsArc};
 ghost use Rattle.sp_paths.specs.Bags.{AreSame};
@@ -9,7 +9,7 @@ use sp_graph::Graph;
 use sp_paths::Arc;
 use std::alloc::{AllocError, Global};
 
-/// An arc. That it leads from a vertex to a vertex and has a length is tested.
+/// An arc that C passes. Calls test that it leads from a vertex to a vertex and has a positive length.
 #[repr(C)]
 #[derive(Clone, Copy, Debug, PartialEq, Eq)]
 pub struct SptArc {
@@ -18,14 +18,14 @@ pub struct SptArc {
     pub len: u32,
 }
 
-// Whether it is an arc of a graph of n vertices.
+// Returns whether it is an arc of a graph of n vertices.
 fn is_arc(n: u32, arc: SptArc) -> bool
     ensures { IsTrue result ↔ IsArcOf n arc }
 {
     1 <= arc.tail && arc.tail <= n && 1 <= arc.head && arc.head <= n && 1 <= arc.len
 }
 
-/// The place of the first that is no arc.
+/// Returns the index of the first invalid arc, if there is one.
 pub(crate) fn first_bad(n: u32, arcs: &[SptArc]) -> Option<usize>
     ensures first { IfSome result (IsFirstWithout (IsArcOf n) arcs.now) }
     ensures none { IfNone result (All (IsArcOf n) arcs.now) }
@@ -38,7 +38,7 @@ pub(crate) fn first_bad(n: u32, arcs: &[SptArc]) -> Option<usize>
     None
 }
 
-// The same arcs as the engine has them.
+// Returns the same arcs in the form that the engine takes.
 fn converted(alloc: Global, arcs: &[SptArc]) -> Result<Vec<Arc>, AllocError>
     ensures { IfOk result (λ v. v.items ≡ map arc_of arcs.now) }
 {
@@ -51,7 +51,7 @@ fn converted(alloc: Global, arcs: &[SptArc]) -> Result<Vec<Arc>, AllocError>
         .collect(alloc)
 }
 
-/// The graph of n vertices with these arcs.
+/// Returns the graph of n vertices with these arcs.
 pub(crate) fn graph_of(alloc: Global, n: u32, arcs: &[SptArc]) -> Result<Graph, AllocError>
     requires some { 1 ≤ n }
     requires arcs { All (IsArcOf n) arcs.now }

@@ -1,4 +1,4 @@
-//! A call, from what C passes to what it is told.
+//! A whole call, from what C passes to its answer.
 ghost use Rattle.spt_c.specs.Asked.{asked};
 ghost use Rattle.spt_c.specs.Blocks.{slices};
 ghost use Rattle.spt_c.specs.Told.{IsTold};
@@ -9,7 +9,7 @@ use crate::refusals::refusal;
 use crate::solving::solve_graph;
 use std::alloc::Global;
 
-/// Tests all that is passed, and puts the trees of the sources. A delta of 0 stands for an arc's mean length.
+/// Tests all arguments, and writes the trees of the sources. A delta of 0 stands for the mean length of an arc.
 pub(crate) fn solve(
     alloc: Global,
     arcs: &[SptArc],

@@ -6,7 +6,7 @@ ghost use Rattle.spt_c.specs.Blocks.{slices, IsCell, AreCells, KeepsOthers};
 use sp_answer::Tree;
 use sp_word::Word;
 
-// What stands for a word: its distance and predecessor, or the greatest number and 0.
+// Returns what represents a word: its distance and predecessor, or the greatest number and 0.
 fn cell_of<const P: u32>(word: Word<P>) -> (u64, u32)
     ensures { IsCell word.entry result.0 result.1 }
 {
@@ -16,7 +16,7 @@ fn cell_of<const P: u32>(word: Word<P>) -> (u64, u32)
     }
 }
 
-/// Writes each vertex's word, that of vertex `v` at `low + v - 1`.
+/// Writes the words of the vertices, that of vertex `v` at `low + v - 1`.
 pub(crate) fn put_cells<const P: u32>(
     tree: &Tree<P>,
     low: usize,

@@ -1,4 +1,4 @@
-//! Whether slices hold a tree.
+//! Checks whether slices hold a tree.
 ghost use Rattle.std.specs.Prelude.{◌≤◌, ◌<◌, ℕ, length, IfSome, IfNone};
 ghost use Rattle.spt_c.specs.Blocks.{slices, HasSameAt};
 ghost use Rattle.spt_c.specs.Checked.{IsFirstOther, IsChecked};
@@ -9,7 +9,7 @@ use crate::own::own_tree;
 use crate::refusals::refusal;
 use std::alloc::Global;
 
-// The first vertex at which two lists of distances or two of predecessors differ.
+// Returns the first vertex at which two lists of distances, or two of predecessors, differ.
 fn first_other(
     n: u32,
     right_dist: &[u64],
@@ -35,7 +35,7 @@ fn first_other(
     None
 }
 
-/// Whether the slices hold the tree of a source, by one that is found anew.
+/// Checks whether the slices hold the tree of a source, by computing the tree again.
 pub(crate) fn check(
     alloc: Global,
     arcs: &[SptArc],

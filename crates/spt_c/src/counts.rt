@@ -1,4 +1,4 @@
-//! The sizes of a graph that is kept.
+//! The size of a graph that is kept.
 ghost use Rattle.std.specs.Prelude.{◌≡◌};
 ghost use Rattle.sp_kept.specs.Kept.{kept};
 ghost use Rattle.spt_c.specs.Kept.{counts_of};
@@ -6,7 +6,7 @@ ghost use Rattle.spt_c.specs.Kept.{counts_of};
 use sp_kept::KeptGraph;
 use std::alloc::Global;
 
-/// How many vertices and arcs a graph has, or a status that there is none.
+/// The numbers of vertices and arcs of a graph, or the status that there is none.
 #[repr(C)]
 #[derive(Clone, Copy, Debug, PartialEq, Eq)]
 pub struct SptCounts {
@@ -15,7 +15,7 @@ pub struct SptCounts {
     pub m: u64,
 }
 
-/// Those of the graph that a place keeps, and keeps on.
+/// Returns the size of the graph that a place keeps. The place still keeps it.
 pub(crate) fn counts(alloc: Global, graph: &mut KeptGraph) -> SptCounts
     ensures counts { result ≡ counts_of (kept graph.old) }
     ensures same { kept graph.new ≡ kept graph.old }

@@ -29,7 +29,7 @@ use crate::texts::{SptText, read_graph};
 use sp_kept::KeptGraph;
 use std::alloc::Global;
 
-/// The library's version: the second part counts hundreds, the first ten thousands.
+/// Returns the library's version: ten thousand for each unit of the first part, and a hundred for each of the second.
 #[unsafe(no_mangle)]
 pub extern "C" fn spt_version() -> u32
     ensures { result ≡ 10100 }
@@ -37,7 +37,7 @@ pub extern "C" fn spt_version() -> u32
     10_100
 }
 
-/// The greatest distance in a graph of n vertices, 0 where no graph has so many.
+/// Returns the greatest distance in a graph of n vertices, or 0 if no graph can have n vertices.
 #[unsafe(no_mangle)]
 pub extern "C" fn spt_reach(n: u32) -> u64
     ensures some { IsCount n → result ≡ reach n }
@@ -46,8 +46,8 @@ pub extern "C" fn spt_reach(n: u32) -> u64
     if is_count(n) { reach(n) } else { 0 }
 }
 
-/// The shortest-path tree from a source, or why there is none. The slices have a place for each vertex. A delta of
-/// 0 stands for the mean length of an arc.
+/// Writes the shortest-path tree from a source, or tells why there is none. Each slice needs a place for each vertex. A
+/// delta of 0 stands for the mean length of an arc.
 #[unsafe(no_mangle)]
 pub extern "C" fn spt_tree(
     alloc: Global,
@@ -67,8 +67,8 @@ pub extern "C" fn spt_tree(
     batch.told.answer()
 }
 
-/// The shortest-path trees from several sources, up to the first that has none. The slices have a block of as many
-/// places as there are vertices for each source.
+/// Writes the shortest-path trees from several sources, up to the first that has none. Each slice needs for each source
+/// a block of as many places as there are vertices.
 #[unsafe(no_mangle)]
 pub extern "C" fn spt_trees(
     alloc: Global,
@@ -87,7 +87,8 @@ pub extern "C" fn spt_trees(
     batch.answer()
 }
 
-/// The graph that the text of a `.gr` file spells, its arcs in the slice, or the text's first fault.
+/// Reads the graph that the text of a `.gr` file spells, with its arcs written to the slice, or tells the text's first
+/// fault.
 #[unsafe(no_mangle)]
 pub extern "C" fn spt_gr(alloc: Global, text: &[u8], arcs: &mut [SptArc]) -> SptText
     ensures { (read : Read) × (result ≡ text_of read) × IsRead text.now arcs.old arcs.new read }
@@ -96,8 +97,8 @@ pub extern "C" fn spt_gr(alloc: Global, text: &[u8], arcs: &mut [SptArc]) -> Spt
     read.told()
 }
 
-/// The distance and the predecessor of a target in the shortest-path tree from a source, or why there are none. It ends as
-/// soon as they are known. A delta of 0 stands for the mean length of an arc.
+/// Returns the distance and the predecessor of a target in the shortest-path tree from a source, or why there are none.
+/// The run ends as soon as they are known. A delta of 0 stands for the mean length of an arc.
 #[unsafe(no_mangle)]
 pub extern "C" fn spt_pair(
     alloc: Global,
@@ -114,7 +115,8 @@ pub extern "C" fn spt_pair(
     found.told()
 }
 
-/// Whether the slices hold the shortest-path tree from a source, and if not, the first vertex at which they don't.
+/// Checks whether the slices hold the shortest-path tree from a source, and if not, returns the first vertex at which
+/// they don't.
 #[unsafe(no_mangle)]
 pub extern "C" fn spt_check(
     alloc: Global,
@@ -131,8 +133,8 @@ pub extern "C" fn spt_check(
     told.answer()
 }
 
-/// Keeps the graph of n vertices with these arcs, in place of what was kept; or tells why there is none, and the place keeps
-/// what it kept.
+/// Keeps the graph of n vertices with these arcs, in place of what was kept; or tells why it can't, and then the place
+/// keeps what it kept.
 #[unsafe(no_mangle)]
 pub extern "C" fn spt_graph_new(
     alloc: Global,
@@ -147,8 +149,8 @@ pub extern "C" fn spt_graph_new(
     made.answer()
 }
 
-/// Keeps the same graph in a second place too, in place of what that kept. Each place may be used by a thread of its own.
-/// Where memory is refused, both keep what they kept.
+/// Keeps the same graph in a second place as well, in place of what that kept. Each place may be used by a thread of
+/// its own. If there is no memory, both keep what they kept.
 #[unsafe(no_mangle)]
 pub extern "C" fn spt_graph_share(
     alloc: Global,
@@ -163,7 +165,7 @@ pub extern "C" fn spt_graph_share(
     made.answer()
 }
 
-/// Keeps nothing any more. The memory is given back with the last place that keeps the graph.
+/// Keeps nothing any more. The memory is freed with the last place that keeps the graph.
 #[unsafe(no_mangle)]
 pub extern "C" fn spt_graph_free(alloc: Global, graph: &mut KeptGraph)
     ensures { kept graph.new ≡ None }
@@ -171,8 +173,9 @@ pub extern "C" fn spt_graph_free(alloc: Global, graph: &mut KeptGraph)
     graph.clear(alloc);
 }
 
-/// The shortest-path trees of the graph that is kept from several sources, up to the first that has none. The slices have a
-/// block of as many places as there are vertices for each source. A delta of 0 stands for the mean length of an arc.
+/// Writes the shortest-path trees from several sources in the graph that is kept, up to the first source that has none.
+/// Each slice needs for each source a block of as many places as there are vertices. A delta of 0 stands for the mean
+/// length of an arc.
 #[unsafe(no_mangle)]
 pub extern "C" fn spt_graph_trees(
     alloc: Global,
@@ -191,8 +194,9 @@ pub extern "C" fn spt_graph_trees(
     batch.answer()
 }
 
-/// The distance and the predecessor of a target in the shortest-path tree of the graph that is kept from a source, or why
-/// there are none. It ends as soon as they are known. A delta of 0 stands for the mean length of an arc.
+/// Returns the distance and the predecessor of a target in the shortest-path tree from a source in the graph that is
+/// kept, or why there are none. The run ends as soon as they are known. A delta of 0 stands for the mean length of an
+/// arc.
 #[unsafe(no_mangle)]
 pub extern "C" fn spt_graph_pair(
     alloc: Global,
@@ -209,7 +213,7 @@ pub extern "C" fn spt_graph_pair(
     found.told()
 }
 
-/// How many vertices and arcs the graph has that is kept.
+/// Returns the numbers of vertices and arcs of the graph that is kept.
 #[unsafe(no_mangle)]
 pub extern "C" fn spt_graph_counts(alloc: Global, graph: &mut KeptGraph) -> SptCounts
     ensures counts { result ≡ counts_of (kept graph.old) }

@@ -18,8 +18,8 @@ use sp_serial::{TargetAnswer, run_target_alone};
 use sp_word::Delta;
 use std::alloc::Global;
 
-/// What a call for a target tells: a status; its distance and its predecessor; and the place of the arc that is
-/// none, or 0 for the source and 1 for the target. `pred` is also the vertex that is too far.
+/// The answer of a call for a target: a status; its distance and its predecessor; and the index of the invalid arc, or
+/// 0 for the source and 1 for the target. `pred` is also the vertex that is too far.
 #[repr(C)]
 #[derive(Clone, Copy, Debug, PartialEq, Eq)]
 pub struct SptFound {
@@ -29,7 +29,7 @@ pub struct SptFound {
     pub index: u64,
 }
 
-/// The same by cases.
+/// The answer for a target.
 #[derive(Clone, Copy, Debug, PartialEq, Eq)]
 pub(crate) enum Found {
     /// The target's distance and predecessor.
@@ -39,7 +39,7 @@ pub(crate) enum Found {
 }
 
 impl Found {
-    /// As C is told.
+    /// Returns the answer in the form for C.
     pub(crate) fn told(self) -> SptFound
         ensures { result ≡ found_of self }
     {
@@ -63,7 +63,7 @@ impl Found {
     }
 }
 
-// What is told of an answer: no distance is as great as the greatest number, which stands for no walk.
+// Converts an answer: no distance is equal to the greatest number, which stands for no walk.
 fn of_answer(answer: TargetAnswer) -> Found
     ensures { (g : Network) (s t max : ℕ) → IsAnswerFor g s t max answer
         → IsFoundIn max g s t result }
@@ -75,7 +75,7 @@ fn of_answer(answer: TargetAnswer) -> Found
     }
 }
 
-// The answer for a target in a graph.
+// Returns the answer for a target in a graph.
 fn find_by<const P: u32>(
     alloc: Global,
     graph: &Graph,
@@ -95,7 +95,7 @@ fn find_by<const P: u32>(
     }
 }
 
-// The same by the layout with the greatest distances that holds the vertices.
+// Returns the answer by the layout with the greatest distances that can name the vertices.
 fn find_in(alloc: Global, graph: &Graph, source: u32, target: u32, delta: u64) -> Found
     requires n { IsCount graph.now.n }
     requires source { IsVertex graph.now.n source }
@@ -115,7 +115,8 @@ fn find_in(alloc: Global, graph: &Graph, source: u32, target: u32, delta: u64) -
     }
 }
 
-/// The distance and the predecessor of a target in the tree of a source. The run ends as soon as these are known.
+/// Returns the distance and the predecessor of a target in the tree of a source. The run ends as soon as they are
+/// known.
 pub(crate) fn find(
     alloc: Global,
     arcs: &[SptArc],
@@ -136,7 +137,7 @@ pub(crate) fn find(
     }
 }
 
-// Tests all that is passed with a graph, and finds the target there.
+// Tests all arguments that come with a graph, and finds the target in it.
 fn find_known(alloc: Global, graph: &Graph, source: u32, target: u32, delta: u64) -> Found
     ensures { IsFoundBy (asked [] graph.now.n (source ∷ target ∷ []) delta)
         graph.now source target result }
@@ -148,7 +149,7 @@ fn find_known(alloc: Global, graph: &Graph, source: u32, target: u32, delta: u64
     find_in(alloc, graph, source, target, delta)
 }
 
-/// The same with the graph that a place keeps, and keeps on.
+/// Finds the target in the graph that a place keeps. The place still keeps it.
 pub(crate) fn find_kept(
     alloc: Global,
     graph: &mut KeptGraph,

@@ -11,7 +11,7 @@ use sp_graph::Graph;
 use sp_kept::KeptGraph;
 use std::alloc::Global;
 
-// Tests all that is passed with a graph, and puts the trees of the sources.
+// Tests all arguments that come with a graph, and writes the trees of the sources.
 fn solve_known(
     alloc: Global,
     graph: &Graph,
@@ -30,7 +30,7 @@ fn solve_known(
     solve_graph(alloc, graph, sources, delta, dist, pred)
 }
 
-/// The same with the graph that a place keeps, and keeps on.
+/// Writes the trees of the graph that a place keeps. The place still keeps it.
 pub(crate) fn solve_kept(
     alloc: Global,
     graph: &mut KeptGraph,

@@ -1,4 +1,4 @@
-//! The engine as a static library for C, by the calling thread alone. Every input is tested when a call runs.
+//! The engine as a static library for C, run by the calling thread alone. Every argument is tested when a call runs.
 #![tactic(auto)]
 
 mod answers;

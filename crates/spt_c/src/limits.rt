@@ -1,18 +1,18 @@
-//! How many vertices there may be, and how far they may lie.
+//! The limits on the number of vertices and on distances.
 ghost use Rattle.std.specs.Prelude.{◌≡◌, ◌≤◌, ◌*◌, ◌↔◌, IsTrue};
 ghost use Rattle.spt_c.specs.Limits.{IsCount, reach};
 ghost use Rattle.spt_c.specs.Asked.{HasRoom};
 
 const MOST_VERTICES: u32 = 4_294_967_294;
 
-/// Whether a graph may have so many vertices.
+/// Returns whether a graph may have `n` vertices.
 pub(crate) fn is_count(n: u32) -> bool
     ensures { IsTrue result ↔ IsCount n }
 {
     1 <= n && n <= MOST_VERTICES
 }
 
-/// Whether there are so many vertices, and so many blocks of as many places each.
+/// Returns whether a graph may have `n` vertices, and there are `blocks` blocks of `n` places each.
 pub(crate) fn has_room(n: u32, blocks: usize, places: usize) -> bool
     ensures { IsTrue result ↔ HasRoom n blocks places }
 {
@@ -25,7 +25,7 @@ pub(crate) fn has_room(n: u32, blocks: usize, places: usize) -> bool
     }
 }
 
-/// The greatest distance in a graph of n vertices, by the layout with the fewest bits for a predecessor.
+/// Returns the greatest distance in a graph of n vertices, by the layout with the fewest bits for a predecessor.
 pub(crate) fn reach(n: u32) -> u64
     requires { IsCount n }
     ensures { result ≡ reach n }

@@ -9,21 +9,21 @@ use crate::limits::is_count;
 use sp_kept::KeptGraph;
 use std::alloc::Global;
 
-/// What the keeping of a graph tells.
+/// The answer to keeping a graph.
 #[derive(Clone, Copy, Debug, PartialEq, Eq)]
 pub(crate) enum Made {
     /// The graph is kept.
     Kept,
-    /// There is no vertex, or there are too many.
+    /// The number of vertices is 0 or too great.
     BadSize,
-    /// The arc at this place is none.
+    /// The arc at this index is invalid.
     BadArc(usize),
-    /// Memory was refused.
+    /// An allocation failed.
     Memory,
 }
 
 impl Made {
-    /// As C is told.
+    /// Returns the answer in the form for C.
     pub(crate) fn answer(self) -> SptAnswer
         ensures { result ≡ made_of self }
     {
@@ -36,7 +36,7 @@ impl Made {
     }
 }
 
-/// Tests a graph's size and its arcs, and keeps it.
+/// Tests the size and the arcs of a graph, and keeps it.
 pub(crate) fn make(alloc: Global, arcs: &[SptArc], n: u32, graph: &mut KeptGraph) -> Made
     ensures { IsMade n arcs.now (kept graph.old) (kept graph.new) result }
 {
@@ -55,7 +55,7 @@ pub(crate) fn make(alloc: Global, arcs: &[SptArc], n: u32, graph: &mut KeptGraph
     }
 }
 
-/// Keeps the same graph in a second place too.
+/// Keeps the same graph in a second place as well.
 pub(crate) fn share(alloc: Global, from: &mut KeptGraph, to: &mut KeptGraph) -> Made
     ensures same { kept from.new ≡ kept from.old }
     ensures to { IsShared (kept from.old) (kept to.old) (kept to.new) result }

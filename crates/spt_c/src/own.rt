@@ -1,4 +1,4 @@
-//! A tree in lists of the call's own.
+//! A tree in lists that belong to the call.
 ghost use Rattle.std.specs.Prelude.{◌≡◌, ◌≤◌, IfOk, IfErr, All, length};
 ghost use Rattle.sp_paths.specs.Paths.{IsVertex};
 ghost use Rattle.spt_c.specs.Arcs.{graph_of};
@@ -11,14 +11,14 @@ use crate::arcs::{SptArc, graph_of};
 use crate::solving::solve_graph;
 use std::alloc::{AllocError, Global};
 
-/// The distances and the predecessors, by vertex.
+/// The distances and the predecessors by vertex.
 #[derive(Drop)]
 pub(crate) struct OwnTree {
     pub dist: Vec<u64>,
     pub pred: Vec<u32>,
 }
 
-// As many places as there are vertices.
+// Returns lists with a place for each vertex.
 fn bare(alloc: Global, n: u32) -> Result<OwnTree, AllocError>
     ensures dist { IfOk result (λ own. length own.dist.items ≡ n) }
     ensures pred { IfOk result (λ own. length own.pred.items ≡ n) }
@@ -28,7 +28,7 @@ fn bare(alloc: Global, n: u32) -> Result<OwnTree, AllocError>
     Ok(OwnTree { dist, pred })
 }
 
-/// The tree of a source, or why it has none. A delta of 0 stands for the mean length of an arc.
+/// Returns the tree of a source, or why it has none. A delta of 0 stands for the mean length of an arc.
 pub(crate) fn own_tree(
     alloc: Global,
     arcs: &[SptArc],

@@ -7,7 +7,7 @@ use crate::answers::Told;
 use crate::arcs::{SptArc, first_bad};
 use crate::limits::{has_room, reach};
 
-// The place of the first source that is no vertex.
+// Returns the index of the first source that is no vertex.
 fn first_none(n: u32, sources: &[u32]) -> Option<usize>
     ensures first { IfSome result (IsFirstWithout (IsVertex n) sources.now) }
     ensures none { IfNone result (All (IsVertex n) sources.now) }
@@ -20,7 +20,8 @@ fn first_none(n: u32, sources: &[u32]) -> Option<usize>
     None
 }
 
-/// The first of size, delta, sources and arcs that is wrong, where one is. Both slices have so many places.
+/// Returns the first of the size, the delta, the sources and the arcs that is wrong, if any is. Both slices have
+/// `places` places.
 pub(crate) fn refusal(
     arcs: &[SptArc],
     n: u32,

@@ -1,4 +1,4 @@
-//! The trees of some sources of a graph.
+//! The trees of several sources of a graph.
 ghost use Rattle.std.specs.Prelude.{◌≡◌, ◌≤◌, ◌+◌, ◌*◌, true, length, All};
 ghost use Rattle.sp_word.specs.Word.{is_layout, max_dist, max_pred};
 ghost use Rattle.sp_paths.specs.Paths.{IsVertex};
@@ -12,7 +12,7 @@ use sp_serial::{RunError, run_source_alone};
 use sp_word::{Delta, Word};
 use std::alloc::Global;
 
-/// The width that is asked for; for 0 the mean length of an arc, but no more than the greatest distance.
+/// Returns the width that was asked for; 0 stands for the mean length of an arc, but at most the greatest distance.
 pub(crate) fn width_for<const P: u32>(graph: &Graph, delta: u64) -> Delta<P>
     requires layout { is_layout P ≡ true }
     requires most { delta ≤ max_dist P }
@@ -28,7 +28,7 @@ pub(crate) fn width_for<const P: u32>(graph: &Graph, delta: u64) -> Delta<P>
     width
 }
 
-// Puts the tree of a source from `low` on.
+// Writes the tree of a source from `low` on.
 fn solve_at<const P: u32>(
     alloc: Global,
     graph: &Graph,
@@ -57,7 +57,7 @@ fn solve_at<const P: u32>(
     }
 }
 
-// Puts one tree behind the other, up to the first source that has none.
+// Writes one tree after another, up to the first source that has none.
 fn solve_each<const P: u32>(
     alloc: Global,
     graph: &Graph,
@@ -89,7 +89,7 @@ fn solve_each<const P: u32>(
     }
 }
 
-/// Puts the trees of the sources, by the layout with the greatest distances that holds the vertices.
+/// Writes the trees of the sources, by the layout with the greatest distances that can name the vertices.
 pub(crate) fn solve_graph(
     alloc: Global,
     graph: &Graph,

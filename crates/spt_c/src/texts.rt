@@ -7,7 +7,7 @@ use sp_dimacs::{DimacsError, GrFile, GrReader, Kind};
 use sp_paths::Arc;
 use std::alloc::Global;
 
-/// What a text is: how many vertices and arcs its graph has; or its first fault, by the number of its kind, the
+/// What a text is: the numbers of vertices and arcs of its graph; or its first fault, by the number of its kind, the
 /// letter of the field that is out of range, and its line.
 #[repr(C)]
 #[derive(Clone, Copy, Debug, PartialEq, Eq)]
@@ -20,21 +20,21 @@ pub struct SptText {
     pub line: u64,
 }
 
-/// The same by cases.
+/// What a text is.
 #[derive(Clone, Copy, Debug, PartialEq, Eq)]
 pub(crate) enum Read {
-    /// The text spells a graph of n vertices and m arcs, which stand in the slice.
+    /// The text spells a graph of n vertices and m arcs, which are in the slice.
     Graph(u32, usize),
-    /// The slice has fewer than the m places that are needed.
+    /// The slice has fewer than the m places that the arcs need.
     Room(u32, usize),
     /// The first fault.
     Fault(DimacsError),
-    /// More bytes than are read.
+    /// The text has more bytes than are read.
     Long,
 }
 
 impl Read {
-    /// As C is told.
+    /// Returns the answer in the form for C.
     pub(crate) fn told(self) -> SptText
         ensures { result ≡ text_of self }
     {
@@ -92,7 +92,7 @@ fn letter_of(kind: Kind) -> u32
     }
 }
 
-// The graph that a text spells, or its first fault.
+// Returns the graph that a text spells, or its first fault.
 fn graph_in(alloc: Global, text: &[u8]) -> Result<GrFile, DimacsError>
     requires { length text.now ≤ 2 ^ 62 }
     ensures { GraphTold text.now result }
@@ -102,7 +102,7 @@ fn graph_in(alloc: Global, text: &[u8]) -> Result<GrFile, DimacsError>
     reader.finish()
 }
 
-// An arc as C has it.
+// Returns an arc in the form for C.
 fn given(arc: Arc) -> SptArc
     ensures { result ≡ record { tail = arc.tail; head = arc.head; len = arc.len } }
 {
@@ -123,7 +123,7 @@ fn put_arcs(from: &[Arc], arcs: &mut [SptArc])
     }
 }
 
-/// The graph of a text, its arcs in the slice where there is room.
+/// Reads the graph of a text, and writes its arcs to the slice if there is room.
 pub(crate) fn read_graph(alloc: Global, text: &[u8], arcs: &mut [SptArc]) -> Read
     ensures { IsRead text.now arcs.old arcs.new result }
 {
