@@ -4,13 +4,16 @@
 Usage: python3 tests/progress.py [--program PROGRAM]
 
 On a terminal, a pseudo terminal here, one line is written over, at most some ten times a second, and ended before other text and at
-the end. Elsewhere there is a line every five seconds, and the last one. A line tells what is done, how much of it in percent where
-that is known, the time passed, and the time left. The last line is 'N passed, M failed'.
+the end. Elsewhere there is a line every five seconds, and the last one. It comes also while the program waits for input or relaxes a
+long tree. A line tells what is done, how much of it in percent where that is known, the time passed, and the time left. The last line
+is 'N passed, M failed'.
 """
 
 import os
 import pty
+import random
 import re
+import resource
 import subprocess
 import sys
 import threading
@@ -24,6 +27,8 @@ GRAPH, SOURCES, PAIRS = (f"{HOME}/examples/diamond.{ending}" for ending in ("gr"
 PASSED = r"\d+:\d\d"
 # a pause between lines where standard error is no terminal, and some more
 PAUSE = 5.3
+# less than a line stays on a terminal that nothing but time changes, in seconds
+SHORT = 0.15
 
 
 def run(program, *words, **more):
@@ -80,6 +85,14 @@ def ring(folder, vertices):
     arcs = "".join(f"a {v} {v % vertices + 1} 1\n" for v in range(1, vertices + 1))
     tree = "".join(f"v {v} {v - 1} {v - 1}\n" for v in range(1, vertices + 1))
     return put(f"{folder}/ring.gr", f"p sp {vertices} {vertices}\n{arcs}"), f"p spt {vertices} 1\n{tree}e {vertices}\n"
+
+
+def winding_path(folder, vertices):
+    """The graph of a path through all vertices in a random order: to relax it takes a while, since each vertex lies elsewhere."""
+    inner = list(range(2, vertices + 1))
+    random.Random(1).shuffle(inner)
+    arcs = "".join(f"a {tail} {head} 1000\n" for tail, head in zip([1, *inner], inner))
+    return put(f"{folder}/path.gr", f"p sp {vertices} {vertices - 1}\n{arcs}")
 
 
 def slowly(seconds, most):
@@ -151,21 +164,24 @@ def reading(count, program, folder):
 
 
 def slow_reading(count, program, folder):
-    """Where standard error is no terminal, a line comes after five seconds."""
+    """Where standard error is no terminal, a line comes after five seconds, though nothing comes to be read."""
     words = [program, "tree", "-", "--source", "1", "--delta", "1", "--progress"]
     with subprocess.Popen(words, stdin=subprocess.PIPE, stdout=subprocess.PIPE, stderr=subprocess.PIPE) as it:
         line = b"c " + b"x" * 1021 + b"\n"
         it.stdin.write(b"p sp 2 1\na 1 2 3\n" + line * 1200)
         it.stdin.flush()
         time.sleep(PAUSE)
+        os.set_blocking(it.stderr.fileno(), False)
+        first = it.stderr.read() or b""
+        os.set_blocking(it.stderr.fileno(), True)
         out, err = it.communicate(line * 1200, timeout=SECONDS)
     shown = err.decode().splitlines()
-    first = len(shown) == 2 and re.fullmatch(r"spt: gr: \d+ bytes read, 0:0[5-9]", shown[0])
-    count.of(f"a slow pipe: {shown}", it.returncode == 0 and out == b"p spt 2 1\nv 1 0 0\nv 2 3 1\ne 2\n" and bool(first))
+    count.of(f"a pipe that waits: {first}", re.fullmatch(rb"spt: gr: \d+ bytes read, 0:0[5-9]\n", first) is not None)
+    count.of(f"a slow pipe: {shown}", len(shown) == 1 and it.returncode == 0 and out == b"p spt 2 1\nv 1 0 0\nv 2 3 1\ne 2\n")
 
 
 def long_tree(count, program, folder):
-    """Within one tree the line moves on, with percent of the vertices, whether there is a terminal or not."""
+    """While a tree is written the line moves on through the last third of its percents, whether there is a terminal or not."""
     graph, tree = ring(folder, 400_000)
     words = ("tree", graph, "--source", "1", "--delta", "1", "--progress")
     form = rf"spt: 0 of 1 sources, (\d+) bytes written, writing, (\d+) %, {PASSED}, {PASSED} left"
@@ -173,8 +189,8 @@ def long_tree(count, program, folder):
     shown, rest = lines_over(over)
     steps = [(int(found[1]), int(found[2])) for line in shown if (found := re.fullmatch(form, line))]
     moves = len({percent for _, percent in steps}) > 2 and steps == sorted(steps)
-    # Of these lines, each of some 20 bytes, so many bytes are as many vertices as percent tells.
-    near = all(abs(number * 100 / len(tree) - percent) < 8 for number, percent in steps)
+    # Of these lines, each of some 20 bytes, so many bytes are as many vertices as the percents beyond two thirds tell.
+    near = all(abs((2 + number / len(tree)) * 100 / 3 - percent) < 4 for number, percent in steps)
     count.of(f"a long tree on a terminal: {shown}", status == 0 and text == tree and moves and near and len(shown) <= 3 + seconds * 11 and rest == "\r\n")
     with subprocess.Popen([program, *words], stdout=subprocess.PIPE, stderr=subprocess.PIPE) as it:
         text = slowly(PAUSE, len(tree) // 2)(it.stdout)
@@ -182,6 +198,47 @@ def long_tree(count, program, folder):
     shown = err.splitlines()
     between = [line for line in shown if re.fullmatch(form, line)]
     count.of(f"a long tree elsewhere: {shown}", it.returncode == 0 and text.decode() == tree and 1 <= len(between) <= 2 and len(shown) <= 4)
+
+
+def long_relaxing(count, program, folder):
+    """While a tree is relaxed the line moves on, up to two thirds; percents never fall, and the last one is 100."""
+    graph = winding_path(folder, 1_500_000)
+    words = ("tree", graph, "--source", "1", "--delta", "1", "--progress")
+    for more in ((), ("--workers", "2")):
+        status, _, over, seconds = on_terminal(program, *words, *more)
+        shown, rest = lines_over(over)
+        percents = [int(found[1]) for line in shown if (found := re.search(r" sources, .* (\d+) %", line))]
+        relaxing = [int(found[1]) for line in shown if (found := re.match(r"spt: 0 of 1 sources, 0 bytes written, relaxing, (\d+) %", line))]
+        rises = len(set(relaxing)) > 3 and max(relaxing) <= 66
+        ends = percents == sorted(percents) and percents[-1:] == [100] and percents.count(100) == 1
+        few = len(shown) <= 3 + seconds * 11 and rest == "\r\n"
+        count.of(f"a long relaxing, {more}: {shown}", status == 0 and rises and ends and few)
+
+
+def prompt_end(count, program, folder):
+    """A short run ends at once."""
+    words = (program, "tree", GRAPH, SOURCES, "--delta", "3", "--progress")
+    seconds = []
+    for _ in range(10):
+        begin = time.monotonic()
+        subprocess.run(words, capture_output=True, timeout=SECONDS)
+        seconds.append(time.monotonic() - begin)
+    count.of(f"short runs, in seconds: {seconds}", min(seconds) < SHORT)
+
+
+def without_thread(count, program, folder):
+    """Where no second thread can be had, the run goes on, and tells what it tells by itself."""
+    words = ("tree", GRAPH, SOURCES, "--delta", "3")
+
+    def limit():
+        # (a thread's stack would be larger than all that the program may have)
+        resource.setrlimit(resource.RLIMIT_STACK, (1 << 30, resource.RLIM_INFINITY))
+        resource.setrlimit(resource.RLIMIT_AS, (1 << 29, resource.RLIM_INFINITY))
+
+    plain = run(program, *words)
+    told = run(program, *words, "--progress", preexec_fn=limit)
+    line = rf"spt: 1 of 1 sources, {len(plain[1])} bytes written, 100 %, {PASSED}\n"
+    count.of(f"no thread: {told}", told[:2] == plain[:2] and re.fullmatch(line, told[2]) is not None)
 
 
 def faults(count, program, folder):
@@ -210,5 +267,5 @@ def closed(count, program, folder):
 
 
 if __name__ == "__main__":
-    tests = (last_lines, many_sources, reading, slow_reading, long_tree, faults, closed)
+    tests = (last_lines, many_sources, reading, slow_reading, long_tree, long_relaxing, prompt_end, without_thread, faults, closed)
     sys.exit(try_all(__doc__, tests))

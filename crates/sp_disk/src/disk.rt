@@ -4,9 +4,11 @@ use crate::screen::{Errors, Screen};
 use either::Either;
 use sp_command::{Form, Inputs, Report};
 use sp_device::OfRead;
+use sp_word::Meter;
 use std::io::{Stderr, Stdin};
 use std::process::Process;
 use std::rt::{Clock, Files};
+use std::sync::Wait;
 use std::{fs, io};
 
 /// The files of the system, and standard input, whose path is `-`.
@@ -23,10 +25,10 @@ pub struct Disk<'a, R> {
 // The file that standard input is, if it is one.
 const STDIN: &str = "/dev/stdin";
 
-impl<'a, R: Files + Eprint + Clock> Disk<'a, R> {
+impl<'a, R: Files + Eprint + Clock + Wait> Disk<'a, R> {
     /// Standard error, where it is told how far a run is.
     pub fn screen(&self) -> Screen<'a, R> {
-        Screen::new(self.rt, self.stderr, self.notes)
+        Screen::new(self.rt, self.stderr, self.notes.told())
     }
 
     /// Standard error for what else is told.
@@ -41,7 +43,7 @@ impl<'a, R: Files + Eprint + Clock> Disk<'a, R> {
     }
 }
 
-impl<'a, R: Files + Eprint + Clock> Inputs for Disk<'a, R> {
+impl<'a, R: Files + Eprint + Clock + Wait> Inputs for Disk<'a, R> {
     type File = OfRead<Noted<'a, Either<R::File, Stdin>>>;
 
     fn open_input(&self, path: &str) -> Option<Self::File> {
@@ -70,6 +72,10 @@ impl<'a, R: Files + Eprint + Clock> Inputs for Disk<'a, R> {
     }
 
     fn tell(&self, report: Report) {
-        self.screen().hear(report);
+        self.screen().hear(report, self.notes.size());
+    }
+
+    fn meter(&self) -> Option<&Meter> {
+        Some(self.notes.told().meter())
     }
 }

@@ -10,7 +10,7 @@ pub struct Notes {
     reason: Cell<Option<io::Error>>,
     form: Cell<Option<Form>>,
     size: Cell<Option<u64>>,
-    pub(crate) told: Told,
+    told: Told,
 }
 
 impl Notes {
@@ -53,6 +53,11 @@ impl Notes {
     /// How many bytes the file has whose reading began last, if that is known.
     pub fn size(&self) -> Option<u64> {
         self.size.get()
+    }
+
+    /// What was told of the run.
+    pub fn told(&self) -> &Told {
+        &self.told
     }
 }
 

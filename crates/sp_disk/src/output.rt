@@ -12,6 +12,7 @@ use std::io;
 use std::io::{ErrorKind, Stdout};
 use std::random::RandomSource;
 use std::rt::{Clock, Files};
+use std::sync::Wait;
 
 /// A file whose flush waits until the disk holds what was written.
 #[derive(Drop)]
@@ -60,7 +61,7 @@ impl<R: Files> Drop for Output<'_, R> {
     }
 }
 
-impl<'a, R: Files + Eprint + Clock> Write for Output<'a, R> {
+impl<'a, R: Files + Eprint + Clock + Wait> Write for Output<'a, R> {
     ghost written = { λ d. ⟦<Device<'a, R::File> as Write>⟧.written d.device };
 
     ghost passed = { λ d. ⟦<Device<'a, R::File> as Write>⟧.passed d.device };
@@ -74,7 +75,7 @@ impl<'a, R: Files + Eprint + Clock> Write for Output<'a, R> {
     }
 }
 
-impl<'a, R: Files + AllocGlobal + RandomSource + Clock + Eprint> Outputs for Disk<'a, R> {
+impl<'a, R: Files + AllocGlobal + RandomSource + Clock + Eprint + Wait> Outputs for Disk<'a, R> {
     type Output = Output<'a, R>;
 
     fn create(&self, alloc: Global, path: &str) -> Result<Option<Self::Output>, AllocError> {
@@ -113,7 +114,7 @@ impl<'a, R: Files + AllocGlobal + RandomSource + Clock + Eprint> Outputs for Dis
     }
 }
 
-impl<'a, R: Files + Eprint + Clock> Disk<'a, R> {
+impl<'a, R: Files + Eprint + Clock + Wait> Disk<'a, R> {
     /// Standard output, before its first byte.
     pub fn standard_output(&self, stdout: Stdout) -> Output<'a, R> {
         self.output(Either::Right(stdout), None)

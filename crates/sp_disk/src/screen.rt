@@ -1,11 +1,15 @@
 //! How far a run is, told on standard error: on a terminal by one line that is written over, elsewhere by a line now and then.
-use crate::noted::Notes;
+//!
+//! The thread of the command tells it at reports and when it writes. A second thread tells it in between, since one report can be of
+//! hours of work.
 use crate::stand::Stand;
 use sp_command::Report;
-use std::cell::Cell;
+use sp_word::Meter;
 use std::io;
 use std::io::{IsTerminal, Stderr};
 use std::rt::Clock;
+use std::sync::atomic::{AtomicU64, Ordering};
+use std::sync::{Mutex, Wait};
 use std::time::{Duration, Instant};
 
 // How long a line stays on a terminal at least, and how long none is told elsewhere, in thousandths of a second.
@@ -13,27 +17,65 @@ const PAUSE_ON_TERMINAL: u64 = 100;
 
 const PAUSE_ELSEWHERE: u64 = 5000;
 
-/// What was told of a run.
+// How long the second thread sleeps before it looks whether a line is due.
+const NAP: u64 = 200;
+
+/// What was told of a run, and what more there is to tell.
 #[derive(Drop)]
 pub struct Told {
+    meter: Meter,
+    // Held while a line is written, so that lines of two threads don't mix.
+    shown: Mutex<Shown>,
+    // 1 once the run has ended, 0 before.
+    over: AtomicU64,
+}
+
+// What the user sees.
+#[derive(Drop)]
+struct Shown {
     // How far the run is, once there was a report.
-    stand: Cell<Option<Stand>>,
+    stand: Option<Stand>,
     // When a line was told last, or the first report came.
-    at: Cell<Option<Instant>>,
+    at: Option<Instant>,
     // Whether a line on a terminal is to be written over or ended.
-    is_open: Cell<bool>,
-    // Whether the last line told how far the run is by now.
-    is_last: Cell<bool>,
+    is_open: bool,
+    // Whether the last line told all that was reported and written by now.
+    is_last: bool,
 }
 
 impl Told {
     /// Nothing was told.
     pub fn new() -> Self {
         Told {
-            stand: Cell::new(None),
-            at: Cell::new(None),
-            is_open: Cell::new(false),
-            is_last: Cell::new(true),
+            meter: Meter::new(),
+            shown: Mutex::new(Shown {
+                stand: None,
+                at: None,
+                is_open: false,
+                is_last: true,
+            }),
+            over: AtomicU64::new(0),
+        }
+    }
+
+    /// Where the workers of a run count what they have relaxed.
+    pub fn meter(&self) -> &Meter {
+        &self.meter
+    }
+}
+
+impl Shown {
+    // Notes how far the run is, which no line told yet.
+    fn put(&mut self, stand: Stand) {
+        self.stand = Some(stand);
+        self.is_last = false;
+    }
+
+    // Whether the last line was told so many thousandths of a second ago.
+    fn is_due(&self, now: Instant, pause: u64) -> bool {
+        match self.at {
+            Some(at) => now.duration_since(at) >= Duration::from_millis(pause),
+            None => true,
         }
     }
 }
@@ -42,7 +84,7 @@ impl Told {
 pub struct Screen<'a, R> {
     rt: &'a R,
     stderr: Stderr,
-    notes: &'a Notes,
+    told: &'a Told,
 }
 
 impl<R> Drop for Screen<'_, R> {
@@ -50,103 +92,128 @@ impl<R> Drop for Screen<'_, R> {
         let Screen {
             rt: _,
             stderr: _,
-            notes: _,
+            told: _,
         } = self;
     }
 }
 
-impl<'a, R: Eprint + Clock> Screen<'a, R> {
+impl<'a, R: Eprint + Clock + Wait> Screen<'a, R> {
     /// Tells by the runtime, and notes what was told.
-    pub fn new(rt: &'a R, stderr: Stderr, notes: &'a Notes) -> Self {
-        Screen { rt, stderr, notes }
+    pub fn new(rt: &'a R, stderr: Stderr, told: &'a Told) -> Self {
+        Screen { rt, stderr, told }
     }
 
-    /// Notes a report, and tells it where the time has come.
-    pub fn hear(&self, report: Report) {
+    /// Notes a report, and tells it where the time has come. The file that is read has the size, where that is known.
+    pub fn hear(&self, report: Report, size: Option<u64>) {
         let Ok(now) = Instant::now(self.rt) else {
             return;
         };
-        let size = self.notes.size();
-        let told = &self.notes.told;
-        match told.stand.get() {
-            Some(stand) => told.stand.set(Some(stand.after(report, size, now))),
+        let counted = self.told.meter.count();
+        let mut guard = self.told.shown.lock(self.rt);
+        let shown = &mut *guard;
+        match shown.stand {
+            Some(stand) => shown.put(stand.after(report, size, counted, now)),
             None => {
-                told.stand.set(Some(Stand::new(report, size, now)));
+                shown.put(Stand::new(report, size, counted, now));
                 if !self.stderr.is_terminal() {
-                    told.at.set(Some(now));
+                    shown.at = Some(now);
                 }
             }
         }
-        self.tell_if_due(now);
+        self.tell_if_due(shown, now);
     }
 
     /// Notes what was written of the output, and tells it where the time has come.
     pub fn see_written(&self, bytes: &[u8]) {
-        let told = &self.notes.told;
-        let Some(stand) = told.stand.get() else {
+        let mut guard = self.told.shown.lock(self.rt);
+        let shown = &mut *guard;
+        let Some(stand) = shown.stand else {
             return;
         };
-        told.stand.set(Some(stand.with_written(bytes)));
+        shown.put(stand.with_written(bytes));
         if let Ok(now) = Instant::now(self.rt) {
-            self.tell_if_due(now);
+            self.tell_if_due(shown, now);
         }
     }
 
+    /// Tells now and then how far the run is, until it has ended.
+    pub fn watch(&self) {
+        let nap = Duration::from_millis(NAP);
+        for _ in self.rt.forever() {
+            self.told.over.park_timeout(self.rt, 0, nap);
+            if self.told.over.load(Ordering::SeqCst) != 0 {
+                return;
+            }
+            if let Ok(now) = Instant::now(self.rt) {
+                let mut guard = self.told.shown.lock(self.rt);
+                self.tell_if_due(&mut *guard, now);
+            }
+        }
+    }
+
+    /// Ends the watch, without delay.
+    pub fn end_watch(&self) {
+        self.told.over.store(1, Ordering::SeqCst);
+        self.told.over.wake_all();
+    }
+
     // Tells how far the run is where the last line was told long enough ago.
-    fn tell_if_due(&self, now: Instant) {
-        let told = &self.notes.told;
-        told.is_last.set(false);
+    fn tell_if_due(&self, shown: &mut Shown, now: Instant) {
         let pause = if self.stderr.is_terminal() {
             PAUSE_ON_TERMINAL
         } else {
             PAUSE_ELSEWHERE
         };
-        let is_due = match told.at.get() {
-            Some(at) => now.duration_since(at) >= Duration::from_millis(pause),
-            None => true,
-        };
-        if is_due {
-            self.tell(now);
+        if shown.is_due(now, pause) {
+            self.tell(shown, now);
         }
     }
 
     // Tells how far the run is.
-    fn tell(&self, now: Instant) {
-        let told = &self.notes.told;
-        let Some(stand) = told.stand.get() else {
+    fn tell(&self, shown: &mut Shown, now: Instant) {
+        let Some(stand) = shown.stand else {
             return;
         };
+        let stand = stand.with_counted(self.told.meter.count());
         let line = stand.line(now);
         // Where it can't be told, the run goes on all the same.
         if self.stderr.is_terminal() {
             let _ = eprint!(self.rt; "\rspt: {line}\x1b[K");
-            told.is_open.set(true);
+            shown.is_open = true;
         } else {
             let _ = eprintln!(self.rt; "spt: {line}");
         }
-        told.at.set(Some(now));
-        told.is_last.set(true);
+        shown.stand = Some(stand);
+        shown.at = Some(now);
+        shown.is_last = true;
     }
 
     /// Tells how far the run has come, where the last line didn't, and that is all.
     pub fn end(&self) {
-        if !self.notes.told.is_last.get()
+        let mut guard = self.told.shown.lock(self.rt);
+        let shown = &mut *guard;
+        if !shown.is_last
             && let Ok(now) = Instant::now(self.rt)
         {
-            self.tell(now);
+            self.tell(shown, now);
         }
-        self.give_way();
+        self.close(shown);
     }
 
     /// Ends a line on a terminal, since other text follows, and tells no more of the run.
     pub fn give_way(&self) {
-        let told = &self.notes.told;
-        if told.is_open.get() {
+        let mut guard = self.told.shown.lock(self.rt);
+        self.close(&mut *guard);
+    }
+
+    // Ends a line on a terminal, and tells no more of the run.
+    fn close(&self, shown: &mut Shown) {
+        if shown.is_open {
             let _ = eprintln!(self.rt; "");
         }
-        told.is_open.set(false);
-        told.is_last.set(true);
-        told.stand.set(None);
+        shown.is_open = false;
+        shown.is_last = true;
+        shown.stand = None;
     }
 }
 
@@ -172,7 +239,7 @@ impl<'a, R> Errors<'a, R> {
     }
 }
 
-impl<R: Eprint + Clock> io::Write for Errors<'_, R> {
+impl<R: Eprint + Clock + Wait> io::Write for Errors<'_, R> {
     fn write(&mut self, bytes: &[u8]) -> io::Result<usize> {
         self.screen.give_way();
         self.stderr.write(bytes)

@@ -8,7 +8,7 @@ const EXACT_BITS: u32 = 32;
 
 const UNIT_BITS: u32 = 24;
 
-/// How far a run is, by its last report and by what was written since then.
+/// How far a run is, by its last report, and by what was relaxed and written since then.
 #[derive(Clone, Copy)]
 pub struct Stand {
     report: Report,
@@ -19,6 +19,10 @@ pub struct Stand {
     // How many trees were written since the report, and up to which vertex the next one is.
     trees: u64,
     vertex: u64,
+    // What the workers had counted at the report.
+    counted: u64,
+    // How many vertices of all runs are relaxed, as far as that was told.
+    relaxed: u64,
     begun: Instant,
     // When it began to do what the report is of.
     stage_begun: Instant,
@@ -43,12 +47,14 @@ impl Share {
         }
     }
 
+    // 100 only where all is done.
     fn percent(self) -> u64 {
+        let most = if self.done < self.all { 99 } else { 100 };
         let Share { done, all } = self.in_units();
         done.saturating_mul(100)
             .checked_div(all)
             .unwrap_or(100)
-            .min(100)
+            .min(most)
     }
 
     // How long it will take, if it goes on as in this time.
@@ -63,22 +69,24 @@ impl Share {
 }
 
 impl Stand {
-    /// At the first report of a run.
-    pub fn new(report: Report, size: Option<u64>, now: Instant) -> Self {
+    /// At the first report of a run, once the workers have counted so many vertices that they relaxed.
+    pub fn new(report: Report, size: Option<u64>, counted: u64, now: Instant) -> Self {
         let begun = Stand {
             report,
             size,
             vertices: 0,
             trees: 0,
             vertex: 0,
+            counted,
+            relaxed: 0,
             begun: now,
             stage_begun: now,
         };
-        begun.after(report, size, now)
+        begun.after(report, size, counted, now)
     }
 
     /// At the next report. A file that is read has the size, where that is known.
-    pub fn after(self, report: Report, size: Option<u64>, now: Instant) -> Self {
+    pub fn after(self, report: Report, size: Option<u64>, counted: u64, now: Instant) -> Self {
         let stage_begun = if self.report.is_like(report) {
             self.stage_begun
         } else {
@@ -94,6 +102,8 @@ impl Stand {
             vertices,
             trees: 0,
             vertex: 0,
+            counted,
+            relaxed: self.relaxed,
             begun: self.begun,
             stage_begun,
         }
@@ -120,9 +130,27 @@ impl Stand {
         }
     }
 
+    /// Once the workers have counted so many vertices that they relaxed. A vertex that is relaxed anew counts anew, so what was
+    /// told of them stays where a report takes some of them back.
+    pub fn with_counted(self, counted: u64) -> Self {
+        let (Report::Sources { done, count, .. } | Report::Pairs { done, count }) = self.report
+        else {
+            return self;
+        };
+        let since = counted.saturating_sub(self.counted);
+        let runs = self.each(done).saturating_add(since);
+        let relaxed = runs.min(self.each(count)).max(self.relaxed);
+        Stand { relaxed, ..self }
+    }
+
     /// What is told of it at a time.
     pub fn line(&self, now: Instant) -> Line<'_> {
         Line { stand: self, now }
+    }
+
+    // How many vertices so many trees have.
+    fn each(&self, trees: u64) -> u64 {
+        trees.saturating_mul(self.vertices.max(1))
     }
 
     // How much is done of what the report is of.
@@ -130,20 +158,23 @@ impl Stand {
         match self.report {
             Report::Read { bytes, .. } => self.size.map(|all| Share { done: bytes, all }),
             Report::Graph { .. } => None,
-            Report::Pairs { done, count } => Some(Share { done, all: count }),
-            Report::Sources { done, count, .. } => Some(self.share_of_trees(done, count)),
+            Report::Sources { done, count, .. } | Report::Pairs { done, count } => {
+                Some(self.share_of_runs(done, count))
+            }
         }
     }
 
-    // Each tree counts as many as there are vertices.
-    fn share_of_trees(&self, done: u64, count: u64) -> Share {
-        let each = self.vertices.max(1);
+    // To relax a vertex counts as much as to write two.
+    fn share_of_runs(&self, done: u64, count: u64) -> Share {
+        let all = self.each(count);
         let whole = done.saturating_add(self.trees).min(count);
-        let all = count.saturating_mul(each);
-        let done = whole.saturating_mul(each).saturating_add(self.vertex);
+        let written = self.each(whole).saturating_add(self.vertex).min(all);
+        // A tree that is being written is relaxed.
+        let begun = whole.saturating_add(u64::from(self.vertex > 0));
+        let relaxed = self.relaxed.max(self.each(begun)).min(all);
         Share {
-            done: done.min(all),
-            all,
+            done: relaxed.saturating_mul(2).saturating_add(written),
+            all: all.saturating_mul(3),
         }
     }
 

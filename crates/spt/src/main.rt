@@ -8,7 +8,7 @@ use std::process::ExitCode;
 use std::random::RandomSource;
 use std::rt::{Clock, Env, Files};
 use std::sync::Wait;
-use std::thread::Threads;
+use std::thread::{Threads, join};
 use std::{env, io};
 
 // More of the main thread's stack than any command takes, in bytes.
@@ -35,7 +35,18 @@ where
     if !take_stack(arguments.len(), words.len()) {
         return Err(io::ErrorKind::OutOfMemory.into());
     }
-    Ok(run_command(rt, alloc, &words, disk, out, err))
+    if !words.contains(&"--progress") {
+        return Ok(run_command(rt, alloc, &words, disk, out, err));
+    }
+    let screen = disk.screen();
+    let command = || {
+        let status = run_command(rt, alloc, &words, disk, out, err);
+        screen.end_watch();
+        status
+    };
+    // Where no thread can be had, the watch comes last and is over.
+    let (_, status) = join(rt, || screen.watch(), command);
+    Ok(status)
 }
 
 fn main(rt: HostRuntime) -> ExitCode {
