@@ -1,5 +1,5 @@
 #!/usr/bin/env python3
-"""Runs tests/python and the examples of the package and of docs/EMBEDDING.md, by this Python and by the system's.
+"""Runs tests/python and the examples of the package, of README.md and of docs/EMBEDDING.md, by this Python and by the system's.
 
 Usage: python3 tests/library_python.py [--archive ARCHIVE]
 
@@ -69,7 +69,8 @@ def add_last_line(count, text):
 
 
 def add_examples(count, python, prefix):
-    text = run(python, prefix, "-c", EXAMPLES, f"{HOME}/python/README.md", f"{HOME}/docs/EMBEDDING.md")
+    pages = [f"{HOME}/{page}" for page in ("README.md", "python/README.md", "docs/EMBEDDING.md")]
+    text = run(python, prefix, "-c", EXAMPLES, *pages)
     count.of(f"examples by {python}", add_last_line(count, text))
 
 
