@@ -108,11 +108,11 @@ def main():
     options = argparse.ArgumentParser(description=__doc__, formatter_class=argparse.RawDescriptionHelpFormatter)
     options.add_argument("--vertices", type=int, default=262_144)
     options.add_argument("--runs", type=int, default=7)
-    options.add_argument("--library", type=os.path.abspath, help="this libspt.so in place of one that .ci/libraries makes")
+    options.add_argument("--library", type=os.path.abspath, help="this libspt.so in place of one that build/libraries makes")
     chosen = options.parse_args()
     with tempfile.TemporaryDirectory() as folder:
         if chosen.library is None:
-            subprocess.run([f"{HOME}/.ci/libraries", folder], check=True)
+            subprocess.run([f"{HOME}/build/libraries", folder], check=True)
         measure(chosen, chosen.library or f"{folder}/lib/libspt.so", folder)
 
 

@@ -53,7 +53,7 @@ def sources():
 def program():
     """The program that `./spt` runs, which it builds first where there is none of these sources."""
     subprocess.run([os.path.join(HOME, "spt"), "--version"], check=True, stdout=subprocess.DEVNULL)
-    words = ["sh", "-c", 'home=$0; . "$home/.ci/program.sh"; program "$(sources)"', HOME]
+    words = ["sh", "-c", 'home=$0; . "$home/build/program.sh"; program "$(sources)"', HOME]
     return subprocess.run(words, check=True, capture_output=True, text=True).stdout.strip()
 
 

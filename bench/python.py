@@ -83,12 +83,12 @@ def main():
     options.add_argument("--vertices", type=int, default=100_000)
     options.add_argument("--arcs", type=int, default=400_000)
     options.add_argument("--runs", type=int, default=7)
-    options.add_argument("--library", type=os.path.abspath, help="this libspt.so in place of one that .ci/libraries makes")
+    options.add_argument("--library", type=os.path.abspath, help="this libspt.so in place of one that build/libraries makes")
     chosen = options.parse_args()
     sys.path.insert(0, f"{HOME}/python")
     with tempfile.TemporaryDirectory() as prefix:
         if chosen.library is None:
-            subprocess.run([f"{HOME}/.ci/libraries", prefix], check=True)
+            subprocess.run([f"{HOME}/build/libraries", prefix], check=True)
         os.environ["SPT_LIBRARY"] = chosen.library or f"{prefix}/lib/libspt.so"
         measure(chosen)
 

@@ -2,7 +2,7 @@
 
     python3 python/packing.py FOLDER     puts it there, without pip
 
-Nothing but Python is needed where dist/ has the library of these sources; else .ci/libraries proves and builds it. Nothing is
+Nothing but Python is needed where dist/ has the library of these sources; else build/libraries proves and builds it. Nothing is
 written beside these files. The same files give the same wheel, byte for byte.
 """
 
@@ -44,12 +44,12 @@ def _bytes(*path: str) -> bytes:
 
 def _library() -> bytes:
     """libspt.so of these sources."""
-    if not os.path.exists(f"{HOME}/.ci/libraries"):
+    if not os.path.exists(f"{HOME}/build/libraries"):
         sys.exit(f"spt: {FOLDER} stands in no checkout of the repository, which has the library for the wheel")
     with tempfile.TemporaryDirectory() as prefix:
-        made = subprocess.run([f"{HOME}/.ci/libraries", prefix], stdout=sys.stderr)
+        made = subprocess.run([f"{HOME}/build/libraries", prefix], stdout=sys.stderr)
         if made.returncode:
-            sys.exit(f"spt: .ci/libraries {prefix}: status {made.returncode}: there is no libspt.so for the wheel")
+            sys.exit(f"spt: build/libraries {prefix}: status {made.returncode}: there is no libspt.so for the wheel")
         with open(f"{prefix}/lib/libspt.so", "rb") as file:
             return file.read()
 

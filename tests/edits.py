@@ -10,7 +10,7 @@ Usage: python3 tests/edits.py [--over-gate] [--changed] [CRATE..]
 
 --over-gate takes the libraries that `rt ci` has just proved in this folder; else they are proved first where they aren't yet.
 --changed leaves out the crates of which dist/edits says that all their edits were refused: with these edits, of these sources of the
-crate and of those below it, by a kit of this logic. A whole run writes that list to .spt/edits, and .ci/release puts it into dist/.
+crate and of those below it, by a kit of this logic. A whole run writes that list to .spt/edits, and build/release puts it into dist/.
 The last line is 'N passed, M failed'.
 """
 
@@ -25,7 +25,7 @@ import tempfile
 
 HOME = os.path.dirname(os.path.dirname(os.path.realpath(__file__)))
 sys.dont_write_bytecode = True
-sys.path.insert(0, f"{HOME}/.ci")
+sys.path.insert(0, f"{HOME}/build")
 import kit  # noqa: E402
 
 rt = kit.load("rt")
@@ -202,7 +202,7 @@ def tried(crate):
 
 def sum_of(crate):
     """Of all that the answers of a crate's edits stand on: the edits, the sources of the crate and of those below it, the kit's logic."""
-    script = 'home=$1; . "$home/.ci/program.sh"; digest "$2"; rt version | grep -o "logic .*"'
+    script = 'home=$1; . "$home/build/program.sh"; digest "$2"; rt version | grep -o "logic .*"'
     said = subprocess.run(["sh", "-c", script, "sh", HOME, crate.name], capture_output=True, check=True).stdout
     for edit in edits_of(crate):
         said += f"{edit.name}\n{edit.lines}".encode()

@@ -3,7 +3,7 @@
 
 Usage: python3 tests/library_c.py [--archive ARCHIVE] [--program PROGRAM]
 
-The library is installed below a folder by .ci/libraries, and found there by pkg-config where that is there. The programs try
+The library is installed below a folder by build/libraries, and found there by pkg-config where that is there. The programs try
 every refusal, memory refused at each request, and the trees of the example and of a graph of 100,000 vertices, which must be the
 bytes of `spt tree`, by one thread and by four at once; and a graph that is kept and shared by four threads. They run under the
 sanitizers of addresses and of undefined behaviour, that of the kept graph also under the one of threads. What the header gives is
@@ -211,7 +211,7 @@ def try_page(count, compiler, prefix, folder):
 
 def try_all(count, chosen, folder):
     prefix = f"{folder}/a prefix"
-    words = [f"{HOME}/.ci/libraries", prefix] + ([chosen.archive] if chosen.archive else [])
+    words = [f"{HOME}/build/libraries", prefix] + ([chosen.archive] if chosen.archive else [])
     status, _, err = told(words)
     count.of(f"the library: {err.decode()}", status == 0)
     if status != 0:

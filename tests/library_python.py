@@ -3,7 +3,7 @@
 
 Usage: python3 tests/library_python.py [--archive ARCHIVE]
 
-The library is made by .ci/libraries. The tests of Dijkstra's algorithm that SciPy and NetworkX ship are run against the package
+The library is made by build/libraries. The tests of Dijkstra's algorithm that SciPy and NetworkX ship are run against the package
 too (tests/python/theirs.py); those of which are left out, and why, is printed. Tests that need SciPy or NetworkX are left out
 where these aren't installed (Debian: python3-scipy, python3-networkx), and said so; with SPT_ALL=1 what no Python ran counts as
 failed. The last line is 'N passed, M failed'.
@@ -90,7 +90,7 @@ def main():
     chosen = options.parse_args()
     count = Count()
     with tempfile.TemporaryDirectory() as prefix:
-        words = [f"{HOME}/.ci/libraries", prefix] + ([chosen.archive] if chosen.archive else [])
+        words = [f"{HOME}/build/libraries", prefix] + ([chosen.archive] if chosen.archive else [])
         made = subprocess.run(words, capture_output=True, text=True)
         count.of(f"the library: {made.stderr}", made.returncode == 0)
         pythons = {os.path.realpath(it): it for it in (sys.executable, SYSTEM) if os.path.exists(it)}

@@ -137,7 +137,7 @@ def install(*words, cwd=None, **known):
 
 
 def is_library_made():
-    words = ["sh", "-c", 'home=$0; . "$home/.ci/program.sh"; library "$(library_sources)"', HOME]
+    words = ["sh", "-c", 'home=$0; . "$home/build/program.sh"; library "$(library_sources)"', HOME]
     return bool(subprocess.run(words, check=True, stdout=subprocess.PIPE, text=True).stdout.strip())
 
 

@@ -21,7 +21,7 @@ import sys
 import tempfile
 
 HOME = os.path.dirname(os.path.dirname(os.path.realpath(__file__)))
-sys.path.insert(0, f"{HOME}/.ci")
+sys.path.insert(0, f"{HOME}/build")
 sys.dont_write_bytecode = True
 import kit  # noqa: E402
 

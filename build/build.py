@@ -1,7 +1,7 @@
 #!/usr/bin/env python3
 """Proves and builds the program of crates/spt: each crate that it uses, once those below it are proved, on all processors.
 
-Usage: python3 .ci/build.py
+Usage: python3 build/build.py
 
 Each crate is proved from nothing, over what the crates below it state, as the gate does it: that is sooner than over what checks while
 one writes have kept (`rt check`), which holds their proofs too. A crate that an earlier run proved from the same sources isn't

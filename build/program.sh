@@ -64,7 +64,7 @@ keep_library() (
     set -e
     rm -rf "$made/library"
     mkdir -p "$made/library.new"
-    "$home/.ci/link" "$home/crates/spt_c/out/libspt_c.a" "$made/library.new"
+    "$home/build/link" "$home/crates/spt_c/out/libspt_c.a" "$made/library.new"
     echo "$1" > "$made/library.new/sources"
     mv "$made/library.new" "$made/library"
 )

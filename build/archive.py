@@ -1,7 +1,7 @@
 #!/usr/bin/env python3
 """Builds crates/spt_c/out/libspt_c.a over the libraries that `rt ci` has just proved in this folder.
 
-Usage: python3 .ci/archive.py
+Usage: python3 build/archive.py
 
 `rt lib` takes no library of `rt ci`, and would prove them all once more. So this calls what `rt lib` calls, of the kit's own module: the
 crate itself is proved from nothing.
