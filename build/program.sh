@@ -19,13 +19,21 @@ crates_of() {
     ' "$home/crates.txt" | LC_ALL=C sort
 }
 
-# digest CRATE: of all that the crate is made from, as one line; tests and edits play no part
+# find_sources CRATES [TEST..]: the files of the repository that the crates are made from, each ended by a null byte, behind what the
+# tests of `find` before them take; tests and edits play no part
+find_sources() {
+    crates=$1
+    shift
+    find HANDLES $(printf 'crates/%s ' $crates) \( -name out -o -path '*/src/tests*' -o -path '*/proofs/tests*' \) -prune -o "$@" -type f \( -name '*.rt' -o -name '*.antt' -o -name '*.txt' -o -name HANDLES \) -print0
+}
+
+# digest CRATE: of all that the crate is made from, as one line
 digest() (
     cd "$home"
     crates=$(crates_of "$1")
     {
         for crate in $crates; do grep "^$crate[ :]" crates.txt; done
-        find HANDLES $(printf 'crates/%s ' $crates) \( -name out -o -path '*/src/tests*' -o -path '*/proofs/tests*' \) -prune -o -type f \( -name '*.rt' -o -name '*.antt' -o -name '*.txt' -o -name HANDLES \) -print0 | LC_ALL=C sort -z | xargs -0 sha256sum
+        find_sources "$crates" | LC_ALL=C sort -z | xargs -0 sha256sum
     } | sha256sum
 )
 
@@ -33,22 +41,59 @@ digest() (
 sources() { digest spt; }
 library_sources() { digest spt_c; }
 
-# built_from SOURCES FILE FOLDER..: the first folder whose file was built from these sources, nothing where there is none
-built_from() (
-    sources=$1
+# built_from SOURCES FILE FOLDER..: whether the file of a folder was built from these sources; `folder` is the first such one
+built_from() {
+    wanted=$1
     file=$2
     shift 2
     for folder in "$@"; do
-        if [ -x "$folder/$file" ] && [ "$sources" = "$(cat "$folder/sources" 2> /dev/null)" ]; then
-            echo "$folder"
-            break
-        fi
+        if [ -x "$folder/$file" ] && IFS= read -r from < "$folder/sources" && [ "$from" = "$wanted" ]; then return; fi
     done
-)
+    return 1
+} 2> /dev/null
 
 # program SOURCES: the program of these sources; library SOURCES: the folder with the library for C of these; else nothing
-program() { built_from "$1" spt "$made" "$release" | sed 's|$|/spt|'; }
-library() { built_from "$1" libspt.so "$made/library" "$release/library"; }
+program() (if built_from "$1" spt "$made" "$release"; then echo "$folder/spt"; fi)
+library() (if built_from "$1" libspt.so "$made/library" "$release/library"; then echo "$folder"; fi)
+
+# known_program: what `program "$(sources)"` prints, at once where no file of the sources has changed since they were last read
+#
+# The stamp, .spt/stamp, has their digest, the names of the files and of their folders, and a sum of what the system tells of each.
+known_program() { (stamped_program) 2> /dev/null || program "$(stamp_sources)"; }
+
+# state_of FILE..: number, length, time of the text, time of the last change (which nobody can set), a line for each
+state_of() { LC_ALL=C stat -c '%i %s %.Y %.Z' -- "$@"; }
+
+stamped_program() {
+    cd "$home"
+    state=
+    . "$made/stamp"
+    if [ "$(state_of "$@" | sha256sum)" != "$state" ]; then return 1; fi
+    if built_from "$digest" spt "$made" "$release"; then echo "$folder/spt"; fi
+}
+
+# Prints what `sources` prints, and makes the stamp where it can. The state is taken before the sources are read, so that a change
+# meanwhile shows. A change in the same tick of the system's clock, or of one that counts two seconds, wouldn't: there is no stamp
+# where something has changed as lately as that.
+stamp_sources() (
+    cd "$home"
+    new=$({ mkdir -p "$made" && mktemp "$made/stamp.XXXXXX"; } 2> /dev/null) || new=
+    trap 'rm -f "$new"' EXIT
+    files=$(find_sources "$(crates_of spt)" -type d -print0 -o 2> /dev/null | sed -z "s/'/'\\\\''/g; s/.*/'&'/" | tr '\0' ' ')
+    eval "set -- crates.txt build/program.sh $files"
+    state=$(state_of "$@" 2> /dev/null) || state=
+    digest=$(sources)
+    echo "$digest"
+    if [ -n "$new" ] && printf '%s\n' "$state" | is_settled "$(LC_ALL=C stat -c %.Z -- "$new")"; then
+        {
+            echo "set -- crates.txt build/program.sh $files"
+            echo "digest='$digest' state='$(printf '%s\n' "$state" | sha256sum)'"
+        } > "$new" && chmod a+r "$new" && mv "$new" "$made/stamp"
+    fi
+)
+
+# Whether all that a state tells of has last changed more than two seconds before a time.
+is_settled() { LC_ALL=C awk -v now="$1" '$4 !~ /^[0-9]+\.[0-9]+$/ || $4 + 2 >= now { is_late = 1 } END { exit is_late }'; }
 
 # Keeps the program that was just built in crates/spt, from the sources that the argument names.
 keep() {

@@ -1,0 +1,214 @@
+#!/usr/bin/env python3
+"""Starts ./spt in small repositories of one crate: at once where no source has changed, and never the program of other sources.
+
+Usage: python3 tests/start.py
+
+Each repository has a stand-in of the program in .spt/, or in dist/, and an `rt` that builds nothing, so that a start which wants to
+build ends with status 70. The last line is 'N passed, M failed'.
+"""
+
+import concurrent.futures
+import os
+import shutil
+import subprocess
+import sys
+import tempfile
+import time
+
+HOME = os.path.dirname(os.path.dirname(os.path.realpath(__file__)))
+sys.dont_write_bytecode = True
+from trees import Count  # noqa: E402
+
+# a source that changes within this time has no stamp
+SETTLED = 2.2
+SOURCE = "crates/spt/src/main.rt"
+FILES = {
+    "crates.txt": "spt: sp_one\nsp_one:\nsp_other:\n",
+    "HANDLES": "Handles allowed: none.\n",
+    SOURCE: "fn main() {}\n",
+    "crates/sp_one/src/lib.rt": "pub fn one() -> u64 { 1 }\n",
+    "crates/sp_one/proofs/lib/one/Answers.antt": "one\n",
+    "crates/sp_one/proofs/it's one\nfile.antt": "two\n",
+    "crates/sp_one/edits/two.edit": "file: src/lib.rt\nold: 1 }\nnew: 2 }\n",
+    "crates/sp_one/src/tests/more.rt": "fn more() {}\n",
+    "crates/sp_other/src/lib.rt": "pub fn other() {}\n",
+}
+# It tells which files are summed, and sums them.
+SUM = '#!/bin/sh\nprintf "%s\\n" "$@" >> "$SUMMED"\nexec {} "$@"\n'
+
+
+def put(path, text, mode=0o644):
+    os.makedirs(os.path.dirname(path), exist_ok=True)
+    with open(path, "w") as it:
+        it.write(text)
+    os.chmod(path, mode)
+
+
+class Repository:
+    """A repository with a stand-in of the program, that was built from its sources."""
+
+    def __init__(self, folder, where=".spt"):
+        self.home = f"{folder}/it's a repository"
+        for name, text in FILES.items():
+            put(f"{self.home}/{name}", text)
+        for name in ("spt", "build", "share/run.sh"):
+            copy = shutil.copytree if os.path.isdir(f"{HOME}/{name}") else shutil.copy
+            os.makedirs(os.path.dirname(f"{self.home}/{name}"), exist_ok=True)
+            copy(f"{HOME}/{name}", f"{self.home}/{name}")
+        put(f"{folder}/bin/rt", "raise SystemExit(1)\n", 0o755)
+        put(f"{folder}/bin/sha256sum", SUM.format(shutil.which("sha256sum")), 0o755)
+        self.summed = f"{folder}/summed"
+        self.known = {**os.environ, "PATH": f"{folder}/bin:{os.environ['PATH']}", "SUMMED": self.summed}
+        put(f"{self.home}/{where}/spt", '#!/bin/sh\necho the program "$@"\n', 0o755)
+        words = ["sh", "-c", 'home=$0; . "$home/build/program.sh"; sources', self.home]
+        put(f"{self.home}/{where}/sources", subprocess.run(words, check=True, env=self.known, stdout=subprocess.PIPE, text=True).stdout)
+
+    def path(self, name):
+        return f"{self.home}/{name}"
+
+    def start(self, *words, cwd="/"):
+        """Status and output of a start, and whether it has read the sources."""
+        put(self.summed, "")
+        done = subprocess.run([*(words or [self.path("spt")]), "a word"], cwd=cwd, env=self.known, capture_output=True, text=True)
+        with open(self.summed) as it:
+            return done.returncode, done.stdout, SOURCE in it.read()
+
+    def is_stamped(self):
+        return os.path.isfile(self.path(".spt/stamp"))
+
+
+QUICK = (0, "the program a word\n", False)
+SLOW = (0, "the program a word\n", True)
+BUILDS = (70, "", True)
+
+
+def keep_times(path, before):
+    os.utime(path, ns=(before.st_atime_ns, before.st_mtime_ns))
+
+
+def edit(path, line="// one more line\n"):
+    with open(path, "a") as it:
+        it.write(line)
+
+
+def edit_in_place(path):
+    """Another text of the same length and the same time."""
+    before = os.stat(path)
+    with open(path, "r+") as it:
+        it.write("F")
+    keep_times(path, before)
+
+
+def replace(path):
+    """Another file of the same name, length and time."""
+    before = os.stat(path)
+    with open(path) as it:
+        put(f"{path}.new", it.read().replace("n", "N", 1))
+    keep_times(f"{path}.new", before)
+    os.replace(f"{path}.new", path)
+
+
+def put_away(path):
+    os.rename(path, f"{path}.old")
+
+
+CHANGES = {
+    "a source edited": lambda its: edit(its.path(SOURCE)),
+    "a source edited, length and time as before": lambda its: edit_in_place(its.path(SOURCE)),
+    "a source replaced, length and time as before": lambda its: replace(its.path(SOURCE)),
+    "a proof edited": lambda its: edit(its.path("crates/sp_one/proofs/it's one\nfile.antt")),
+    "a source added": lambda its: put(its.path("crates/sp_one/src/new.rt"), ""),
+    "a source added in a new folder": lambda its: put(its.path("crates/sp_one/specs/new/New.antt"), ""),
+    "a source removed": lambda its: os.remove(its.path("crates/sp_one/proofs/lib/one/Answers.antt")),
+    "a source renamed": lambda its: put_away(its.path("crates/sp_one/src/lib.rt")),
+    "a crate put away": lambda its: put_away(its.path("crates/sp_one")),
+    "the handles edited": lambda its: edit(its.path("HANDLES")),
+    "one crate more": lambda its: put(its.path("crates.txt"), FILES["crates.txt"].replace("sp_one\n", "sp_one sp_other\n", 1)),
+}
+HARMLESS = {
+    "a source touched": lambda its: os.utime(its.path(SOURCE)),
+    "the time of a source set back": lambda its: os.utime(its.path(SOURCE), (1, 1)),
+    "what makes the sum edited": lambda its: edit(its.path("build/program.sh"), "# one more line\n"),
+    "another text put beside the sources": lambda its: put(its.path("crates/sp_one/src/notes.md"), "one\n"),
+}
+STAMPS = {
+    "a stamp that is cut": lambda its: put(its.path(".spt/stamp"), "set -- 'crates.txt\n"),
+    "a stamp that is empty": lambda its: put(its.path(".spt/stamp"), ""),
+}
+ELSEWHERE = {
+    "nothing changed": lambda its: None,
+    "an edit of a contract edited": lambda its: edit(its.path("crates/sp_one/edits/two.edit")),
+    "a test edited": lambda its: edit(its.path("crates/sp_one/src/tests/more.rt")),
+    "a crate edited that the program doesn't use": lambda its: edit(its.path("crates/sp_other/src/lib.rt")),
+}
+
+
+def try_change(folder, where, change, *wanted):
+    """What is wrong with the starts before a change, which makes the stamp, and behind it."""
+    its = Repository(folder, where)
+    time.sleep(SETTLED)
+    before = [its.start(), its.start()]
+    if before != [SLOW, QUICK] or not its.is_stamped():
+        return f"before: {before}"
+    change(its)
+    after = [its.start() for _ in wanted]
+    return None if after == list(wanted) else f"after: {after}"
+
+
+def try_changes(count, folder):
+    """All changes of the tables at once, since a repository has to settle."""
+    tried = {}
+    with concurrent.futures.ThreadPoolExecutor(8) as pool:
+        for where in (".spt", "dist"):
+            for changes, wanted in ((CHANGES, [BUILDS]), (HARMLESS, [SLOW, SLOW]), (STAMPS, [SLOW, QUICK]), (ELSEWHERE, [QUICK])):
+                for name, change in changes.items():
+                    place = f"{folder}/{where} {len(tried)}"
+                    tried[f"{name}, the program in {where}"] = pool.submit(try_change, place, where, change, *wanted)
+    for name, task in tried.items():
+        count.of(f"{name}; {task.result()}", task.result() is None)
+
+
+def try_lately(count, folder):
+    """What has changed lately has no stamp, so that a change at once after a start shows, whatever the clock tells of it."""
+    its = Repository(folder)
+    count.of(f"new sources: {os.listdir(its.path('.spt'))}", its.start() == SLOW and sorted(os.listdir(its.path(".spt"))) == ["sources", "spt"])
+    edit_in_place(its.path(SOURCE))
+    count.of("a source edited at once, length and time as before", its.start() == BUILDS)
+
+
+def try_places(count, folder):
+    """Each way to name ./spt, and many starts at once."""
+    its = Repository(folder)
+    time.sleep(SETTLED)
+    with concurrent.futures.ThreadPoolExecutor(8) as pool:
+        found = list(pool.map(lambda _: its.start()[:2], range(16)))
+    count.of(f"many starts at once: {found}", found == [SLOW[:2]] * 16)
+    count.of(f"left behind: {os.listdir(its.path('.spt'))}", sorted(os.listdir(its.path(".spt"))) == ["sources", "spt", "stamp"])
+    os.symlink(its.path("spt"), f"{folder}/link")
+    os.symlink("link", f"{folder}/second")
+    its.known["CDPATH"] = its.home
+    for words, cwd in ([f"{folder}/link"], "/"), (["./second"], folder), (["./spt"], its.home), (["sh", "spt"], its.home), (["bash", "spt"], its.home), (["../spt"], its.path("share")):
+        count.of(f"{words} in {cwd}", its.start(*words, cwd=cwd) == QUICK)
+
+
+def try_without_stamp(count, folder):
+    """Where .spt/ can't be written, a start is as right, and only slower."""
+    its = Repository(folder, "dist")
+    put(its.path(".spt"), "")
+    time.sleep(SETTLED)
+    count.of("no folder .spt", [its.start(), its.start()] == [SLOW, SLOW])
+    edit_in_place(its.path(SOURCE))
+    count.of("no folder .spt, a source edited", its.start() == BUILDS)
+
+
+def main():
+    count = Count()
+    for tried in (try_changes, try_lately, try_places, try_without_stamp):
+        with tempfile.TemporaryDirectory() as folder:
+            tried(count, folder)
+    print(f"{count.passed} passed, {count.failed} failed")
+    return 1 if count.failed else 0
+
+
+if __name__ == "__main__":
+    sys.exit(main())
