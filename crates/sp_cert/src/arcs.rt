@@ -8,7 +8,7 @@ use crate::fault::{Fault, earlier};
 use crate::rule::Rule;
 use rayon::prelude::*;
 use sp_graph::look_up;
-use sp_paths::Arc;
+use sp_paths::{Arc, Offer};
 use sp_word::Word;
 use std::thread::Threads;
 
@@ -19,21 +19,10 @@ fn broken_by<const P: u32>(words: &[Word<P>], arc: Arc) -> Option<Rule>
     requires arc { IsArc (length words.now) arc }
     ensures { IsBroken (BreaksBy (max_dist P) (word_at words.now) arc) result }
 {
-    let Some(dist) = look_up(words, arc.tail).dist() else {
-        return None;
-    };
-    let found = look_up(words, arc.head);
-    let sum = dist + u64::from(arc.len);
-    if sum > Word::<P>::max_dist() {
-        if found.is_unreached() {
-            Some(Rule::OnlyTooFar)
-        } else {
-            None
-        }
-    } else if Word::<P>::pack(sum, arc.tail).is_below(found) {
-        Some(Rule::NoLesserOffer)
-    } else {
-        None
+    match arc.offer(look_up(words, arc.tail)) {
+        Offer::Within(word) if word.is_below(look_up(words, arc.head)) => Some(Rule::NoLesserOffer),
+        Offer::Beyond if look_up(words, arc.head).is_unreached() => Some(Rule::OnlyTooFar),
+        _ => None,
     }
 }
 

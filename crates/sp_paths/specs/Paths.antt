@@ -4,6 +4,8 @@ use Rattle.std.specs.Prelude.{◌≡◌, ◌≢◌, ℕ, ◌+◌, ◌-◌, ◌<�
 use Rattle.sp_word.specs.Word.{Word, Unreached, Pair}
 use Rattle.sp_word.specs.History.{Table}
 use Rattle.sp_paths.specs.declared.arc.Arc.{Arc}
+use Rattle.sp_paths.specs.declared.offer.Offer.{Offer}
+use Rattle.sp_paths.specs.declared.offer.Offer.TheVariants.{NoTail, Beyond, Within}
 
 -- ## Graphs
 
@@ -124,6 +126,12 @@ IsPair g s t max NoWalk = (IsNear g s max t → ⊥) × IsFar g s max None
 abbrev pub IsLawful : Graph → (s v : ℕ) → Word → Type 0
 IsLawful g s v Unreached = Unit {0}
 IsLawful g s v (Pair d p) = IsSourcePair s v d p ⊎ HasWalkBy g s v d p
+
+-- What the arc offers its head where its tail has the word `from`: the sum and the tail, where the sum is within max.
+abbrev pub IsOffered : {P : ℕ} → (max : ℕ) → (from : Word) → Arc → Offer P → Type 0
+IsOffered max from a NoTail = from ≡ Unreached
+IsOffered max from a Beyond = (d p : ℕ) × (from ≡ Pair d p) × (max < d + a.len)
+IsOffered max from a (Within w) = (d p : ℕ) × (from ≡ Pair d p) × (d + a.len ≤ max) × (w ≡ Pair (d + a.len) a.tail)
 
 -- The word is at most the pair (d, p): by distance, then by predecessor, with unreached last.
 abbrev pub IsAtMost : Word → (d p : ℕ) → Type 0

@@ -4,9 +4,11 @@
 
 mod arc;
 mod laws;
+mod offer;
 
 pub use arc::Arc;
 pub use laws::{
     answers_exist, bag_of_arcs, closed_calls, finished_table, meanings, passed_bucket,
     rows_of_arcs, swept_copy, tested_copy,
 };
+pub use offer::Offer;

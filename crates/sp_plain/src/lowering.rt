@@ -4,7 +4,7 @@ ghost use Rattle.sp_word.specs.Word.{is_layout, max_dist, max_pred};
 ghost use Rattle.sp_paths.specs.Paths.{IsArc, IsVertex};
 ghost use Rattle.sp_plain.specs.Passing.{IsTableOfWalks, KeepsWalks};
 
-use crate::pass::{first_table, offer};
+use crate::pass::{first_table, lesser_offer};
 use sp_graph::{Graph, look_up};
 use sp_paths::Arc;
 use sp_word::Word;
@@ -39,7 +39,7 @@ pub fn relax<const P: u32>(words: &mut Vec<Word<P>>, arc: Arc) -> Option<u64>
     ensures kept { KeepsWalks (max_dist P) arc words.old.items words.new.items }
 {
     let found = look_up(words, arc.head);
-    let word = offer(look_up(words, arc.tail), arc, found)?;
+    let word = lesser_offer(look_up(words, arc.tail), arc, found)?;
     words[(arc.head - 1) as usize] = word;
     distance_below(found, word)
 }

@@ -6,28 +6,21 @@ ghost use Rattle.sp_paths.specs.Paths.{IsArc, IsVertex};
 ghost use Rattle.sp_plain.specs.Passing.{KeepsTablesOf, IsClosedTable, IsLesserOffer, IsNoLesser, IsSmallTable, total_rank, first_words, IsFinishedTable};
 
 use sp_graph::{Graph, look_up};
-use sp_paths::Arc;
+use sp_paths::{Arc, Offer};
 use sp_word::Word;
 use std::alloc::{AllocError, Global};
 
 // Returns the word with which an arc from a vertex with the word `from` replaces the head's word, if it does.
-pub fn offer<const P: u32>(from: Word<P>, arc: Arc, found: Word<P>) -> Option<Word<P>>
+pub fn lesser_offer<const P: u32>(from: Word<P>, arc: Arc, found: Word<P>) -> Option<Word<P>>
     requires layout { is_layout P ≡ true }
     requires tail { arc.tail ≤ max_pred P }
     ensures some { IfSome result
         (λ word. IsLesserOffer (max_dist P) from.entry arc found.entry word) }
     ensures none { IfNone result (IsNoLesser (max_dist P) from.entry arc found.entry) }
 {
-    let dist = from.dist()?;
-    let sum = dist + u64::from(arc.len);
-    if sum > Word::<P>::max_dist() {
-        return None;
-    }
-    let word = Word::pack(sum, arc.tail);
-    if word.is_below(found) {
-        Some(word)
-    } else {
-        None
+    match arc.offer(from) {
+        Offer::Within(word) if word.is_below(found) => Some(word),
+        _ => None,
     }
 }
 
@@ -49,7 +42,7 @@ fn pass<const P: u32>(words: &mut Vec<Word<P>>, arcs: &[Arc]) -> bool
     for arc in arcs {
         let from = look_up(words, arc.tail);
         let found = look_up(words, arc.head);
-        if let Some(word) = offer(from, *arc, found) {
+        if let Some(word) = lesser_offer(from, *arc, found) {
             words[(arc.head - 1) as usize] = word;
             changed = true;
         }

@@ -1,16 +1,18 @@
 -- What parts of the arcs show, and what all of them do.
-use Rattle.std.proofs.Common.{◌≡◌, ℕ, ◌+◌, ◌<◌, ◌≤◌, ◌⊎◌, inl, inr, List, [], ◌∷◌, ◌++◌, length, take, drop, get_or, Some, refl, sym, ap, ◌∙◌, subst, arith}
-use Rattle.std.specs.Prelude.{All, Any, min}
-use Rattle.std.proofs.lemmas.Bool.{cases_lt}
+use Rattle.std.proofs.Common.{◌≡◌, ℕ, ◌+◌, ◌<◌, ◌≤◌, ◌⊎◌, ◌↔◌, inl, inr, Bool, true, false, not, List, [], ◌∷◌, ◌++◌, length, take, drop, get_or, Some, refl, sym, ap, ◌∙◌, subst, arith}
+use Rattle.std.specs.Prelude.{All, Any, IsTrue, min}
+use Rattle.std.proofs.lemmas.Bool.{cases_lt, cases_order, iff_false}
 use Rattle.std.proofs.lemmas.List.{take_more, take_all, take-append-drop}
 use Rattle.std.proofs.lemmas.List.Elements.{All-append, All-weaker, Contains-append_left, Contains-append_right}
 use Rattle.sp_word.specs.Word.{Word, Unreached, Pair, IsBelow, dist_of}
 use Rattle.sp_word.specs.History.{Table}
 use Rattle.sp_paths.specs.declared.arc.Arc.{Arc}
-use Rattle.sp_paths.specs.Paths.{IsAtMost}
+use Rattle.sp_paths.specs.Paths.{Graph, IsAtMost}
+use Rattle.sp_paths.specs.Rows.{row_of}
+use Rattle.sp_paths.proofs.Core.{pair_dist}
 use Rattle.sp_scan.specs.declared.scan.Scan.{Scan}
 use Rattle.sp_scan.specs.declared.scan.Scan.TheVariants.{Whole, LeavesOut, Open}
-use Rattle.sp_scan.specs.Shown.{Shows, both_of, IsArcRelaxed, LeadsOut}
+use Rattle.sp_scan.specs.Shown.{Shows, both_of, IsArcRelaxed, LeadsOut, IsRelaxedFrom, IsRowClosedUpTo}
 
 pub any_left : (F : Arc → Type 0) (xs ys : List Arc) → Any F xs → Any F (xs ++ ys)
 any_left F xs ys (k, x, low, is, h) = let c = Contains-append_left xs ys x (k, low, is) in (c.0, x, c.1, c.2, h)
@@ -86,13 +88,43 @@ below_not (Pair e q) d p (inl a) (inr b) = absurd (let x = b.0 in omega arith)
 below_not (Pair e q) d p (inr a) (inl b) = absurd (let x = a.0 in omega arith)
 below_not (Pair e q) d p (inr a) (inr b) = absurd (let x = a.0 in let y = a.1 in let z = b.1 in omega arith)
 
-dist_pair : (w : Word) (d : ℕ) → dist_of w ≡ Some d → (p : ℕ) × (w ≡ Pair d p)
-dist_pair Unreached d is = absurd (cc)
-dist_pair (Pair e q) d is = (q, let same : e ≡ d = cc in ap (λ x. Pair x q) same)
+not_below : (w : Word) (d p : ℕ) → (IsBelow (Pair d p) w → ⊥) → IsAtMost w d p
+not_below Unreached d p none = absurd (none tt)
+not_below (Pair e q) d p none = go (cases_order e d) (cases_lt p q)
+  where
+    go : (e ≡ d) ⊎ ((e < d) ⊎ (d < e)) → (p < q) ⊎ (q ≤ p) → IsAtMost (Pair e q) d p
+    go (inl same) (inl low) = absurd (none (inr (sym same, low)))
+    go (inl same) (inr low) = inr (same, low)
+    go (inr (inl low)) _ = inl low
+    go (inr (inr low)) _ = absurd (none (inl low))
 
--- an arc that offers its head less than its word isn't relaxed
-pub shows_open : (max : ℕ) (words : Table) (a : Arc) (from found offered : Word) (d : ℕ) → from ≡ words a.tail → dist_of from ≡ Some d → found ≡ words a.head → offered ≡ Pair (d + a.len) a.tail → d + a.len ≤ max → IsBelow offered found → Shows max words (a ∷ []) Open
-shows_open max words a from found offered d read is there pair fits below =
-    let p = dist_pair from d is in
-    let less : IsBelow (Pair (d + a.len) a.tail) (words a.head) = subst (λ w. IsBelow w (words a.head)) pair (subst (λ w. IsBelow offered w) there below) in
-    (0, a, omega arith, refl, λ relaxed. below_not (words a.head) (d + a.len) a.tail less (relaxed d p.0 (sym read ∙ p.1) fits))
+-- an arc that offers its head this word
+module _ (max : ℕ) (words : Table) (a : Arc) (from found offered : Word) (d p : ℕ) (is : from ≡ Pair d p) (fits : d + a.len ≤ max) (pair : offered ≡ Pair (d + a.len) a.tail) (there : found ≡ words a.head) where
+  less : IsBelow offered found → IsBelow (Pair (d + a.len) a.tail) (words a.head)
+  less below = subst (λ w. IsBelow w (words a.head)) pair (subst (λ w. IsBelow offered w) there below)
+
+  greater : (IsBelow offered found → ⊥) → IsAtMost (words a.head) (d + a.len) a.tail
+  greater none = not_below (words a.head) (d + a.len) a.tail (λ below. none (subst (λ w. IsBelow offered w) (sym there) (subst (λ w. IsBelow w (words a.head)) (sym pair) below)))
+
+  -- where that is less than its head's word, it isn't relaxed
+  pub shows_open : from ≡ words a.tail → IsBelow offered found → Shows max words (a ∷ []) Open
+  shows_open read below = (0, a, omega arith, refl, λ relaxed. below_not (words a.head) (d + a.len) a.tail (less below) (relaxed d p (sym read ∙ is) fits))
+
+  -- and else it is
+  pub relaxed_unless : (below : Bool) → (IsTrue below ↔ IsBelow offered found) → IsTrue (not below) ↔ IsRelaxedFrom max words from a
+  relaxed_unless true test = (λ t. absurd (cc), λ relaxed. absurd (below_not (words a.head) (d + a.len) a.tail (less (test.0 refl)) (relaxed d p is fits)))
+  relaxed_unless false test = (λ t e q at low. here e (pair_dist d p e q (sym is ∙ at)), λ relaxed. refl)
+    where
+      here : (e : ℕ) → d ≡ e → IsAtMost (words a.head) (e + a.len) a.tail
+      here e same = subst (λ x. IsAtMost (words a.head) (x + a.len) a.tail) same (greater (iff_false test refl))
+
+-- the row of a vertex whose distance is up to this one
+pub row_closed : (g : Graph) (max far : ℕ) (words : Table) (u : ℕ) (from : Word) (row : List Arc) (d : ℕ) (told : Bool) → from ≡ words u → row ≡ row_of g.arcs u → dist_of from ≡ Some d → d ≤ far
+    → (IsTrue told ↔ All (IsRelaxedFrom max words from) row) → IsTrue told ↔ IsRowClosedUpTo g max far words u
+row_closed g max far words u from row d told read is dist near relaxed = (
+  λ t e q at low k a place. (rw (read, is) at (relaxed.0 t)) k a place e q at,
+  λ closed. relaxed.1 (λ k a place e q at. (rw (sym is) at (closed e q (sym read ∙ at) (let same = dist_same from d e q dist at in omega arith))) k a place),
+)
+  where
+    dist_same : (w : Word) (d e q : ℕ) → dist_of w ≡ Some d → w ≡ Pair e q → d ≡ e
+    dist_same w d e q one other = let both : Some e ≡ Some d = sym (ap dist_of other) ∙ one in cc

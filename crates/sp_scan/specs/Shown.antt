@@ -1,6 +1,6 @@
 -- What arcs show of a table of words.
 use Rattle.std.specs.Prelude.{◌≡◌, ℕ, ◌≤◌, min, List, [], ◌∷◌, ◌++◌, All, Any, Contains}
-use Rattle.sp_word.specs.Word.{Pair, Unreached}
+use Rattle.sp_word.specs.Word.{Word, Pair, Unreached}
 use Rattle.sp_word.specs.History.{Table}
 use Rattle.sp_paths.specs.declared.arc.Arc.{Arc}
 use Rattle.sp_paths.specs.Paths.{Graph, IsVertex, IsRelaxed}
@@ -30,6 +30,10 @@ pub record AreOpenTails (max : ℕ) (words : Table) (arcs : List Arc) (tails : L
 -- one more arc was taken into such a list
 abbrev pub TakesArc : (max : ℕ) → Table → Arc → (before after : List ℕ) → Type 0
 TakesArc max words a before after = (arcs : List Arc) → AreOpenTails max words arcs before → AreOpenTails max words (arcs ++ a ∷ []) after
+
+-- where the arc's tail has the word `from`, the arc was relaxed
+abbrev pub IsRelaxedFrom : (max : ℕ) → Table → (from : Word) → Arc → Type 0
+IsRelaxedFrom max words from a = (d p : ℕ) → from ≡ Pair d p → IsRelaxedAtDist max words d a
 
 -- where the vertex has a distance up to this one, its arcs were relaxed at it
 abbrev pub IsRowClosedUpTo : Graph → (max far : ℕ) → Table → (u : ℕ) → Type 0

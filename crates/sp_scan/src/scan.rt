@@ -3,11 +3,10 @@ ghost use Rattle.std.specs.Prelude.{◌≡◌, ◌≤◌, ◌↔◌, true, [], �
 ghost use denote.Param.Send.{IsSync};
 ghost use Rattle.sp_word.specs.Word.{is_layout, max_dist, max_pred};
 ghost use Rattle.sp_paths.specs.Paths.{IsArc, IsVertex, word_at};
-ghost use Rattle.sp_paths.specs.Rows.{IsArcRelaxed as IsRelaxedAtDist};
-ghost use Rattle.sp_scan.specs.Shown.{Shows, IsRowClosedUpTo, IsClosedUpTo, AreOpenTails, TakesArc, both_of};
+ghost use Rattle.sp_scan.specs.Shown.{Shows, IsRelaxedFrom, IsRowClosedUpTo, IsClosedUpTo, AreOpenTails, TakesArc, both_of};
 
 use sp_graph::{Graph, look_up};
-use sp_paths::Arc;
+use sp_paths::{Arc, Offer};
 use sp_word::Word;
 use std::alloc::{AllocError, Global};
 use std::thread::{Threads, join};
@@ -45,21 +44,10 @@ fn scan_arc<const P: u32>(words: &[Word<P>], arc: Arc) -> Scan
     requires arc { IsArc (length words.now) arc }
     ensures { Shows (max_dist P) (word_at words.now) (arc ∷ []) result }
 {
-    let Some(dist) = look_up(words, arc.tail).dist() else {
-        return Scan::Whole;
-    };
-    let found = look_up(words, arc.head);
-    let sum = dist + arc.len as u64;
-    if sum > Word::<P>::max_dist() {
-        if found.is_unreached() {
-            Scan::LeavesOut(arc.head)
-        } else {
-            Scan::Whole
-        }
-    } else if Word::<P>::pack(sum, arc.tail).is_below(found) {
-        Scan::Open
-    } else {
-        Scan::Whole
+    match arc.offer(look_up(words, arc.tail)) {
+        Offer::Within(word) if word.is_below(look_up(words, arc.head)) => Scan::Open,
+        Offer::Beyond if look_up(words, arc.head).is_unreached() => Scan::LeavesOut(arc.head),
+        _ => Scan::Whole,
     }
 }
 
@@ -77,30 +65,29 @@ fn scan_part<const P: u32>(words: &[Word<P>], arcs: &[Arc]) -> Scan
     told
 }
 
-// Whether an arc is relaxed at this distance of its tail.
-fn is_arc_relaxed<const P: u32>(words: &[Word<P>], arc: Arc, dist: u64) -> bool
+// Whether an arc is relaxed, where its tail has this word.
+fn is_arc_relaxed<const P: u32>(words: &[Word<P>], arc: Arc, from: Word<P>) -> bool
     requires layout { is_layout P ≡ true }
     requires most { length words.now ≤ max_pred P }
-    requires dist { dist ≤ max_dist P }
     requires arc { IsArc (length words.now) arc }
-    ensures { IsTrue result ↔ IsRelaxedAtDist (max_dist P) (word_at words.now) dist arc }
+    ensures { IsTrue result ↔ IsRelaxedFrom (max_dist P) (word_at words.now) from.entry arc }
 {
-    let sum = dist + u64::from(arc.len);
-    sum > Word::<P>::max_dist()
-        || !Word::<P>::pack(sum, arc.tail).is_below(look_up(words, arc.head))
+    match arc.offer(from) {
+        Offer::Within(word) => !word.is_below(look_up(words, arc.head)),
+        Offer::NoTail | Offer::Beyond => true,
+    }
 }
 
-// Whether the arcs of a row are relaxed at the distance of their tail.
-fn is_row_relaxed<const P: u32>(words: &[Word<P>], row: &[Arc], dist: u64) -> bool
+// Whether the arcs of a row are relaxed, where their tail has this word.
+fn is_row_relaxed<const P: u32>(words: &[Word<P>], row: &[Arc], from: Word<P>) -> bool
     requires layout { is_layout P ≡ true }
     requires most { length words.now ≤ max_pred P }
-    requires dist { dist ≤ max_dist P }
     requires arcs { All (IsArc (length words.now)) row.now }
     ensures { IsTrue result
-        ↔ All (IsRelaxedAtDist (max_dist P) (word_at words.now) dist) row.now }
+        ↔ All (IsRelaxedFrom (max_dist P) (word_at words.now) from.entry) row.now }
 {
     for arc in row {
-        if !is_arc_relaxed(words, *arc, dist) {
+        if !is_arc_relaxed(words, *arc, from) {
             return false;
         }
     }
@@ -116,8 +103,9 @@ fn is_vertex_relaxed<const P: u32>(words: &[Word<P>], graph: &Graph, far: u64, v
     ensures { IsTrue result
         ↔ IsRowClosedUpTo graph.now (max_dist P) far (word_at words.now) vertex }
 {
-    match look_up(words, vertex).dist() {
-        Some(dist) if dist <= far => is_row_relaxed(words, graph.row(vertex), dist),
+    let from = look_up(words, vertex);
+    match from.dist() {
+        Some(dist) if dist <= far => is_row_relaxed(words, graph.row(vertex), from),
         _ => true,
     }
 }

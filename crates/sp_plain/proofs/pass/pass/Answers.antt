@@ -20,7 +20,7 @@ loop-arc-preserved g c =
     let is : get_or arcs i arc ≡ arc = get_or_default arcs i arc none in' in
     let n = length c.args.words.now.items in
     let fine : All (IsArc n) arcs = rw c.args.words.now.ok.0 at c.requires.arcs in
-    elim c.match-offer.branch [
+    elim c.match-lesser_offer.branch [
       | in-Some w ↦ rw (w.words-is, w.changed-is) (pass_sets n (max_dist g.row.P) arcs i c.args.words.now.items c.loop-arc.words.items c.loop-arc.changed arc in' is c.loop-arc.invariant fine w.in-Some.word (rw (c.look_up-from.ensures, c.look_up-found.ensures, c.deref.ensures.value, c.deref-in-loop-arc.ensures.value) at w.in-Some.ensures.some))
       | in_default w ↦ rw (w.words-is, w.changed-is) (pass_keeps n (max_dist g.row.P) arcs i c.args.words.now.items c.loop-arc.words.items c.loop-arc.changed arc in' is c.loop-arc.invariant (rw (c.look_up-from.ensures, c.look_up-found.ensures, c.deref.ensures.value, c.deref-in-loop-arc.ensures.value) at w.in_default.ensures.none))
     ]
