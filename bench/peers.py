@@ -153,7 +153,7 @@ def native(header, name):
 
 
 def command(program, workers):
-    """The program spt, with so many workers."""
+    """The program spt, with this number of workers."""
 
     def peer(job):
         trees = f"{job.folder}/trees"
@@ -231,7 +231,7 @@ def main():
     options = argparse.ArgumentParser(description=__doc__, formatter_class=argparse.RawDescriptionHelpFormatter)
     options.add_argument("--size", type=int, default=300_000)
     options.add_argument("--sources", type=int, default=3)
-    options.add_argument("--workers", type=int, default=4, help="a further row of the program with so many; 1 leaves it out")
+    options.add_argument("--workers", type=int, default=4, help="a further row of the program with this number; 1 leaves it out")
     options.add_argument("--library", type=os.path.abspath, help="this libspt.so in place of one that .ci/libraries puts down")
     options.add_argument("--program", type=os.path.abspath, help="this program in place of the one that ./spt runs")
     chosen = options.parse_args()
