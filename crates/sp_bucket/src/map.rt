@@ -34,6 +34,7 @@ impl Model for BucketMap {
 }
 
 impl BucketMap {
+    /// Makes an empty map of buckets. It allocates no memory.
     pub fn new(alloc: Global, delta: u64) -> BucketMap
         requires { 0 < delta }
         ensures { result ≡ no_entries delta None }

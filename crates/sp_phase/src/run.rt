@@ -1,4 +1,4 @@
-//! Runs.
+//! Runs that settle bucket after bucket.
 ghost use Rattle.std.specs.Prelude.{◌≡◌, ℕ, ◌≤◌, Option, Some, None, IfOk, IfErr, OnOk, IsErrAnd};
 ghost use Rattle.std.specs.Option.{option_or};
 ghost use Rattle.sp_offer.specs.Story.{known_table};

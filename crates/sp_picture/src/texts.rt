@@ -6,7 +6,7 @@ use std::alloc::{AllocError, Global};
 // Ten times the width of a character, in a font whose characters all have the same width.
 const TEN_CHARACTERS: u64 = 67;
 
-// The space between a text and what is to its right, together with the space to the left of the end of its room.
+// The space that a text leaves to its right, including the margin at the end of its room.
 const APART: u64 = 8;
 
 // A text of at most this many characters is never broken.

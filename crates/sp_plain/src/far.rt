@@ -6,7 +6,7 @@ ghost use Rattle.sp_plain.specs.Passing.{IsFinishedTable, IsOutcome};
 use sp_graph::{Graph, left_out};
 use sp_word::Word;
 
-// Returns the vertex that is too far, if there is one, from the words of a table in which every arc is relaxed.
+/// Returns the vertex that is too far, if there is one, from the words of a table in which every arc is relaxed.
 pub fn first_too_far<const P: u32>(graph: &Graph, words: &[Word<P>]) -> Option<u32>
     requires { length words.now ≡ graph.now.n }
     ensures { (s : ℕ) → IsFinishedTable graph.now s (max_dist P) words.now

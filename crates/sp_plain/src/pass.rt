@@ -10,7 +10,7 @@ use sp_paths::{Arc, Offer};
 use sp_word::Word;
 use std::alloc::{AllocError, Global};
 
-// Returns the word with which an arc from a vertex with the word `from` replaces the head's word, if it does.
+/// Returns the word with which an arc from a vertex with the word `from` replaces the head's word, if it does.
 pub fn lesser_offer<const P: u32>(from: Word<P>, arc: Arc, found: Word<P>) -> Option<Word<P>>
     requires layout { is_layout P ≡ true }
     requires tail { arc.tail ≤ max_pred P }
@@ -50,7 +50,7 @@ fn pass<const P: u32>(words: &mut Vec<Word<P>>, arcs: &[Arc]) -> bool
     changed
 }
 
-// Relaxes the arcs until no word changes.
+/// Relaxes the arcs until no word changes.
 pub fn relax_all<const P: u32>(words: &mut Vec<Word<P>>, arcs: &[Arc])
     requires layout { is_layout P ≡ true }
     requires room { vec_len words.old ≤ max_pred P }
@@ -67,7 +67,7 @@ pub fn relax_all<const P: u32>(words: &mut Vec<Word<P>>, arcs: &[Arc])
     }
 }
 
-// Returns the table before any arc is relaxed.
+/// Returns the table before any arc is relaxed.
 pub fn first_table<const P: u32>(
     alloc: Global,
     n: u32,
@@ -82,7 +82,7 @@ pub fn first_table<const P: u32>(
     Ok(words)
 }
 
-// Returns the table once every arc is relaxed.
+/// Returns the table once every arc is relaxed.
 pub fn finished_table<const P: u32>(
     alloc: Global,
     graph: &Graph,

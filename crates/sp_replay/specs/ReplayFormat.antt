@@ -20,7 +20,7 @@ dist = field 68 0 Dist
 abbrev pub pred : Field
 pred = field 80 0 Vertex
 
--- `p WORD N K`
+-- This is the problem line `p WORD N K`.
 abbrev pub actors_line : List ℕ → LineForm
 actors_line word = record {
   words = codes "p" ∷ word ∷ [];
@@ -38,19 +38,19 @@ start_line = record { words = codes "i" ∷ []; fields = vertex ∷ dist ∷ pre
 abbrev pub item_line : List ℕ → List Field → LineForm
 item_line word fields = record { words = word ∷ []; fields = fields; fresh = false; group = 0; limit = Number MOST_ITEMS }
 
--- `o A V D P`
+-- This is the line `o A V D P` of an offer.
 abbrev pub offer_line : LineForm
 offer_line = item_line (codes "o") (actor ∷ vertex ∷ dist ∷ pred ∷ [])
 
--- `r A V`
+-- This is the line `r A V` of a read.
 abbrev pub read_line : LineForm
 read_line = item_line (codes "r") (actor ∷ vertex ∷ [])
 
--- `a A U V L`
+-- This is the line `a A U V L` of a relaxation.
 abbrev pub relax_line : LineForm
 relax_line = item_line (codes "a") (actor ∷ field 85 1 (Problem 0) ∷ vertex ∷ field 76 1 (Number LONGEST_ARC) ∷ [])
 
--- `s A`
+-- This is the line `s A` of a step.
 abbrev pub step_line : LineForm
 step_line = record { words = codes "s" ∷ []; fields = actor ∷ []; fresh = false; group = 2; limit = Number MOST_STEPS }
 

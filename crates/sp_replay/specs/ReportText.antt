@@ -10,7 +10,7 @@ use Rattle.sp_machine.specs.declared.effect.Call.TheVariants.{Offer, Read}
 use Rattle.sp_machine.specs.declared.report.Finished.{Finished}
 use Rattle.sp_machine.specs.declared.report.Report.{Report}
 
--- ` D P`, or ` none`
+-- This is ` D P`, or ` none`.
 abbrev pub word_text : Word → List ℕ
 word_text Unreached = codes " none"
 word_text (Pair d p) = number_text d ++ number_text p
@@ -45,7 +45,7 @@ reached_count [] = 0
 reached_count (Unreached ∷ more) = reached_count more
 reached_count (Pair d p ∷ more) = reached_count more + 1
 
--- `e R`
+-- This is the line `e R`.
 abbrev pub count_text : (count : ℕ) → List ℕ
 count_text count = codes "e" ++ number_text count ++ codes "\n"
 
@@ -53,7 +53,7 @@ count_text count = codes "e" ++ number_text count ++ codes "\n"
 abbrev pub words_text : List Word → List ℕ
 words_text words = reached_from 1 words ++ count_text (reached_count words)
 
--- `t WINS LOSSES`
+-- This is the line `t WINS LOSSES`.
 abbrev pub totals_text : (wins losses : ℕ) → List ℕ
 totals_text wins losses = codes "t" ++ number_text wins ++ number_text losses ++ codes "\n"
 

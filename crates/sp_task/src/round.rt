@@ -1,4 +1,4 @@
-//! Rounds.
+//! Runs rounds of tasks.
 ghost use Rattle.std.specs.Prelude.{◌≡◌, ℕ, ◌+◌, ◌<◌, ◌≤◌, true, false, length, vec_len, replicate, IfOk, IfErr};
 ghost use Rattle.sp_word.specs.Word.{is_layout};
 ghost use Rattle.sp_offer.specs.Order.{lawful};
