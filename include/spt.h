@@ -44,7 +44,7 @@ typedef struct spt_arc {
 /* The status of a call. The fields `status` below hold one of these. */
 typedef enum spt_status {
     SPT_OK = 0,             /* the lists hold everything that was asked for */
-    SPT_BAD_SIZE = 1,       /* n is 0 or above 4294967294, or a list that the call would write has too few places */
+    SPT_BAD_SIZE = 1,       /* n is 0 or above 4294967294, or a list has too few places */
     SPT_BAD_DELTA = 2,      /* delta is above spt_reach(n) */
     SPT_BAD_ARC = 3,        /* arcs[index] leads from or to no vertex, or has length 0; the arcs before it are valid */
     SPT_NO_SUCH_VERTEX = 4, /* sources[index] is 0 or above n; those before it are vertices */
@@ -119,7 +119,7 @@ spt_batch spt_trees(const spt_arc *arcs, size_t m, uint32_t n, const uint32_t *s
 /* The answer for a target. With SPT_OK it has the target's distance and predecessor, as in the tree, or SPT_UNREACHED and 0 if no
  * walk leads to the target and no vertex is too far. With SPT_TOO_FAR pred is the smallest vertex that is too far, and the target
  * has no distance up to spt_reach(n); a target that has one is found even if other vertices are too far. index is set with
- * SPT_BAD_ARC; with SPT_NO_SUCH_VERTEX it is 0 for source and 1 for target. Otherwise they are 0. */
+ * SPT_BAD_ARC; with SPT_NO_SUCH_VERTEX it is 0 for source and 1 for target. A field that the status doesn't use is 0. */
 typedef struct spt_found {
     uint32_t status, pred;
     uint64_t dist, index;

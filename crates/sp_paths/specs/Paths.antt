@@ -66,7 +66,7 @@ pub record IsTreePair (g : Graph) (s v d p : ℕ) : Type 0 where
   pub before : IsPredecessor g s v d p
   pub smallest : (u : ℕ) → IsPredecessor g s v d u → p ≤ u
 
--- The pair at the source is (0, 0).
+-- The vertex is the source, and the pair is (0, 0).
 abbrev pub IsSourcePair : (s v d p : ℕ) → Type 0
 IsSourcePair s v d p = (v ≡ s) × (d ≡ 0) × (p ≡ 0)
 

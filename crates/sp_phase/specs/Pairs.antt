@@ -19,8 +19,8 @@ IsPairAnswer P g s t None = AreVertices g s t × IsPair g s t (max_dist P) NoWal
 IsPairAnswer P g s t (Some Unreached) = ⊥
 IsPairAnswer P g s t (Some (Pair d p)) = AreVertices g s t × IsPair g s t (max_dist P) (Found d p)
 
--- The refusal names one of the two as no vertex exactly if it is none; and it names a vertex as too far only if the
--- target's least length fits no word, and that vertex is too far.
+-- The refusal is NoSuchVertex exactly if the source or the target is no vertex; and it names a vertex as too far only if
+-- the target has no least length that fits a word, and that vertex is too far.
 abbrev pub IsPairRefusal : (P : ℕ) → Graph → (s t : ℕ) → RunError → Type 0
 IsPairRefusal P g s t Memory = AreVertices g s t
 IsPairRefusal P g s t (TooFar v) = AreVertices g s t × IsPair g s t (max_dist P) (FarVertex v)

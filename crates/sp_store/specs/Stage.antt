@@ -62,7 +62,7 @@ pub record Learns (P : ℕ) (st : Stage) (before after : Knowledge) : Type 0 whe
   pub falls : Falls (known_table before.story) (known_table after.story)
   pub lawful : (v : ℕ) → IsKnownWord (law_of P st) v (known_table after.story v)
 
--- This is why no store was made: the error names the source exactly if the source is no vertex.
+-- This is why no store was made: the error is NoSuchVertex exactly if the source is no vertex.
 abbrev pub IsUnstored : Graph → (s : ℕ) → RunError → Type 0
 IsUnstored g s Memory = IsVertex g.n s
 IsUnstored g s (TooFar v) = ⊥

@@ -31,8 +31,8 @@ pub struct Crew {
 }
 
 /// The tables of a run from one source of a graph: its rows, split at `delta`, and a word and a claim for each vertex.
-/// The rows belong to the store, or are lent by a caller that runs from several sources. Callers of its table may read
-/// and offer while a run continues.
+/// The rows belong to the store, or are lent to it, so that runs from several sources share them. Callers of its table
+/// may read and offer while a run continues.
 ///
 /// Contracts see the graph, the source, `delta`, which tables these are, and the number of tasks from which a round is
 /// shared.

@@ -19,7 +19,7 @@ asked arcs n sources delta = record { arcs = arcs; n = n; sources = sources; del
 
 -- ## What is tested
 
--- A graph may have n vertices, and each block has n places.
+-- A graph may have n vertices, and there are places for the blocks, n for each.
 abbrev pub HasRoom : (n blocks places : ℕ) → Type 0
 HasRoom n blocks places = IsCount n × (blocks * n ≤ places)
 
