@@ -20,7 +20,7 @@ const WHEELS: usize = 8;
 #[derive(Drop)]
 pub struct Bins {
     alloc: Global,
-    // Buckets are 2 to the power of `shift` wide.
+    // Buckets are two to this power wide.
     shift: u32,
     // The bucket that is being emptied.
     lowest: u64,
@@ -90,7 +90,7 @@ impl Bins {
         true
     }
 
-    /// Makes this the bucket that is being emptied. There must be no entry at all.
+    /// Makes this the bucket that is emptied, if there is no entry at all.
     pub fn open(&mut self, bucket: u64) {
         self.lowest = bucket;
     }

@@ -8,7 +8,7 @@ pub data Failing : Type 0 where
   Behind : ℕ → Failing
   Anytime : Failing
 
--- The answer to a call agrees with when the device fails, after a given number of bytes has passed.
+-- This is the answer to a call for some bytes after a given number of bytes has passed.
 abbrev pub FailsBy : {T E : Type 0} → Failing → ℕ → Result T E → Type 0
 FailsBy Never passed (Ok answer) = ⊤
 FailsBy Never passed (Err e) = ⊥

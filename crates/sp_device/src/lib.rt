@@ -1,4 +1,4 @@
-//! Devices from which bytes are read and to which they are written, and printing through a block of memory.
+//! Devices that bytes are read from and written to, and printing through a block of memory.
 #![tactic(auto)]
 
 mod block;

@@ -88,7 +88,7 @@ impl<L: Lawful> Words<L> {
         words.load::<FirstLook<J>>(seat, (vertex - 1) as usize)
     }
 
-    // Tries to replace the bits held by the lesser bits offered.
+    // Exchanges the bits held for the lesser bits offered.
     #[tactic(auto, using(crate::proofs::Moves::may_exchange))]
     fn exchange<J: Asking>(&self, seat: &mut Place, vertex: u32, held: u64, word: u64) -> u64
         requires vertex { (0 < vertex) × (vertex ≤ vertices_of self.now) }

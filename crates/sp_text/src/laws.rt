@@ -28,8 +28,7 @@ pub fn text_is_its_lines()
     ensures { (text : List ℕ) → IsCut text (ended text) (rest text) }
 {}
 
-/// States that in a text without a fault all numbers are in their ranges, and that there are as many items as are needed
-/// and no more than are allowed.
+/// States that in a text without a fault all numbers are in their ranges, and the number of items is within its limits.
 pub fn accepted_text_is_in_range()
     ensures { (format : Format) (ranges : Ranges) (text problem : List ℕ) (items : List Item)
         → Spells format ranges text problem items → IsAccepted format ranges problem items }
