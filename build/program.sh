@@ -56,10 +56,10 @@ built_from() {
 program() (if built_from "$1" spt "$made" "$release"; then echo "$folder/spt"; fi)
 library() (if built_from "$1" libspt.so "$made/library" "$release/library"; then echo "$folder"; fi)
 
-# known_program: what `program "$(sources)"` prints, at once where no file of the sources has changed since they were last read
+# find_program: sets `found` to what `program "$(sources)"` prints, at once where no source has changed since all were read
 #
 # The stamp, .spt/stamp, has their digest, the names of the files and of their folders, and a sum of what the system tells of each.
-known_program() { (stamped_program) 2> /dev/null || program "$(stamp_sources)"; }
+find_program() { found=$(stamped_program 2> /dev/null) || found=$(program "$(stamp_sources)"); }
 
 # state_of FILE..: number, length, time of the text, time of the last change (which nobody can set), a line for each
 state_of() { LC_ALL=C stat -c '%i %s %.Y %.Z' -- "$@"; }
