@@ -6,6 +6,9 @@ each other, and one check of these functions tells of all: each edit is refused 
 Proofs look into functions without a contract, though; so an edit of such a one never goes with one of a function that names it.
 What isn't refused so is tried alone, in a check of the whole crate, as `rt ci` tries what stands in crates/CRATE/must-fail.
 
+An edit has a line `file: FILE`, and for each place in the file `old: TEXT`, which stands there once, and `new: TEXT`. What its twin has
+in a place stands behind, as `twin: TEXT`: tests/twins.py reads it, and this script and the kit pass it over.
+
 Usage: python3 tests/edits.py [--over-gate] [--changed] [CRATE..]
 
 --over-gate takes the libraries that `rt ci` has just proved in this folder; else they are proved first where they aren't yet.
@@ -30,6 +33,8 @@ import kit  # noqa: E402
 
 rt = kit.load("rt")
 HEAD = re.compile(r"( *)(?:pub(?:\([a-z]+\))? )?(?:const )?(?:unsafe )?(?:extern \"C\" )?fn (\w+)")
+# the lines of an edit's twin, with a place that the twin alone changes
+OF_TWIN = re.compile(r"^(?:old: .*\n)?twin: .*\n", re.M)
 OWNER = re.compile(r"(?:pub )?(?:unsafe )?(?:impl|trait)\b")
 OF_A_TRAIT = re.compile(r".* for \W*(?:mut )?(?:\w+::)*(\w+)")
 INHERENT = re.compile(r"(?:impl(?:<.*?>)?|(?:pub )?trait) (\w+)")
@@ -65,7 +70,7 @@ class Function:
 
 @dataclasses.dataclass(frozen=True)
 class Edit:
-    """An edit: its name, its file, its lines and the functions that it changes, none where some line of it is in none."""
+    """An edit: its name, its file, its lines but for its twin's, and the functions that it changes, none where some line of it is in none."""
 
     name: str
     path: str
@@ -123,7 +128,7 @@ def edits_of(crate):
     folder = f"{crate.folder}/edits"
     for name in sorted(os.listdir(folder)) if os.path.isdir(folder) else []:
         path = f"{folder}/{name}"
-        lines = rt.rtlib.text_of(path)
+        lines = OF_TWIN.sub("", rt.rtlib.text_of(path))
         yield Edit(name.removesuffix(".edit"), path, lines, functions_of(lines, crate.folder))
 
 

@@ -1,8 +1,9 @@
 #!/usr/bin/env python3
 """Tries that the innocent twins of edits are proved.
 
-An edit that the prover must refuse shows something only if a harmless change at the same place is accepted. Such a change is
-`crates/CRATE/twins/NAME.twin` to the edit `crates/CRATE/must-fail/NAME.edit` or `crates/CRATE/edits/NAME.edit`, in the same form.
+An edit that the prover must refuse shows something only if a harmless change at the same place is accepted. Such a change stands in the
+edit, crates/CRATE/edits/NAME.edit or crates/CRATE/must-fail/NAME.edit: behind an `old: TEXT`, and its `new: TEXT`, a line `twin: TEXT` has
+what the twin puts there. A place without such a line stays as it is; one with such a line alone is changed by the twin and not by the edit.
 All twins of a crate that don't change the same line are put into a copy of the repository at once, and `rt check` must prove the
 crate there; where it doesn't, halves are tried, down to one alone. The gate leaves it out: run it when edits or twins change.
 
@@ -14,6 +15,7 @@ The last line is 'N passed, M failed'.
 
 import argparse
 import concurrent.futures
+import glob
 import os
 import shutil
 import subprocess
@@ -26,18 +28,23 @@ sys.dont_write_bytecode = True
 import kit  # noqa: E402
 
 
+def edits():
+    """The crate, the name and the file of each edit."""
+    for kind in ("edits", "must-fail"):
+        for path in sorted(glob.glob(f"{HOME}/crates/*/{kind}/*.edit")):
+            yield path.split("/")[-3], os.path.basename(path).removesuffix(".edit"), path
+
+
 def twins(chosen):
-    """The crate and the name of each twin that is asked for."""
-    for crate in sorted(os.listdir(f"{HOME}/crates")):
-        folder = f"{HOME}/crates/{crate}/twins"
-        for file in sorted(os.listdir(folder)) if os.path.isdir(folder) else []:
-            name, ending = os.path.splitext(file)
-            if ending == ".twin" and (not chosen or crate in chosen or f"{crate}/{name}" in chosen):
-                yield crate, name
+    """The crate, the name and the changes of each twin that is asked for."""
+    for crate, name, path in edits():
+        made = changes(path)
+        if made and (not chosen or crate in chosen or f"{crate}/{name}" in chosen):
+            yield crate, name, made
 
 
 def changes(path):
-    """The file, the old and the new line of each change that a twin makes, in order."""
+    """The file, the old and the new text of each change that the twin of an edit makes, in order."""
     file, old, made = None, None, []
     with open(path) as it:
         for line in it.read().splitlines():
@@ -45,8 +52,8 @@ def changes(path):
                 file = line[len("file: ") :].strip()
             elif line.startswith("old: "):
                 old = line[len("old: ") :]
-            elif line.startswith("new: "):
-                made.append((file, old, line[len("new: ") :]))
+            elif line.startswith("twin: "):
+                made.append((file, old, line[len("twin: ") :]))
     return made
 
 
@@ -75,15 +82,13 @@ def changed(texts, made):
     return after
 
 
-def parted(folder, names):
-    """The twins with their changes, in parts of which none has two that change the same line; and those that can't be put in."""
-    parts, unfit = [], []
-    for name in names:
-        made = changes(f"{folder}/twins/{name}.twin")
+def parted(folder, chosen):
+    """The twins with their changes, in parts of which none has two that change the same line."""
+    parts = []
+    for name, made in chosen.items():
         lines = {(file, old) for file, old, _ in made}
         if changed(texts_of(folder, made), made) is None:
             print(f"{name}: an old text doesn't stand in its file once")
-            unfit.append(name)
             continue
         for part in parts:
             if not any(lines & others for _, _, others in part):
@@ -91,7 +96,7 @@ def parted(folder, names):
                 break
         else:
             parts.append([(name, made, lines)])
-    return parts, unfit
+    return parts
 
 
 def proved(folder, check, part):
@@ -110,17 +115,13 @@ def proved(folder, check, part):
     return proved(folder, check, part[:middle]) + proved(folder, check, part[middle:])
 
 
-def tried(copy, crate, check, names):
-    """Whether each twin of the crate has its edit and is proved."""
+def tried(copy, crate, check, chosen):
+    """Whether each twin of the crate, a name with its changes, is proved."""
     folder = f"{copy}/crates/{crate}"
-    parts, unfit = parted(folder, names)
-    well = {name for part in parts for name in proved(folder, check, part)}
-    for name in names:
-        if not any(os.path.exists(f"{HOME}/crates/{crate}/{kind}/{name}.edit") for kind in ("must-fail", "edits")):
-            well.discard(name)
-            print(f"{crate}/{name}: there is no such edit")
+    well = {name for part in parted(folder, chosen) for name in proved(folder, check, part)}
+    for name in chosen:
         print(f"{'proved' if name in well else 'failed'}: {crate}/{name}", flush=True)
-    return [name in well for name in names]
+    return [name in well for name in chosen]
 
 
 def checks_over_gate():
@@ -137,8 +138,8 @@ def main():
     options.add_argument("twins", nargs="*")
     given = options.parse_args()
     chosen, outcomes = {}, []
-    for crate, name in twins(given.twins):
-        chosen.setdefault(crate, []).append(name)
+    for crate, name, made in twins(given.twins):
+        chosen.setdefault(crate, {})[name] = made
     checks = checks_over_gate() if given.over_gate else {it: ["rt", "check"] for it in chosen}
     # (an rt keeps others out of the crates below it)
     lanes = len(os.sched_getaffinity(0)) if given.over_gate else 1
