@@ -8,7 +8,7 @@ use sp_plain::{Answer, GraphKind, Random, plain_tree, random_graph};
 use sp_solve::{RunError, run_by_team};
 use sp_team::Team;
 use sp_tree::Tree;
-use sp_word::{Delta, Word, Workers};
+use sp_word::{Delta, Meter, Word, Workers};
 use std::io;
 use std::sync::Wait;
 use std::thread::Threads;
@@ -52,7 +52,7 @@ fn is_same<const P: u32>(told: &Result<Tree<P>, RunError>, plain: &Answer<P>) ->
 }
 
 // A team of so many workers. Its buckets are 1 wide, about as wide as an arc, as some arcs, or as wide as can be.
-fn team_of<const P: u32>(graph: &Graph, number: u32, workers: u32) -> Option<Team<'static, P>>
+fn team_of<const P: u32>(graph: &Graph, number: u32, workers: u32) -> Option<Team<P>>
     requires { is_layout P ≡ true }
 {
     let longest = u64::from(graph.longest());
@@ -67,7 +67,6 @@ fn team_of<const P: u32>(graph: &Graph, number: u32, workers: u32) -> Option<Tea
     Some(Team {
         delta: Delta::new(width.min(most))?,
         workers: Workers::new(workers)?,
-        meter: None,
     })
 }
 
@@ -88,7 +87,7 @@ fn shoot<const P: u32, R: AllocGlobal + Print + Threads + Wait + Sync>(
         let Some(team) = team_of(graph, number, workers) else {
             return Err(io::Error::other("there is no such team"));
         };
-        let told = run_by_team(rt, rt.alloc(), graph, team, source);
+        let told = run_by_team(rt, rt.alloc(), graph, team, &Meter::new(), source);
         if is_same(&told, &want) {
             score.passed = score.passed.saturating_add(1);
         } else {

@@ -9,7 +9,7 @@ use crate::whole::Plan;
 use sp_dimacs::{GrFile, OfRead, PairsFile, read_gr, read_pairs};
 use sp_graph::Graph;
 use sp_solve::{run_targets, useful_team};
-use sp_team::Team;
+use sp_word::{Meter, Team};
 use std::alloc::{AllocError, Global};
 use std::rt::Files;
 use std::sync::Wait;
@@ -90,10 +90,9 @@ fn find<R: AllocGlobal + Threads + Wait + Sync>(
     let team = Team {
         delta: plan.delta,
         workers: plan.workers,
-        meter: None,
     };
     let team = useful_team(rt, graph.n(), &team);
-    let _ = run_targets::<28, R>(rt, rt.alloc(), graph, team, source, targets)?;
+    let _ = run_targets::<28, R>(rt, rt.alloc(), graph, team, &Meter::new(), source, targets)?;
     Ok(())
 }
 

@@ -13,7 +13,7 @@ use crate::writing::{nothing, sum, write_group, write_one};
 use sp_dimacs::Write;
 use sp_graph::Graph;
 use sp_job::{BatchError, Lead, Listener, Nobody, Progress, Summary};
-use sp_word::{Team, Workers};
+use sp_word::{Meter, Team, Workers};
 use std::alloc::{AllocError, Global};
 use std::sync::Wait;
 use std::thread;
@@ -42,11 +42,11 @@ fn count_at_once<R: Threads>(
 
 // Finds the answer for one source, writes and counts it.
 #[tactic(auto, using(crate::proofs::AnswersInOrder::none_begun))]
-fn answer_source<const P: u32, R: Threads + Wait + Sync + Watch, W: Write>(
+fn answer_source<const P: u32, R: Threads + Wait + Sync + Watch, W: Write, L>(
     rt: &R,
     alloc: Global,
     graph: &Graph,
-    team: &Team<P>,
+    lead: &Lead<P, L>,
     source: u32,
     out: &mut W,
 ) -> Result<Summary, BatchError>
@@ -54,7 +54,7 @@ fn answer_source<const P: u32, R: Threads + Wait + Sync + Watch, W: Write>(
     requires vertex { IsVertex graph.now.n source }
     ensures { AreAllAnswered P graph.now (source ∷ []) W.Write out.old result out.new }
 {
-    match find_source::<P, R>(rt, alloc, graph, team, source) {
+    match find_source::<P, R>(rt, alloc, graph, &lead.team, lead.meter, source) {
         Ok(found) => write_one(&found, out),
         Err(AllocError) => Err(BatchError::Memory),
     }
@@ -80,14 +80,14 @@ fn answer_in_turn<const P: u32, R: Threads + Wait + Sync + Watch, W: Write, L: L
             written: summary,
             count: sources.len(),
         });
-        let one = answer_source::<P, R, W>(rt, alloc, graph, &lead.team, *source, out)?;
+        let one = answer_source::<P, R, W, L>(rt, alloc, graph, lead, *source, out)?;
         summary = sum(summary, one);
     }
     Ok(summary)
 }
 
 // The same team, its workers shared among so many sources.
-fn shared<'m, const P: u32>(team: &Team<'m, P>, sources: usize) -> Team<'m, P>
+fn shared<const P: u32>(team: &Team<P>, sources: usize) -> Team<P>
     requires { 1 ≤ sources }
     ensures delta { result.delta ≡ team.now.delta }
     ensures most { result.workers ≤ team.now.workers }
@@ -105,6 +105,7 @@ fn find_and_write<const P: u32, R: Threads + Wait + Sync + Watch, W: Write>(
     alloc: Global,
     graph: &Graph,
     team: &Team<P>,
+    meter: &Meter,
     sources: &[u32],
     before: &[Found<P>],
     out: &mut W,
@@ -118,13 +119,13 @@ fn find_and_write<const P: u32, R: Threads + Wait + Sync + Watch, W: Write>(
     ensures written { IsGroupWritten W.Write before.now out.old result.1 out.new }
 {
     if before.is_empty() {
-        let found = find_group::<P, R>(rt, alloc, graph, team, sources);
+        let found = find_group::<P, R>(rt, alloc, graph, team, meter, sources);
         return (found, Ok(nothing()));
     }
     let mut find = || -> Result<Vec<Found<P>>, AllocError>
         requires { IsSync R.row × IsReady P graph.now × All (IsVertex graph.now.n) sources.now }
         ensures { IfOk result (λ group. AreFound graph.entry.now sources.entry.now group.items) }
-    { find_group::<P, R>(rt, alloc, graph, team, sources) };
+    { find_group::<P, R>(rt, alloc, graph, team, meter, sources) };
     let mut write = || -> Result<Summary, BatchError>
         ensures { IsGroupWritten W.Write before.entry.now out.entry.now result out.exit.now }
     { write_group::<P, W>(before, out) };
@@ -157,7 +158,7 @@ fn answer_group<const P: u32, R: Threads + Wait + Sync + Watch, W: Write, L: Lis
 {
     let each = shared(&lead.team, sources.len());
     let (found, written) = find_and_write::<P, R, W>(
-        rt, alloc, graph, &each, sources, &waiting, out,
+        rt, alloc, graph, &each, lead.meter, sources, &waiting, out,
     );
     let summary = written?;
     match found {
@@ -169,6 +170,7 @@ fn answer_group<const P: u32, R: Threads + Wait + Sync + Watch, W: Write, L: Lis
             drop(waiting);
             let quiet = Lead {
                 team: lead.team,
+                meter: lead.meter,
                 listener: &Nobody,
             };
             let more = answer_in_turn::<P, R, W, Nobody>(rt, alloc, graph, &quiet, sources, out)?;
@@ -245,6 +247,7 @@ pub(crate) fn answer_sources<const P: u32, R: Threads + Wait + Sync + Watch, W: 
             workers,
             ..lead.team
         },
+        meter: lead.meter,
         listener: lead.listener,
     };
     answer_side_by_side::<P, R, W, L>(rt, alloc, graph, &groups, sources, out)

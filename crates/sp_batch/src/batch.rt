@@ -15,7 +15,7 @@ use sp_graph::Graph;
 use sp_job::{
     BatchError, BucketWidth, Lead, Listener, Nobody, Places, Progress, Settings, Summary, chosen,
 };
-use sp_word::Workers;
+use sp_word::{Meter, Workers};
 use std::alloc::Global;
 use std::sync::Wait;
 use std::thread::Threads;
@@ -62,8 +62,10 @@ pub(crate) fn answer_file<const P: u32, R: Threads + Wait + Sync + Watch, W: Wri
         vertices: graph.n(),
         arcs: graph.m(),
     });
+    let uncounted = Meter::new();
     let lead = Lead {
         team: settings.team_for(&graph),
+        meter: settings.listener.meter().unwrap_or(&uncounted),
         listener: settings.listener,
     };
     answer_sources::<P, R, W, L>(rt, alloc, &graph, least, &lead, sources, out)

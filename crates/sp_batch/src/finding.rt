@@ -9,7 +9,7 @@ use crate::watch::Watch;
 use sp_answer::Tree;
 use sp_graph::Graph;
 use sp_solve::{RunError, run_by_team, useful_team};
-use sp_word::Team;
+use sp_word::{Meter, Team};
 use std::alloc::{AllocError, Global};
 use std::sync::Wait;
 use std::thread::{Threads, join};
@@ -29,6 +29,7 @@ pub(crate) fn find_source<const P: u32, R: Threads + Wait + Sync + Watch>(
     alloc: Global,
     graph: &Graph,
     team: &Team<P>,
+    meter: &Meter,
     source: u32,
 ) -> Result<Found<P>, AllocError>
     requires ready { IsReady P graph.now }
@@ -37,7 +38,7 @@ pub(crate) fn find_source<const P: u32, R: Threads + Wait + Sync + Watch>(
 {
     rt.before_source(source);
     let team = useful_team(rt, graph.n(), team);
-    match run_by_team::<P, R>(rt, alloc, graph, team, source) {
+    match run_by_team::<P, R>(rt, alloc, graph, team, meter, source) {
         Ok(tree) => Ok(Found::Tree(tree)),
         Err(RunError::TooFar(vertex)) => Ok(Found::Far { source, vertex }),
         Err(RunError::NoSuchVertex) => unreachable!(),
@@ -51,6 +52,7 @@ fn find_in_turn<const P: u32, R: Threads + Wait + Sync + Watch>(
     alloc: Global,
     graph: &Graph,
     team: &Team<P>,
+    meter: &Meter,
     sources: &[u32],
 ) -> Result<Vec<Found<P>>, AllocError>
     requires ready { IsReady P graph.now }
@@ -59,7 +61,7 @@ fn find_in_turn<const P: u32, R: Threads + Wait + Sync + Watch>(
 {
     let mut group = Vec::new(alloc);
     for source in sources {
-        group.push(find_source::<P, R>(rt, alloc, graph, team, *source)?)?;
+        group.push(find_source::<P, R>(rt, alloc, graph, team, meter, *source)?)?;
     }
     Ok(group)
 }
@@ -84,6 +86,7 @@ pub(crate) fn find_group<const P: u32, R: Threads + Wait + Sync + Watch>(
     alloc: Global,
     graph: &Graph,
     team: &Team<P>,
+    meter: &Meter,
     sources: &[u32],
 ) -> Result<Vec<Found<P>>, AllocError>
     requires ready { IsReady P graph.now }
@@ -91,18 +94,18 @@ pub(crate) fn find_group<const P: u32, R: Threads + Wait + Sync + Watch>(
     ensures { IfOk result (λ group. AreFound graph.now sources.now group.items) }
 {
     if sources.len() < 2 {
-        return find_in_turn(rt, alloc, graph, team, sources);
+        return find_in_turn(rt, alloc, graph, team, meter, sources);
     }
     let half = sources.len() / 2;
     let (left, right) = sources.split_at(half);
     let back = move || -> Result<Vec<Found<P>>, AllocError>
         requires { IsSync R.row × IsReady P graph.now × All (IsVertex graph.now.n) right.now }
         ensures { IfOk result (λ group. AreFound graph.entry.now right.entry.now group.items) }
-    { find_group(rt, alloc, graph, team, right) };
+    { find_group(rt, alloc, graph, team, meter, right) };
     let front = move || -> Result<Vec<Found<P>>, AllocError>
         requires { IsSync R.row × IsReady P graph.now × All (IsVertex graph.now.n) left.now }
         ensures { IfOk result (λ group. AreFound graph.entry.now left.entry.now group.items) }
-    { find_group(rt, alloc, graph, team, left) };
+    { find_group(rt, alloc, graph, team, meter, left) };
     let (second, first) = join(rt, back, front);
     put_behind(first?, second?)
 }

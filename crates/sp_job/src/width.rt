@@ -3,7 +3,6 @@ ghost use Rattle.std.specs.Prelude.{◌≡◌, true};
 ghost use Rattle.sp_word.specs.Word.{is_layout};
 ghost use Rattle.sp_job.specs.Width.{width_among};
 
-use crate::progress::Listener;
 use sp_graph::Graph;
 use sp_word::{Delta, Team, Word, Workers};
 
@@ -45,9 +44,9 @@ fn width_for<const P: u32>(width: &BucketWidth<P>, graph: &Graph) -> Delta<P>
     }
 }
 
-impl<'a, const P: u32, L: Listener> Settings<'a, P, L> {
+impl<const P: u32, L> Settings<'_, P, L> {
     /// How runs are made in this graph.
-    pub fn team_for(&self, graph: &Graph) -> Team<'a, P>
+    pub fn team_for(&self, graph: &Graph) -> Team<P>
         requires { is_layout P ≡ true }
         ensures delta { result.delta ≡ width_among graph.now.arcs self.now.width }
         ensures workers { result.workers ≡ self.now.workers }
@@ -55,7 +54,6 @@ impl<'a, const P: u32, L: Listener> Settings<'a, P, L> {
         Team {
             delta: width_for(&self.width, graph),
             workers: self.workers,
-            meter: self.listener.meter(),
         }
     }
 }

@@ -6,7 +6,6 @@ ghost use Rattle.sp_pairs.specs.Slots.{IsClosed, slot_of, IsPairOf, AreAllOpen, 
 use sp_graph::Graph;
 use sp_job::{Lead, Listener, Progress};
 use sp_solve::{PairAnswer, Reach, run_targets, useful_team};
-use sp_word::Team;
 use std::alloc::{AllocError, Global};
 use std::sync::Wait;
 use std::thread::Threads;
@@ -150,11 +149,11 @@ fn keep_answers<const P: u32>(
 }
 
 // Finds the answer to the pair at a place, and to those of the same source behind it.
-fn ask<const P: u32, R: Threads + Wait + Sync>(
+fn ask<const P: u32, R: Threads + Wait + Sync, L>(
     rt: &R,
     alloc: Global,
     graph: &Graph,
-    team: &Team<P>,
+    lead: &Lead<P, L>,
     pairs: &[(u32, u32)],
     slots: &mut Vec<Slot>,
     place: usize,
@@ -168,8 +167,9 @@ fn ask<const P: u32, R: Threads + Wait + Sync>(
     ensures first { IfOk result (λ _. AreFirstClosed (place + 1) slots.new.items) }
 {
     let targets = targets_from(alloc, graph, pairs, slots, place)?;
-    let team = useful_team(rt, graph.n(), team);
-    let reach = run_targets::<P, R>(rt, alloc, graph, team, pairs[place].0, targets)?;
+    let team = useful_team(rt, graph.n(), &lead.team);
+    let source = pairs[place].0;
+    let reach = run_targets::<P, R>(rt, alloc, graph, team, lead.meter, source, targets)?;
     keep_answers(&reach, pairs, slots, place);
     Ok(())
 }
@@ -194,7 +194,7 @@ pub(crate) fn find_answers<const P: u32, R: Threads + Wait + Sync, L: Listener>(
                 found: place,
                 count: pairs.len(),
             });
-            ask::<P, R>(rt, alloc, graph, &lead.team, pairs, &mut slots, place)?;
+            ask::<P, R, L>(rt, alloc, graph, lead, pairs, &mut slots, place)?;
         }
     }
     Ok(slots)

@@ -11,7 +11,7 @@ use crate::pair_lines::write_pairs;
 use sp_dimacs::{GrFile, PairsFile, Read, Write, read_gr, read_pairs};
 use sp_graph::Graph;
 use sp_job::{BatchError, BucketWidth, Lead, Listener, Nobody, Progress, Settings, Summary};
-use sp_word::Workers;
+use sp_word::{Meter, Workers};
 use std::alloc::Global;
 use std::sync::Wait;
 use std::thread::Threads;
@@ -56,8 +56,10 @@ fn answer_pairs<const P: u32, R: Threads + Wait + Sync, W: Write, L: Listener>(
         vertices: graph.n(),
         arcs: graph.m(),
     });
+    let uncounted = Meter::new();
     let lead = Lead {
         team: settings.team_for(&graph),
+        meter: settings.listener.meter().unwrap_or(&uncounted),
         listener: settings.listener,
     };
     let slots = find_answers::<P, R, L>(rt, alloc, &graph, &lead, &list.pairs)?;

@@ -17,9 +17,9 @@ use crate::whole::WholeRun;
 use sp_graph::{Graph, look_up};
 use sp_offer::{Caller, OfferTable};
 use sp_scan::{Scan, is_relaxed_up_to, open_tails, scan_arcs};
-use sp_team::{Search, Team};
+use sp_team::Search;
 use sp_walks::Walks;
-use sp_word::Word;
+use sp_word::{Meter, Team, Word};
 use std::alloc::{AllocError, Global};
 use std::marker::Model;
 use std::sync::Wait;
@@ -172,6 +172,7 @@ impl<'g, const P: u32> WholeRun<'g, P> {
             let search = Search {
                 queue: queue.as_slice(),
                 targets,
+                meter: self.meter,
             };
             let done = self.lower(rt, table, search, caller, words);
             match self.judge(rt, words, targets) {
@@ -203,12 +204,13 @@ impl<'g, const P: u32> WholeRun<'g, P> {
 /// What a run from a source finds for some targets. It ends as soon as the words of all of them are final, so near ones
 /// take little time.
 ///
-/// The number of threads and the width of a bucket have no bearing on the answers.
+/// The number of threads and the width of a bucket have no bearing on the answers. The workers count on the meter what they relax.
 pub fn run_targets<'g, const P: u32, R: Threads + Wait + Sync>(
     rt: &R,
     alloc: Global,
     graph: &'g Graph,
     team: Team<P>,
+    meter: &Meter,
     source: u32,
     targets: Vec<u32>,
 ) -> Result<Reach<'g, P>, AllocError>
@@ -221,7 +223,7 @@ pub fn run_targets<'g, const P: u32, R: Threads + Wait + Sync>(
     ensures targets { IfOk result (λ reach. reach.targets ≡ targets.items) }
 {
     let mut words = vec![in alloc; Word::unreached(); graph.n() as usize]?;
-    let run = WholeRun::new(alloc, graph, source, team);
+    let run = WholeRun::new(alloc, graph, source, team, meter);
     let far = run.reach(rt, targets.as_slice(), words.as_mut_slice())?;
     Ok(Reach {
         graph,

@@ -84,6 +84,7 @@ impl<'g, const P: u32> WholeRun<'g, P> {
         let search = Search {
             queue,
             targets: &[],
+            meter: self.meter,
         };
         let Relaxed { caller, lost } = self.lower(rt, table, search, caller, words);
         let told = scan_arcs(rt, words, self.graph.arcs(), self.team.workers.get());

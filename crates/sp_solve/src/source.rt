@@ -6,8 +6,7 @@ ghost use Rattle.sp_answer.specs.Answer.{IsAnswer, IsRefusal};
 use crate::whole::WholeRun;
 use sp_answer::{RunError, Tree};
 use sp_graph::Graph;
-use sp_team::Team;
-use sp_word::{Delta, Workers};
+use sp_word::{Delta, Meter, Team, Workers};
 use std::alloc::Global;
 use std::sync::Wait;
 use std::thread;
@@ -30,8 +29,8 @@ fn useful_workers<R: Threads>(rt: &R, n: u32, workers: Workers) -> Workers
     }
 }
 
-/// The same team in a graph of so many vertices, with no more workers than there is work for.
-pub fn useful_team<'m, const P: u32, R: Threads>(rt: &R, n: u32, team: &Team<'m, P>) -> Team<'m, P>
+/// Returns the team with no more workers than there is work for in a graph of `n` vertices.
+pub fn useful_team<const P: u32, R: Threads>(rt: &R, n: u32, team: &Team<P>) -> Team<P>
     ensures delta { result.delta ≡ team.now.delta }
     ensures fewer { result.workers ≤ team.now.workers }
 {
@@ -61,17 +60,17 @@ pub fn run_source<const P: u32, R: Threads + Wait + Sync>(
     let team = Team {
         delta,
         workers: useful_workers(rt, graph.n(), workers),
-        meter: None,
     };
-    run_by_team(rt, alloc, graph, team, source)
+    run_by_team(rt, alloc, graph, team, &Meter::new(), source)
 }
 
-/// The same with just so many threads.
+/// Returns what `run_source` does, by exactly as many threads as the team has workers. They count on the meter what they relax.
 pub fn run_by_team<const P: u32, R: Threads + Wait + Sync>(
     rt: &R,
     alloc: Global,
     graph: &Graph,
     team: Team<P>,
+    meter: &Meter,
     source: u32,
 ) -> Result<Tree<P>, RunError>
     requires layout { is_layout P ≡ true }
@@ -83,5 +82,5 @@ pub fn run_by_team<const P: u32, R: Threads + Wait + Sync>(
     if source < 1 || source > n {
         return Err(RunError::NoSuchVertex);
     }
-    WholeRun::new(alloc, graph, source, team).solve(rt)
+    WholeRun::new(alloc, graph, source, team, meter).solve(rt)
 }

@@ -12,8 +12,7 @@ ghost use Rattle.sp_solve.specs.WholeRun.{IsRelaxedCopy};
 use sp_answer::{RunError, Tree};
 use sp_graph::Graph;
 use sp_paths::finished_table;
-use sp_team::Team;
-use sp_word::Word;
+use sp_word::{Meter, Team, Word};
 use std::alloc::{AllocError, Global};
 use std::marker::Model;
 use std::sync::Wait;
@@ -25,7 +24,9 @@ pub(crate) struct WholeRun<'g, const P: u32> {
     pub(crate) alloc: Global,
     pub(crate) graph: &'g Graph,
     pub(crate) source: u32,
-    pub(crate) team: Team<'g, P>,
+    pub(crate) team: Team<P>,
+    // where the team counts what it has relaxed
+    pub(crate) meter: &'g Meter,
 }
 
 impl<'g, const P: u32> Model for WholeRun<'g, P> {
@@ -45,7 +46,8 @@ impl<'g, const P: u32> WholeRun<'g, P> {
         alloc: Global,
         graph: &'g Graph,
         source: u32,
-        team: Team<'g, P>,
+        team: Team<P>,
+        meter: &'g Meter,
     ) -> WholeRun<'g, P>
         requires layout { is_layout P ≡ true }
         requires most { graph.now.n ≤ max_pred P }
@@ -59,6 +61,7 @@ impl<'g, const P: u32> WholeRun<'g, P> {
             graph,
             source,
             team,
+            meter,
         }
     }
 

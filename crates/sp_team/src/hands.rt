@@ -65,7 +65,7 @@ impl<'m> Hands<'m> {
         own: Worker<Block>,
         shift: u32,
         ahead: u64,
-        meter: Option<&'m Meter>,
+        meter: &'m Meter,
     ) -> Result<Hands<'m>, AllocError> {
         Ok(Hands {
             alloc,

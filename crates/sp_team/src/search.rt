@@ -7,15 +7,18 @@ ghost use Rattle.sp_team.specs.Later.{IsLater};
 use crate::relax::read_dist;
 use sp_graph::Graph;
 use sp_offer::{Caller, Lawful, OfferTable};
+use sp_word::Meter;
 
 /// At so many targets a worker looks at once.
 const GLANCE: usize = 16;
 
-/// What a team looks for: from the vertices of a queue on, the words of some targets; all words, where none is named.
+/// What a team looks for: from the vertices of a queue on, the words of some targets; all words, where none is named. The workers count
+/// on the meter what they have relaxed.
 #[derive(Clone, Copy)]
 pub struct Search<'q> {
     pub queue: &'q [u32],
     pub targets: &'q [u32],
+    pub meter: &'q Meter,
 }
 
 /// How far a worker has to go: to the farthest of the targets, once all of them are reached. Since distances only fall, it

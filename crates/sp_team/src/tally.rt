@@ -7,13 +7,13 @@ const LOT: u64 = 256;
 /// What a worker has relaxed since it last told the meter.
 #[derive(Drop)]
 pub(crate) struct Tally<'m> {
-    meter: Option<&'m Meter>,
+    meter: &'m Meter,
     untold: u64,
 }
 
 impl<'m> Tally<'m> {
     /// For a worker that has relaxed nothing.
-    pub(crate) fn new(meter: Option<&'m Meter>) -> Tally<'m> {
+    pub(crate) fn new(meter: &'m Meter) -> Tally<'m> {
         Tally { meter, untold: 0 }
     }
 
@@ -27,9 +27,7 @@ impl<'m> Tally<'m> {
 
     /// Tells the meter what it hasn't been told yet.
     pub(crate) fn tell(&mut self) {
-        if let Some(meter) = self.meter {
-            meter.add(self.untold);
-        }
+        self.meter.add(self.untold);
         self.untold = 0;
     }
 }

@@ -16,7 +16,7 @@ use crossbeam_deque::{Stealer, Worker};
 use sp_bins::Entry;
 use sp_graph::Graph;
 use sp_offer::{Caller, Lawful, OfferTable};
-use sp_word::Team;
+use sp_word::{Delta, Meter, Team};
 use std::alloc::{AllocError, Global};
 use std::sync::Wait;
 use std::thread::{Threads, join};
@@ -167,7 +167,8 @@ fn run_worker<R: Wait, L: Lawful, const P: u32>(
     board: &Board,
     stealers: &[Stealer<Block>],
     queue: &[u32],
-    team: &Team<P>,
+    delta: Delta<P>,
+    meter: &Meter,
     seat: Seat,
 ) -> Relaxed
     requires ready { IsReady P (lawful P (L.allows table.now.law)) table.now.vertices graph.now }
@@ -179,8 +180,8 @@ fn run_worker<R: Wait, L: Lawful, const P: u32>(
         own,
         mut caller,
     } = seat;
-    let shift = team.delta.get().ilog2().saturating_sub(FINER);
-    let Ok(mut hands) = Hands::new(alloc, worker, own, shift, 1 << FINER, team.meter) else {
+    let shift = delta.get().ilog2().saturating_sub(FINER);
+    let Ok(mut hands) = Hands::new(alloc, worker, own, shift, 1 << FINER, meter) else {
         // the first worker would have had the queue
         let lost = worker == 0;
         if lost {
@@ -263,7 +264,8 @@ fn run_first<R: Wait, L: Lawful, const P: u32>(
     board: &Board,
     stealers: &[Stealer<Block>],
     queue: &[u32],
-    team: &Team<P>,
+    delta: Delta<P>,
+    meter: &Meter,
     crew: Crew,
 ) -> Relaxed
     requires ready { IsReady P (lawful P (L.allows table.now.law)) table.now.vertices graph.now }
@@ -283,7 +285,9 @@ fn run_first<R: Wait, L: Lawful, const P: u32>(
         own,
         caller,
     };
-    run_worker(rt, alloc, graph, table, board, stealers, queue, team, seat)
+    run_worker(
+        rt, alloc, graph, table, board, stealers, queue, delta, meter, seat,
+    )
 }
 
 // A worker for each of the deques, one on this thread and the others on threads that it starts. Each half starts its own,
@@ -297,7 +301,8 @@ fn run_workers<R: Threads + Wait + Sync, L: Lawful + Send + Sync, const P: u32>(
     board: &Board,
     stealers: &[Stealer<Block>],
     queue: &[u32],
-    team: &Team<P>,
+    delta: Delta<P>,
+    meter: &Meter,
     mut crew: Crew,
 ) -> Relaxed
     requires ready { IsReady P (lawful P (L.allows table.now.law)) table.now.vertices graph.now }
@@ -306,10 +311,14 @@ fn run_workers<R: Threads + Wait + Sync, L: Lawful + Send + Sync, const P: u32>(
 {
     let half = crew.owners.len() / 2;
     if half == 0 {
-        return run_first(rt, alloc, graph, table, board, stealers, queue, team, crew);
+        return run_first(
+            rt, alloc, graph, table, board, stealers, queue, delta, meter, crew,
+        );
     }
     let Ok(owners) = crew.owners.split_off(half) else {
-        return run_first(rt, alloc, graph, table, board, stealers, queue, team, crew);
+        return run_first(
+            rt, alloc, graph, table, board, stealers, queue, delta, meter, crew,
+        );
     };
     let (first, second) = part(table, crew, owners);
     let theirs = move || -> Relaxed
@@ -319,7 +328,7 @@ fn run_workers<R: Threads + Wait + Sync, L: Lawful + Send + Sync, const P: u32>(
         ensures { IsLater (lawful P (L.allows table.entry.now.law)) second.caller result.caller }
     {
         run_workers(
-            rt, alloc, graph, table, board, stealers, queue, team, second,
+            rt, alloc, graph, table, board, stealers, queue, delta, meter, second,
         )
     };
     let mine = move || -> Relaxed
@@ -327,7 +336,11 @@ fn run_workers<R: Threads + Wait + Sync, L: Lawful + Send + Sync, const P: u32>(
             × IsReady P (lawful P (L.allows table.now.law)) table.now.vertices graph.now
             × (first.caller.table ≡ table.now.id) }
         ensures { IsLater (lawful P (L.allows table.entry.now.law)) first.caller result.caller }
-    { run_workers(rt, alloc, graph, table, board, stealers, queue, team, first) };
+    {
+        run_workers(
+            rt, alloc, graph, table, board, stealers, queue, delta, meter, first,
+        )
+    };
     let (later, sooner) = join(rt, theirs, mine);
     merge(table, sooner, later)
 }
@@ -371,7 +384,8 @@ pub fn relax_all<R: Threads + Wait + Sync, L: Lawful + Send + Sync, const P: u32
         &board,
         stealers.as_slice(),
         search.queue,
-        &team,
+        team.delta,
+        search.meter,
         crew,
     )
 }

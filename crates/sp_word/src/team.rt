@@ -1,13 +1,10 @@
 //! The parameters of a run.
 use crate::delta::Delta;
-use crate::meter::Meter;
 use crate::workers::Workers;
 
-/// The parameters of a run: the width of a bucket, the number of workers, and the meter on which the workers count the
-/// vertices that they have relaxed.
-#[derive(Clone, Copy)]
-pub struct Team<'m, const P: u32> {
+/// The parameters of a run: the width of a bucket and the number of workers.
+#[derive(Clone, Copy, Debug, PartialEq, Eq)]
+pub struct Team<const P: u32> {
     pub delta: Delta<P>,
     pub workers: Workers,
-    pub meter: Option<&'m Meter>,
 }

@@ -8,7 +8,7 @@ use sp_plain::{Answer, plain_tree};
 use sp_task::OpenGate;
 use sp_team::Team;
 use sp_tree::Tree;
-use sp_word::{Delta, Word, Workers};
+use sp_word::{Delta, Meter, Word, Workers};
 use std::process::Abort;
 use std::sync::Wait;
 use std::test::Fail;
@@ -28,16 +28,12 @@ pub(crate) fn graph_of(
 }
 
 // Buckets so wide, and so many workers.
-fn team<const P: u32>(rt: &impl Abort, width: u64, workers: u32) -> Team<'static, P>
+fn team<const P: u32>(rt: &impl Abort, width: u64, workers: u32) -> Team<P>
     requires { is_layout P ≡ true }
 {
     let delta = Delta::new(width).expect(rt, "a width in range");
     let workers = Workers::new(workers).expect(rt, "a number of workers in range");
-    Team {
-        delta,
-        workers,
-        meter: None,
-    }
+    Team { delta, workers }
 }
 
 /// What a run tells, every round of which is shared among the workers.
@@ -74,7 +70,8 @@ pub(crate) fn run_by_team<const P: u32>(
     requires { is_layout P ≡ true }
 {
     assert!(rt; graph.n() <= Word::<P>::max_pred());
-    sp_solve::run_by_team(rt, rt.alloc(), graph, team(rt, delta, workers), source)
+    let team = team(rt, delta, workers);
+    sp_solve::run_by_team(rt, rt.alloc(), graph, team, &Meter::new(), source)
 }
 
 /// What the plain program tells.

@@ -6,8 +6,7 @@ use sp_graph::Graph;
 use sp_phase::{run_pair, run_source_with};
 use sp_solve::{PairAnswer, run_by_team, run_source, run_targets};
 use sp_task::OpenGate;
-use sp_team::Team;
-use sp_word::Workers;
+use sp_word::{Meter, Team, Workers};
 use std::io;
 use std::sync::Wait;
 use std::thread::Threads;
@@ -72,9 +71,8 @@ pub fn call_run_by_team<R: AllocGlobal + Print + Threads + Wait + Sync, W: Write
     let team = Team {
         delta: sample.delta(),
         workers,
-        meter: None,
     };
-    let answer = run_by_team(rt, rt.alloc(), &graph, team, 1);
+    let answer = run_by_team(rt, rt.alloc(), &graph, team, &Meter::new(), 1);
     Ok(tell_run(out, answer))
 }
 
@@ -117,12 +115,11 @@ pub fn call_run_targets<R: AllocGlobal + Print + Threads + Wait + Sync>(
     let team = Team {
         delta: sample.delta(),
         workers,
-        meter: None,
     };
     let mut targets = Vec::new(alloc);
     targets.push(graph.n())?;
     targets.push(1)?;
-    let Ok(reach) = run_targets::<28, R>(rt, alloc, &graph, team, 1, targets) else {
+    let Ok(reach) = run_targets::<28, R>(rt, alloc, &graph, team, &Meter::new(), 1, targets) else {
         return Ok(Ending::Memory);
     };
     for place in 0..reach.targets().len() {

@@ -75,9 +75,8 @@ fn run_by_team<const P: u32>(
     let team = Team {
         delta: width(rt, delta),
         workers: crew(rt, workers),
-        meter: None,
     };
-    sp_solve::run_by_team(rt, rt.alloc(), graph, team, source)
+    sp_solve::run_by_team(rt, rt.alloc(), graph, team, &Meter::new(), source)
 }
 
 // The first caller of a store, and another.
@@ -152,9 +151,8 @@ fn meter_counts_each_vertex_of_a_path(rt: HostRuntime) -> Result<(), Fail> {
         let team = Team {
             delta: width::<28>(&rt, 2),
             workers: crew(&rt, workers),
-            meter: Some(&meter),
         };
-        let tree = sp_solve::run_by_team(&rt, rt.alloc(), &graph, team, 1)?;
+        let tree = sp_solve::run_by_team(&rt, rt.alloc(), &graph, team, &meter, 1)?;
         assert!(rt; tree.rows().len() == 1000);
         assert!(rt; meter.count() == 1000);
     }

@@ -8,8 +8,7 @@ use super::{WORKERS, crew, graph_of, width};
 use sp_graph::Graph;
 use sp_plain::{Answer, GraphKind, Random, random_graph};
 use sp_solve::{PairAnswer, run_targets};
-use sp_team::Team;
-use sp_word::Word;
+use sp_word::{Meter, Team, Word};
 use std::process::Abort;
 use std::sync::Wait;
 use std::test::Fail;
@@ -51,9 +50,8 @@ fn told<const P: u32>(
     let team = Team {
         delta: width::<P>(rt, delta),
         workers: crew(rt, workers),
-        meter: None,
     };
-    let reach = run_targets::<P, _>(rt, rt.alloc(), graph, team, source, list)?;
+    let reach = run_targets::<P, _>(rt, rt.alloc(), graph, team, &Meter::new(), source, list)?;
     let mut answers = Vec::new(rt.alloc());
     for place in 0..reach.targets().len() {
         answers.push(reach.answer(place))?;

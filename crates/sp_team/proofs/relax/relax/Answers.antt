@@ -28,5 +28,8 @@ relax_row-requires g c =
       ),
     )
 
-pub returns-in-Some : goal.returns-in-Some
-returns-in-Some g c = later_along _ _ _ _ c.read_dist.ensures.later c.relax_row.ensures
+pub returns-in_err-relax_row-in-Some : goal.returns-in_err-relax_row-in-Some
+returns-in_err-relax_row-in-Some g c = later_along _ _ _ _ c.read_dist.ensures.later c.relax_row.ensures
+
+pub returns-in_ok-relax_row-in-Some : goal.returns-in_ok-relax_row-in-Some
+returns-in_ok-relax_row-in-Some g c = later_along _ _ _ _ c.read_dist.ensures.later c.relax_row.ensures
