@@ -202,7 +202,7 @@ def long_tree(count, program, folder):
 
 def long_relaxing(count, program, folder):
     """While a tree is relaxed the line moves on, up to two thirds; percents never fall, and the last one is 100."""
-    graph = winding_path(folder, 1_500_000)
+    graph = winding_path(folder, 2_000_000)
     words = ("tree", graph, "--source", "1", "--delta", "1", "--progress")
     for more in ((), ("--workers", "2")):
         status, _, over, seconds = on_terminal(program, *words, *more)
