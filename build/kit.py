@@ -1,4 +1,10 @@
-"""The kit's command rt as a module, for what works over the libraries that `rt ci` has just proved, which no other `rt` takes."""
+#!/usr/bin/env python3
+"""The kit's command rt as a module, for what works over the libraries that `rt ci` has just proved, which no other `rt` takes.
+
+Usage: python3 build/kit.py
+
+tells whether this kit has all that the scripts call of it, or in one line what is gone. So does each script as it begins.
+"""
 
 import importlib.machinery
 import importlib.util
@@ -6,12 +12,49 @@ import os
 import shutil
 import sys
 
+HOME = os.path.dirname(os.path.dirname(os.path.realpath(__file__)))
+# what the scripts call: of the gate, of the other commands, and of a crate
+CALLED = {
+    "rt": ["Crate", "KIT", "checked", "edited", "in_lanes", "must_fail", "need", "rtlib", "unread"],
+    "rtlib": ["Crate", "RATTLE", "crates_below", "guarded", "lock", "text_of"],
+    "rtlib.Crate": ["below", "build_rlib", "build_static", "call", "count", "cuts_libraries", "stamp", "words"],
+}
+OF_A_CRATE = ["folder", "is_program", "name", "out", "rlib"]
+
 
 def load(name):
-    """A module of the kit: `rt` is the gate, `rtlib` the other commands."""
-    path = os.path.join(os.path.dirname(os.path.realpath(shutil.which("rt"))), "rt" if name == "rt" else f"{name}.py")
+    """A module of the kit: `rt` is the gate, `rtlib` the other commands. Where something is gone, the script ends with a line that says what."""
+    path = shutil.which("rt") or sys.exit("kit: the Rattle kit's command rt isn't on the path (README.md)")
+    path = os.path.join(os.path.dirname(os.path.realpath(path)), "rt" if name == "rt" else f"{name}.py")
     loader = importlib.machinery.SourceFileLoader(name, path)
     made = importlib.util.module_from_spec(importlib.util.spec_from_loader(name, loader))
     sys.modules[name] = made
     loader.exec_module(made)
+    missing = gone(made)
+    if missing:
+        sys.exit(f"kit: {path} has no {', '.join(missing)}, which scripts of build/ and tests/ call; build/kit.py lists what they need of a kit")
     return made
+
+
+def gone(module):
+    """What the scripts call of a module of the kit, or of the one below it, and isn't there."""
+    below = getattr(module, "rtlib", None)
+    places = {module.__name__: module, **({"rtlib": below} if below else {})}
+    places["rtlib.Crate"] = getattr(places.get("rtlib"), "Crate", None)
+    return [f"{place}.{name}" for place, its in places.items() if its for name in CALLED[place] if not hasattr(its, name)]
+
+
+def main():
+    rt = load("rt")
+    os.chdir(HOME)
+    crate = rt.rtlib.crates_below(HOME)[0]
+    missing = [f"crate.{name}" for name in OF_A_CRATE if not hasattr(crate, name)]
+    if missing:
+        sys.exit(f"kit: a crate of this kit has no {', '.join(missing)}, which scripts of build/ and tests/ read")
+    print("kit: this kit has all that the scripts call")
+    return 0
+
+
+if __name__ == "__main__":
+    sys.dont_write_bytecode = True
+    sys.exit(main())

@@ -83,7 +83,7 @@ def changed(texts, made):
 
 
 def parted(folder, chosen):
-    """The twins with their changes, in parts of which none has two that change the same line."""
+    """The twins with their changes, in parts whose changes can all be put in, and of which none has two that change the same line."""
     parts = []
     for name, made in chosen.items():
         lines = {(file, old) for file, old, _ in made}
@@ -91,23 +91,25 @@ def parted(folder, chosen):
             print(f"{name}: an old text doesn't stand in its file once")
             continue
         for part in parts:
-            if not any(lines & others for _, _, others in part):
-                part.append((name, made, lines))
+            together = [change for _, others in part for change in others] + made
+            is_apart = not any(change[:2] in lines for change in together[: -len(made)])
+            if is_apart and changed(texts_of(folder, together), together) is not None:
+                part.append((name, made))
                 break
         else:
-            parts.append([(name, made, lines)])
+            parts.append([(name, made)])
     return parts
 
 
 def proved(folder, check, part):
     """The names of the twins of a part that are proved."""
-    made = [change for _, changes_made, _ in part for change in changes_made]
+    made = [change for _, changes_made in part for change in changes_made]
     before = texts_of(folder, made)
     write_all(folder, changed(before, made))
     done = subprocess.run(check, cwd=folder, stdout=subprocess.PIPE, stderr=subprocess.STDOUT, text=True)
     write_all(folder, before)
     if done.returncode == 0 and "logic=proved" in done.stdout:
-        return [name for name, _, _ in part]
+        return [name for name, _ in part]
     if len(part) == 1:
         print("\n".join(done.stdout.splitlines()[-15:]))
         return []
