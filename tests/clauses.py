@@ -14,7 +14,8 @@ import os
 import re
 import sys
 
-HOME = os.path.dirname(os.path.dirname(os.path.realpath(__file__)))
+sys.dont_write_bytecode = True
+from harness import HOME  # noqa: E402
 COLUMNS = 100
 BEGINS = re.compile(r"\s*(requires|ensures|ghost (?!use\b)\w)")
 

@@ -17,7 +17,9 @@ import subprocess
 import sys
 import tempfile
 
-HOME = os.path.dirname(os.path.dirname(os.path.realpath(__file__)))
+sys.dont_write_bytecode = True
+from harness import HOME, Count, put  # noqa: E402
+
 SPT = os.path.join(HOME, "spt")
 CLUSTER = os.path.join(HOME, "examples", "cluster")
 GRAPH, SOURCES = "a graph.gr", "sources.ss"
@@ -32,14 +34,6 @@ if mkdir '{folder}/lost' 2> /dev/null; then
 fi
 exec '{spt}' "$@"
 """
-
-
-def put_program(folder, name, text):
-    path = os.path.join(folder, name)
-    with open(path, "w") as out:
-        out.write(text)
-    os.chmod(path, 0o755)
-    return path
 
 
 def run(words, folder, **known):
@@ -94,10 +88,10 @@ def cases(folder, run, deed, wanted):
     yield from refusals(folder, run)
     yield f"nothing is left of what is refused: {os.listdir(folder)}", set(os.listdir(folder)) == names | set(FILES)
     yield "the bytes of one run", run(folder, SPT)[:2] == (wanted, 0)
-    lossy = put_program(folder, "lossy", LOSSY.format(folder=folder, spt=SPT, deed=deed))
+    lossy = put(f"{folder}/lossy", LOSSY.format(folder=folder, spt=SPT, deed=deed), 0o755)
     yield "the same where a process is lost", run(folder, lossy)[:2] == (wanted, 0)
     yield "a process was lost", os.path.isdir(os.path.join(folder, "lost"))
-    trees, status, _ = run(folder, put_program(folder, "failing", "#!/bin/sh\nexit 2\n"))
+    trees, status, _ = run(folder, put(f"{folder}/failing", "#!/bin/sh\nexit 2\n", 0o755))
     yield "a program that fails is told", status == 2 and trees in (b"", wanted)
     yield "a list of no source has no tree", run(folder, SPT, sources="empty.ss")[:2] == (b"", 0)
 
@@ -116,8 +110,7 @@ FILES = {
 def refusals(folder, run):
     """Wrong shares and files, each with whether it is told, at once and without output."""
     for name, text in FILES.items():
-        with open(os.path.join(folder, name), "w") as file:
-            file.write(text)
+        put(f"{folder}/{name}", text)
     shares = [dict(share=share) for share in ("0", "-1", "", "x", "00", "1.5", "0x10", "99999999999999999999")]
     files = [dict(sources=name) for name in ["none.ss", ".", GRAPH, "-", *FILES] if name != "empty.ss"]
     for given in shares + files:
@@ -126,10 +119,10 @@ def refusals(folder, run):
 
 
 def main():
-    passed = failed = 0
+    count = Count()
     for name, (run, deed) in tools().items():
         if run is None:
-            failed += os.environ.get("SPT_ALL") == "1"
+            count.failed += os.environ.get("SPT_ALL") == "1"
             print(f"left out: {name} isn't installed")
             continue
         with tempfile.TemporaryDirectory(prefix="spt cluster.") as folder:
@@ -137,12 +130,8 @@ def main():
             subprocess.run(maker, cwd=folder, check=True, stdout=subprocess.DEVNULL)
             one = subprocess.run([SPT, "tree", GRAPH, SOURCES, "--delta", "mean"], cwd=folder, stdout=subprocess.PIPE, check=True)
             for case, holds in cases(folder, run, deed, one.stdout):
-                passed += holds
-                failed += not holds
-                if not holds:
-                    print(f"failed: {name}: {case}")
-    print(f"{passed} passed, {failed} failed")
-    return 1 if failed else 0
+                count.of(f"{name}: {case}", holds)
+    return count.end()
 
 
 if __name__ == "__main__":

@@ -17,7 +17,7 @@ import tempfile
 
 sys.dont_write_bytecode = True
 from cases import check, offers, pairs, replay, shared, tree, words  # noqa: E402
-from trees import try_all  # noqa: E402
+from harness import try_all  # noqa: E402
 
 SECONDS = 120
 

@@ -19,7 +19,7 @@ import tempfile
 
 sys.dont_write_bytecode = True
 from share import below, is_library_made  # noqa: E402
-from trees import HOME, Count  # noqa: E402
+from harness import HOME, Count  # noqa: E402
 
 SECONDS = 300
 ALL = os.environ.get("SPT_ALL") == "1"
@@ -221,8 +221,7 @@ def main():
     with tempfile.TemporaryDirectory() as folder:
         packages(count, folder)
         sums(count, folder)
-    print(f"{count.passed} passed, {count.failed} failed")
-    return 1 if count.failed else 0
+    return count.end()
 
 
 if __name__ == "__main__":

@@ -21,21 +21,9 @@ import tempfile
 import zipfile
 
 sys.dont_write_bytecode = True
-from trees import HOME, try_all  # noqa: E402
+from harness import HOME, SECONDS, put, read_bytes, run, try_all  # noqa: E402
 
-SECONDS = 60
 GRAPH, SOURCES, TREE = (f"{HOME}/examples/diamond.{ending}" for ending in ("gr", "ss", "tree"))
-
-
-def read(path):
-    with open(path, "rb") as it:
-        return it.read()
-
-
-def put(path, data):
-    with open(path, "wb") as it:
-        it.write(data)
-    return path
 
 
 def zipped(data):
@@ -78,11 +66,6 @@ FROM_ZERO = "vertices are numbered from 1; where yours begin with 0, add 1 to ea
 TOO_FAR = "an x line, of a source for which a vertex was too far"
 
 
-def run(program, *words, given=b""):
-    done = subprocess.run([program, *words], input=given, capture_output=True, timeout=SECONDS)
-    return done.returncode, done.stdout.decode(), done.stderr.decode()
-
-
 def second(told):
     """The second line of a refusal that is told in two lines."""
     lines = told[2].split("\n")
@@ -91,19 +74,19 @@ def second(told):
 
 def forms(count, program, folder):
     for name, made, what, tool in FORMS:
-        graph = put(f"{folder}/packed", made(read(GRAPH)))
+        graph = put(f"{folder}/packed", made(read_bytes(GRAPH)))
         rest = (SOURCES, "--delta", "3")
         told = run(program, "tree", graph, *rest)
         wanted = f"spt: {graph}: {what}; use {tool} {graph} | spt tree - .."
         count.of(f"a graph, {name}: {told}", told[0] == 2 and second(told) == wanted)
-        told = run(program, "tree", "-", *rest, given=read(graph))
+        told = run(program, "tree", "-", *rest, given=read_bytes(graph))
         wanted = f"spt: standard input: {what}; use {tool} | spt tree - .."
         count.of(f"a graph on standard input, {name}: {told}", told[0] == 2 and second(told) == wanted)
         if shutil.which(tool.split()[0]):
             plain = subprocess.run([*tool.split(), graph], capture_output=True, timeout=SECONDS).stdout
             told = run(program, "tree", "-", *rest, given=plain)
-            count.of(f"what {tool} makes of it: {told}", told == (0, read(TREE).decode(), ""))
-        tree = put(f"{folder}/packed", made(read(TREE)))
+            count.of(f"what {tool} makes of it: {told}", told == (0, read_bytes(TREE).decode(), ""))
+        tree = put(f"{folder}/packed", made(read_bytes(TREE)))
         told = run(program, "check", GRAPH, tree)
         wanted = f"spt: {tree}: {what}; use {tool} {tree} | spt check .. -"
         count.of(f"a tree, {name}: {told}", told[0] == 2 and second(told) == wanted)
@@ -153,7 +136,7 @@ def layouts(count, program, folder):
         ranged = f"N is a number from 1 to {2 ** int(layout) - 2}\n"
         more = f"{vertices} vertices; use --pred-bits {wanted}\n" if wanted is not None else ranged
         count.of(f"{vertices} vertices: {told}", told == (2, "", f"{lines}spt: {graph}: {more}"))
-        told = run(program, "tree", "-", "--source", "1", "--delta", "3", "--pred-bits", layout, given=read(graph))
+        told = run(program, "tree", "-", "--source", "1", "--delta", "3", "--pred-bits", layout, given=read_bytes(graph))
         count.of(f"{vertices} vertices on standard input: {told}", told == (2, "", f"{lines}spt: standard input: {ranged}"))
     graph = put(f"{folder}/large.gr", b"c many vertices\n\n p  sp 268435455 0 \n")
     told = run(program, "check", graph, TREE, "--pred-bits", "20")
@@ -175,7 +158,7 @@ NAMED = [
 
 
 def vertices(count, program, folder):
-    graph = put(f"{folder}/four.gr", b"c of 4 vertices\n\n" + read(GRAPH))
+    graph = put(f"{folder}/four.gr", b"c of 4 vertices\n\n" + read_bytes(GRAPH))
     for command, text, words, vertex, place in NAMED:
         first = f"spt: source {vertex}: no such vertex\n"
         path = put(f"{folder}/list", text.encode())
@@ -183,7 +166,7 @@ def vertices(count, program, folder):
         count.of(f"{command}, {text}: {told}", told == (2, "", f"{first}spt: {path}: {place}the graph has 4 vertices\n"))
         told = run(program, command, graph, "-", "--delta", "3", *words, given=text.encode())
         count.of(f"{command} on standard input, {text}: {told}", told == (2, "", f"{first}spt: the graph has 4 vertices\n"))
-        told = run(program, command, "-", path, "--delta", "3", *words, given=read(graph))
+        told = run(program, command, "-", path, "--delta", "3", *words, given=read_bytes(graph))
         count_unknown = "vertices are numbered from 1 to the N of the line `p sp N M`"
         count.of(f"{command} beside standard input, {text}: {told}", told == (2, "", f"{first}spt: {path}: {place}{count_unknown}\n"))
     told = run(program, "tree", graph, "--source", "4", "--source", "12", "--delta", "3")
@@ -269,7 +252,7 @@ def lines(count, program, folder):
         graph = put(f"{folder}/graph", text.encode("latin-1"))
         told = run(program, "tree", graph, SOURCES, "--delta", "3")
         count.of(f"{name}: {told}", told == (2, "", f"spt: gr: {fault}\nspt: {graph}: {wanted}\n"))
-        told = run(program, "tree", "-", SOURCES, "--delta", "3", given=read(graph))
+        told = run(program, "tree", "-", SOURCES, "--delta", "3", given=read_bytes(graph))
         count.of(f"{name} on standard input: {told}", told == (2, "", f"spt: gr: {fault}\nspt: standard input: {unread_wanted}\n"))
     for command, file, text, fault, wanted in OTHERS:
         path = put(f"{folder}/other", text.encode())
@@ -341,7 +324,7 @@ NAMES = [
 def names(count, program, folder):
     for name, shown, word in NAMES:
         inner = tempfile.mkdtemp(dir=folder)
-        put(f"{inner}/{name}", gzip.compress(read(GRAPH)))
+        put(f"{inner}/{name}", gzip.compress(read_bytes(GRAPH)))
         done = subprocess.run([program, "tree", name, SOURCES, "--delta", "3"], cwd=inner, capture_output=True, timeout=SECONDS)
         told = done.returncode, done.stdout.decode(), done.stderr.decode()
         tool = "zcat" if word is None else f"zcat {word}"
@@ -349,12 +332,12 @@ def names(count, program, folder):
         count.of(f"a file {name!r}: {told}", told == (2, "", wanted))
         if word is not None:
             given = subprocess.run(f"zcat {word}", shell=True, cwd=inner, capture_output=True, timeout=SECONDS).stdout
-            count.of(f"what the shell reads of {word}", given == read(GRAPH))
+            count.of(f"what the shell reads of {word}", given == read_bytes(GRAPH))
         told = run(program, "tree", f"{inner}/none/{name}", SOURCES, "--delta", "3")
         wanted = f"spt: gr: cannot open\nspt: {inner}/none/{shown}: No such file or directory (os error 2)\n"
         count.of(f"no file {name!r}: {told}", told == (6, "", wanted))
     inner = tempfile.mkdtemp(dir=folder)
-    put(f"{inner}/-x.gz", gzip.compress(read(GRAPH)))
+    put(f"{inner}/-x.gz", gzip.compress(read_bytes(GRAPH)))
     done = subprocess.run([program, "tree", "--delta", "3", "--", "-x.gz", SOURCES], cwd=inner, capture_output=True, timeout=SECONDS)
     wanted = "spt: gr: line 1: 2 BadLine\nspt: -x.gz: compressed by gzip; use zcat ./-x.gz | spt tree - ..\n"
     count.of(f"a file -x.gz: {done}", done.stderr.decode() == wanted)

@@ -10,7 +10,6 @@ beginning of its text; never by a signal, never late, never with status 0 and a 
 'N passed, M failed'. A C compiler is needed: it makes the library whose reads fail (tests/refuse.c).
 """
 
-import argparse
 import collections
 import os
 import re
@@ -22,11 +21,9 @@ import tempfile
 
 sys.dont_write_bytecode = True
 import refused  # noqa: E402
-from refused import parts  # noqa: E402
+from harness import SECONDS, Count, graphs, options_of, program, put  # noqa: E402
 import trees  # noqa: E402
-from trees import HOME, Count, graphs  # noqa: E402
 
-SECONDS = 120
 PAGE = 4096
 # Small pages, so that limits may lie near one another.
 os.environ["GLIBC_TUNABLES"] = ""
@@ -49,12 +46,6 @@ Case = collections.namedtuple("Case", "name words text status files")
 # ## Cases
 
 
-def put(folder, name, text):
-    with open(f"{folder}/{name}", "w") as it:
-        it.write(text)
-    return f"{folder}/{name}"
-
-
 def cases(folder, vertices):
     """Each command on a graph or a list of this size; every text but that of `check` is long."""
     graph = f"{folder}/roads.gr"
@@ -65,8 +56,8 @@ def cases(folder, vertices):
             rows[tail].append((head, length))
     words, far = trees.dijkstra(rows, 1)
     block = trees.block(vertices, 1, words, far)
-    sources, tree = put(folder, "one.ss", "p aux sp ss 1\ns 1\n"), put(folder, "roads.tree", block)
-    asked = put(folder, "all.pairs", f"p pairs {vertices}\n" + "".join(f"q 1 {it}\n" for it in rows))
+    sources, tree = put(f"{folder}/one.ss", "p aux sp ss 1\ns 1\n"), put(f"{folder}/roads.tree", block)
+    asked = put(f"{folder}/all.pairs", f"p pairs {vertices}\n" + "".join(f"q 1 {it}\n" for it in rows))
     told = "".join("d 1 {} {} {}\n".format(it, *words[it]) if it in words else f"n 1 {it}\n" for it in rows)
     for workers in ("1", "4"):
         crew = ("--delta", str(mean), "--workers", workers)
@@ -76,9 +67,9 @@ def cases(folder, vertices):
     yield Case("check", ("check", graph, tree), "yes\n", 0, {"gr": graph, "tree": tree})
     offers = "".join(f"o 1 {it} {it} 1\n" for it in rows)
     kept = "".join(f"w {it} {it} 1\n" for it in rows)
-    made = put(folder, "long.off", f"p off {vertices} 1\n{offers}")
+    made = put(f"{folder}/long.off", f"p off {vertices} 1\n{offers}")
     yield Case("offers", ("offers", made), f"{kept}e {vertices}\n", 0, {"offers": made})
-    steps = put(folder, "long.rep", f"p rep {vertices} 1\n{offers}" + 2 * vertices * "s 1\n")
+    steps = put(f"{folder}/long.rep", f"p rep {vertices} 1\n{offers}" + 2 * vertices * "s 1\n")
     calls = "".join(f"o 1 {it} {it} 1 shorter {2 * it - 1} {2 * it}\n" for it in rows)
     yield Case("replay", ("replay", steps), f"{calls}{kept}t {vertices} 0\nclosed yes\n", 0, {"replay": steps})
 
@@ -218,24 +209,22 @@ def limit_memory(count, program, case, folder, least):
 
 
 def main():
-    options = argparse.ArgumentParser(description=__doc__, formatter_class=argparse.RawDescriptionHelpFormatter)
-    options.add_argument("--program", help="this spt, as it is, in place of a build")
+    options = options_of(__doc__)
     options.add_argument("--vertices", type=int, default=20000)
     chosen = options.parse_args()
-    program = chosen.program or parts.program()
+    tried = program(chosen)
     count = Count()
     with tempfile.TemporaryDirectory() as folder:
         refuser = refused.Refuser(folder)
-        least = least_to_start(program)
+        least = least_to_start(tried)
         for case in cases(folder, chosen.vertices):
-            close_at_once(count, program, case)
+            close_at_once(count, tried, case)
             if len(case.text) > SHORT:
-                close_after_a_line(count, program, case)
-            fill_device(count, program, case, folder)
-            fail_reads(count, refuser, program, case, folder)
-            limit_memory(count, program, case, folder, least)
-    print(f"{count.passed} passed, {count.failed} failed")
-    return 1 if count.failed else 0
+                close_after_a_line(count, tried, case)
+            fill_device(count, tried, case, folder)
+            fail_reads(count, refuser, tried, case, folder)
+            limit_memory(count, tried, case, folder, least)
+    return count.end()
 
 
 if __name__ == "__main__":

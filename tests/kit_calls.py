@@ -13,20 +13,15 @@ import subprocess
 import sys
 import tempfile
 
-HOME = os.path.dirname(os.path.dirname(os.path.realpath(__file__)))
 sys.dont_write_bytecode = True
+from harness import HOME, Count, put, read  # noqa: E402
+
 sys.path.insert(0, f"{HOME}/build")
 import kit  # noqa: E402
-from trees import Count  # noqa: E402
 
 SCRIPTS = ["build/archive.py", "build/build.py", "build/kit.py", "tests/edits.py", "tests/twins.py"]
 # what is taken away from a kit, in which file, and the scripts that need it
 GONE = [("def in_lanes(", "rt", "rt.in_lanes"), ("    def stamp(", "rtlib.py", "rtlib.Crate.stamp"), ("def crates_below(", "rtlib.py", "rtlib.crates_below")]
-
-
-def read(path):
-    with open(path) as it:
-        return it.read()
 
 
 def called(text):
@@ -52,8 +47,7 @@ def tells_what_is_gone(count):
             for part in ("rt", "rtlib.py"):
                 shutil.copy(f"{real}/{part}", folder)
             text = read(f"{folder}/{file}")
-            with open(f"{folder}/{file}", "w") as it:
-                it.write(text.replace(head, head.replace("def ", "def was_")))
+            put(f"{folder}/{file}", text.replace(head, head.replace("def ", "def was_")))
             for script in SCRIPTS:
                 if script == "build/archive.py" and file == "rt":
                     continue
@@ -68,8 +62,7 @@ def main():
     count = Count()
     has_all(count)
     tells_what_is_gone(count)
-    print(f"{count.passed} passed, {count.failed} failed")
-    return 1 if count.failed else 0
+    return count.end()
 
 
 if __name__ == "__main__":

@@ -13,7 +13,6 @@ docs/EMBEDDING.md must print what stands below them there. A tool that isn't the
 counts as failed, and so does it where there is no compiler at all. The last line is 'N passed, M failed'.
 """
 
-import argparse
 import os
 import re
 import shlex
@@ -23,9 +22,7 @@ import sys
 import tempfile
 
 sys.dont_write_bytecode = True
-from trees import HOME, Count  # noqa: E402
-import graphs  # noqa: E402
-import parts  # noqa: E402
+from harness import HOME, Count, graphs, options_of, program  # noqa: E402
 
 COMPILERS = {"gcc": "g++", "clang": "clang++"}
 STRICT = ["-std=c11", "-D_GNU_SOURCE", "-O1", "-g", "-pthread", "-Wall", "-Wextra", "-Werror"]
@@ -217,7 +214,7 @@ def try_all(count, chosen, folder):
     if status != 0:
         return
     inspect(count, prefix)
-    great, wanted = great_graph(folder, chosen.program or parts.program())
+    great, wanted = great_graph(folder, program(chosen))
     missing = [it for it in (*COMPILERS, "pkg-config") if shutil.which(it) is None]
     for tool in missing:
         print(f"left out: {tool} isn't installed")
@@ -231,15 +228,13 @@ def try_all(count, chosen, folder):
 
 
 def main():
-    options = argparse.ArgumentParser(description=__doc__, formatter_class=argparse.RawDescriptionHelpFormatter)
+    options = options_of(__doc__)
     options.add_argument("--archive", type=os.path.abspath, help="this static library in place of the one of crates/spt_c")
-    options.add_argument("--program", type=os.path.abspath, help="this spt, as it is, in place of a build")
     chosen = options.parse_args()
     count = Count()
     with tempfile.TemporaryDirectory() as folder:
         try_all(count, chosen, folder)
-    print(f"{count.passed} passed, {count.failed} failed")
-    return 1 if count.failed or not count.passed else 0
+    return count.end() or not count.passed
 
 
 if __name__ == "__main__":

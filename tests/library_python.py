@@ -17,7 +17,7 @@ import sys
 import tempfile
 
 sys.dont_write_bytecode = True
-from trees import HOME, Count  # noqa: E402
+from harness import HOME, Count  # noqa: E402
 
 SYSTEM = "/usr/bin/python3"
 SECONDS = 600
@@ -102,8 +102,7 @@ def main():
             add_examples(count, python, prefix)
         if os.environ.get("SPT_ALL") == "1":
             count.of(f"run by no Python: {', '.join(missing - ran)}", missing <= ran)
-    print(f"{count.passed} passed, {count.failed} failed")
-    return 1 if count.failed or not count.passed else 0
+    return count.end() or not count.passed
 
 
 if __name__ == "__main__":

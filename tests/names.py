@@ -16,24 +16,12 @@ import tempfile
 import time
 
 sys.dont_write_bytecode = True
-from trees import HOME, Count  # noqa: E402
+from harness import HOME, SECONDS, Count, put, read  # noqa: E402
 
-SECONDS = 60
 SHELLS = [shell for shell in ("dash", "bash") if shutil.which(shell)]
 # Latin-1, and bytes that are in no text
 GRAPH, SOURCES, TREE, OUT, FOLDER = b"caf\xe9 au lait.gr", b"-\xff*.ss", b"\x80.tree", b"\xe9=t\xe9", b"f\xf4lder"
 HELD = "what it held\n"
-
-
-def read(path):
-    with open(path) as it:
-        return it.read()
-
-
-def put(path, text):
-    with open(path, "w") as it:
-        it.write(text)
-    return path
 
 
 def run(folder, *words, shell="dash"):
@@ -155,8 +143,7 @@ def main():
         outputs(count, top)
         statuses(count, top)
         signals(count, top)
-    print(f"{count.passed} passed, {count.failed} failed")
-    return 1 if count.failed else 0
+    return count.end()
 
 
 if __name__ == "__main__":

@@ -26,23 +26,11 @@ import threading
 import time
 
 sys.dont_write_bytecode = True
-from trees import HOME, try_all  # noqa: E402
+from harness import HOME, SECONDS, put, read, try_all  # noqa: E402
 
-SECONDS = 60
 GRAPH, SOURCES, TREE = (f"{HOME}/examples/diamond.{ending}" for ending in ("gr", "ss", "tree"))
 HELD = "what it held\n"
 CANNOT_WRITE = "spt: output: cannot write\n"
-
-
-def read(path):
-    with open(path) as it:
-        return it.read()
-
-
-def put(path, text):
-    with open(path, "w") as it:
-        it.write(text)
-    return path
 
 
 def run(program, *words, room=None):

@@ -13,8 +13,8 @@ import sys
 import tempfile
 
 sys.dont_write_bytecode = True
-import trees  # noqa: E402
-from trees import graphs  # noqa: E402
+from harness import Count, graphs  # noqa: E402
+from trees import MAX, dijkstra, run_spt  # noqa: E402
 
 WORKERS = (1, 4, 64)
 
@@ -47,13 +47,13 @@ def compare(count, kind, chosen, folder):
     with open(graph) as it:
         for tail, head, length in (map(int, row.split()[1:]) for row in it if row.startswith("a ")):
             rows[tail].append((head, length))
-    answers = {source: trees.dijkstra(rows, source) for source in {source for source, _ in pairs}}
+    answers = {source: dijkstra(rows, source) for source in {source for source, _ in pairs}}
     wanted = "".join(line(source, target, *answers[source]) for source, target in pairs)
     status = 4 if "x " in wanted else 0
-    mean = min(mean, trees.MAX // 3)
-    for delta in (max(1, mean // 3), mean, 3 * mean, trees.MAX):
+    mean = min(mean, MAX // 3)
+    for delta in (max(1, mean // 3), mean, 3 * mean, MAX):
         for workers in WORKERS:
-            told = trees.run("pairs", graph, list_of_pairs, "--delta", str(delta), "--workers", str(workers))
+            told = run_spt("pairs", graph, list_of_pairs, "--delta", str(delta), "--workers", str(workers))
             count.of(f"pairs of {kind}, delta {delta}, {workers} workers", told == (status, wanted, ""))
 
 
@@ -64,12 +64,11 @@ def main():
     options.add_argument("--sources", type=int, default=20)
     options.add_argument("--seed", type=int, default=1)
     chosen = options.parse_args()
-    count = trees.Count()
+    count = Count()
     with tempfile.TemporaryDirectory() as folder:
         for kind in sorted(graphs.KINDS):
             compare(count, kind, chosen, folder)
-    print(f"{count.passed} passed, {count.failed} failed")
-    return 1 if count.failed else 0
+    return count.end()
 
 
 if __name__ == "__main__":

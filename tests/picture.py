@@ -21,12 +21,13 @@ import glob
 import os
 import random
 import re
-import subprocess
 import sys
 import tempfile
 import xml.etree.ElementTree as ElementTree
 
-HOME = os.path.dirname(os.path.dirname(os.path.realpath(__file__)))
+sys.dont_write_bytecode = True
+from harness import HOME, Count, run as started  # noqa: E402
+
 SVG = "{http://www.w3.org/2000/svg}"
 TOO_MANY = "spt: replay: more than 60 steps\n"
 WIDEST = 2500  # with numbers of at most 10 digits
@@ -40,20 +41,15 @@ LAYOUTS = [
 ]
 
 program = f"{HOME}/spt"
-passed = failed = 0
+counted = Count()
 
 
 def count(name, holds, told=""):
-    global passed, failed
-    passed += holds
-    failed += not holds
-    if not holds:
-        print(f"failed: {name} {told}")
+    counted.of(f"{name} {told}", holds)
 
 
 def replay(path, *words):
-    done = subprocess.run([program, "replay", path, *words], capture_output=True, text=True)
-    return done.returncode, done.stdout, done.stderr
+    return started(program, "replay", path, *words)
 
 
 # ## The plain machine
@@ -410,8 +406,7 @@ def main():
         count("61 steps have no picture", replay(path, "--svg") == (2, "", TOO_MANY))
         count("61 steps have a report", replay(path)[0] == 0)
         check_long_runs(folder)
-    print(f"{passed} passed, {failed} failed")
-    return 1 if failed or not passed else 0
+    return counted.end() or not counted.passed
 
 
 if __name__ == "__main__":

@@ -20,20 +20,14 @@ import threading
 import time
 
 sys.dont_write_bytecode = True
-from trees import HOME, try_all  # noqa: E402
+from harness import HOME, SECONDS, put, run, try_all  # noqa: E402
 
-SECONDS = 60
 GRAPH, SOURCES, PAIRS = (f"{HOME}/examples/diamond.{ending}" for ending in ("gr", "ss", "pairs"))
 PASSED = r"\d+:\d\d"
 # a pause between lines where standard error is no terminal, and some more
 PAUSE = 5.3
 # less than a line stays on a terminal that nothing but time changes, in seconds
 SHORT = 0.15
-
-
-def run(program, *words, **more):
-    done = subprocess.run([program, *words], capture_output=True, text=True, timeout=SECONDS, **more)
-    return done.returncode, done.stdout, done.stderr
 
 
 def on_terminal(program, *words, take=None, **more):
@@ -66,12 +60,6 @@ def lines_over(told):
     """The lines that were written over one another, and what follows them. None: they aren't of that form."""
     form = re.fullmatch(r"((?:\rspt: [^\r\n\x1b]+\x1b\[K)*)(.*)", told, re.S)
     return re.findall(r"\r(spt: [^\r\n\x1b]+)\x1b\[K", form[1]), form[2]
-
-
-def put(path, text):
-    with open(path, "w") as it:
-        it.write(text)
-    return path
 
 
 def long_file(folder, stretches, last=""):

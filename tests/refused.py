@@ -10,7 +10,6 @@ call and command it prints how many refusals were tried; the last line is 'N pas
 makes the library that refuses (tests/refuse.c).
 """
 
-import argparse
 import os
 import re
 import shutil
@@ -19,8 +18,7 @@ import sys
 import tempfile
 
 sys.dont_write_bytecode = True
-from trees import HOME, Count  # noqa: E402
-import parts  # noqa: E402
+from harness import HOME, Count, options_of, parts, program  # noqa: E402
 
 WORKERS = (1, 2)
 # no command or call here makes so many requests
@@ -208,8 +206,7 @@ def try_calls(count, refuser, program):
 
 
 def main():
-    options = argparse.ArgumentParser(description=__doc__, formatter_class=argparse.RawDescriptionHelpFormatter)
-    options.add_argument("--program", help="this spt, as it is, in place of a build")
+    options = options_of(__doc__)
     options.add_argument("--calls", metavar="PROGRAM", help="this tests_refused, as it is, in place of a build")
     chosen = options.parse_args()
     count = Count()
@@ -222,9 +219,8 @@ def main():
         else:
             try_calls(count, refuser, chosen.calls or parts.build_ours("tests_refused", "read_gr", "diamond", "1"))
             write_files(folder)
-            try_commands(count, refuser, chosen.program or parts.program(), folder)
-    print(f"{count.passed} passed, {count.failed} failed")
-    return 1 if count.failed else 0
+            try_commands(count, refuser, program(chosen), folder)
+    return count.end()
 
 
 if __name__ == "__main__":

@@ -13,11 +13,11 @@ import subprocess
 import sys
 import tempfile
 
-HOME = os.path.dirname(os.path.dirname(os.path.realpath(__file__)))
 sys.dont_write_bytecode = True
+from harness import HOME, Count  # noqa: E402
+
 sys.path.insert(0, f"{HOME}/share")
 import make  # noqa: E402
-from trees import Count  # noqa: E402
 
 INSTALLED = [
     "bin/spt",
@@ -312,8 +312,7 @@ def main():
     uninstall(count)
     tell_system(count)
     tell_versions(count)
-    print(f"{count.passed} passed, {count.failed} failed")
-    return 1 if count.failed else 0
+    return count.end()
 
 
 if __name__ == "__main__":

@@ -18,7 +18,7 @@ import tempfile
 import time
 
 sys.dont_write_bytecode = True
-from trees import HOME, Count  # noqa: E402
+from harness import HOME, Count  # noqa: E402
 
 SECONDS = 30
 # how long what is left may be there
@@ -200,8 +200,7 @@ def main():
         ends(count, top, command)
         without(count, top, command)
         program(count, top)
-    print(f"{count.passed} passed, {count.failed} failed")
-    return 1 if count.failed else 0
+    return count.end()
 
 
 if __name__ == "__main__":

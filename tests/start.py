@@ -15,9 +15,8 @@ import sys
 import tempfile
 import time
 
-HOME = os.path.dirname(os.path.dirname(os.path.realpath(__file__)))
 sys.dont_write_bytecode = True
-from trees import Count  # noqa: E402
+from harness import HOME, Count, put, read  # noqa: E402
 
 # a source that changes within this time has no stamp
 SETTLED = 2.2
@@ -35,13 +34,6 @@ FILES = {
 }
 # It tells which files are summed, and sums them.
 SUM = '#!/bin/sh\nprintf "%s\\n" "$@" >> "$SUMMED"\nexec {} "$@"\n'
-
-
-def put(path, text, mode=0o644):
-    os.makedirs(os.path.dirname(path), exist_ok=True)
-    with open(path, "w") as it:
-        it.write(text)
-    os.chmod(path, mode)
 
 
 class Repository:
@@ -70,8 +62,7 @@ class Repository:
         """Status and output of a start, and whether it has read the sources."""
         put(self.summed, "")
         done = subprocess.run([*(words or [self.path("spt")]), "a word"], cwd=cwd, env=self.known, capture_output=True, text=True)
-        with open(self.summed) as it:
-            return done.returncode, done.stdout, SOURCE in it.read()
+        return done.returncode, done.stdout, SOURCE in read(self.summed)
 
     def is_stamped(self):
         return os.path.isfile(self.path(".spt/stamp"))
@@ -102,8 +93,7 @@ def edit_in_place(path):
 def replace(path):
     """Another file of the same name, length and time."""
     before = os.stat(path)
-    with open(path) as it:
-        put(f"{path}.new", it.read().replace("n", "N", 1))
+    put(f"{path}.new", read(path).replace("n", "N", 1))
     keep_times(f"{path}.new", before)
     os.replace(f"{path}.new", path)
 
@@ -206,8 +196,7 @@ def main():
     for tried in (try_changes, try_lately, try_places, try_without_stamp):
         with tempfile.TemporaryDirectory() as folder:
             tried(count, folder)
-    print(f"{count.passed} passed, {count.failed} failed")
-    return 1 if count.failed else 0
+    return count.end()
 
 
 if __name__ == "__main__":

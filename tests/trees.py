@@ -18,11 +18,8 @@ import sys
 import tempfile
 import threading
 
-HOME = os.path.dirname(os.path.dirname(os.path.realpath(__file__)))
 sys.dont_write_bytecode = True
-sys.path.insert(0, f"{HOME}/bench")
-import graphs  # noqa: E402
-import parts  # noqa: E402
+from harness import HOME, Count, graphs, run  # noqa: E402
 
 # the greatest distance of a word with 28 bits of predecessor, as --pred-bits is where it isn't given
 MAX = 2**36 - 2
@@ -97,39 +94,14 @@ def with_another_digit(number, draw):
     return int("".join([*digits[:place], digit, *digits[place + 1 :]]))
 
 
-class Count:
-    def __init__(self):
-        self.passed = self.failed = 0
-
-    def of(self, name, holds):
-        self.passed += holds
-        self.failed += not holds
-        if not holds:
-            print(f"failed: {name}")
-
-
-def try_all(description, tests):
-    """Runs tests of the program, each with a count, the program and a folder. The exit status."""
-    options = argparse.ArgumentParser(description=description, formatter_class=argparse.RawDescriptionHelpFormatter)
-    options.add_argument("--program", help="this spt, as it is, in place of a build")
-    program = options.parse_args().program or parts.program()
-    count = Count()
-    with tempfile.TemporaryDirectory() as folder:
-        for tried in tests:
-            tried(count, program, folder)
-    print(f"{count.passed} passed, {count.failed} failed")
-    return 1 if count.failed else 0
-
-
-def run(*words):
-    done = subprocess.run([f"{HOME}/spt", *words], stdout=subprocess.PIPE, stderr=subprocess.PIPE, text=True)
-    return done.returncode, done.stdout, done.stderr
+def run_spt(*words):
+    return run(f"{HOME}/spt", *words, timeout=None)
 
 
 def compare_trees(count, kind, files, mean, wanted, status):
     for delta in (max(1, mean // 3), mean, 3 * mean, MAX):
         for workers in WORKERS:
-            told = run("tree", *files, "--delta", str(delta), "--workers", str(workers))
+            told = run_spt("tree", *files, "--delta", str(delta), "--workers", str(workers))
             count.of(f"tree of {kind}, delta {delta}, {workers} workers", told == (status, wanted, ""))
 
 
@@ -139,7 +111,7 @@ def compare_checks(count, kind, folder, graph, arcs, n, source, words, draw):
     def said(rows):
         with open(file, "w") as it:
             it.write(block(n, source, rows, None))
-        return run("check", graph, file)
+        return run_spt("check", graph, file)
 
     count.of(f"check of {kind}, source {source}", said(words) == (0, "yes\n", ""))
     for _ in range(EDITS):
@@ -157,7 +129,7 @@ def compare_blocks(count, kind, folder, graph, arcs, n, trees, draw):
     def said(blocks):
         with open(file, "w") as it:
             it.write("".join(block(n, source, words, None) for source, words in blocks))
-        return run("check", "--all", graph, file)
+        return run_spt("check", "--all", graph, file)
 
     count.of(f"check --all of {kind}", said(trees) == (0, "yes\n" * len(trees), ""))
     for _ in range(EDITS):
@@ -240,8 +212,7 @@ def main():
         for kind in sorted(graphs.KINDS):
             compare(count, kind, chosen, folder)
         see_workers(count, folder, chosen.seed)
-    print(f"{count.passed} passed, {count.failed} failed")
-    return 1 if count.failed else 0
+    return count.end()
 
 
 if __name__ == "__main__":

@@ -18,7 +18,7 @@ import tempfile
 import zipfile
 
 sys.dont_write_bytecode = True
-from trees import HOME, Count  # noqa: E402
+from harness import HOME, Count  # noqa: E402
 
 SYSTEM = "/usr/bin/python3"
 SECONDS = 600
@@ -163,8 +163,7 @@ def main():
     add_elsewhere(count)
     if os.environ.get("SPT_ALL") == "1":
         count.of("some Python has venv and pip", any(tried))
-    print(f"{count.passed} passed, {count.failed} failed")
-    return 1 if count.failed or not count.passed else 0
+    return count.end() or not count.passed
 
 
 if __name__ == "__main__":

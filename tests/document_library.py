@@ -5,7 +5,7 @@ Before each block between fences stands a line that names a file in backquotes; 
 word. The blocks of crates/spt_example/stdout, which the merge gate compares with what the program prints, must be that whole
 file, one behind the other. Each file of the example's code must be quoted whole, so that nothing of it goes unseen.
 
-Usage: python3 tests/library.py
+Usage: python3 tests/document_library.py
 
 The last line is 'N passed, M failed'.
 """
@@ -15,7 +15,9 @@ import os
 import re
 import sys
 
-HOME = os.path.dirname(os.path.dirname(os.path.realpath(__file__)))
+sys.dont_write_bytecode = True
+from harness import HOME  # noqa: E402
+
 PAGE = "docs/LIBRARY.md"
 OUTPUT = "crates/spt_example/stdout"
 CODE = "crates/spt_example/src/*.rt"

@@ -5,7 +5,7 @@ A public contract is what stands between the head of a `pub fn`, or of a method 
 C calls is public in any module. The definitions are the names that its file takes from `specs/` of a crate of this repository.
 Each must stand in backquotes in a row of the section that names that crate's `specs`, and a row's names must exist there.
 
-Usage: python3 tests/definitions.py
+Usage: python3 tests/document_definitions.py
 
 The last line is 'N passed, M failed'.
 """
@@ -14,7 +14,9 @@ import os
 import re
 import sys
 
-HOME = os.path.dirname(os.path.dirname(os.path.realpath(__file__)))
+sys.dont_write_bytecode = True
+from harness import HOME, Count, read  # noqa: E402
+
 IMPORT = re.compile(r"ghost use Rattle\.(spt?_\w+)\.specs\.([\w.]+)\.\{([^}]*)\}")
 WORD = re.compile(r"[A-Za-z_]\w*")
 
@@ -41,8 +43,7 @@ def imported(text):
 
 def exported(crate):
     """The names that a crate's root file makes public."""
-    with open(f"{HOME}/crates/{crate}/src/lib.rt") as file:
-        text = file.read()
+    text = read(f"{HOME}/crates/{crate}/src/lib.rt")
     names = set(re.findall(r"^pub (?:const )?(?:fn|struct|enum|trait|type) (\w+)", text, re.M))
     for one, several in re.findall(r"^pub use [\w:]*?(?:(\w+)|\{([^}]*)\});", text, re.M):
         names |= set(WORD.findall(one or several))
@@ -81,8 +82,7 @@ def spoken(crate):
     for path in files_below(f"{HOME}/crates/{crate}/src", ".rt"):
         if "/tests" in path:
             continue
-        with open(path) as file:
-            text = file.read()
+        text = read(path)
         names = imported(text)
         for contract in contracts(text, public):
             found |= {names[word] for word in WORD.findall(contract) if word in names}
@@ -116,24 +116,19 @@ def defined(crate):
 
 
 def main():
-    passed, faults = 0, []
+    count = Count()
     rows = list(listed())
     of_crate = {(crate, name) for crates, names in rows for crate in crates for name in names}
     for crate in sorted(os.listdir(f"{HOME}/crates")):
         if not os.path.exists(f"{HOME}/crates/{crate}/src/lib.rt"):
             continue
         for home, name in sorted(spoken(crate)):
-            if (home, name) in of_crate:
-                passed += 1
-            else:
-                faults.append(f"{home}: {name} isn't listed, but a public contract of {crate} speaks in it")
+            count.of(f"{home}: {name} isn't listed, but a public contract of {crate} speaks in it", (home, name) in of_crate)
     for crates, names in rows:
         for name in names:
             if not any(name in defined(crate) for crate in crates):
-                faults.append(f"{' '.join(crates)}: {name} is listed, but isn't defined there")
-    print("\n".join(faults))
-    print(f"{passed} passed, {len(faults)} failed")
-    return 1 if faults else 0
+                count.of(f"{' '.join(crates)}: {name} is listed, but isn't defined there", False)
+    return count.end()
 
 
 if __name__ == "__main__":

@@ -1,0 +1,83 @@
+"""What the scripts of tests/ share: the count of what passed, the program that they try, runs of a program, and files.
+
+A script says what failed, a line each, and its last line is 'N passed, M failed', which ./test adds up. `graphs` and `parts` are those of bench/.
+"""
+
+import argparse
+import os
+import subprocess
+import sys
+import tempfile
+
+HOME = os.path.dirname(os.path.dirname(os.path.realpath(__file__)))
+SECONDS = 120
+
+sys.path.insert(0, f"{HOME}/bench")
+import graphs  # noqa: E402, F401
+import parts  # noqa: E402
+
+
+class Count:
+    """How many tests passed, and how many failed."""
+
+    def __init__(self):
+        self.passed = self.failed = 0
+
+    def of(self, name, holds):
+        self.passed += holds
+        self.failed += not holds
+        if not holds:
+            print(f"failed: {name}")
+
+    def end(self):
+        """Prints the last line. The exit status."""
+        print(f"{self.passed} passed, {self.failed} failed")
+        return 1 if self.failed else 0
+
+
+def options_of(description):
+    """The options of a script that tries the program."""
+    options = argparse.ArgumentParser(description=description, formatter_class=argparse.RawDescriptionHelpFormatter)
+    options.add_argument("--program", type=os.path.abspath, help="this spt, as it is, in place of a build")
+    return options
+
+
+def program(chosen=None):
+    """The program to try: the one that an option names, else the one that ./spt runs, which is built first where there is none."""
+    return chosen and chosen.program or parts.program()
+
+
+def try_all(description, tests):
+    """Runs tests of the program, each with a count, the program and a folder. The exit status."""
+    tried, count = program(options_of(description).parse_args()), Count()
+    with tempfile.TemporaryDirectory() as folder:
+        for test in tests:
+            test(count, tried, folder)
+    return count.end()
+
+
+def run(program, *words, given=b"", **more):
+    """Status, output and errors of a program, which is given these bytes, within two minutes."""
+    done = subprocess.run([program, *words], input=given, capture_output=True, **{"timeout": SECONDS, **more})
+    return done.returncode, done.stdout.decode(), done.stderr.decode()
+
+
+def read(path):
+    """The text of a file."""
+    with open(path) as it:
+        return it.read()
+
+
+def read_bytes(path):
+    with open(path, "rb") as it:
+        return it.read()
+
+
+def put(path, data, mode=None):
+    """Writes a text, or bytes, to a file, which gets its folder and this mode, if any. Its path."""
+    os.makedirs(os.path.dirname(os.path.abspath(path)), exist_ok=True)
+    with open(path, "wb" if isinstance(data, bytes) else "w") as it:
+        it.write(data)
+    if mode is not None:
+        os.chmod(path, mode)
+    return path
