@@ -232,13 +232,13 @@ def main():
     options.add_argument("--size", type=int, default=300_000)
     options.add_argument("--sources", type=int, default=3)
     options.add_argument("--workers", type=int, default=4, help="a further row of the program with this number; 1 leaves it out")
-    options.add_argument("--library", type=os.path.abspath, help="this libspt.so in place of one that .ci/libraries puts down")
+    options.add_argument("--library", type=os.path.abspath, help="this libspt.so in place of one that build/libraries puts down")
     options.add_argument("--program", type=os.path.abspath, help="this program in place of the one that ./spt runs")
     chosen = options.parse_args()
     sys.path.insert(0, f"{HOME}/python")
     with tempfile.TemporaryDirectory() as folder:
         if chosen.library is None:
-            subprocess.run([f"{HOME}/.ci/libraries", folder], check=True)
+            subprocess.run([f"{HOME}/build/libraries", folder], check=True)
         os.environ["SPT_LIBRARY"] = chosen.library or f"{folder}/lib/libspt.so"
         return measure(chosen, folder)
 
