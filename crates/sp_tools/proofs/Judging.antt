@@ -3,7 +3,7 @@ use Rattle.std.proofs.Common.{◌≡◌, ℕ, ◌+◌, ◌-◌, ◌^◌, ◌<◌
 use Rattle.std.specs.Prelude.{All}
 use Rattle.std.proofs.KnownBytes.{Consumes-nil, Consumes-trans, prepend_known-nil}
 use Rattle.std.proofs.lemmas.Grind.{flat_map-append}
-use Rattle.std.proofs.lemmas.List.{append_cancel_left}
+use Rattle.std.proofs.lemmas.List.{append_assoc, append_cancel_left}
 use Rattle.std.proofs.lemmas.List.Elements.{All-push}
 use Rattle.std.specs.Io.KnownBytes.{Consumes, IsAtEnd}
 use Rattle.sp_paths.specs.Paths.{Graph}
@@ -105,7 +105,7 @@ refused {P = P} left passed has_failed g start text old new before after all e k
       parts = behind.1;
       block = block;
       begun = λ some none.
-          begun (some_lines h.trees (2 ^ 64 - 1) (lines_before old) h.lines (omega arith) some) (all_given text (trees_text h.trees) (front ++ behind.0) (left_of left old before) (rw known at h.came) behind.1 none);
+          begun (some_lines h.trees (2 ^ 64 - 1) (lines_before old) h.lines (omega arith) some) (all_given text (trees_text h.trees) (front ++ behind.0) (left_of left old before) (rw known at h.came) (behind.1 ∙ append_assoc (trees_text h.trees) front behind.0) none);
       fault = fault;
       has_fault = behind.2;
       told = told ∙ told_in_file (lines_of h.trees) (lines_before old) fault h.lines;
