@@ -53,47 +53,53 @@ built_from() {
 } 2> /dev/null
 
 # program SOURCES: the program of these sources; library SOURCES: the folder with the library for C of these; else nothing
-program() (if built_from "$1" spt "$made" "$release"; then echo "$folder/spt"; fi)
-library() (if built_from "$1" libspt.so "$made/library" "$release/library"; then echo "$folder"; fi)
+program() { if built_from "$1" spt "$made" "$release"; then echo "$folder/spt"; fi; }
+library() { if built_from "$1" libspt.so "$made/library" "$release/library"; then echo "$folder"; fi; }
 
 # find_program: sets `found` to what `program "$(sources)"` prints, at once where no source has changed since all were read
 #
-# The stamp, .spt/stamp, has their digest, the names of the files and of their folders, and a sum of what the system tells of each.
+# The list .spt/files has the names of the sources and of their folders. The stamp, .spt/stamp, has the digest, and below it the state of
+# all that the list names, when the sources were read.
 find_program() { found=$(stamped_program 2> /dev/null) || found=$(program "$(stamp_sources)"); }
 
-# state_of FILE..: number, length, time of the text, time of the last change (which nobody can set), a line for each
-state_of() { LC_ALL=C stat -c '%i %s %.Y %.Z' -- "$@"; }
+# state_of LIST: of each file, its number, length, time of the text, time of the last change (which nobody can set) and name; ends the shell
+state_of() {
+    export LC_ALL=C
+    exec xargs -0 stat -c '%i %s %.Y %.Z %n' -- < "$1"
+}
 
 stamped_program() {
     cd "$home"
-    state=
-    . "$made/stamp"
-    if [ "$(state_of "$@" | sha256sum)" != "$state" ]; then return 1; fi
-    if built_from "$digest" spt "$made" "$release"; then echo "$folder/spt"; fi
+    IFS= read -r digest < "$made/stamp" || return
+    { echo "$digest" && state_of "$made/files"; } | cmp -s - "$made/stamp" || return
+    program "$digest"
 }
 
-# Prints what `sources` prints, and makes the stamp where it can. The state is taken before the sources are read, so that a change
-# meanwhile shows. A change in the same tick of the system's clock, or of one that counts two seconds, wouldn't: there is no stamp
-# where something has changed as lately as that.
+# Prints what `sources` prints, and makes list and stamp where it can. The state is taken before the sources are read, so that a change
+# meanwhile shows.
 stamp_sources() (
     cd "$home"
-    new=$({ mkdir -p "$made" && mktemp "$made/stamp.XXXXXX"; } 2> /dev/null) || new=
-    trap 'rm -f "$new"' EXIT
-    files=$(find_sources "$(crates_of spt)" -type d -print0 -o 2> /dev/null | sed -z "s/'/'\\\\''/g; s/.*/'&'/" | tr '\0' ' ')
-    eval "set -- crates.txt build/program.sh $files"
-    state=$(state_of "$@" 2> /dev/null) || state=
+    new=$({ mkdir -p "$made" && mktemp -d "$made/stamp.XXXXXX"; } 2> /dev/null) || new=
+    trap 'rm -rf "$new"' EXIT
+    begun=$(LC_ALL=C stat -c %.Z -- "$new" 2> /dev/null) || new=
+    is_told=
+    if [ -n "$new" ] && list_sources > "$new/files" && (state_of "$new/files" > "$new/state"); then is_told=1; fi 2> /dev/null
     digest=$(sources)
     echo "$digest"
-    if [ -n "$new" ] && printf '%s\n' "$state" | is_settled "$(LC_ALL=C stat -c %.Z -- "$new")"; then
-        {
-            echo "set -- crates.txt build/program.sh $files"
-            echo "digest='$digest' state='$(printf '%s\n' "$state" | sha256sum)'"
-        } > "$new" && chmod a+r "$new" && mv "$new" "$made/stamp"
+    if [ -n "$is_told" ] && is_settled "$new/files" "$begun" && { echo "$digest" && cat "$new/state"; } > "$new/stamp"; then
+        mv "$new/files" "$new/stamp" "$made/"
     fi
 )
 
-# Whether all that a state tells of has last changed more than two seconds before a time.
-is_settled() { LC_ALL=C awk -v now="$1" '$4 !~ /^[0-9]+\.[0-9]+$/ || $4 + 2 >= now { is_late = 1 } END { exit is_late }'; }
+# What the program's digest stands on, each name ended by a null byte.
+list_sources() { printf 'crates.txt\0build/program.sh\0' && find_sources "$(crates_of spt)" -type d -print0 -o; }
+
+# is_settled LIST TIME: whether all that a list names has last changed more than two seconds before. One more change of what has
+# changed as lately as that may fall into the same tick of a clock, and would not show.
+is_settled() {
+    latest=$(LC_ALL=C xargs -0 stat -c %.Z -- < "$1" | LC_ALL=C sort -n | tail -n 1)
+    LC_ALL=C awk "BEGIN { exit !($latest + 2 < $2) }"
+}
 
 # Keeps the program that was just built in crates/spt, from the sources that the argument names.
 keep() {

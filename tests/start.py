@@ -122,8 +122,11 @@ HARMLESS = {
     "another text put beside the sources": lambda its: put(its.path("crates/sp_one/src/notes.md"), "one\n"),
 }
 STAMPS = {
-    "a stamp that is cut": lambda its: put(its.path(".spt/stamp"), "set -- 'crates.txt\n"),
+    "a stamp that is cut": lambda its: put(its.path(".spt/stamp"), read(its.path(".spt/stamp"))[:100]),
     "a stamp that is empty": lambda its: put(its.path(".spt/stamp"), ""),
+    "a list that is cut": lambda its: put(its.path(".spt/files"), read(its.path(".spt/files"))[:40]),
+    "a list that is gone": lambda its: os.remove(its.path(".spt/files")),
+    "both empty": lambda its: (put(its.path(".spt/files"), ""), put(its.path(".spt/stamp"), "")),
 }
 ELSEWHERE = {
     "nothing changed": lambda its: None,
@@ -173,11 +176,11 @@ def try_places(count, folder):
     with concurrent.futures.ThreadPoolExecutor(8) as pool:
         found = list(pool.map(lambda _: its.start()[:2], range(16)))
     count.of(f"many starts at once: {found}", found == [SLOW[:2]] * 16)
-    count.of(f"left behind: {os.listdir(its.path('.spt'))}", sorted(os.listdir(its.path(".spt"))) == ["sources", "spt", "stamp"])
+    count.of(f"left behind: {os.listdir(its.path('.spt'))}", sorted(os.listdir(its.path(".spt"))) == ["files", "sources", "spt", "stamp"])
     os.symlink(its.path("spt"), f"{folder}/link")
     os.symlink("link", f"{folder}/second")
     its.known["CDPATH"] = its.home
-    for words, cwd in ([f"{folder}/link"], "/"), (["./second"], folder), (["./spt"], its.home), (["sh", "spt"], its.home), (["bash", "spt"], its.home), (["../spt"], its.path("share")):
+    for words, cwd in ([f"{folder}/link"], "/"), (["./second"], folder), (["./spt"], its.home), (["sh", "spt"], its.home), (["bash", "spt"], its.home), (["bash", "share/../spt"], its.home), (["../spt"], its.path("share")):
         count.of(f"{words} in {cwd}", its.start(*words, cwd=cwd) == QUICK)
 
 
