@@ -87,7 +87,7 @@ stamp_sources() (
     digest=$(sources)
     echo "$digest"
     if [ -n "$is_told" ] && is_settled "$new/files" "$begun" && { echo "$digest" && cat "$new/state"; } > "$new/stamp"; then
-        mv "$new/files" "$new/stamp" "$made/"
+        mv -f "$new/files" "$new/stamp" "$made/"
     fi
 )
 
@@ -98,7 +98,7 @@ list_sources() { printf 'crates.txt\0build/program.sh\0' && find_sources "$(crat
 # changed as lately as that may fall into the same tick of a clock, and would not show.
 is_settled() {
     latest=$(LC_ALL=C xargs -0 stat -c %.Z -- < "$1" | LC_ALL=C sort -n | tail -n 1)
-    LC_ALL=C awk "BEGIN { exit !($latest + 2 < $2) }"
+    [ -n "$latest" ] && LC_ALL=C awk "BEGIN { exit !($latest + 2 < $2) }" 2> /dev/null
 }
 
 # Keeps the program that was just built in crates/spt, from the sources that the argument names.
