@@ -76,11 +76,12 @@ def ring(folder, vertices):
 
 
 def winding_path(folder, vertices):
-    """The graph of a path through all vertices in a random order: to relax it takes a while, since each vertex lies elsewhere."""
+    """The graph of a path from vertex 1 through all vertices in a random order, and its last vertex. To relax it takes a while, since
+    each vertex lies elsewhere."""
     inner = list(range(2, vertices + 1))
     random.Random(1).shuffle(inner)
     arcs = "".join(f"a {tail} {head} 1000\n" for tail, head in zip([1, *inner], inner))
-    return put(f"{folder}/path.gr", f"p sp {vertices} {vertices - 1}\n{arcs}")
+    return put(f"{folder}/path.gr", f"p sp {vertices} {vertices - 1}\n{arcs}"), inner[-1]
 
 
 def slowly(seconds, most):
@@ -190,17 +191,23 @@ def long_tree(count, program, folder):
 
 def long_relaxing(count, program, folder):
     """While a tree is relaxed the line moves on, up to two thirds; percents never fall, and the last one is 100."""
-    graph = winding_path(folder, 2_000_000)
-    words = ("tree", graph, "--source", "1", "--delta", "1", "--progress")
-    for more in ((), ("--workers", "2")):
-        status, _, over, seconds = on_terminal(program, *words, *more)
+    graph, last = winding_path(folder, 2_000_000)
+    pair = put(f"{folder}/last.pairs", f"p pairs 1\nq 1 {last}\n")
+    relaxing = "0 of 1 sources, 0 bytes written, relaxing"
+    cases = [
+        (relaxing, ("tree", graph, "--source", "1")),
+        (relaxing, ("tree", graph, "--source", "1", "--workers", "2")),
+        ("0 of 1 pairs", ("pairs", graph, pair)),
+    ]
+    for begin, words in cases:
+        status, _, over, seconds = on_terminal(program, *words, "--delta", "1", "--progress")
         shown, rest = lines_over(over)
-        percents = [int(found[1]) for line in shown if (found := re.search(r" sources, .* (\d+) %", line))]
-        relaxing = [int(found[1]) for line in shown if (found := re.match(r"spt: 0 of 1 sources, 0 bytes written, relaxing, (\d+) %", line))]
-        rises = len(set(relaxing)) > 3 and max(relaxing) <= 66
+        percents = [int(found[1]) for line in shown if (found := re.search(r" of 1 .* (\d+) %", line))]
+        first = [int(found[1]) for line in shown if (found := re.match(rf"spt: {begin}, (\d+) %", line))]
+        rises = len(set(first)) > 3 and max(first) <= 66
         ends = percents == sorted(percents) and percents[-1:] == [100] and percents.count(100) == 1
         few = len(shown) <= 3 + seconds * 11 and rest == "\r\n"
-        count.of(f"a long relaxing, {more}: {shown}", status == 0 and rises and ends and few)
+        count.of(f"a long relaxing by {words[0]}: {shown}", status == 0 and rises and ends and few)
 
 
 def prompt_end(count, program, folder):
