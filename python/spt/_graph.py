@@ -11,6 +11,8 @@ import pickle
 from collections import deque
 from concurrent.futures import Future, ThreadPoolExecutor
 from dataclasses import dataclass
+from math import inf
+from time import perf_counter
 from typing import Any, BinaryIO, Iterable, Iterator, List, NamedTuple, Optional, Tuple, Union
 
 from . import _convert
@@ -30,6 +32,8 @@ It is the greatest number of 64 bits, so in sums of NumPy's uint64 it wraps arou
 
 # places of the trees that one call of the library answers, unless one tree has more
 _MOST_PLACES = 1 << 22
+# how long, in seconds for each vertex and arc, a path is looked for by its pairs, before a tree is asked: some half of what that takes
+_SECONDS_EACH = 5e-8
 # places of a tree that its repr tells
 _SHOWN = 8
 _FORMS = "arcs are triples of tail, head and length, an array of shape (m, 3), or their numbers in one flat list"
@@ -356,13 +360,27 @@ class Graph:
     def path(self, source: int, target: int) -> Optional[list[int]]:
         """The vertices of a shortest walk, its predecessors the smallest-numbered; None where no walk leads to the target.
 
-        It takes as long as the tree: of several targets of one source ask its `tree`.
+        A short walk takes little time. A long one may take up to about twice as long as the tree: of several targets of one source
+        ask its `tree`.
 
         >>> Graph(3, [(1, 2, 7), (2, 3, 1)]).path(1, 3)
         [1, 2, 3]
         """
-        self._vertex(target)
-        return self.tree(source).path(target)
+        begin, path = self._vertex(source), [self._vertex(target)]
+        end = perf_counter() + (self.n + self.m) * _SECONDS_EACH
+        while path[-1] != begin:
+            if perf_counter() > end:
+                try:
+                    walk = self.tree(begin).path(path[-1])
+                    return walk and walk + path[-2::-1]
+                except TooFar:
+                    # The target may be nearer all the same.
+                    end = inf
+            found = self.pair(begin, path[-1])
+            if found is None:
+                return None
+            path.append(found.predecessor)
+        return path[::-1]
 
     def check(self, tree: Tree) -> Optional[int]:
         """None where this is the tree from its source, else the lowest vertex whose distance or predecessor is another.

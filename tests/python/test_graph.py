@@ -174,6 +174,21 @@ class Trees(unittest.TestCase):
         with mock.patch.object(spt._graph, "HAS_PAIR", False):
             self.assertEqual(self.graph.pair(1, 4), spt.Pair(5, 2))
 
+    def test_paths_are_the_trees(self):
+        # by its pairs alone, by the tree alone, and by pairs and then by the tree
+        for seconds in (0, 1, 1e-7):
+            with mock.patch.object(spt._graph, "_SECONDS_EACH", seconds):
+                for seed, longest in ((4, 1000), (5, 2), (6, samples.LONGEST)):
+                    graph = spt.Graph(120, samples.by_lot(120, 300, seed, longest))
+                    tree = graph.tree(60)
+                    told = [graph.path(60, target) for target in range(1, 121)]
+                    self.assertEqual(told, [tree.path(target) for target in range(1, 121)])
+
+    def test_short_paths_ask_for_no_tree(self):
+        if spt._library.HAS_PAIR:
+            with mock.patch.object(spt._graph, "_SECONDS_EACH", 1), mock.patch.object(spt.Graph, "tree", side_effect=AssertionError):
+                self.assertEqual(self.graph.path(1, 4), [1, 2, 4])
+
     def test_only_read(self):
         given = array.array("Q", [0, 1])
         made = spt.Tree(1, given, array.array("I", [0, 1]))
@@ -302,9 +317,13 @@ class Refusals(unittest.TestCase):
         graph = spt.Graph(n, [(tail, tail + 1, samples.LONGEST) for tail in range(1, n)])
         vertex = spt.reach(n) // samples.LONGEST + 2
         near = graph.tree(n).distances, graph.tree(n).predecessors
-        for call in (graph.tree, lambda it: graph.path(it, 2), lambda it: graph.check(spt.Tree(it, *near))):
+        for call in (graph.tree, lambda it: graph.check(spt.Tree(it, *near))):
             self.refused(spt.TooFar, lambda: call(1), source=1, vertex=vertex)
-        self.refused(spt.TooFar, lambda: graph.pair(1, n), source=1)
+        for call in (graph.pair, graph.path):
+            self.refused(spt.TooFar, lambda: call(1, n), source=1)
+        for seconds in (0, 1):
+            with mock.patch.object(spt._graph, "_SECONDS_EACH", seconds):
+                self.assertEqual(graph.path(1, 5), [1, 2, 3, 4, 5])
         for workers in (1, 2):
             trees = graph.trees([n, n - 1, 1, n], workers=workers)
             self.assertEqual([next(trees).source, next(trees).source], [n, n - 1])
