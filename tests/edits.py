@@ -13,7 +13,8 @@ Usage: python3 tests/edits.py [--over-gate] [--changed] [CRATE..]
 
 --over-gate takes the libraries that `rt ci` has just proved in this folder; else they are proved first where they aren't yet.
 --changed leaves out the crates of which dist/edits says that all their edits were refused: with these edits, of these sources of the
-crate and of those below it, by a kit of this logic. A whole run writes that list to .spt/edits, and build/release puts it into dist/.
+crate and of those below it, by a kit of this logic. A run writes that list to .spt/edits, where a sum of a crate that it doesn't try
+stays, and build/release puts it into dist/.
 The last line is 'N passed, M failed'.
 """
 
@@ -214,12 +215,13 @@ def sum_of(crate):
     return hashlib.sha256(said).hexdigest()
 
 
-def kept_sums():
-    """The sum of each crate all of whose edits were refused, as dist/ has it."""
-    if not os.path.isfile(KEPT):
-        return {}
-    with open(KEPT) as file:
-        return dict(line.split() for line in file)
+def kept_sums(*places):
+    """The sum of each crate all of whose edits were refused, as the first of these files that is there has it."""
+    for place in places:
+        if os.path.isfile(place):
+            with open(place) as file:
+                return dict(line.split() for line in file)
+    return {}
 
 
 def keep(sums):
@@ -248,9 +250,10 @@ def main():
     if chosen.over_gate:
         rt.rtlib.Crate = rt.Crate
         rt.Crate.cuts_libraries = True
-    crates = [it for it in rt.rtlib.crates_below(HOME) if not chosen.crates or it.name in chosen.crates]
-    crates = [it for it in crates if os.path.isdir(f"{it.folder}/edits")]
-    sums, before = {it.name: sum_of(it) for it in crates}, kept_sums() if chosen.changed else {}
+    crates = [it for it in rt.rtlib.crates_below(HOME) if os.path.isdir(f"{it.folder}/edits")]
+    names = {it.name for it in crates}
+    crates = [it for it in crates if not chosen.crates or it.name in chosen.crates]
+    sums, before = {it.name: sum_of(it) for it in crates}, kept_sums(KEPT) if chosen.changed else {}
     refused_before = [it for it in crates if before.get(it.name) == sums[it.name]]
     for crate in refused_before:
         print(f"{crate.name}: its edits were refused before, of the same sources")
@@ -259,9 +262,9 @@ def main():
         if not chosen.over_gate and any(dep.build_rlib(JOBS, anew=False) for dep in crate.below()):
             return 1
     found = rt.in_lanes(lanes(crates)) if crates else {}
-    if not chosen.crates:
-        wrong = {name for (name, _), outcomes in found.items() if not all(outcomes)}
-        keep({name: its for name, its in sums.items() if name not in wrong})
+    wrong = {name for (name, _), outcomes in found.items() if not all(outcomes)}
+    others = {name: its for name, its in kept_sums(MADE, KEPT).items() if name in names and name not in sums}
+    keep({**others, **{name: its for name, its in sums.items() if name not in wrong}})
     outcomes = [it for outcomes in found.values() for it in outcomes]
     print(f"{sum(outcomes)} passed, {len(outcomes) - sum(outcomes)} failed")
     return 0 if all(outcomes) else 1
