@@ -5,14 +5,14 @@ use Rattle.std.proofs.lemmas.List.Elements.{All-push, All-pop}
 use Rattle.std.specs.declared.thread.PromisedHandle.{PromisedHandle}
 use Rattle.sp_word.specs.Word.{Word}
 use Rattle.sp_machine.specs.Programme.{Programme}
-use Rattle.sp_offer.specs.Rule.{Board}
+use Rattle.sp_offer.specs.Rule.{TableView}
 use Rattle.sp_offer.specs.Story.{Knowledge, Follows}
 use Rattle.sp_actors.specs.declared.promise.RowMade.{RowMade}
 use Rattle.sp_actors.specs.Made.{KnowsNoLess, KnowsActor, KnowsOffers, KnowsOrAwaits}
 use Rattle.sp_actors.specs.Promised.{IsPromisedOf, AreInHand, actors_of}
 use Rattle.sp_actors.proofs.Making.{one_started, one_made, one_joined, all_known}
 
-module _ {L T : Type 0} {P : ℕ} (table : Board L) (p : Programme P) where
+module _ {L T : Type 0} {P : ℕ} (table : TableView L) (p : Programme P) where
   abbrev IsOf : PromisedHandle T (RowMade P) → Type 0
   IsOf thread = IsPromisedOf table p thread.promise
 

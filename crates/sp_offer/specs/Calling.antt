@@ -6,7 +6,7 @@ use Rattle.sp_offer.specs.declared.table.Offered.{Offered}
 use Rattle.sp_offer.specs.Order.{lawful}
 use Rattle.sp_offer.specs.Histories.{event}
 use Rattle.sp_offer.specs.Story.{Knowledge, own_calls, story_beside, Calls, Knows, Follows, Reads, IsCopy}
-use Rattle.sp_offer.specs.Rule.{Board}
+use Rattle.sp_offer.specs.Rule.{TableView}
 
 abbrev pub IsSameCaller : Knowledge → Knowledge → Type 0
 IsSameCaller before after = (after.table ≡ before.table) × (after.number ≡ before.number)
@@ -45,27 +45,27 @@ Owns call before after = OwnsAll (call ∷ []) before after
 
 -- ## Calls at a table
 
-module _ {L : Type 0} (P : ℕ) (allows : L → ℕ → Word → Type 0) (board : Board L) where
+module _ {L : Type 0} (P : ℕ) (allows : L → ℕ → Word → Type 0) (table : TableView L) where
   -- The caller's history is extended, and this offer is its last event.
   abbrev pub Offers : ℕ → Word → Offered P → Knowledge → Knowledge → Type 0
   Offers vertex word answer before after =
-      Calls (lawful P (allows board.law)) (offer_of before vertex word answer) before.story after.story
+      Calls (lawful P (allows table.law)) (offer_of before vertex word answer) before.story after.story
 
   -- This read is its last event.
   abbrev pub ReadsWord : ℕ → Word → Knowledge → Knowledge → Type 0
   ReadsWord vertex word before after =
-      Calls (lawful P (allows board.law)) (read_of before vertex word) before.story after.story
+      Calls (lawful P (allows table.law)) (read_of before vertex word) before.story after.story
 
   -- A read of each vertex, in rising order, ends it.
   abbrev pub ReadsWords : List Word → Knowledge → Knowledge → Type 0
   ReadsWords words before after =
-      Reads (lawful P (allows board.law)) before.number 1 words before.story after.story
+      Reads (lawful P (allows table.law)) before.number 1 words before.story after.story
 
   -- The words lie between those that the caller knew before and those that it knows after.
   abbrev pub CopiesWords : List Word → Knowledge → Knowledge → Type 0
-  CopiesWords words before after = IsCopy (lawful P (allows board.law)) words before.story after.story
+  CopiesWords words before after = IsCopy (lawful P (allows table.law)) words before.story after.story
 
   -- The caller has seen what both callers had seen, and knows what either knew.
   abbrev pub SeesBoth : (first second after : Knowledge) → Type 0
   SeesBoth first second after =
-      Follows (lawful P (allows board.law)) first.story second.story after.story
+      Follows (lawful P (allows table.law)) first.story second.story after.story

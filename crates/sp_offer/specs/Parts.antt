@@ -6,7 +6,7 @@ use Rattle.sp_word.specs.Word.{Word, word_of}
 use Rattle.sp_offer.specs.declared.words.Words.{Words}
 use Rattle.sp_offer.specs.Order.{lawful}
 use Rattle.sp_offer.specs.Sight.{Sight}
-use Rattle.sp_offer.specs.Rule.{Board, SeatOffers}
+use Rattle.sp_offer.specs.Rule.{TableView, SeatOffers}
 
 module _ {L : Type 0} where
   abbrev pub id_of : Words L → TableId
@@ -21,8 +21,8 @@ module _ {L : Type 0} where
   abbrev pub law_of : Words L → L
   law_of words = words.table.shared.key.law
 
-  abbrev pub board_of : Words L → Board L
-  board_of words = record { id = id_of words; vertices = vertices_of words; law = law_of words }
+  abbrev pub table_view : Words L → TableView L
+  table_view words = record { id = id_of words; vertices = vertices_of words; law = law_of words }
 
   -- The table was made with these parameters.
   abbrev pub HasTerms : L → (vertices layout : ℕ) → Words L → Type 0

@@ -129,7 +129,7 @@ module _ {S : Type 0} where
     SeatOffers word bits p q = Calls law (answer_event by vertex word (word_of P bits)) (seat_story p) (seat_story q)
 
 -- What contracts see of a table: which table it is, how many vertices it has, and its law.
-pub record Board (L : Type 0) : Type 0 where
+pub record TableView (L : Type 0) : Type 0 where
   pub id : TableId
   pub vertices : ℕ
   pub law : L

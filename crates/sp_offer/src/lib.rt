@@ -14,4 +14,4 @@ mod words;
 pub use law::{AnyWord, Lawful};
 pub use lowering::{Loop, Lowering, OneMin};
 pub use table::{Caller, OfferTable, Offered, SplitRefused};
-pub use words::{Place, Words};
+pub use words::{CallerSeat, Words};

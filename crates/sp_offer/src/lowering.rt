@@ -6,7 +6,7 @@ ghost use Rattle.sp_offer.specs.Parts.{id_of, vertices_of, layout_of, word_in, l
 ghost use Rattle.sp_offer.specs.Rule.{seat_story, IsAtRest, IsSameSeat};
 
 use crate::law::Lawful;
-use crate::words::{Place, Words};
+use crate::words::{CallerSeat, Words};
 use std::marker::Brand;
 
 /// A way to lower a word, given by its bits.
@@ -16,7 +16,12 @@ pub trait Lowering {
 
     /// Leaves the lesser of the word of the vertex and the word offered. Returns the word that decided this, and the
     /// number of atomic steps.
-    fn lower<L: Lawful>(words: &Words<L>, seat: &mut Place, vertex: u32, word: u64) -> (u64, u64)
+    fn lower<L: Lawful>(
+        words: &Words<L>,
+        seat: &mut CallerSeat,
+        vertex: u32,
+        word: u64,
+    ) -> (u64, u64)
         requires vertex { (0 < vertex) × (vertex ≤ vertices_of words.now) }
         requires seat { IsAtRest (id_of words.now) seat.old }
         requires word { law_in L.allows words.now vertex (word_in words.now word) }
@@ -34,7 +39,12 @@ impl Lowering for Loop {
     ghost is_one_step = { false };
 
     #[tactic(auto, using(crate::proofs::Ties::spelled))]
-    fn lower<L: Lawful>(words: &Words<L>, seat: &mut Place, vertex: u32, word: u64) -> (u64, u64) {
+    fn lower<L: Lawful>(
+        words: &Words<L>,
+        seat: &mut CallerSeat,
+        vertex: u32,
+        word: u64,
+    ) -> (u64, u64) {
         words.lower::<Brand>(seat, vertex, word)
     }
 }
@@ -46,7 +56,12 @@ impl Lowering for OneMin {
     ghost is_one_step = { true };
 
     #[tactic(auto, using(crate::proofs::Ties::spelled))]
-    fn lower<L: Lawful>(words: &Words<L>, seat: &mut Place, vertex: u32, word: u64) -> (u64, u64) {
+    fn lower<L: Lawful>(
+        words: &Words<L>,
+        seat: &mut CallerSeat,
+        vertex: u32,
+        word: u64,
+    ) -> (u64, u64) {
         (words.lessen::<Brand>(seat, vertex, word), 1)
     }
 }

@@ -7,7 +7,7 @@ ghost use Rattle.sp_offer.specs.Calling.{IsSameCaller, KeepsPlaces, HasSameCalls
 
 use crate::law::Lawful;
 use crate::lowering::{Loop, Lowering};
-use crate::words::{Place, Words};
+use crate::words::{CallerSeat, Words};
 use sp_word::{Reply, Word, decide};
 use std::alloc::{AllocError, Global};
 use std::marker::{Brand, Model};
@@ -20,12 +20,12 @@ pub struct OfferTable<L: Lawful, const P: u32> {
 
 impl<L: Lawful, const P: u32> Model for OfferTable<L, P> {
     ghost use Rattle.std.specs.Prelude.{◌≡◌};
-    ghost use Rattle.sp_offer.specs.Rule.{Board};
-    ghost use Rattle.sp_offer.specs.Parts.{board_of, layout_of};
+    ghost use Rattle.sp_offer.specs.Rule.{TableView};
+    ghost use Rattle.sp_offer.specs.Parts.{table_view, layout_of};
 
-    ghost Value = { Board L };
+    ghost Value = { TableView L };
 
-    ghost view = { λ t. board_of t.words };
+    ghost view = { λ t. table_view t.words };
 
     ghost invariant = { λ t. layout_of t.words ≡ P };
 }
@@ -33,7 +33,7 @@ impl<L: Lawful, const P: u32> Model for OfferTable<L, P> {
 /// What one thread knows about a table, and its right to call there. It takes no bytes.
 #[derive(Drop)]
 pub struct Caller {
-    seat: Place,
+    seat: CallerSeat,
 }
 
 impl Model for Caller {

@@ -16,7 +16,7 @@ use std::alloc::{AllocError, Global};
 use std::marker::Brand;
 
 /// A caller's seat at a table.
-pub type Place = Seat<(), View>;
+pub type CallerSeat = Seat<(), View>;
 
 /// The words of a table, as 64 bits for each vertex.
 #[derive(Drop)]
@@ -42,7 +42,7 @@ impl<L: Lawful> Words<L> {
         n: u32,
         layout: u32,
         law: L,
-    ) -> Result<(Words<L>, Place), AllocError>
+    ) -> Result<(Words<L>, CallerSeat), AllocError>
     where
         L: Drop,
         requires some { 0 < n }
@@ -60,7 +60,7 @@ impl<L: Lawful> Words<L> {
         Ok((Words { table }, seat))
     }
 
-    pub(crate) fn read<J: Asking>(&self, seat: &mut Place, vertex: u32) -> u64
+    pub(crate) fn read<J: Asking>(&self, seat: &mut CallerSeat, vertex: u32) -> u64
         requires vertex { (0 < vertex) × (vertex ≤ vertices_of self.now) }
         requires seat { IsAtRest (id_of self.now) seat.old }
         requires layout { J.layout ≡ layout_of self.now }
@@ -75,7 +75,7 @@ impl<L: Lawful> Words<L> {
 
     // Makes the load that begins an offer.
     #[tactic(auto, using(crate::proofs::Moves::may_begin))]
-    fn first_look<J: Asking>(&self, seat: &mut Place, vertex: u32, word: u64) -> u64
+    fn first_look<J: Asking>(&self, seat: &mut CallerSeat, vertex: u32, word: u64) -> u64
         requires vertex { (0 < vertex) × (vertex ≤ vertices_of self.now) }
         requires seat { IsAtRest (id_of self.now) seat.old }
         requires layout { J.layout ≡ layout_of self.now }
@@ -90,7 +90,7 @@ impl<L: Lawful> Words<L> {
 
     // Exchanges the bits held for the lesser bits offered.
     #[tactic(auto, using(crate::proofs::Moves::may_exchange))]
-    fn exchange<J: Asking>(&self, seat: &mut Place, vertex: u32, held: u64, word: u64) -> u64
+    fn exchange<J: Asking>(&self, seat: &mut CallerSeat, vertex: u32, held: u64, word: u64) -> u64
         requires vertex { (0 < vertex) × (vertex ≤ vertices_of self.now) }
         requires seat { IsAtRest (id_of self.now) seat.old }
         requires layout { J.layout ≡ layout_of self.now }
@@ -107,7 +107,12 @@ impl<L: Lawful> Words<L> {
     /// Loads, then exchanges until one wins or finds a word that is no larger. Returns the word found last and the
     /// number of steps.
     #[tactic(auto, using(crate::proofs::Exchanges::won_call, crate::proofs::Exchanges::won_tries, crate::proofs::Exchanges::lost_on))]
-    pub(crate) fn lower<J: Asking>(&self, seat: &mut Place, vertex: u32, word: u64) -> (u64, u64)
+    pub(crate) fn lower<J: Asking>(
+        &self,
+        seat: &mut CallerSeat,
+        vertex: u32,
+        word: u64,
+    ) -> (u64, u64)
         requires vertex { (0 < vertex) × (vertex ≤ vertices_of self.now) }
         requires seat { IsAtRest (id_of self.now) seat.old }
         requires layout { J.layout ≡ layout_of self.now }
@@ -132,7 +137,7 @@ impl<L: Lawful> Words<L> {
     }
 
     /// Leaves the lesser of two words by one step. Returns the word before it.
-    pub(crate) fn lessen<J: Asking>(&self, seat: &mut Place, vertex: u32, word: u64) -> u64
+    pub(crate) fn lessen<J: Asking>(&self, seat: &mut CallerSeat, vertex: u32, word: u64) -> u64
         requires vertex { (0 < vertex) × (vertex ≤ vertices_of self.now) }
         requires seat { IsAtRest (id_of self.now) seat.old }
         requires layout { J.layout ≡ layout_of self.now }
@@ -148,7 +153,7 @@ impl<L: Lawful> Words<L> {
 
     /// Makes a second seat, which has seen what the first has.
     #[tactic(auto, using(crate::proofs::Moves::splits))]
-    pub(crate) fn split(&self, seat: &mut Place) -> Place
+    pub(crate) fn split(&self, seat: &mut CallerSeat) -> CallerSeat
         requires { IsAtRest (id_of self.now) seat.old }
         ensures first { IsAtRest (id_of self.now) seat.new × IsAsItWas seat.old seat.new }
         ensures second { IsAtRest (id_of self.now) result × (result.me.0 ≡ listener seat.old.me.0) }
@@ -157,7 +162,7 @@ impl<L: Lawful> Words<L> {
     }
 
     // Makes one load, by which the seat sees the history so far.
-    fn look<J: Asking>(&self, seat: &mut Place)
+    fn look<J: Asking>(&self, seat: &mut CallerSeat)
         requires seat { HoldsNoSlot (id_of self.now) seat.old }
         requires layout { J.layout ≡ layout_of self.now }
         requires law { (v : ℕ) (w : Word) → law_in L.allows self.now v w → J.law v w }
@@ -170,7 +175,7 @@ impl<L: Lawful> Words<L> {
 
     // The seat takes over the other's calls, and hears what that one has seen.
     #[tactic(auto, using(crate::proofs::Moves::joins))]
-    fn merge(&self, seat: &mut Place, other: Place)
+    fn merge(&self, seat: &mut CallerSeat, other: CallerSeat)
         requires seat { IsAtRest (id_of self.now) seat.old }
         requires other { IsAtRest (id_of self.now) other }
         ensures seat { HoldsNoSlot (id_of self.now) seat.new × IsSameSeat seat.old seat.new }
@@ -180,7 +185,7 @@ impl<L: Lawful> Words<L> {
     }
 
     /// The seat takes over the other's calls, and sees what that one has seen.
-    pub(crate) fn take_over(&self, seat: &mut Place, other: Place)
+    pub(crate) fn take_over(&self, seat: &mut CallerSeat, other: CallerSeat)
         requires seat { IsAtRest (id_of self.now) seat.old }
         requires other { IsAtRest (id_of self.now) other }
         ensures seat { IsAtRest (id_of self.now) seat.new × IsSameSeat seat.old seat.new }
@@ -192,7 +197,7 @@ impl<L: Lawful> Words<L> {
     }
 
     /// The first seat also sees what the second has seen.
-    pub(crate) fn hear(&self, first: &mut Place, second: &mut Place)
+    pub(crate) fn hear(&self, first: &mut CallerSeat, second: &mut CallerSeat)
         requires first { IsAtRest (id_of self.now) first.old }
         requires second { IsAtRest (id_of self.now) second.old }
         ensures first { IsAtRest (id_of self.now) first.new × IsSameSeat first.old first.new }
@@ -204,7 +209,7 @@ impl<L: Lawful> Words<L> {
         self.take_over(first, echo);
     }
     /// Both seats see what both have seen, and the first one's history is a prefix of the second's.
-    pub(crate) fn meet(&self, first: &mut Place, second: &mut Place)
+    pub(crate) fn meet(&self, first: &mut CallerSeat, second: &mut CallerSeat)
         requires first { IsAtRest (id_of self.now) first.old }
         requires second { IsAtRest (id_of self.now) second.old }
         ensures first { IsAtRest (id_of self.now) first.new × IsSameSeat first.old first.new }

@@ -9,7 +9,7 @@ use Rattle.sp_paths.specs.declared.arc.Arc.{Arc}
 use Rattle.sp_graph.specs.RowsValue.{Split}
 use Rattle.sp_offer.specs.Order.{lawful}
 use Rattle.sp_offer.specs.Story.{Knowledge}
-use Rattle.sp_offer.specs.Rule.{Board}
+use Rattle.sp_offer.specs.Rule.{TableView}
 use Rattle.sp_bins.specs.declared.entry.Entry.{Entry}
 use Rattle.sp_task.specs.declared.task.Task.{Task}
 use Rattle.sp_task.specs.declared.task.Round.{Round}
@@ -90,48 +90,48 @@ abbrev pub AreShared : (runtime gate lowering law : RattleType) → Type 0
 AreShared runtime gate lowering law =
     IsSync runtime × IsSync gate × IsSync lowering × IsSend lowering × IsSync law × IsSend law
 
-module _ {L : Type 0} (P : ℕ) (allows : L → ℕ → Word → Type 0) (board : Board L) where
+module _ {L : Type 0} (P : ℕ) (allows : L → ℕ → Word → Type 0) (table : TableView L) where
   module _ (dist : ℕ) where
     -- The caller made the offer of this arc.
     abbrev pub IsOffer : Arc → (before after : Knowledge) → (bag bag' : Vec Entry Global) → Type 0
     IsOffer arc before after bag bag' =
-        MadeOffers (lawful P (allows board.law)) (offer_along dist arc ∷ []) before after bag.items bag'.items
+        MadeOffers (lawful P (allows table.law)) (offer_along dist arc ∷ []) before after bag.items bag'.items
 
     -- The caller made the offers of these arcs.
     abbrev pub Relaxes : List Arc → (before after : Knowledge) → (bag bag' : Vec Entry Global) → Type 0
     Relaxes arcs before after bag bag' =
-        MadeOffers (lawful P (allows board.law)) (offers_along (max_dist P) dist arcs) before after bag.items bag'.items
+        MadeOffers (lawful P (allows table.law)) (offers_along (max_dist P) dist arcs) before after bag.items bag'.items
 
   -- The tables have room for each vertex, and the table takes the offers of each task.
   abbrev pub IsReadyFor : TableId → Split → List Task → Type 0
-  IsReadyFor claims rows tasks = IsReady P (lawful P (allows board.law)) board.vertices claims.words rows tasks
+  IsReadyFor claims rows tasks = IsReady P (lawful P (allows table.law)) table.vertices claims.words rows tasks
 
   -- A worker's caller and claimer belong to these tables.
   abbrev pub CanWork : TableId → Split → List Task → Seat → Type 0
-  CanWork claims rows tasks seat = IsReadyFor claims rows tasks × AreOf board.id claims seat.caller seat.claimer
+  CanWork claims rows tasks seat = IsReadyFor claims rows tasks × AreOf table.id claims seat.caller seat.claimer
 
   -- This is what one worker gives back, and what it and the workers of the other deques do.
   abbrev pub OneGives : List Job → (number : ℕ) → Seat → Result Done RoundRefused → Type 0
   OneGives jobs number seat result =
-      Answers (lawful P (allows board.law)) jobs number seat.caller seat.claimer 1 result
+      Answers (lawful P (allows table.law)) jobs number seat.caller seat.claimer 1 result
 
   abbrev pub AllGive : {A : Type 0} → List Job → (number : ℕ) → Vec A Global → Seat → Result Done RoundRefused → Type 0
   AllGive jobs number others seat result =
-      Answers (lawful P (allows board.law)) jobs number seat.caller seat.claimer (vec_len others + 1) result
+      Answers (lawful P (allows table.law)) jobs number seat.caller seat.claimer (vec_len others + 1) result
 
   -- Two callers and two claimers became one of each.
   abbrev pub JoinsTokens : (first second both : RoundRefused) → Type 0
   JoinsTokens first second both =
-      AreJoined (lawful P (allows board.law)) first.caller second.caller both.caller first.claimer second.claimer both.claimer
+      AreJoined (lawful P (allows table.law)) first.caller second.caller both.caller first.claimer second.claimer both.claimer
 
   -- This says the same of the caller and the claimer of two groups.
   abbrev pub JoinsTokensOf : (first second : Done) → (both : RoundRefused) → Type 0
   JoinsTokensOf first second both =
-      AreJoined (lawful P (allows board.law)) first.caller second.caller both.caller first.claimer second.claimer both.claimer
+      AreJoined (lawful P (allows table.law)) first.caller second.caller both.caller first.claimer second.claimer both.claimer
 
   -- Two groups became one.
   abbrev pub JoinsDone : (first second both : Done) → Type 0
-  JoinsDone first second both = Joined (lawful P (allows board.law)) (did first) (did second) (did both)
+  JoinsDone first second both = Joined (lawful P (allows table.law)) (did first) (did second) (did both)
 
 -- The joined group counts at most the workers of the two, and at least those of the first.
 abbrev pub CountsBoth : (first second both : Done) → Type 0
