@@ -1,5 +1,5 @@
 //! Graphs by rows.
-ghost use Rattle.std.specs.Prelude.{◌≡◌, ◌≤◌, length, All, IfOk};
+ghost use Rattle.std.specs.Prelude.{◌≡◌, ◌≤◌, ◌↔◌, length, All, IfOk, IsTrue};
 ghost use Rattle.std.specs.List.Sorted.{IsPermutation};
 ghost use Rattle.sp_paths.specs.Paths.{IsVertex, IsArc, IsGraph};
 ghost use Rattle.sp_paths.specs.Rows.{row_of};
@@ -89,6 +89,13 @@ impl Graph {
         ensures graph { IsGraph self.now }
     {
         self.n
+    }
+
+    /// Returns whether the graph has this vertex: whether the number is at least 1, and at most `n`.
+    pub fn has_vertex(&self, vertex: u32) -> bool
+        ensures { IsTrue result ↔ IsVertex self.now.n vertex }
+    {
+        1 <= vertex && vertex <= self.n
     }
 
     /// Returns the number of arcs.
