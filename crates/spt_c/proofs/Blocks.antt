@@ -78,7 +78,7 @@ stopped max g sources place low old mid new (TooFar v) within not done is = (
 )
 stopped max g sources place low old mid new Memory within not done is = (
   subst (λ x. AreDone max g sources place old x) (sym is) done,
-  (let most : place ≤ length sources = omega arith in most),
+  inl within,
 )
 stopped max g sources place low old mid new BadSize within not done is = absurd is
 stopped max g sources place low old mid new BadDelta within not done is = absurd is

@@ -1,5 +1,5 @@
 -- Trees in the two slices of a caller: each slice has a block of n places for each source.
-use Rattle.std.specs.Prelude.{◌≡◌, ◌<◌, ◌≤◌, ◌+◌, ◌-◌, ◌*◌, ℕ, List, length, slice_get, slice_index, Some, None}
+use Rattle.std.specs.Prelude.{◌≡◌, ◌⊎◌, ◌<◌, ◌≤◌, ◌+◌, ◌-◌, ◌*◌, ℕ, List, length, slice_get, slice_index, Some, None}
 use Rattle.sp_word.specs.Word.{Word, Unreached, Pair}
 use Rattle.sp_word.specs.History.{Table}
 use Rattle.sp_paths.specs.Paths.{Graph, IsVertex, IsTree, IsFar}
@@ -69,11 +69,12 @@ pub record AreDone (max : ℕ) (g : Graph) (sources : List ℕ) (done : ℕ) (ol
   pub trees : (i s : ℕ) → i < done → slice_get sources i ≡ Some s → HasTreeAt max g s (i * g.n) new
   pub rest : KeepsFrom (done * g.n) old new
 
--- All sources are done; or a vertex is too far from the next one; or there was no memory.
+-- All sources are done; or a vertex is too far from the next one; or there was no memory for the next one, or for the
+-- graph.
 abbrev pub EndsBy : (max : ℕ) → Graph → (sources : List ℕ) → (done : ℕ) → Told → Type 0
 EndsBy max g sources done Tree = done ≡ length sources
 EndsBy max g sources done (TooFar v) = (s : ℕ) × (slice_get sources done ≡ Some s) × IsFar g s max (Some v)
-EndsBy max g sources done Memory = done ≤ length sources
+EndsBy max g sources done Memory = (done < length sources) ⊎ (done ≡ 0)
 EndsBy max g sources done told = ⊥
 
 abbrev pub AreSolved : (max : ℕ) → Graph → (sources : List ℕ) → (old new : Slices) → Batch → Type 0
