@@ -3,6 +3,7 @@ ghost use Rattle.std.specs.Prelude.{◌≡◌, ◌<◌, ◌^◌, ℕ, List, [], 
 ghost use Rattle.sp_word.specs.Word.{is_layout, max_pred};
 ghost use Rattle.sp_text.specs.Formats.{ranges_of};
 ghost use Rattle.sp_text.specs.Text.{judge};
+ghost use Rattle.sp_text.specs.Whole.{NeverRead};
 ghost use Rattle.sp_dimacs.specs.Formats.{gr};
 ghost use Rattle.sp_dimacs.specs.Reading.{IsBehindText};
 ghost use Rattle.sp_dimacs.specs.Graph.{arc_of, IsGraph, SpellsGraph, GraphRead, IsNetwork};
@@ -113,6 +114,7 @@ pub fn read_gr<const P: u32, R: Read>(alloc: Global, reader: &mut R) -> Result<G
     ensures found { IfOk result (λ file. (text : List ℕ) × SpellsGraph P text file) }
     ensures graph { IfOk result (IsNetwork P) }
     ensures read { IfErr result (λ e. e.kind ≡ Kind.Read → R.has_failed reader.new ≡ true) }
+    ensures never { NeverRead (R.failing reader.old) result }
 {
     read_text(reader, GrReader::<P>::new(alloc).into_feeder())
 }

@@ -3,6 +3,7 @@ ghost use Rattle.std.specs.Prelude.{◌≡◌, ◌<◌, ◌^◌, ℕ, List, [], 
 ghost use Rattle.sp_word.specs.Word.{is_layout, max_pred};
 ghost use Rattle.sp_text.specs.Formats.{ranges_of};
 ghost use Rattle.sp_text.specs.Text.{judge};
+ghost use Rattle.sp_text.specs.Whole.{NeverRead};
 ghost use Rattle.sp_dimacs.specs.Formats.{pairs};
 ghost use Rattle.sp_dimacs.specs.Reading.{IsBehindText};
 ghost use Rattle.sp_dimacs.specs.Pairs.{pair_of, ArePairs, SpellsPairs, PairsRead, ArePairsWithin};
@@ -109,6 +110,7 @@ pub fn read_pairs<const P: u32, R: Read>(
     ensures found { IfOk result (λ file. (text : List ℕ) × SpellsPairs P text file) }
     ensures pairs { IfOk result (ArePairsWithin P) }
     ensures read { IfErr result (λ e. e.kind ≡ Kind.Read → R.has_failed reader.new ≡ true) }
+    ensures never { NeverRead (R.failing reader.old) result }
 {
     read_text(reader, PairsReader::<P>::new(alloc).into_feeder())
 }

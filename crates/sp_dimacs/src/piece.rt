@@ -1,6 +1,7 @@
 //! A buffer of bytes that came from a device and wait to be read.
-ghost use Rattle.std.specs.Prelude.{◌≡◌, ◌+◌, ◌≤◌, ◌^◌, [], drop, length, OnOk, OnErr, true};
+ghost use Rattle.std.specs.Prelude.{◌≡◌, ◌+◌, ◌≤◌, ◌^◌, [], drop, length, OnOk, OnErr, true, false};
 ghost use Rattle.std.specs.Io.KnownBytes.{Consumes, Keeps, IsAtEnd};
+ghost use Rattle.sp_device.specs.Failing.{FailsBy};
 
 use sp_device::{Failed, Read};
 use sp_text::PIECE;
@@ -67,7 +68,10 @@ impl Piece {
         ensures passed { OnOk result (R.passed reader.new ≡ R.passed reader.old + length self.new) }
         ensures limit { OnOk result (R.passed reader.new ≤ 2 ^ 62) }
         ensures kept { OnErr result (Keeps (R.left reader.old) (R.left reader.new)) }
+        ensures going { OnOk result (R.has_failed reader.new ≡ false) }
         ensures failed { OnErr result (R.has_failed reader.new ≡ true) }
+        ensures fails { FailsBy (R.failing reader.old) (R.passed reader.old) result }
+        ensures lasting { R.failing reader.new ≡ R.failing reader.old }
     {
         self.start = 0;
         self.end = 0;

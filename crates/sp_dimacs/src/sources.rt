@@ -3,6 +3,7 @@ ghost use Rattle.std.specs.Prelude.{◌≡◌, ◌<◌, ◌^◌, ℕ, List, [], 
 ghost use Rattle.sp_word.specs.Word.{is_layout, max_pred};
 ghost use Rattle.sp_text.specs.Formats.{ranges_of};
 ghost use Rattle.sp_text.specs.Text.{judge};
+ghost use Rattle.sp_text.specs.Whole.{NeverRead};
 ghost use Rattle.sp_dimacs.specs.Formats.{ss};
 ghost use Rattle.sp_dimacs.specs.Reading.{IsBehindText};
 ghost use Rattle.sp_dimacs.specs.Sources.{source_of, AreSources, SpellsSources, SourcesRead, AreSourcesWithin};
@@ -105,6 +106,7 @@ pub fn read_ss<const P: u32, R: Read>(alloc: Global, reader: &mut R) -> Result<S
     ensures found { IfOk result (λ file. (text : List ℕ) × SpellsSources P text file) }
     ensures sources { IfOk result (AreSourcesWithin P) }
     ensures read { IfErr result (λ e. e.kind ≡ Kind.Read → R.has_failed reader.new ≡ true) }
+    ensures never { NeverRead (R.failing reader.old) result }
 {
     read_text(reader, SsReader::<P>::new(alloc).into_feeder())
 }

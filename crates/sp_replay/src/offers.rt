@@ -2,6 +2,7 @@
 ghost use Rattle.std.specs.Prelude.{◌≡◌, ℕ, List, [], IfOk, IfErr, Some, true, false};
 ghost use Rattle.sp_word.specs.Word.{is_layout};
 ghost use Rattle.sp_text.specs.Text.{Item as Line};
+ghost use Rattle.sp_text.specs.Whole.{NeverRead};
 ghost use Rattle.sp_replay.specs.Offers.{IsOffersFile, OffersRead};
 
 use crate::formats::offers_format;
@@ -102,6 +103,7 @@ pub fn read_offers<const P: u32, R: Read>(
     ensures exact { (text : List ℕ) → R.left reader.old ≡ Some text
         → OffersRead text (R.left reader.new) (R.has_failed reader.new) result }
     ensures read { IfErr result (λ e. e.kind ≡ Kind.Read → R.has_failed reader.new ≡ true) }
+    ensures never { NeverRead (R.failing reader.old) result }
 {
     let feeder = Feeder::new(Collector::new(OfferKeeper::<P>::new(alloc)));
     match read_text(reader, feeder) {

@@ -2,6 +2,7 @@
 ghost use Rattle.std.specs.Prelude.{◌≡◌, ℕ, List, All, IfOk, IfErr, Some, true};
 ghost use Rattle.sp_word.specs.Word.{is_layout};
 ghost use Rattle.sp_machine.specs.Programme.{IsNumber, IsProgramme};
+ghost use Rattle.sp_text.specs.Whole.{NeverRead};
 ghost use Rattle.sp_replay.specs.Keeping.{plan_of};
 ghost use Rattle.sp_replay.specs.ReplayFile.{IsReplayFile, ReplayRead};
 
@@ -48,6 +49,7 @@ pub fn read_replay<const P: u32, R: Read>(
     ensures exact { (text : List ℕ) → R.left reader.old ≡ Some text
         → ReplayRead text (R.left reader.new) (R.has_failed reader.new) result }
     ensures read { IfErr result (λ e. e.kind ≡ Kind.Read → R.has_failed reader.new ≡ true) }
+    ensures never { NeverRead (R.failing reader.old) result }
 {
     let feeder = Feeder::new(Collector::new(Keeper::<P>::new(alloc)));
     match read_text(reader, feeder) {

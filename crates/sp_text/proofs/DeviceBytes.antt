@@ -1,5 +1,5 @@
 -- What was read of a device, where its bytes are known.
-use Rattle.std.proofs.Common.{◌≡◌, ◌≢◌, ℕ, ◌⊎◌, Bool, true, List, [], Option, Some, Result, Ok, Err, inl, inr}
+use Rattle.std.proofs.Common.{◌≡◌, ◌≢◌, ℕ, ◌⊎◌, Bool, true, false, List, [], Option, Some, Result, Ok, Err, inl, inr}
 use Rattle.std.specs.Prelude.{IfErr}
 use Rattle.std.specs.Io.KnownBytes.{IsAtEnd}
 use Rattle.sp_text.specs.declared.faults.Kind.TheVariants.{Memory, Read}
@@ -24,3 +24,8 @@ pub read_told : {V : Type 0} (judge : Judge) (Spelled : List (List ℕ) → V �
     → IfErr result (λ e. e.kind ≡ Read → has_failed ≡ true)
 read_told judge Spelled old new has_failed (Ok value) silent h = tt
 read_told judge Spelled old new has_failed (Err e) silent (given, gone, fault) = kind_told judge given (IsAtEnd new) (fault_at_failure judge given ≡ Some e) has_failed e silent fault
+
+-- A device that hasn't failed isn't told of.
+pub never_read : {V : Type 0} (has_failed : Bool) (result : Result V DimacsError) → has_failed ≡ false → IfErr result (λ e. e.kind ≡ Read → has_failed ≡ true) → IfErr result (λ e. e.kind ≢ Read)
+never_read has_failed (Ok value) going told = tt
+never_read has_failed (Err e) going told = λ read. let failed = told read in cc

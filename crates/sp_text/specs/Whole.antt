@@ -1,7 +1,9 @@
 -- The answer to the whole text of a device.
-use Rattle.std.specs.Prelude.{◌≡◌, ℕ, ◌⊎◌, Bool, true, List, [], ◌++◌, Option, Some, None, Result, Ok, Err}
+use Rattle.std.specs.Prelude.{◌≡◌, ◌≢◌, ℕ, ◌⊎◌, Bool, true, List, [], ◌++◌, Option, Some, None, Result, Ok, Err, IfErr}
 use Rattle.std.specs.Io.KnownBytes.{Consumes, IsAtEnd}
+use Rattle.sp_device.specs.Failing.{Failing, Never}
 use Rattle.sp_text.specs.declared.faults.DimacsError.{DimacsError}
+use Rattle.sp_text.specs.declared.faults.Kind.TheVariants.{Read}
 use Rattle.sp_text.specs.Lines.{lines}
 use Rattle.sp_text.specs.First.{Judge, fault_at_failure, fault_at_end}
 use Rattle.sp_text.specs.Feeding.{IsToldOf, Refused}
@@ -22,3 +24,7 @@ abbrev pub ReadOn : {V : Type 0} → Judge → (List (List ℕ) → V → Type 0
 ReadOn judge Spelled old new has_failed (Ok value) = (text : List ℕ) × Consumes old new text × IsAtEnd new × (fault_at_end judge text ≡ None) × Spelled (lines text) value
 ReadOn judge Spelled old new has_failed (Err e) = (front : List ℕ) × Consumes old new front ×
     (Refused judge [] front e ⊎ (IsAtEnd new × IsToldOf judge front e) ⊎ ((has_failed ≡ true) × (fault_at_failure judge front ≡ Some e)))
+
+-- The fault Read is never told of a device that never fails.
+abbrev pub NeverRead : {V : Type 0} → Failing → Result V DimacsError → Type 0
+NeverRead failing result = failing ≡ Never → IfErr result (λ e. e.kind ≢ Read)

@@ -1,6 +1,7 @@
 //! Reads a whole text from a device.
-ghost use Rattle.std.specs.Prelude.{◌≡◌, ℕ, List, [], true, Some, IfOk, IfErr};
-ghost use Rattle.sp_text.specs.Whole.{AllRead, IsSpelled, ReadOn};
+ghost use Rattle.std.specs.Prelude.{◌≡◌, ℕ, List, [], true, false, Some, IfOk, IfErr};
+ghost use Rattle.sp_device.specs.Failing.{Never};
+ghost use Rattle.sp_text.specs.Whole.{AllRead, IsSpelled, ReadOn, NeverRead};
 ghost use Rattle.sp_text.specs.Feeding.{IsBehind};
 
 use crate::faults::{DimacsError, Kind};
@@ -16,8 +17,9 @@ fn read_on<R: Read, T: LineTaker + Drop>(
     mut feeder: Feeder<T>,
 ) -> Result<T::Value, DimacsError>
     requires { IsBehind T.rules T.After [] feeder }
-    ensures { ReadOn T.rules T.Spelled (R.left reader.old) (R.left reader.new)
+    ensures read { ReadOn T.rules T.Spelled (R.left reader.old) (R.left reader.new)
         (R.has_failed reader.new) result }
+    ensures never { R.failing reader.old ≡ Never → R.has_failed reader.new ≡ false }
 {
     let mut buffer = [0u8; PIECE];
     loop {
@@ -40,6 +42,7 @@ pub fn read_text<R: Read, T: LineTaker + Drop>(
         → AllRead T.rules T.Spelled text (R.left reader.new) (R.has_failed reader.new) result }
     ensures found { IfOk result (IsSpelled T.rules T.Spelled) }
     ensures read { IfErr result (λ e. e.kind ≡ Kind.Read → R.has_failed reader.new ≡ true) }
+    ensures never { NeverRead (R.failing reader.old) result }
 {
     read_on(reader, feeder)
 }

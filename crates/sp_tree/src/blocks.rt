@@ -1,8 +1,10 @@
 //! The trees of a file, one after the other.
-ghost use Rattle.std.specs.Prelude.{◌≡◌, ◌+◌, ◌-◌, ◌^◌, [], Err, Some, min, true};
+ghost use Rattle.std.specs.Prelude.{◌≡◌, ◌+◌, ◌-◌, ◌^◌, [], Err, Some, min, true, false};
 ghost use Rattle.sp_word.specs.Word.{is_layout};
 ghost use Rattle.sp_text.specs.declared.faults.DimacsError.{DimacsError};
+ghost use Rattle.sp_device.specs.Failing.{Never};
 ghost use Rattle.sp_text.specs.First.{fault_at_failure};
+ghost use Rattle.sp_text.specs.Whole.{NeverRead};
 ghost use Rattle.sp_tree.specs.Spelling.{tree_judge};
 ghost use Rattle.sp_tree.specs.Block.{lines_in};
 
@@ -56,6 +58,11 @@ impl<const P: u32> TreeBlocks<P> {
         ensures read { IsShort R.passed (stream self.old.piece reader.old)
             → BlockRead P R.left R.passed R.has_failed (stream self.old.piece reader.old)
             result (stream self.new.piece reader.new) }
+        ensures never { IsShort R.passed (stream self.old.piece reader.old)
+            → R.has_failed reader.old ≡ false → NeverRead (R.failing reader.old) result }
+        ensures going { R.failing reader.old ≡ Never → R.has_failed reader.old ≡ false
+            → R.has_failed reader.new ≡ false }
+        ensures lasting { R.failing reader.new ≡ R.failing reader.old }
         ensures lines { self.new.lines ≡ self.old.lines }
         ensures spent { self.new.spent ≡ self.old.spent }
     {
@@ -97,6 +104,11 @@ impl<const P: u32> TreeBlocks<P> {
             → (result ≡ Err e) × (self.new ≡ self.old) × (reader.new ≡ reader.old) }
         ensures gives { IsGoing R.passed self.old reader.old
             → Gives R.left R.passed R.has_failed self.old reader.old result self.new reader.new }
+        ensures never { IsGoing R.passed self.old reader.old → R.has_failed reader.old ≡ false
+            → NeverRead (R.failing reader.old) result }
+        ensures going { R.failing reader.old ≡ Never → R.has_failed reader.old ≡ false
+            → R.has_failed reader.new ≡ false }
+        ensures lasting { R.failing reader.new ≡ R.failing reader.old }
     {
         if let Some(error) = self.spent {
             return Err(error);

@@ -2,6 +2,7 @@
 ghost use Rattle.std.specs.Prelude.{◌≡◌, ◌≤◌, ◌^◌, ◌++◌, ℕ, List, [], length, true, Err, Some, IfOk, IfErr};
 ghost use Rattle.sp_word.specs.Word.{is_layout};
 ghost use Rattle.sp_text.specs.First.{fault_at_failure};
+ghost use Rattle.sp_text.specs.Whole.{NeverRead};
 ghost use Rattle.sp_answer.specs.Table.{IsTable};
 ghost use Rattle.sp_tree.specs.Spelling.{tree_judge};
 ghost use Rattle.sp_tree.specs.Reading.{IsBehindTree, IsSpentTree, TreeFed, TreeFinished, TreeRead};
@@ -73,6 +74,7 @@ pub fn read_tree<const P: u32, R: Read>(
         → TreeRead P text (R.left reader.new) (R.has_failed reader.new) result }
     ensures found { IfOk result (IsTable P) }
     ensures read { IfErr result (λ e. e.kind ≡ Kind.Read → R.has_failed reader.new ≡ true) }
+    ensures never { NeverRead (R.failing reader.old) result }
 {
     read_text(reader, Feeder::new(TreeLines::<P>::new(alloc)))
 }

@@ -1,5 +1,6 @@
 //! The bytes of a device, block after block.
-ghost use Rattle.std.specs.Prelude.{[]};
+ghost use Rattle.std.specs.Prelude.{◌≡◌, [], false};
+ghost use Rattle.sp_device.specs.Failing.{Never};
 ghost use Rattle.sp_tree.specs.Reading.{IsBehindTree};
 ghost use Rattle.sp_tree.specs.Stream.{stream, IsShort, IsLookedAt, BlockFed};
 
@@ -15,9 +16,12 @@ pub fn feed_block<const P: u32, R: Read>(
     piece: &mut Piece,
     tree: &mut TreeReader<P>,
 ) -> Result<(), DimacsError>
-    ensures { IsShort R.passed (stream piece.old reader.old) → IsBehindTree [] tree.old
+    ensures fed { IsShort R.passed (stream piece.old reader.old) → IsBehindTree [] tree.old
         → BlockFed R.left R.passed R.has_failed (stream piece.old reader.old) result
         (stream piece.new reader.new) tree.new }
+    ensures going { R.failing reader.old ≡ Never → R.has_failed reader.old ≡ false
+        → R.has_failed reader.new ≡ false }
+    ensures lasting { R.failing reader.new ≡ R.failing reader.old }
 {
     let mut place = Place::Fresh;
     loop {
@@ -41,9 +45,12 @@ pub fn feed_block<const P: u32, R: Read>(
 /// Whether no byte is left.
 #[tactic(auto, using(crate::proofs::LeftBytes::one_waits, crate::proofs::LeftBytes::one_came))]
 pub fn is_over<R: Read>(reader: &mut R, piece: &mut Piece) -> Result<bool, Failed>
-    ensures { IsShort R.passed (stream piece.old reader.old)
+    ensures looked { IsShort R.passed (stream piece.old reader.old)
         → IsLookedAt R.left R.passed R.has_failed (stream piece.old reader.old) result
         (stream piece.new reader.new) }
+    ensures going { R.failing reader.old ≡ Never → R.has_failed reader.old ≡ false
+        → R.has_failed reader.new ≡ false }
+    ensures lasting { R.failing reader.new ≡ R.failing reader.old }
 {
     if !piece.bytes().is_empty() {
         return Ok(false);

@@ -6,8 +6,8 @@ use Rattle.sp_text.specs.Lines.{ended}
 use Rattle.sp_text.proofs.Behind.{refused_earlier}
 use Rattle.sp_text.proofs.whole.read_on.Goals as goal
 
-pub returns-in_err-feed-in-Ok : goal.returns-in_err-feed-in-Ok
-returns-in_err-feed-in-Ok g c =
+pub returns-in_err-feed-in-Ok-clause-read : goal.returns-in_err-feed-in-Ok-clause-read
+returns-in_err-feed-in-Ok-clause-read g c =
     let before = c.loop-feeder.invariant in
     let front = before.0 in
     let reads = c.in-Ok.ensures in
