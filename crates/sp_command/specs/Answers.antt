@@ -1,5 +1,5 @@
 -- The meaning of a command's answer, for a command that finds something and then writes it as one text.
-use Rattle.std.specs.Prelude.{◌≡◌, ℕ, ◌⊎◌, List, Result, Ok, Err}
+use Rattle.std.specs.Prelude.{◌≡◌, ℕ, true, ◌⊎◌, List, Result, Ok, Err}
 use Rattle.std.specs.Io.KnownBytes.{Appends}
 use Rattle.sp_device.specs.Devices.{IsBegun}
 use Rattle.sp_text.specs.declared.faults.DimacsError.{DimacsError}
@@ -24,7 +24,7 @@ Told {V} IsFound text_of status_of s status = (v : V) × IsFound v × Appends s.
 
 -- The writer failed, and a prefix of the text of something that was found was written.
 abbrev pub Broke : {V : Type 0} → (IsFound : V → Type 0) → (text_of : V → List ℕ) → Scene → Fault → Type 0
-Broke {V} IsFound text_of s why = (why ≡ fault.WriteFailed) × ((v : V) × IsFound v × IsBegun (text_of v) s.before s.after)
+Broke {V} IsFound text_of s why = (why ≡ fault.WriteFailed) × (s.failed ≡ true) × ((v : V) × IsFound v × IsBegun (text_of v) s.before s.after)
 
 -- What was found was written; or the command could find nothing, and nothing was written; or the writer failed.
 abbrev pub Tells : {V : Type 0} → (IsFound : V → Type 0) → (text_of : V → List ℕ) → (status_of : V → Status) → (IsRefused : FileKind → DimacsError → Type 0) → Scene → Result Status Fault → Type 0

@@ -1,25 +1,46 @@
 -- What a run finds and leaves: files, and an output.
-use Rattle.std.specs.Prelude.{◌≡◌, ℕ, List, Option, Some, Result}
+use Rattle.std.specs.Prelude.{◌≡◌, ℕ, Bool, false, List, Option, Some, None, Result}
+use Rattle.sp_device.specs.Failing.{Failing, Anytime}
+use Rattle.sp_device.specs.declared.devices.Read.{Ghosts as Reader}
 use Rattle.sp_command.specs.declared.faults.Status.{Status}
 use Rattle.sp_command.specs.declared.faults.Fault.{Fault}
 
--- An opened file gives the text of its path, if that text is known.
-abbrev pub IsOpened : (text left : Option (List ℕ)) → Type 0
-IsOpened text left = (bytes : List ℕ) → text ≡ Some bytes → left ≡ Some bytes
+-- ## Files
 
--- The scene has the texts of the files by their paths, and what had been written before and is written after, all as
--- far as it is known.
+-- For each path, the files have the text of its file, if that is known; whether the file is opened for certain; and
+-- when its device may fail.
+pub record Files : Type 0 where
+  pub text : List ℕ → Option (List ℕ)
+  pub opens : List ℕ → Bool
+  pub failing : List ℕ → Failing
+
+-- Of the files of a system nothing is known.
+abbrev pub unknown_files : Files
+unknown_files = record { text = λ path. None; opens = λ path. false; failing = λ path. Anytime }
+
+-- An opened file gives the text of its path, if that text is known. It hasn't failed, and fails only as files of that
+-- path do.
+pub record IsOpened {File : Type 0} (reader : Reader File) (files : Files) (path : List ℕ) (file : File) : Type 0 where
+  pub gives : (bytes : List ℕ) → files.text path ≡ Some bytes → reader.left file ≡ Some bytes
+  pub sound : reader.has_failed file ≡ false
+  pub failing : reader.failing file ≡ files.failing path
+
+-- ## A run
+
+-- The scene has the files, what had been written before and is written after, as far as it is known, and whether the
+-- writer has failed.
 pub record Scene : Type 0 where
-  pub texts : List ℕ → Option (List ℕ)
+  pub files : Files
   pub before : Option (List ℕ)
   pub after : Option (List ℕ)
+  pub failed : Bool
 
-abbrev pub scene : (texts : List ℕ → Option (List ℕ)) → (before after : Option (List ℕ)) → Scene
-scene texts before after = record { texts = texts; before = before; after = after }
+abbrev pub scene : Files → (before after : Option (List ℕ)) → (failed : Bool) → Scene
+scene files before after failed = record { files = files; before = before; after = after; failed = failed }
 
 -- The file of this path has this text.
 abbrev pub HasText : Scene → (path text : List ℕ) → Type 0
-HasText s path text = s.texts path ≡ Some text
+HasText s path text = s.files.text path ≡ Some text
 
 -- Nothing was written.
 abbrev pub IsUnwritten : Scene → Type 0

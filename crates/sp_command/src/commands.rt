@@ -3,8 +3,9 @@ ghost use Rattle.sp_command.specs.Either.{either_of};
 
 use crate::faults::{Fault, FileKind, Status};
 use crate::inputs::Inputs;
-use crate::layout::{PredBits, Run};
+use crate::layout::PredBits;
 use crate::outputs;
+use crate::running::Run;
 use clap::{ArgMatches, Error};
 use sp_device::Write;
 use std::alloc::{AllocError, Global};
@@ -128,6 +129,10 @@ impl<'a, A: Commands<'a>, B: Commands<'a>> Commands<'a> for OneOf<A, B> {
 
 impl<A: Run<P>, B: Run<P>, const P: u32> Run<P> for OneOf<A, B> {
     ghost answers = { either_of A.answers B.answers };
+
+    ghost paths = { either_of A.paths B.paths };
+
+    ghost own_faults = { either_of A.own_faults B.own_faults };
 
     fn run<R: Threads + Wait + Sync, F: Inputs, W: Write>(
         &self,

@@ -1,6 +1,7 @@
 //! The faults that keep a command from being carried out: the line on standard error, and the exit status.
 ghost use Rattle.std.specs.Prelude.{◌≡◌, ◌≤◌, ◌⊎◌, false, IfOk, IfErr, codes};
 ghost use Rattle.sp_command.specs.Faults.{code_of, is_done, status_of};
+ghost use Rattle.sp_command.specs.Causes.{StaysClosed};
 ghost use Rattle.sp_command.specs.Scene.{IsOpened};
 ghost use Rattle.sp_command.specs.declared.faults.Fault.TheVariants.{CannotOpen, Input, InputTwice, Memory, WriteFailed};
 
@@ -54,9 +55,8 @@ pub enum FileKind {
 impl FileKind {
     /// Opens the file at its start.
     pub fn open<F: Inputs>(self, files: &F, path: &str) -> Result<F::File, Fault>
-        ensures opened { IfOk result
-            (λ file. IsOpened (F.text files.now path.now) (F.File.left file)) }
-        ensures untold { IfErr result (λ fault. fault ≡ CannotOpen self) }
+        ensures opened { IfOk result (IsOpened F.File.Read (F.files files.now) path.now) }
+        ensures closed { IfErr result (StaysClosed (F.files files.now) self path.now) }
     {
         match files.open_input(path) {
             Some(file) => Ok(file),
@@ -72,14 +72,15 @@ impl FileKind {
         path: &str,
     ) -> Result<(F::File, F::File), Fault>
         ensures graph { IfOk result
-            (λ both. IsOpened (F.text files.now graph.now) (F.File.left both.0)) }
+            (λ both. IsOpened F.File.Read (F.files files.now) graph.now both.0) }
         ensures file { IfOk result
-            (λ both. IsOpened (F.text files.now path.now) (F.File.left both.1)) }
+            (λ both. IsOpened F.File.Read (F.files files.now) path.now both.1) }
         ensures twice { graph.now ≡ codes "-" → path.now ≡ codes "-" → result ≡ Err InputTwice }
         ensures once { IfErr result
             (λ fault. fault ≡ InputTwice → (graph.now ≡ codes "-") × (path.now ≡ codes "-")) }
-        ensures untold { IfErr result (λ fault. (fault ≡ InputTwice)
-            ⊎ ((fault ≡ CannotOpen FileKind.Graph) ⊎ (fault ≡ CannotOpen self))) }
+        ensures closed { IfErr result (λ fault. (fault ≡ InputTwice)
+            ⊎ (StaysClosed (F.files files.now) FileKind.Graph graph.now fault
+            ⊎ StaysClosed (F.files files.now) self path.now fault)) }
     {
         if graph == "-" && path == "-" {
             return Err(Fault::InputTwice);

@@ -1,6 +1,6 @@
 //! The files of a command line, and the reports of progress.
-ghost use Rattle.std.specs.Prelude.{ℕ, List, Option, None, IfSome};
-ghost use Rattle.sp_command.specs.Scene.{IsOpened};
+ghost use Rattle.std.specs.Prelude.{◌≡◌, false, IfNone, IfSome};
+ghost use Rattle.sp_command.specs.Scene.{Files, IsOpened, unknown_files};
 
 use crate::hints::Form;
 use crate::report::Report;
@@ -13,13 +13,14 @@ pub trait Inputs {
     /// An opened file.
     type File: Read + Drop;
 
-    /// The text of the file of a path, if it is known: no contract can say what a file of the system holds.
-    ghost text: { Self → List ℕ → Option (List ℕ) } = { λ _ _. None };
+    /// What is known of the files by their paths: no contract can say what a file of the system holds.
+    ghost files: { Self → Files } = { λ _. unknown_files };
 
     /// Opens a file at its start, or returns `None` if it can't be opened. The path `-` is standard input, which is
     /// read from its current position.
     fn open_input(&self, path: &str) -> Option<Self::File>
-        ensures { IfSome result (λ file. IsOpened (text self.now path.now) (Self.File.left file)) };
+        ensures given { IfSome result (IsOpened Self.File.Read (files self.now) path.now) }
+        ensures opened { IfNone result ((files self.now).opens path.now ≡ false) };
 
     /// Reports the progress of a command to the user. A failure to report changes nothing else.
     fn tell(&self, _report: Report) {}

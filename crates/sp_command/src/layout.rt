@@ -1,14 +1,15 @@
 //! The layouts of a word, and the option that selects one. Every list of the layouts is in this module.
-ghost use denote.Param.Send.{IsSync};
 ghost use Rattle.std.specs.Prelude.{◌≡◌, ◌<◌, ◌≤◌, true, IfNone, IfOk, IfErr, IfSome};
-ghost use Rattle.sp_word.specs.Word.{is_layout, max_dist, max_pred};
+ghost use Rattle.sp_word.specs.Word.{max_dist, max_pred};
 ghost use Rattle.sp_command.specs.Faults.{code_of, is_done, status_of};
-ghost use Rattle.sp_command.specs.Scene.{Meaning, scene};
+ghost use Rattle.sp_command.specs.Layouts.{IsRunIn};
+ghost use Rattle.sp_command.specs.Scene.{scene};
 ghost use Rattle.sp_command.specs.Words.{ReadsSpelling, bits_in};
 
 use crate::arguments::valued;
 use crate::faults::{Fault, Status};
 use crate::inputs::Inputs;
+use crate::running::Run;
 use clap::Arg;
 use sp_device::Write;
 use sp_word::Word;
@@ -125,27 +126,6 @@ impl fmt::Display for PredBits {
     }
 }
 
-/// A command that can run in words with `P` bits of predecessor.
-pub trait Run<const P: u32> {
-    /// The meaning of its answer, for the texts of its files and what is then written.
-    ghost answers: { Meaning Self };
-
-    /// Runs the command. Its output goes to `out`.
-    fn run<R: Threads + Wait + Sync, F: Inputs, W: Write>(
-        &self,
-        rt: &R,
-        alloc: Global,
-        files: &F,
-        out: &mut W,
-    ) -> Result<Status, Fault>
-        requires { (is_layout P ≡ true) × IsSync R.row }
-        ensures answered { answers self.now
-            (scene (F.text files.now) (W.written out.old) (W.written out.new)) result }
-        ensures done { IfOk result (λ status. is_done status ≡ true) }
-        ensures unwritten { IfErr result
-            (λ fault. code_of (status_of fault) ≤ 2 → out.new ≡ out.old) };
-}
-
 /// Runs the command in the layout that has this many bits of predecessor.
 pub fn run_in<C, R: Threads + Wait + Sync, F: Inputs, W: Write>(
     command: &C,
@@ -157,14 +137,10 @@ pub fn run_in<C, R: Threads + Wait + Sync, F: Inputs, W: Write>(
 ) -> Result<Status, Fault>
 where
     C: Run<20> + Run<24> + Run<28> + Run<32>,
-    ensures with_20 { pred_bits ≡ PredBits.Bits20 → ⟦<C as Run<20>>⟧.answers command.now
-        (scene (F.text files.now) (W.written out.old) (W.written out.new)) result }
-    ensures with_24 { pred_bits ≡ PredBits.Bits24 → ⟦<C as Run<24>>⟧.answers command.now
-        (scene (F.text files.now) (W.written out.old) (W.written out.new)) result }
-    ensures with_28 { pred_bits ≡ PredBits.Bits28 → ⟦<C as Run<28>>⟧.answers command.now
-        (scene (F.text files.now) (W.written out.old) (W.written out.new)) result }
-    ensures with_32 { pred_bits ≡ PredBits.Bits32 → ⟦<C as Run<32>>⟧.answers command.now
-        (scene (F.text files.now) (W.written out.old) (W.written out.new)) result }
+    ensures run { IsRunIn
+        ⟦<C as Run<20>>⟧ ⟦<C as Run<24>>⟧ ⟦<C as Run<28>>⟧ ⟦<C as Run<32>>⟧
+        pred_bits command.now (scene (F.files files.now)
+        (W.written out.old) (W.written out.new) (W.has_failed out.new)) result }
     ensures done { IfOk result (λ status. is_done status ≡ true) }
     ensures unwritten { IfErr result (λ fault. code_of (status_of fault) ≤ 2 → out.new ≡ out.old) }
 {

@@ -17,6 +17,7 @@ mod layout;
 mod names;
 mod outputs;
 mod report;
+mod running;
 mod text;
 
 pub use advice::Advice;
@@ -26,7 +27,8 @@ pub use faults::{Fault, FileKind, Status};
 pub use help::GRAPH_FILE;
 pub use hints::{Form, Hint, Naming, PlacesFault, hint_of, output_hint};
 pub use inputs::Inputs;
-pub use layout::{NoPredBits, PredBits, Run, run_in};
+pub use layout::{NoPredBits, PredBits, run_in};
 pub use outputs::{OUTPUT, Outputs};
 pub use report::Report;
+pub use running::Run;
 pub use text::print;

@@ -1,0 +1,42 @@
+-- What brings each fault about.
+use Rattle.std.specs.Prelude.{◌≡◌, ◌≢◌, ℕ, true, false, List, Option, Some, codes}
+use Rattle.sp_device.specs.Failing.{Never}
+use Rattle.sp_text.specs.declared.faults.DimacsError.{DimacsError}
+use Rattle.sp_text.specs.declared.faults.Kind.TheVariants as kind
+use Rattle.sp_command.specs.declared.faults.FileKind.{FileKind}
+use Rattle.sp_command.specs.declared.faults.Fault.{Fault}
+use Rattle.sp_command.specs.declared.faults.Fault.TheVariants as fault
+use Rattle.sp_command.specs.Scene.{Files, Scene}
+
+-- These are the paths of a command's files, by their kinds.
+abbrev pub Paths : Type 0
+Paths = FileKind → Option (List ℕ)
+
+-- The command has a file of this kind, which isn't opened for certain.
+abbrev pub MayStayClosed : Paths → Files → FileKind → Type 0
+MayStayClosed paths files file = (path : List ℕ) × (paths file ≡ Some path) × (files.opens path ≡ false)
+
+-- The command has a file of this kind. If the fault is that its device failed, then that device may fail.
+abbrev pub MayBeRefused : Paths → Files → FileKind → DimacsError → Type 0
+MayBeRefused paths files file error = (path : List ℕ) × (paths file ≡ Some path) × (error.kind ≡ kind.Read → files.failing path ≢ Never)
+
+-- Standard input is named for files of two kinds.
+abbrev pub NamesInputTwice : Paths → Type 0
+NamesInputTwice paths = (one : FileKind) × (other : FileKind) × (one ≢ other) × (paths one ≡ Some (codes "-")) × (paths other ≡ Some (codes "-"))
+
+-- Something in the scene brings the fault about, where a command has these paths, and its words or the texts of its
+-- files may bring about these faults of its own. No command tells a fault of the words that `clap` finds, or of a file
+-- for the output.
+abbrev pub IsBorneOut : Paths → (own : Fault → Type 0) → Scene → Fault → Type 0
+IsBorneOut paths own s (fault.CannotOpen file) = MayStayClosed paths s.files file
+IsBorneOut paths own s (fault.Input file error) = MayBeRefused paths s.files file error
+IsBorneOut paths own s fault.InputTwice = NamesInputTwice paths
+IsBorneOut paths own s fault.WriteFailed = s.failed ≡ true
+IsBorneOut paths own s fault.Memory = Unit {0}
+IsBorneOut paths own s (fault.Usage error) = ⊥
+IsBorneOut paths own s fault.CannotWrite = ⊥
+IsBorneOut paths own s other = own other
+
+-- A file of this kind, with this path, wasn't opened, and nothing says that it is.
+abbrev pub StaysClosed : Files → FileKind → (path : List ℕ) → Fault → Type 0
+StaysClosed files file path why = (why ≡ fault.CannotOpen file) × (files.opens path ≡ false)
