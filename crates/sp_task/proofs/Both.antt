@@ -34,7 +34,7 @@ module _ (law : ℕ → Word → Type 0) (jobs : List Job) (number : ℕ) where
       let l = b.6 in
       (goes_joined law jobs number c d h i (did b.0) (did b.1) (did x) none low bare first.0 second.0 b.4, (let o = first.1 in omega arith), (let o = first.2 in let s = second.2 in omega arith))
   both_answer c d h i m n mine theirs (Err x) none low bare p q b = (
-    later_along law c (caller_of mine) x.caller (answer_later c h m mine p) (later_joined law (caller_of mine) (caller_of theirs) x.caller b.table b.follows),
+    later_along law c (caller_of mine) x.caller (answer_later c h m mine p) (later_joined law (caller_of mine) (caller_of theirs) x.caller b.table b.follows b.own),
     b.claims ∙ answer_claims c h m mine p,
   )
 
@@ -53,6 +53,11 @@ module _ (law : ℕ → Word → Type 0) (jobs : List Job) (number : ℕ) where
       let p' = answer_of_more c c' h h' m m mine same same' (omega arith) p in
       let low : (v : ℕ) → IsNoMore (known_table d.story v) (known_table c.story v) = λ v. subst (λ (s : Story). IsNoMore (known_table s v) (known_table c.story v)) (sym second) (at_most_itself (known_table c.story v)) in
       answer_of_more c c h h (m + n) k r refl refl fit (both_answer c d h i m n mine theirs r (ap own_calls second) low bare p' q b)
+
+-- a refusal of a caller that had looked at the table before
+pub refused_after : {A : Type 0} (law : ℕ → Word → Type 0) (a b : Knowledge) (r : Result A RoundRefused) → IsLater law a b → IfErr r (λ e. IsLater law b e.caller) → IfErr r (λ e. IsLater law a e.caller)
+refused_after law a b (Ok x) later is = tt
+refused_after law a b (Err e) later is = later_along law a b e.caller later is
 
 -- two groups that both ended well, brought together
 pub merged_ok : (law : ℕ → Word → Type 0) (mine theirs r : Result Done RoundRefused) (m t : Done) → mine ≡ Ok m → theirs ≡ Ok t

@@ -61,6 +61,7 @@ module _ (law : ℕ → Word → Type 0) where
   later_itself a = record {
     table = refl;
     begins = prefix_itself a.story.seen;
+    own = prefix_itself (own_calls a.story);
     falls = λ v. at_most_itself (known_table a.story v);
     stays = λ h. h;
     legal = λ h. h;
@@ -70,6 +71,7 @@ module _ (law : ℕ → Word → Type 0) where
   later_along a b c p q = record {
     table = q.table ∙ p.table;
     begins = prefix_along a.story.seen b.story.seen c.story.seen p.begins q.begins;
+    own = prefix_along (own_calls a.story) (own_calls b.story) (own_calls c.story) p.own q.own;
     falls = λ v. at_most_along (known_table c.story v) (known_table b.story v) (known_table a.story v) (q.falls v) (p.falls v);
     stays = λ h. q.stays (p.stays h);
     legal = λ h. q.legal (p.legal h);
@@ -84,10 +86,11 @@ module _ (law : ℕ → Word → Type 0) where
   legal_joined a b c f = record { is_story = f.is_story; words = f.words }
 
   -- one caller of two has gone on from the first
-  pub later_joined : (a b c : Knowledge) → c.table ≡ a.table → Follows law a.story b.story c.story → IsLater law a c
-  later_joined a b c table f = record {
+  pub later_joined : (a b c : Knowledge) → c.table ≡ a.table → Follows law a.story b.story c.story → own_calls c.story ≡ own_calls a.story ++ own_calls b.story → IsLater law a c
+  later_joined a b c table f own = record {
     table = table;
     begins = f.first;
+    own = (own_calls b.story, sym own);
     falls = λ v. (f.falls v).0;
     stays = λ h. f.words;
     legal = λ h. f.is_story;
@@ -138,6 +141,7 @@ module _ (law : ℕ → Word → Type 0) where
       later = record {
         table = table;
         begins = (call.between ++ event by v (Offer word found reply) ∷ [], sym (append_assoc a.story.seen call.between (event by v (Offer word found reply) ∷ [])) ∙ sym call.seen);
+        own = (event by v (Offer word found reply) ∷ [], sym own);
         falls = knows.falls;
         stays = λ h. call.words;
         legal = λ h. call.is_story;

@@ -19,7 +19,7 @@ use Rattle.sp_claim.specs.Grants.{times, EachOnce}
 use Rattle.sp_task.specs.declared.task.Task.{Task}
 use Rattle.sp_task.specs.Offers.{Asked, arcs_of, offer_along, offers_along, offers_of, AreSameOffers}
 use Rattle.sp_task.specs.Calls.{question_of, IsNearer, AllKnown}
-use Rattle.sp_task.specs.Work.{Job, job_of, jobs_of, offers_at, slot_at, grant_at, calls_weight, Did, start, Made, MadeOffers, Goes, AllBelow}
+use Rattle.sp_task.specs.Work.{Job, job_of, jobs_of, offers_at, slot_at, grant_at, calls_weight, Did, at_start, Made, MadeOffers, Goes, AllBelow}
 use Rattle.sp_task.specs.Left.{tally, upto, unmarked_value, IsMarked, RanLeft, IsTaskDone, RoundDone}
 use Rattle.sp_task.proofs.Words.{not_above, at_most, within_pair}
 use Rattle.sp_task.specs.Later.{IsLater}
@@ -174,7 +174,7 @@ module _ (law : ℕ → Word → Type 0) (max : ℕ) (rows : Split) (tasks : Lis
 
   -- the workers ran some tasks, and the leader those that had no receipt
   pub round_done : (number : ℕ) (c d : Knowledge) (h : Held) (a : Did) (rs : List ℕ) (marks : List Bool) (f : List Entry) → rs ≡ a.receipts → ((k : ℕ) → tally k rs ≤ 1) → IsMarked (length tasks) rs marks
-      → Goes law (jobs_of max rows tasks) number (start c h) a → RanLeft law (jobs_of max rows tasks) marks (length tasks) a.caller d a.found f → RoundDone law max rows tasks c d f
+      → Goes law (jobs_of max rows tasks) number (at_start c h) a → RanLeft law (jobs_of max rows tasks) marks (length tasks) a.caller d a.found f → RoundDone law max rows tasks c d f
   round_done number c d h a rs marks f same one marked p q =
       done_by (p.calls ++ q.0) c d f (made_more law p.calls q.0 c a.caller d [] a.found f p.made q.1)
       (λ w.

@@ -15,7 +15,7 @@ use Rattle.sp_graph.specs.RowsValue.{Split}
 use Rattle.sp_task.specs.declared.task.Task.{Task}
 use Rattle.sp_task.specs.Offers.{Asked, offers_of}
 use Rattle.sp_task.specs.Calls.{question_of}
-use Rattle.sp_task.specs.Work.{Job, jobs_of, offers_at, slot_at, grant_at, calls_weight, Did, Made, MadeOffers, AllBelow, Goes, start, Joined}
+use Rattle.sp_task.specs.Work.{Job, jobs_of, offers_at, slot_at, grant_at, calls_weight, Did, Made, MadeOffers, AllBelow, Goes, at_start, Joined}
 use Rattle.sp_task.proofs.CallsInRow.{map-append, made_more, made_none, entries-append, nearer_append, AllKnown-lower, AllKnown-append, later_along, later_joined}
 
 pub offers_at-is : (max : ℕ) (rows : Split) (tasks : List Task) (k : ℕ) (d : Task) → k < length tasks → offers_at (jobs_of max rows tasks) k ≡ offers_of max rows (get_or tasks k d)
@@ -116,12 +116,12 @@ module _ (law : ℕ → Word → Type 0) (jobs : List Job) (number : ℕ) where
 
   -- two groups, of which the second began with no calls and no grants of its own
   pub goes_joined : (c d : Knowledge) (h i : Held) (a b j : Did) → own_calls d.story ≡ [] → ((v : ℕ) → IsNoMore (known_table d.story v) (known_table c.story v)) → i.grants ≡ []
-      → Goes law jobs number (start c h) a → Goes law jobs number (start d i) b → Joined law a b j → Goes law jobs number (start c h) j
+      → Goes law jobs number (at_start c h) a → Goes law jobs number (at_start d i) b → Joined law a b j → Goes law jobs number (at_start c h) j
   goes_joined c d h i a b j none low bare p q both = record {
     calls = p.calls ++ q.calls;
     more = p.more ++ q.more;
     made = record {
-      later = later_along law c a.caller j.caller p.made.later (later_joined law a.caller b.caller j.caller both.tokens.table both.tokens.follows);
+      later = later_along law c a.caller j.caller p.made.later (later_joined law a.caller b.caller j.caller both.tokens.table both.tokens.follows both.tokens.own);
       mine =
           both.tokens.own
           ∙ ((λ k. p.made.mine k ++ (q.made.mine ∙ ap (λ l. l ++ q.calls) none) k) ∙ append_assoc (own_calls c.story) p.calls q.calls);

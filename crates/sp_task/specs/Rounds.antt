@@ -17,7 +17,7 @@ use Rattle.sp_task.specs.declared.round.Prepared.{Prepared}
 use Rattle.sp_task.specs.declared.workers.Done.{Done}
 use Rattle.sp_task.specs.declared.workers.RoundOut.{RoundOut}
 use Rattle.sp_task.specs.declared.workers.RoundRefused.{RoundRefused}
-use Rattle.sp_task.specs.declared.workers.stealing.Seat.{Seat}
+use Rattle.sp_task.specs.declared.workers.stealing.Start.{Start}
 use Rattle.sp_task.specs.Offers.{IsTask, arcs_of, offer_along, offers_along}
 use Rattle.sp_task.specs.Later.{IsLater, HasLegalHistory}
 use Rattle.sp_task.specs.Work.{Job, jobs_of, offers_at, IsReady, AreOf, AreJoined, Joined, MadeOffers, Did, did, Goes, Answers}
@@ -66,6 +66,11 @@ module _ {L : Type 0} {P : ℕ} where
     RunsTask number before after =
         MadeOffers law_in (offers_at (jobs_in round) number) before.caller after.caller before.found.items after.found.items
 
+    -- This is what a worker that starts with this, and the workers of the other deques, give back.
+    abbrev pub AllGiveIn : {A : Type 0} → Vec A Global → Start → Result Done RoundRefused → Type 0
+    AllGiveIn others start result =
+        Answers law_in (jobs_in round) round.number start.caller start.claimer (vec_len others + 1) result
+
     -- The tasks without a mark were run.
     abbrev pub RunsUnmarked : List Bool → (before after : Knowledge) → (bag bag' : Vec Entry Global) → Type 0
     RunsUnmarked marks before after bag bag' =
@@ -107,17 +112,17 @@ module _ {L : Type 0} (P : ℕ) (allows : L → ℕ → Word → Type 0) (table 
   IsReadyFor claims rows tasks = IsReady P (lawful P (allows table.law)) table.vertices claims.words rows tasks
 
   -- A worker's caller and claimer belong to these tables.
-  abbrev pub CanWork : TableId → Split → List Task → Seat → Type 0
-  CanWork claims rows tasks seat = IsReadyFor claims rows tasks × AreOf table.id claims seat.caller seat.claimer
+  abbrev pub CanWork : TableId → Split → List Task → Start → Type 0
+  CanWork claims rows tasks start = IsReadyFor claims rows tasks × AreOf table.id claims start.caller start.claimer
 
   -- This is what one worker gives back, and what it and the workers of the other deques do.
-  abbrev pub OneGives : List Job → (number : ℕ) → Seat → Result Done RoundRefused → Type 0
-  OneGives jobs number seat result =
-      Answers (lawful P (allows table.law)) jobs number seat.caller seat.claimer 1 result
+  abbrev pub OneGives : List Job → (number : ℕ) → Start → Result Done RoundRefused → Type 0
+  OneGives jobs number start result =
+      Answers (lawful P (allows table.law)) jobs number start.caller start.claimer 1 result
 
-  abbrev pub AllGive : {A : Type 0} → List Job → (number : ℕ) → Vec A Global → Seat → Result Done RoundRefused → Type 0
-  AllGive jobs number others seat result =
-      Answers (lawful P (allows table.law)) jobs number seat.caller seat.claimer (vec_len others + 1) result
+  abbrev pub AllGive : {A : Type 0} → List Job → (number : ℕ) → Vec A Global → Start → Result Done RoundRefused → Type 0
+  AllGive jobs number others start result =
+      Answers (lawful P (allows table.law)) jobs number start.caller start.claimer (vec_len others + 1) result
 
   -- Two callers and two claimers became one of each.
   abbrev pub JoinsTokens : (first second both : RoundRefused) → Type 0

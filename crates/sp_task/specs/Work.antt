@@ -85,8 +85,8 @@ numbers_of receipts = map (λ r. r.task) receipts
 abbrev pub did : Done → Did
 did d = record { caller = d.caller; claimer = d.claimer; receipts = numbers_of d.receipts.items; found = d.found.items }
 
-abbrev pub start : Knowledge → Held → Did
-start caller claimer = record { caller = caller; claimer = claimer; receipts = []; found = [] }
+abbrev pub at_start : Knowledge → Held → Did
+at_start caller claimer = record { caller = caller; claimer = claimer; receipts = []; found = [] }
 
 -- The caller made exactly these calls, and knows each word that they offered. Each call that was answered Shorter put
 -- its entry into the bag, and that entry is nearer than what the caller knew before.
@@ -128,7 +128,7 @@ IsRefused law caller claimer r = IsLater law caller r.caller × (r.claimer.table
 -- This is what a group of at most this many workers answers.
 abbrev pub Answers : (ℕ → Word → Type 0) → List Job → (number : ℕ) → Knowledge → Held → (count : ℕ) → Result Done RoundRefused → Type 0
 Answers law jobs number caller claimer count (Ok d) =
-    Goes law jobs number (start caller claimer) (did d) × (1 ≤ d.started) × (d.started ≤ count)
+    Goes law jobs number (at_start caller claimer) (did d) × (1 ≤ d.started) × (d.started ≤ count)
 Answers law jobs number caller claimer count (Err r) = IsRefused law caller claimer r
 
 abbrev pub caller_of : Result Done RoundRefused → Knowledge

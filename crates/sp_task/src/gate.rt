@@ -7,6 +7,13 @@ pub trait Gate {
     fn after_offer(&self, worker: u32);
 }
 
+/// A gate as one worker passes it.
+#[derive(Drop)]
+pub(crate) struct WorkerGate<'a, G: Gate> {
+    pub gate: &'a G,
+    pub worker: u32,
+}
+
 /// The gate that lets every worker pass.
 #[derive(Clone, Copy, Debug)]
 pub struct OpenGate;

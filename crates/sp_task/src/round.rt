@@ -9,7 +9,7 @@ ghost use Rattle.sp_task.specs.Rounds.{TakesTasks, IsReadyRound, IsRoundDone, Is
 
 use crate::gate::Gate;
 use crate::task::Round;
-use crate::workers::stealing::{Deques, Seat, deal, run_workers};
+use crate::workers::stealing::{OpenDeques, Start, TaskDeques, deal, run_workers};
 use crate::workers::unfinished::{mark, run_left};
 use crate::workers::{Done, RoundOut, RoundRefused};
 use sp_claim::Claimer;
@@ -81,7 +81,8 @@ pub fn run_round_by<
     let workers = round.tasks.len().min(round.workers.get() as usize);
     if workers > 1 {
         if let Ok(prepared) = prepare(alloc, round.tasks.len(), workers) {
-            return run_shared::<M, R, L, G, P>(rt, alloc, round, prepared, caller, claimer, gate);
+            let tokens = Tokens { caller, claimer };
+            return run_shared::<M, R, L, G, P>(rt, alloc, round, prepared, tokens, gate);
         }
     }
     run_by_leader::<M, L, G, P>(alloc, round, caller, claimer, gate)
@@ -101,11 +102,18 @@ fn look<L: Lawful, const P: u32>(table: &OfferTable<L, P>, caller: Caller) -> Ca
     table.join(caller, other)
 }
 
+/// The leader's rights to call and to claim.
+#[derive(Drop)]
+struct Tokens {
+    caller: Caller,
+    claimer: Claimer,
+}
+
 /// What a round of several workers allocates before its first offer.
 #[derive(Drop)]
 struct Prepared {
     marks: Vec<bool>,
-    deques: Deques,
+    deques: TaskDeques,
 }
 
 fn prepare(alloc: Global, tasks: usize, workers: usize) -> Result<Prepared, AllocError>
@@ -162,50 +170,42 @@ fn run_shared<
     alloc: Global,
     round: &Round<L, P>,
     prepared: Prepared,
-    caller: Caller,
-    claimer: Claimer,
+    tokens: Tokens,
     gate: &G,
 ) -> Result<RoundOut, RoundRefused>
     requires ready { IsReadyRound L.allows round.now }
     requires slots { 0 < round.now.claims.now.words }
-    requires tokens { AreOf round.now.table.now.id round.now.claims.now caller claimer }
+    requires tokens { AreOf round.now.table.now.id round.now.claims.now tokens.caller tokens.claimer }
     requires marks { prepared.marks.items ≡ replicate (length round.now.tasks.now) false }
     requires len { vec_len prepared.marks ≡ length round.now.tasks.now }
-    ensures done { IfOk result (λ o. IsRoundDone L.allows round.now caller o) }
-    ensures claimer { IfOk result (λ o. o.claimer.table ≡ claimer.table) }
+    ensures done { IfOk result (λ o. IsRoundDone L.allows round.now tokens.caller o) }
+    ensures claimer { IfOk result (λ o. o.claimer.table ≡ tokens.claimer.table) }
     ensures started { IfOk result (λ o. (1 ≤ o.started) × (o.started ≤ most_workers prepared)) }
     ensures legal { IfOk result (λ o. HasLegalHistoryIn L.allows round.now o.caller) }
-    ensures refused { IfErr result (λ r. IsLaterIn L.allows round.now caller r.caller) }
-    ensures refused_claimer { IfErr result (λ r. r.claimer.table ≡ claimer.table) }
+    ensures refused { IfErr result (λ r. IsLaterIn L.allows round.now tokens.caller r.caller) }
+    ensures refused_claimer { IfErr result (λ r. r.claimer.table ≡ tokens.claimer.table) }
     ensures refused_legal { IfErr result (λ r. HasLegalHistoryIn L.allows round.now r.caller) }
 {
     let Prepared { mut marks, deques } = prepared;
-    let Deques {
+    let Tokens { caller, claimer } = tokens;
+    let TaskDeques {
         mut owners,
         stealers,
     } = deques;
     let Some(own) = owners.pop() else {
         return run_by_leader::<M, L, G, P>(alloc, round, caller, claimer, gate);
     };
-    let seat = Seat {
+    let start = Start {
         worker: 0,
         own,
         caller: look(round.table, caller),
         claimer,
     };
-    let done = run_workers::<R, M, L, G, P>(
-        rt,
-        alloc,
-        round.table,
-        round.claims,
-        round.rows,
-        round.tasks,
-        round.number,
-        gate,
-        stealers.as_slice(),
+    let open = OpenDeques {
         owners,
-        seat,
-    )?;
+        stealers: stealers.as_slice(),
+    };
+    let done = run_workers::<R, M, L, G, P>(rt, alloc, round, gate, open, start)?;
     let Done {
         mut caller,
         mut claimer,

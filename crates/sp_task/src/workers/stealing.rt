@@ -4,17 +4,16 @@
 //! task.
 ghost use Rattle.std.specs.Prelude.{◌≡◌, ℕ, ◌+◌, ◌<◌, ◌≤◌, length, vec_len, IfOk};
 ghost use Rattle.sp_offer.specs.Calling.{IsBeside};
-ghost use Rattle.sp_task.specs.Work.{did, start, AreOf, HasNoGrants};
-ghost use Rattle.sp_task.specs.Rounds.{jobs_at, IsReadyRound, GoesOn, IsReadyFor, AreShared, CanWork, OneGives, AllGive};
+ghost use Rattle.sp_task.specs.Work.{did, at_start, AreOf, HasNoGrants};
+ghost use Rattle.sp_task.specs.Rounds.{jobs_at, IsReadyRound, GoesOn, AreShared, CanWork, OneGives, AllGive, AllGiveIn};
 
-use crate::gate::Gate;
-use crate::task::{Round, Task};
+use crate::gate::{Gate, WorkerGate};
+use crate::task::Round;
 use crate::workers::Done;
 use crate::workers::merge::{Worked, merge};
 use crate::workers::steps::try_task;
 use crossbeam_deque::{Steal, Stealer, Worker};
 use sp_claim::{ClaimTable, Claimer};
-use sp_graph::Rows;
 use sp_offer::{Caller, Lawful, Lowering, OfferTable};
 use sp_word::Workers;
 use std::alloc::{AllocError, Global};
@@ -25,14 +24,21 @@ const MOST_RETRIES: usize = 1000;
 
 /// The deques of a round: the workers' own, with the leader's last, and a thief's handle of each.
 #[derive(Drop)]
-pub(crate) struct Deques {
+pub(crate) struct TaskDeques {
     pub owners: Vec<Worker<usize>>,
     pub stealers: Vec<Stealer<usize>>,
 }
 
+/// The deques of the workers that haven't started, and a thief's handle of every deque.
+#[derive(Drop)]
+pub(crate) struct OpenDeques<'a> {
+    pub owners: Vec<Worker<usize>>,
+    pub stealers: &'a [Stealer<usize>],
+}
+
 /// What a worker starts with: its number, its own deque, its caller and its claimer.
 #[derive(Drop)]
-pub(crate) struct Seat {
+pub(crate) struct Start {
     pub worker: u32,
     pub own: Worker<usize>,
     pub caller: Caller,
@@ -41,7 +47,7 @@ pub(crate) struct Seat {
 
 /// Deals task `k` to worker `k` modulo `workers`, in FIFO order. A task for which a deque has no memory is left to the
 /// leader.
-pub(crate) fn deal(alloc: Global, tasks: usize, workers: usize) -> Result<Deques, AllocError>
+pub(crate) fn deal(alloc: Global, tasks: usize, workers: usize) -> Result<TaskDeques, AllocError>
     requires { 0 < workers }
     ensures { IfOk result (λ d. vec_len d.owners ≡ workers) }
 {
@@ -57,7 +63,7 @@ pub(crate) fn deal(alloc: Global, tasks: usize, workers: usize) -> Result<Deques
         }
         owners.push(own)?;
     }
-    Ok(Deques { owners, stealers })
+    Ok(TaskDeques { owners, stealers })
 }
 
 /// Steals a task from another worker.
@@ -88,8 +94,7 @@ fn next_task(own: &mut Worker<usize>, stealers: &[Stealer<usize>]) -> Option<usi
 /// Tries a task like `try_task`, for a number that a deque returned.
 fn try_number<M: Lowering, L: Lawful, G: Gate, const P: u32>(
     round: &Round<L, P>,
-    gate: &G,
-    worker: u32,
+    gate: &WorkerGate<G>,
     number: usize,
     done: &mut Done,
 ) -> bool
@@ -102,7 +107,7 @@ fn try_number<M: Lowering, L: Lawful, G: Gate, const P: u32>(
     if number >= round.tasks.len() {
         return true;
     }
-    try_task::<M, L, G, P>(round, gate, worker, number, done)
+    try_task::<M, L, G, P>(round, gate, number, done)
 }
 
 /// Runs one worker. It ends when a pass found no task, when there is no memory, or after as many tasks as the round
@@ -112,19 +117,19 @@ fn run_worker<M: Lowering, L: Lawful, G: Gate, const P: u32>(
     round: &Round<L, P>,
     gate: &G,
     stealers: &[Stealer<usize>],
-    seat: Seat,
+    start: Start,
 ) -> Done
     requires ready { IsReadyRound L.allows round.now }
-    requires tokens { AreOf round.now.table.now.id round.now.claims.now seat.caller seat.claimer }
-    ensures goes { GoesOn L.allows round.now (start seat.caller seat.claimer) (did result) }
+    requires tokens { AreOf round.now.table.now.id round.now.claims.now start.caller start.claimer }
+    ensures goes { GoesOn L.allows round.now (at_start start.caller start.claimer) (did result) }
     ensures started { result.started ≡ 1 }
 {
-    let Seat {
+    let Start {
         worker,
         mut own,
         caller,
         claimer,
-    } = seat;
+    } = start;
     let mut done = Done {
         caller,
         claimer,
@@ -132,71 +137,44 @@ fn run_worker<M: Lowering, L: Lawful, G: Gate, const P: u32>(
         found: Vec::new(alloc),
         started: 1,
     };
+    let gate = WorkerGate { gate, worker };
     for _ in 0..round.tasks.len() {
         let Some(number) = next_task(&mut own, stealers) else {
             return done;
         };
-        if !try_number::<M, L, G, P>(round, gate, worker, number, &mut done) {
+        if !try_number::<M, L, G, P>(round, &gate, number, &mut done) {
             return done;
         }
     }
     done
 }
 
-/// Runs one worker, given the parts of a round.
-fn run_alone<M: Lowering, L: Lawful, G: Gate, const P: u32>(
-    alloc: Global,
+/// Splits what a worker starts with in two: the second is the next worker's, with this deque.
+fn split_start<L: Lawful, const P: u32>(
     table: &OfferTable<L, P>,
     claims: &ClaimTable,
-    rows: &Rows,
-    tasks: &[Task],
-    number: u64,
-    gate: &G,
-    stealers: &[Stealer<usize>],
-    seat: Seat,
-) -> Worked
-    requires ready { IsReadyFor P L.allows table.now claims.now rows.now tasks.now }
-    requires tokens { AreOf table.now.id claims.now seat.caller seat.claimer }
-    ensures { OneGives P L.allows table.now (jobs_at P rows.now tasks.now) number seat result }
-{
-    let round = Round {
-        table,
-        claims,
-        rows,
-        tasks,
-        number,
-        // This is the one worker.
-        workers: Workers::one(),
-    };
-    Ok(run_worker::<M, L, G, P>(alloc, &round, gate, stealers, seat))
-}
-
-/// Splits a seat into two: the second is the next worker's, with this deque.
-fn split_seat<L: Lawful, const P: u32>(
-    table: &OfferTable<L, P>,
-    claims: &ClaimTable,
-    seat: Seat,
+    start: Start,
     own: Worker<usize>,
-) -> (Seat, Seat)
+) -> (Start, Start)
     requires slots { 0 < claims.now.words }
-    requires tokens { AreOf table.now.id claims.now seat.caller seat.claimer }
-    ensures first { (result.0.caller ≡ seat.caller) × (result.0.claimer ≡ seat.claimer) }
-    ensures caller { IsBeside seat.caller result.1.caller }
-    ensures claimer { HasNoGrants seat.claimer.table result.1.claimer }
+    requires tokens { AreOf table.now.id claims.now start.caller start.claimer }
+    ensures first { (result.0.caller ≡ start.caller) × (result.0.claimer ≡ start.claimer) }
+    ensures caller { IsBeside start.caller result.1.caller }
+    ensures claimer { HasNoGrants start.claimer.table result.1.claimer }
 {
-    let Ok((caller, other_caller)) = table.split(seat.caller) else {
+    let Ok((caller, other_caller)) = table.split(start.caller) else {
         unreachable!()
     };
-    let Ok((claimer, other_claimer)) = claims.split(seat.claimer) else {
+    let Ok((claimer, other_claimer)) = claims.split(start.claimer) else {
         unreachable!()
     };
-    let first = Seat {
-        worker: seat.worker,
-        own: seat.own,
+    let first = Start {
+        worker: start.worker,
+        own: start.own,
         caller,
         claimer,
     };
-    let second = Seat {
+    let second = Start {
         worker: first.worker.saturating_add(1),
         own,
         caller: other_caller,
@@ -206,7 +184,7 @@ fn split_seat<L: Lawful, const P: u32>(
 }
 
 /// Runs one worker on this thread, and the workers of the other deques on threads that it starts. A closure that
-/// borrows a whole `Round` gets no contract, so the parts of a round are passed to its threads one by one.
+/// borrows a whole `Round` gets no contract, so each closure takes the parts of the round and puts them together.
 #[cycle(workers)]
 pub(crate) fn run_workers<
     R: Threads + Sync,
@@ -214,49 +192,57 @@ pub(crate) fn run_workers<
     L: Lawful + Send + Sync,
     G: Gate + Sync,
     const P: u32,
->(
-    rt: &R,
-    alloc: Global,
-    table: &OfferTable<L, P>,
-    claims: &ClaimTable,
-    rows: &Rows,
-    tasks: &[Task],
-    number: u64,
-    gate: &G,
-    stealers: &[Stealer<usize>],
-    mut others: Vec<Worker<usize>>,
-    seat: Seat,
-) -> Worked
-    requires ready { IsReadyFor P L.allows table.now claims.now rows.now tasks.now }
-    requires slots { 0 < claims.now.words }
-    requires tokens { AreOf table.now.id claims.now seat.caller seat.claimer }
-    ensures { let jobs = jobs_at P rows.now tasks.now in
-        AllGive P L.allows table.now jobs number others seat result }
+>(rt: &R, alloc: Global, round: &Round<L, P>, gate: &G, deques: OpenDeques, start: Start) -> Worked
+    requires ready { IsReadyRound L.allows round.now }
+    requires slots { 0 < round.now.claims.now.words }
+    requires tokens { AreOf round.now.table.now.id round.now.claims.now start.caller start.claimer }
+    ensures { AllGiveIn L.allows round.now deques.entry.owners start result }
 {
-    let Some(own) = others.pop() else {
-        return run_alone::<M, L, G, P>(
-            alloc, table, claims, rows, tasks, number, gate, stealers, seat,
-        );
+    let OpenDeques {
+        mut owners,
+        stealers,
+    } = deques;
+    let Some(own) = owners.pop() else {
+        return Ok(run_worker::<M, L, G, P>(alloc, round, gate, stealers, start));
     };
-    let (first, second) = split_seat(table, claims, seat, own);
+    let table = round.table;
+    let claims = round.claims;
+    let rows = round.rows;
+    let tasks = round.tasks;
+    let number = round.number;
+    let workers = round.workers;
+    let (first, second) = split_start(table, claims, start, own);
     let theirs = move || -> Worked
         requires { AreShared R.row G.row M.row L.row × (0 < claims.now.words)
             × CanWork P L.allows table.now claims.now rows.now tasks.now second }
         ensures { let jobs = jobs_at P rows.entry.now tasks.entry.now in
-            AllGive P L.allows table.entry.now jobs number others second result }
+            AllGive P L.allows table.entry.now jobs number owners second result }
     {
-        run_workers::<R, M, L, G, P>(
-            rt, alloc, table, claims, rows, tasks, number, gate, stealers, others, second,
-        )
+        let round = Round {
+            table,
+            claims,
+            rows,
+            tasks,
+            number,
+            workers,
+        };
+        let deques = OpenDeques { owners, stealers };
+        run_workers::<R, M, L, G, P>(rt, alloc, &round, gate, deques, second)
     };
     let mine = move || -> Worked
         requires { CanWork P L.allows table.now claims.now rows.now tasks.now first }
         ensures { let jobs = jobs_at P rows.entry.now tasks.entry.now in
             OneGives P L.allows table.entry.now jobs number first result }
     {
-        run_alone::<M, L, G, P>(
-            alloc, table, claims, rows, tasks, number, gate, stealers, first,
-        )
+        let round = Round {
+            table,
+            claims,
+            rows,
+            tasks,
+            number,
+            workers,
+        };
+        Ok(run_worker::<M, L, G, P>(alloc, &round, gate, stealers, first))
     };
     let (later, sooner) = join(rt, theirs, mine);
     merge(table, claims, sooner, later)

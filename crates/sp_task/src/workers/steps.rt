@@ -7,7 +7,7 @@ ghost use Rattle.sp_task.specs.Offers.{arcs_of, AreAllowed};
 ghost use Rattle.sp_task.specs.Work.{did};
 ghost use Rattle.sp_task.specs.Rounds.{IsReadyRound, HasRoom, AreArcsOfTask, IsOffer, Relaxes, RunsTask, GoesOn};
 
-use crate::gate::Gate;
+use crate::gate::{Gate, WorkerGate};
 use crate::task::{Round, Task, TaskKind};
 use crate::workers::{Done, Receipt};
 use sp_bucket::Entry;
@@ -31,8 +31,7 @@ pub(crate) fn task_arcs(rows: &Rows, task: Task) -> &[Arc]
 /// Makes the offer of one arc, whose tail has this distance. There must be room for its entry.
 fn make_offer<M: Lowering, L: Lawful, G: Gate, const P: u32>(
     table: &OfferTable<L, P>,
-    gate: &G,
-    worker: u32,
+    gate: &WorkerGate<G>,
     dist: u64,
     arc: Arc,
     caller: &mut Caller,
@@ -50,9 +49,9 @@ fn make_offer<M: Lowering, L: Lawful, G: Gate, const P: u32>(
 {
     let sum = dist + arc.len as u64;
     let word = Word::<P>::pack(sum, arc.tail);
-    gate.before_offer(worker);
+    gate.gate.before_offer(gate.worker);
     let offered = table.offer_by::<M>(caller, arc.head, word);
-    gate.after_offer(worker);
+    gate.gate.after_offer(gate.worker);
     match offered.reply {
         Reply::Shorter => {
             let entry = Entry {
@@ -71,8 +70,7 @@ fn make_offer<M: Lowering, L: Lawful, G: Gate, const P: u32>(
 /// for an entry for each.
 pub(crate) fn make_offers<M: Lowering, L: Lawful, G: Gate, const P: u32>(
     table: &OfferTable<L, P>,
-    gate: &G,
-    worker: u32,
+    gate: &WorkerGate<G>,
     dist: u64,
     arcs: &[Arc],
     caller: &mut Caller,
@@ -89,7 +87,7 @@ pub(crate) fn make_offers<M: Lowering, L: Lawful, G: Gate, const P: u32>(
     let rest = Word::<P>::max_dist() - dist;
     for arc in arcs {
         if arc.len as u64 <= rest {
-            make_offer::<M, L, G, P>(table, gate, worker, dist, *arc, caller, found);
+            make_offer::<M, L, G, P>(table, gate, dist, *arc, caller, found);
         }
     }
 }
@@ -110,8 +108,7 @@ fn take_room(done: &mut Done, entries: usize) -> bool
 /// Runs a task that was granted.
 fn run_task<M: Lowering, L: Lawful, G: Gate, const P: u32>(
     round: &Round<L, P>,
-    gate: &G,
-    worker: u32,
+    gate: &WorkerGate<G>,
     number: usize,
     arcs: &[Arc],
     done: &mut Done,
@@ -132,7 +129,6 @@ fn run_task<M: Lowering, L: Lawful, G: Gate, const P: u32>(
     make_offers::<M, L, G, P>(
         round.table,
         gate,
-        worker,
         task.dist,
         arcs,
         &mut done.caller,
@@ -147,8 +143,7 @@ fn run_task<M: Lowering, L: Lawful, G: Gate, const P: u32>(
 #[tactic(auto, using(crate::proofs::WorkerSteps::goes_refused))]
 pub(crate) fn try_task<M: Lowering, L: Lawful, G: Gate, const P: u32>(
     round: &Round<L, P>,
-    gate: &G,
-    worker: u32,
+    gate: &WorkerGate<G>,
     number: usize,
     done: &mut Done,
 ) -> bool
@@ -169,7 +164,7 @@ pub(crate) fn try_task<M: Lowering, L: Lawful, G: Gate, const P: u32>(
         .claim(&mut done.claimer, task.vertex - 1, round.number)
     {
         Some(_grant) => {
-            run_task::<M, L, G, P>(round, gate, worker, number, arcs, done);
+            run_task::<M, L, G, P>(round, gate, number, arcs, done);
             true
         }
         None => true,

@@ -4,7 +4,7 @@ ghost use Rattle.sp_task.specs.Work.{AllBelow, numbers_of};
 ghost use Rattle.sp_task.specs.Left.{IsMarked};
 ghost use Rattle.sp_task.specs.Rounds.{IsReadyRound, IsLaterIn, RunsUnmarked};
 
-use crate::gate::Gate;
+use crate::gate::{Gate, WorkerGate};
 use crate::task::Round;
 use crate::workers::Receipt;
 use crate::workers::steps::{make_offers, task_arcs};
@@ -46,6 +46,7 @@ pub(crate) fn run_left<M: Lowering, L: Lawful, G: Gate, const P: u32>(
     ensures left { IsTrue result
         → RunsUnmarked L.allows round.now marks.now caller.old caller.new found.old found.new }
 {
+    let gate = WorkerGate { gate, worker: 0 };
     for number in 0..round.tasks.len() {
         if is_marked(marks, number) {
             continue;
@@ -55,7 +56,7 @@ pub(crate) fn run_left<M: Lowering, L: Lawful, G: Gate, const P: u32>(
         if found.reserve(arcs.len()).is_err() {
             return false;
         }
-        make_offers::<M, L, G, P>(round.table, gate, 0, task.dist, arcs, caller, found);
+        make_offers::<M, L, G, P>(round.table, &gate, task.dist, arcs, caller, found);
     }
     true
 }

@@ -4,8 +4,12 @@ use Rattle.sp_offer.specs.Order.{lawful}
 use Rattle.sp_bins.specs.declared.entry.Entry.{Entry}
 use Rattle.sp_task.specs.Work.{jobs_of}
 use Rattle.sp_task.specs.Left.{RanLeft}
+use Rattle.sp_task.proofs.CallsInRow.{later_along}
 use Rattle.sp_task.proofs.Left.{alone_done, done_after}
 use Rattle.sp_task.proofs.round.run_by_leader.Goals as goal
+
+pub returns-then-not-run_left-clause-refused : goal.returns-then-not-run_left-clause-refused
+returns-then-not-run_left-clause-refused g c = later_along _ _ _ _ c.look-caller.ensures.later c.run_left.ensures.later
 
 pub returns-clause-done : goal.returns-clause-done
 returns-clause-done g c =

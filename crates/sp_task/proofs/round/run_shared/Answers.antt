@@ -1,12 +1,16 @@
-use Rattle.std.proofs.Common.{refl, sym, ap, ◌∙◌, ℕ, length, subst, List, Bool, vec_len}
+use Rattle.std.proofs.Common.{rules, refl, sym, ap, ◌∙◌, ℕ, length, subst, List, Bool, vec_len}
 use Rattle.sp_word.specs.Word.{max_dist}
 use Rattle.sp_offer.specs.Order.{lawful}
 use Rattle.sp_task.specs.Work.{job_of, jobs_of, did, numbers_of}
 use Rattle.sp_task.specs.Left.{IsMarked}
 use Rattle.sp_task.proofs.WorkerSteps.{length-map}
 use Rattle.sp_task.proofs.CallsInRow.{later_along}
+use Rattle.sp_task.proofs.Both.{refused_after}
 use Rattle.sp_task.proofs.Left.{once, below, round_done, done_after}
 use Rattle.sp_task.proofs.round.run_shared.Goals as goal
+
+pub returns-in_err-done-clause-refused : goal.returns-in_err-done-clause-refused
+returns-in_err-done-clause-refused g c = refused_after _ _ _ _ c.look.ensures.later (search rules)
 
 pub returns-then-not-run_left-clause-refused : goal.returns-then-not-run_left-clause-refused
 returns-then-not-run_left-clause-refused g c =
@@ -29,6 +33,6 @@ returns-clause-done g c =
     let marked : IsMarked (length round.tasks.now) (numbers_of c.as_slice-2.result.now) c.as_slice-3.result.now =
     subst (λ (n : ℕ). IsMarked n (numbers_of c.as_slice-2.result.now) c.as_slice-3.result.now) c.requires.len
     (subst (λ (ms : List Bool). IsMarked (vec_len c.args.prepared.marks) (numbers_of c.as_slice-2.result.now) ms) (sym c.as_slice-3.ensures.value) c.mark.ensures) in
-    done_after law (max_dist g.row.P) round.rows.now round.tasks.now c.args.caller c.look.result c.run_left.new.caller c.run_left.new.found.items c.look.ensures.later c.look.ensures.own
-    (round_done law (max_dist g.row.P) round.rows.now round.tasks.now round.number c.look.result c.run_left.new.caller c.args.claimer (did c.in_ok-done.done) (numbers_of c.as_slice-2.result.now) c.as_slice-3.result.now
+    done_after law (max_dist g.row.P) round.rows.now round.tasks.now c.args.tokens.caller c.look.result c.run_left.new.caller c.run_left.new.found.items c.look.ensures.later c.look.ensures.own
+    (round_done law (max_dist g.row.P) round.rows.now round.tasks.now round.number c.look.result c.run_left.new.caller c.args.tokens.claimer (did c.in_ok-done.done) (numbers_of c.as_slice-2.result.now) c.as_slice-3.result.now
     c.run_left.new.found.items same one marked goes (c.if-not-run_left.ensures.left refl))

@@ -7,7 +7,7 @@ pub loop-init : goal.loop-init
 loop-init g c = (
   c.requires.tokens.0,
   c.requires.tokens.1,
-  goes_same _ _ _ _ _ (λ i. record { caller = c.args.seat.caller; claimer = c.args.seat.claimer; receipts = numbers_of (c.new.ensures.items i); found = c.new-2.ensures.items i }),
+  goes_same _ _ _ _ _ (λ i. record { caller = c.args.start.caller; claimer = c.args.start.claimer; receipts = numbers_of (c.new.ensures.items i); found = c.new-2.ensures.items i }),
   refl,
 )
 
