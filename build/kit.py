@@ -24,6 +24,9 @@ OF_A_CRATE = ["folder", "is_program", "name", "out", "rlib"]
 
 def load(name):
     """A module of the kit: `rt` is the gate, `rtlib` the other commands. Where something is gone, the script ends with a line that says what."""
+    if name == "rt":
+        # (the gate itself stops where the other is short of something)
+        load("rtlib")
     path = shutil.which("rt") or sys.exit("kit: the Rattle kit's command rt isn't on the path (README.md)")
     path = os.path.join(os.path.dirname(os.path.realpath(path)), "rt" if name == "rt" else f"{name}.py")
     loader = importlib.machinery.SourceFileLoader(name, path)

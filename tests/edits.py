@@ -1,13 +1,18 @@
 #!/usr/bin/env python3
-"""Tries the edits of crates/CRATE/edits, many at a time: the prover must refuse each at the function that it changes.
+"""Tries the edits of crates/CRATE/edits, many at a time: the prover must refuse each for what its contract says.
 
 A function's proof stands on its own body and on the contracts of others. So edits in the bodies of several functions don't touch
-each other, and one check of these functions tells of all: each edit is refused where a function that it changes is not proved.
-Proofs look into functions without a contract, though; so an edit of such a one never goes with one of a function that names it.
-What isn't refused so is tried alone, in a check of the whole crate, as `rt ci` tries what stands in crates/CRATE/must-fail.
+each other, and one check of these functions tells of all: each edit is refused where a function that it changes is not proved, for
+its own body and not only for what it calls. Proofs look into functions without a contract, though; so an edit of such a one never
+goes with one of a function that names it. What isn't refused so is tried alone, in a check of the whole crate, as `rt ci` tries what
+stands in crates/CRATE/must-fail.
+
+A refusal shows something where a clause of a contract is left open, or an invariant that carries one. Else it may be that a written
+answer merely no longer fits, or a bound: then the edit's twin, a harmless change in the same place, must be proved, and the edit shows
+nothing where it isn't.
 
 An edit has a line `file: FILE`, and for each place in the file `old: TEXT`, which stands there once, and `new: TEXT`. What its twin has
-in a place stands behind, as `twin: TEXT`: tests/twins.py reads it, and this script and the kit pass it over.
+in a place stands behind, as `twin: TEXT`; the kit passes it over, and tests/twins.py tries all of them.
 
 Usage: python3 tests/edits.py [--over-gate] [--changed] [CRATE..]
 
@@ -34,6 +39,12 @@ import kit  # noqa: E402
 
 rt = kit.load("rt")
 HEAD = re.compile(r"( *)(?:pub(?:\([a-z]+\))? )?(?:const )?(?:unsafe )?(?:extern \"C\" )?fn (\w+)")
+# what a check says of a function that isn't proved for its own body, and not only for what it calls
+WRONG = r"^fn {}::(\S+): (?:not proved|no proof)(?!: it calls)"
+# a goal that it leaves open, with its place
+OPEN = re.compile(r"^note: (?:\./)?(src/\S+?):(\d+):\d+: it is not proved .*?\(`([^`]+)`\)", re.M)
+# one of a clause of a contract, or of an invariant: of a loop, or of a type; others are bounds, and what a function that is called requires
+OF_A_CLAUSE = re.compile(r"(?:returns|loop|invariant_of)\b")
 # the lines of an edit's twin, with a place that the twin alone changes
 OF_TWIN = re.compile(r"^(?:old: .*\n)?twin: .*\n", re.M)
 OWNER = re.compile(r"(?:pub )?(?:unsafe )?(?:impl|trait)\b")
@@ -165,24 +176,54 @@ def together(crate, part):
     return {file: "\n".join(lines) for file, lines in merged.items()}
 
 
-def not_proved(crate, part, kept):
-    """The functions that the prover refuses with all edits of a part in place; None where it doesn't get so far."""
-    texts = together(crate, part)
+def only(part):
+    """The words that ask a check for the functions that the edits of a part change."""
     asked = sorted({it.asked() for edit in part for it in edit.functions})
-    said = rt.checked(crate, texts, [*JOBS, *[word for it in asked for word in ("--only", it)]], kept).stdout
+    return [*JOBS, *[word for it in asked for word in ("--only", it)]]
+
+
+def verdict(crate, part, kept):
+    """What a check of the functions says with all edits of a part in place; None where the prover doesn't get so far."""
+    texts = together(crate, part)
+    said = rt.checked(crate, texts, only(part), kept).stdout
     lines = said.rstrip("\n").split("\n")
-    if not lines[-1].startswith("only=") or any(rt.unread(it, texts) for it in lines):
-        return None
-    return re.findall(rf"^fn {crate.name}::(\S+): (?:not proved|no proof)", said, re.M)
+    return said if lines[-1].startswith("only=") and not any(rt.unread(it, texts) for it in lines) else None
 
 
-def refused(crate, part, kept):
-    """The edits of a part of which a function isn't proved; halves are tried where the prover doesn't get so far."""
-    wrong = not_proved(crate, part, kept)
-    if wrong is None and len(part) > 1:
+def left_open(crate, said):
+    """The functions in which a check leaves a clause open, or an invariant that carries one."""
+    found = set()
+    for file, number, goal in OPEN.findall(said):
+        text, number = rt.rtlib.text_of(f"{crate.folder}/{file}"), int(number) - 1
+        # a function's place is that of its first attribute
+        number += next(k for k, line in enumerate(text.split("\n")[number:]) if not line.lstrip().startswith("#["))
+        if OF_A_CLAUSE.match(goal):
+            found.add(function_at(file, text, number))
+    return found
+
+
+def refusals(crate, part, kept):
+    """Whether a refusal shows something by itself, of each edit of a part that is refused; halves are tried where the prover doesn't get so far."""
+    said = verdict(crate, part, kept)
+    if said is None:
         middle = len(part) // 2
-        return refused(crate, part[:middle], kept) + refused(crate, part[middle:], kept)
-    return [edit for edit in part if any(it.is_named(path) for it in edit.functions for path in wrong or ())]
+        return {**refusals(crate, part[:middle], kept), **refusals(crate, part[middle:], kept)} if middle else {}
+    wrong, is_open = re.findall(WRONG.format(crate.name), said, re.M), left_open(crate, said)
+    found = [edit for edit in part if any(it.is_named(path) for it in edit.functions for path in wrong)]
+    return {edit: not is_open.isdisjoint(edit.functions) for edit in found}
+
+
+# What the last check of each crate said, whoever called it.
+HEARD = {}
+
+
+def listening(crate, *given, check=rt.checked):
+    ran = check(crate, *given)
+    HEARD[crate.name] = ran.stdout
+    return ran
+
+
+rt.checked = listening
 
 
 def is_refusal(outcome):
@@ -190,20 +231,62 @@ def is_refusal(outcome):
     return outcome in [getattr(rt, ending, True) for ending in ("REFUSED", "AT_LIMIT")]
 
 
+def alone(crate, edit, kept):
+    """Whether an edit that is tried alone is refused, whether the refusal shows something by itself, and what is said of it."""
+    outcome, said = rt.must_fail(crate, edit.path, JOBS, kept)
+    shows = is_refusal(outcome) and bool(left_open(crate, HEARD.get(crate.name, "")))
+    return is_refusal(outcome), shows, said.replace("must-fail ", "alone: ").replace(".edit", "")
+
+
+def twin_of(crate, edit):
+    """The twin of an edit, as an edit; None where it has none."""
+    lines = [line for line in rt.rtlib.text_of(edit.path).split("\n") if not line.startswith("new:")]
+    lines = "\n".join(f"new: {line[len('twin: '):]}" if line.startswith("twin: ") else line for line in lines)
+    if not changes(lines, crate.folder):
+        return None
+    changed = functions_of(lines, crate.folder)
+    # where one of the two changes more than functions, the whole crate tells
+    return Edit(edit.name, edit.path, lines, edit.functions | changed if edit.functions and changed else frozenset())
+
+
+def proved(crate, part, kept):
+    """The names of the twins of a part that are proved; halves are tried where not all are."""
+    said = rt.checked(crate, together(crate, part), only(part), kept).stdout.rstrip("\n").split("\n")[-1]
+    if re.fullmatch(r"only=(\d+) proved=\1|logic=proved.*", said):
+        return [twin.name for twin in part]
+    middle = len(part) // 2
+    return proved(crate, part[:middle], kept) + proved(crate, part[middle:], kept) if middle else []
+
+
+def proved_twins(crate, edits, kept, kept_whole):
+    """The names of those of the edits whose twins are proved."""
+    twins = [twin for twin in (twin_of(crate, edit) for edit in edits) if twin]
+    apart = [proved(crate, part, kept) for part in parts_of([it for it in twins if it.functions])]
+    whole = [proved(crate, [it], kept_whole) for it in twins if not it.functions]
+    return {name for names in [*apart, *whole] for name in names}
+
+
 def tried(crate):
-    """Whether each edit of the crate is refused; what is said of it is printed."""
+    """Whether each edit of the crate is refused, and shows something; what is said of it is printed."""
     edits = list(edits_of(crate))
-    outcomes = []
     with tempfile.TemporaryDirectory() as kept, tempfile.TemporaryDirectory() as kept_whole:
-        found = [edit for part in parts_of([it for it in edits if it.functions]) for edit in refused(crate, part, kept)]
+        shown, said = {}, {}
+        for part in parts_of([it for it in edits if it.functions]):
+            shown.update(refusals(crate, part, kept))
         for edit in edits:
-            if edit in found:
-                outcomes.append((True, f"{crate.name}/{edit.name}: refused"))
-            else:
-                outcome, said = rt.must_fail(crate, edit.path, JOBS, kept_whole)
-                outcomes.append((is_refusal(outcome), said.replace("must-fail ", "alone: ").replace(".edit", "")))
-    print("\n".join(said for _, said in outcomes), flush=True)
-    return [holds for holds, _ in outcomes]
+            said[edit] = f"{crate.name}/{edit.name}: refused"
+            if edit not in shown:
+                is_refused, shows, said[edit] = alone(crate, edit, kept_whole)
+                if is_refused:
+                    shown[edit] = shows
+        twins = proved_twins(crate, [it for it in edits if shown.get(it) is False], kept, kept_whole)
+    for edit in edits:
+        if shown.get(edit) is False:
+            is_proved = edit.name in twins
+            said[edit] += ", by no clause that is left open; its twin is proved" if is_proved else ", but SHOWS NOTHING: no clause is left open, and no twin is proved"
+            shown[edit] = is_proved
+        print(said[edit], flush=True)
+    return [shown.get(edit, False) for edit in edits]
 
 
 def sum_of(crate):
@@ -211,7 +294,7 @@ def sum_of(crate):
     script = 'home=$1; . "$home/build/program.sh"; digest "$2"; rt version | grep -o "logic .*"'
     said = subprocess.run(["sh", "-c", script, "sh", HOME, crate.name], capture_output=True, check=True).stdout
     for edit in edits_of(crate):
-        said += f"{edit.name}\n{edit.lines}".encode()
+        said += f"{edit.name}\n{rt.rtlib.text_of(edit.path)}".encode()
     return hashlib.sha256(said).hexdigest()
 
 
