@@ -33,7 +33,6 @@ EXCEPTIONS = {
     ("sp_batch", "run_batch"): SPECIFIED,
     ("sp_pairs", "run_pairs"): SPECIFIED,
     ("sp_team", "run_workers"): THREADS,
-    ("sp_task", "run_workers"): THREADS,
     ("sp_batch", "find_and_write"): THREADS,
 }
 # a comment, a string or a character, any of which may hold brackets; a lifetime has no closing quote
