@@ -27,26 +27,26 @@ pub struct GrFile {
 
 /// The arcs that were read so far.
 #[derive(Drop)]
-pub struct Arcs<const P: u32> {
+pub struct ArcKeeper<const P: u32> {
     alloc: Global,
     arcs: Vec<Arc>,
     ghost layout: { is_layout P ≡ true },
     ghost short: { max_pred P < 2 ^ 32 },
 }
 
-impl<const P: u32> Arcs<P> {
+impl<const P: u32> ArcKeeper<P> {
     fn new(alloc: Global) -> Self
         requires { is_layout P ≡ true }
         ensures { result.arcs.items ≡ [] }
     {
-        Arcs {
+        ArcKeeper {
             alloc,
             arcs: Vec::new(alloc),
         }
     }
 }
 
-impl<const P: u32> Keep for Arcs<P> {
+impl<const P: u32> Keep for ArcKeeper<P> {
     type Value = GrFile;
 
     ghost format = { gr };
@@ -91,16 +91,16 @@ impl<const P: u32> Keep for Arcs<P> {
 }
 
 /// A reader of a `.gr` text that comes in pieces, for words of `P` bits of predecessor.
-pub type GrReader<const P: u32> = TextReader<Collector<Arcs<P>>>;
+pub type GrReader<const P: u32> = TextReader<Collector<ArcKeeper<P>>>;
 
-impl<const P: u32> TextReader<Collector<Arcs<P>>> {
+impl<const P: u32> TextReader<Collector<ArcKeeper<P>>> {
     /// Returns a reader that has read no text.
     pub fn new(alloc: Global) -> Self
         requires { is_layout P ≡ true }
         ensures { IsBehindText
-            (judge gr (ranges_of P)) ⟦<Collector<Arcs<P>> as LineTaker>⟧.After [] result }
+            (judge gr (ranges_of P)) ⟦<Collector<ArcKeeper<P>> as LineTaker>⟧.After [] result }
     {
-        TextReader::of_taker(Collector::new(Arcs::new(alloc)))
+        TextReader::of_taker(Collector::new(ArcKeeper::new(alloc)))
     }
 }
 

@@ -25,26 +25,26 @@ pub struct PairsFile {
 
 /// The pairs that were read so far.
 #[derive(Drop)]
-pub struct Pairs<const P: u32> {
+pub struct PairKeeper<const P: u32> {
     alloc: Global,
     pairs: Vec<(u32, u32)>,
     ghost layout: { is_layout P ≡ true },
     ghost short: { max_pred P < 2 ^ 32 },
 }
 
-impl<const P: u32> Pairs<P> {
+impl<const P: u32> PairKeeper<P> {
     fn new(alloc: Global) -> Self
         requires { is_layout P ≡ true }
         ensures { result.pairs.items ≡ [] }
     {
-        Pairs {
+        PairKeeper {
             alloc,
             pairs: Vec::new(alloc),
         }
     }
 }
 
-impl<const P: u32> Keep for Pairs<P> {
+impl<const P: u32> Keep for PairKeeper<P> {
     type Value = PairsFile;
 
     ghost format = { pairs };
@@ -84,16 +84,16 @@ impl<const P: u32> Keep for Pairs<P> {
 }
 
 /// A reader of a pairs text that comes in pieces, for words of `P` bits of predecessor.
-pub type PairsReader<const P: u32> = TextReader<Collector<Pairs<P>>>;
+pub type PairsReader<const P: u32> = TextReader<Collector<PairKeeper<P>>>;
 
-impl<const P: u32> TextReader<Collector<Pairs<P>>> {
+impl<const P: u32> TextReader<Collector<PairKeeper<P>>> {
     /// Returns a reader that has read no text.
     pub fn new(alloc: Global) -> Self
         requires { is_layout P ≡ true }
         ensures { IsBehindText
-            (judge pairs (ranges_of P)) ⟦<Collector<Pairs<P>> as LineTaker>⟧.After [] result }
+            (judge pairs (ranges_of P)) ⟦<Collector<PairKeeper<P>> as LineTaker>⟧.After [] result }
     {
-        TextReader::of_taker(Collector::new(Pairs::new(alloc)))
+        TextReader::of_taker(Collector::new(PairKeeper::new(alloc)))
     }
 }
 

@@ -25,26 +25,26 @@ pub struct SsFile {
 
 /// The sources that were read so far.
 #[derive(Drop)]
-pub struct Sources<const P: u32> {
+pub struct SourceKeeper<const P: u32> {
     alloc: Global,
     sources: Vec<u32>,
     ghost layout: { is_layout P ≡ true },
     ghost short: { max_pred P < 2 ^ 32 },
 }
 
-impl<const P: u32> Sources<P> {
+impl<const P: u32> SourceKeeper<P> {
     fn new(alloc: Global) -> Self
         requires { is_layout P ≡ true }
         ensures { result.sources.items ≡ [] }
     {
-        Sources {
+        SourceKeeper {
             alloc,
             sources: Vec::new(alloc),
         }
     }
 }
 
-impl<const P: u32> Keep for Sources<P> {
+impl<const P: u32> Keep for SourceKeeper<P> {
     type Value = SsFile;
 
     ghost format = { ss };
@@ -83,16 +83,16 @@ impl<const P: u32> Keep for Sources<P> {
 }
 
 /// A reader of an `.ss` text that comes in pieces, for words of `P` bits of predecessor.
-pub type SsReader<const P: u32> = TextReader<Collector<Sources<P>>>;
+pub type SsReader<const P: u32> = TextReader<Collector<SourceKeeper<P>>>;
 
-impl<const P: u32> TextReader<Collector<Sources<P>>> {
+impl<const P: u32> TextReader<Collector<SourceKeeper<P>>> {
     /// Returns a reader that has read no text.
     pub fn new(alloc: Global) -> Self
         requires { is_layout P ≡ true }
         ensures { IsBehindText
-            (judge ss (ranges_of P)) ⟦<Collector<Sources<P>> as LineTaker>⟧.After [] result }
+            (judge ss (ranges_of P)) ⟦<Collector<SourceKeeper<P>> as LineTaker>⟧.After [] result }
     {
-        TextReader::of_taker(Collector::new(Sources::new(alloc)))
+        TextReader::of_taker(Collector::new(SourceKeeper::new(alloc)))
     }
 }
 

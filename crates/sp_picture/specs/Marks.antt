@@ -7,16 +7,16 @@ use Rattle.sp_machine.specs.declared.effect.Call.TheVariants.{Offer, Read}
 use Rattle.sp_machine.specs.declared.effect.Ended.{Ended}
 use Rattle.sp_machine.specs.Step.{Machine, next_vertex, machine_after}
 use Rattle.sp_word.specs.Word.{Word}
-use Rattle.sp_picture.specs.declared.marks.Mark.{Mark}
+use Rattle.sp_picture.specs.declared.marks.StepMark.{StepMark}
 use Rattle.sp_picture.specs.declared.marks.Deed.{Deed}
 use Rattle.sp_picture.specs.declared.marks.Deed.TheVariants.{Rest, Load, Won, Lost}
 
 -- This is the mark of an actor's next step.
-abbrev pub mark_of : {P : ℕ} → Machine P → (actor : ℕ) → Mark P
+abbrev pub mark_of : {P : ℕ} → Machine P → (actor : ℕ) → StepMark P
 mark_of m actor = record { actor = actor; vertex = next_vertex m actor; effect = (machine_after m actor).last }
 
 -- These are the marks of the steps of these actors, one after another.
-abbrev pub marks_from : {P : ℕ} → Machine P → (actors : List ℕ) → List (Mark P)
+abbrev pub marks_from : {P : ℕ} → Machine P → (actors : List ℕ) → List (StepMark P)
 marks_from m [] = []
 marks_from m (actor ∷ more) = mark_of m actor ∷ marks_from (machine_after m actor) more
 
@@ -26,7 +26,7 @@ deed_by (Some IsWon) vertex = Won
 deed_by (Some IsLost) vertex = Lost
 
 -- This is what a step was.
-abbrev pub deed_of : {P : ℕ} → Mark P → Deed
+abbrev pub deed_of : {P : ℕ} → StepMark P → Deed
 deed_of mark = deed_by mark.effect.exchange mark.vertex
 
 -- This is the word that a call offers, if it is an offer.
@@ -39,9 +39,9 @@ offered_at Won (Some ended) = offered_by ended.call
 offered_at deed ended = None
 
 -- This is the word that a step stored, if it won an exchange.
-abbrev pub stored_by : {P : ℕ} → Mark P → Option Word
+abbrev pub stored_by : {P : ℕ} → StepMark P → Option Word
 stored_by mark = offered_at (deed_of mark) mark.effect.ended
 
 -- The step stored to the word of the vertex.
-abbrev pub IsStoreTo : {P : ℕ} → (vertex : ℕ) → Mark P → Type 0
+abbrev pub IsStoreTo : {P : ℕ} → (vertex : ℕ) → StepMark P → Type 0
 IsStoreTo vertex mark = (mark.vertex ≡ vertex) × (deed_of mark ≡ Won)

@@ -7,7 +7,7 @@ ghost use Rattle.sp_picture.specs.Marks.{marks_from};
 ghost use Rattle.sp_picture.specs.Ties.{IsTie, lost_from};
 
 use crate::faults::NoPicture;
-use crate::marks::{Mark, marks_of};
+use crate::marks::{StepMark, marks_of};
 use crate::ties::{Tie, ties_of};
 use sp_machine::{Finished, Programme, replay};
 use std::alloc::Global;
@@ -21,7 +21,7 @@ pub struct Drawing<const P: u32> {
     /// A bar for each finished call, by rising last step.
     pub bars: Vec<Finished<P>>,
     /// A mark for each step.
-    pub marks: Vec<Mark<P>>,
+    pub marks: Vec<StepMark<P>>,
     /// A tie for each lost exchange, in the order of steps.
     pub ties: Vec<Tie>,
 }

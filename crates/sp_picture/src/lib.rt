@@ -21,6 +21,6 @@ mod ties;
 
 pub use drawing::{Drawing, MOST_STEPS, draw_run};
 pub use faults::NoPicture;
-pub use marks::{Deed, Mark};
+pub use marks::{Deed, StepMark};
 pub use picture::{Picture, picture_of, write_picture};
 pub use ties::Tie;

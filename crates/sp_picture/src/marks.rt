@@ -10,7 +10,7 @@ use std::alloc::{AllocError, Global};
 
 /// A step of a run.
 #[derive(Clone, Copy, Debug, PartialEq, Eq)]
-pub struct Mark<const P: u32> {
+pub struct StepMark<const P: u32> {
     /// The actor that made the step.
     pub actor: u32,
     /// The vertex whose word it looked at, or 0 if the actor had no call left.
@@ -32,7 +32,7 @@ pub enum Deed {
     Lost,
 }
 
-impl<const P: u32> Mark<P> {
+impl<const P: u32> StepMark<P> {
     ghost use Rattle.sp_picture.specs.Marks.{deed_of, stored_by, IsStoreTo};
 
     /// Returns the kind of the step.
@@ -90,7 +90,7 @@ pub(crate) fn marks_of<const P: u32>(
     alloc: Global,
     programme: &Programme<P>,
     steps: &[u32],
-) -> Result<Vec<Mark<P>>, AllocError>
+) -> Result<Vec<StepMark<P>>, AllocError>
     requires { All (IsNumber programme.now.actors) steps.now }
     ensures { IfOk result
         (λ marks. marks.items ≡ marks_from (opening_machine programme.now) steps.now) }
@@ -101,7 +101,7 @@ pub(crate) fn marks_of<const P: u32>(
         let actor = *actor;
         let vertex = machine.next_vertex(actor);
         machine.step(actor);
-        marks.push(Mark {
+        marks.push(StepMark {
             actor,
             vertex,
             effect: machine.last(),

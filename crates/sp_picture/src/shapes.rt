@@ -1,7 +1,7 @@
 //! Draws the marks of steps, and the lines between them.
 
 use crate::layout::Layout;
-use crate::marks::{Deed, Mark};
+use crate::marks::{Deed, StepMark};
 use crate::shown::WordShown;
 use crate::stretches::Lane;
 use crate::ties::Tie;
@@ -15,7 +15,7 @@ struct Point {
 }
 
 // Returns where the mark of the step at this index is drawn.
-fn point_of<const P: u32>(layout: &Layout, place: usize, mark: &Mark<P>) -> Point {
+fn point_of<const P: u32>(layout: &Layout, place: usize, mark: &StepMark<P>) -> Point {
     Point {
         x: layout.across((place as u64).saturating_add(1)),
         y: layout.actor_lane(mark.actor),
@@ -26,7 +26,7 @@ fn point_of<const P: u32>(layout: &Layout, place: usize, mark: &Mark<P>) -> Poin
 fn tell_step<const P: u32>(
     text: &mut String,
     place: usize,
-    mark: &Mark<P>,
+    mark: &StepMark<P>,
 ) -> Result<(), AllocError> {
     let step = place.saturating_add(1);
     let (actor, vertex) = (mark.actor, mark.vertex);
@@ -75,7 +75,7 @@ fn draw_mark<const P: u32>(
     text: &mut String,
     layout: &Layout,
     place: usize,
-    mark: &Mark<P>,
+    mark: &StepMark<P>,
 ) -> Result<(), AllocError> {
     let at = point_of(layout, place, mark);
     let deed = mark.deed();
@@ -100,7 +100,7 @@ fn draw_mark<const P: u32>(
 pub(crate) fn draw_marks<const P: u32>(
     text: &mut String,
     layout: &Layout,
-    marks: &[Mark<P>],
+    marks: &[StepMark<P>],
 ) -> Result<(), AllocError> {
     for (place, mark) in marks.iter().enumerate() {
         draw_mark(text, layout, place, mark)?;
@@ -114,7 +114,7 @@ fn draw_store<const P: u32>(
     layout: &Layout,
     lanes: &[Lane<P>],
     place: usize,
-    mark: &Mark<P>,
+    mark: &StepMark<P>,
 ) -> Result<(), AllocError> {
     let vertex = mark.vertex;
     let Some(lane) = lanes.iter().position(|lane| lane.vertex == vertex) else {
@@ -134,7 +134,7 @@ pub(crate) fn draw_stores<const P: u32>(
     text: &mut String,
     layout: &Layout,
     lanes: &[Lane<P>],
-    marks: &[Mark<P>],
+    marks: &[StepMark<P>],
 ) -> Result<(), AllocError> {
     for (place, mark) in marks.iter().enumerate() {
         if mark.deed() == Deed::Won {
@@ -170,7 +170,7 @@ fn draw_beaten(text: &mut String, lost: Point, store: Point) -> Result<(), Alloc
 fn draw_tie<const P: u32>(
     text: &mut String,
     layout: &Layout,
-    marks: &[Mark<P>],
+    marks: &[StepMark<P>],
     tie: &Tie,
 ) -> Result<(), AllocError> {
     let Some(mark) = marks.get(tie.lost) else {
@@ -194,7 +194,7 @@ fn draw_tie<const P: u32>(
 pub(crate) fn draw_ties<const P: u32>(
     text: &mut String,
     layout: &Layout,
-    marks: &[Mark<P>],
+    marks: &[StepMark<P>],
     ties: &[Tie],
 ) -> Result<(), AllocError> {
     for tie in ties {

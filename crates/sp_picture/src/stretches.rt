@@ -1,7 +1,7 @@
 //! The contents of words, from each store to the next.
 
 use crate::columns::Span;
-use crate::marks::Mark;
+use crate::marks::StepMark;
 use crate::shown::WordShown;
 use crate::texts::{LINE, Text};
 use sp_machine::Programme;
@@ -42,7 +42,7 @@ fn stretch_of<const P: u32>(
 }
 
 // Returns what the step stored to the word of the vertex, if it did.
-fn stored_to<const P: u32>(mark: &Mark<P>, vertex: u32) -> Option<Word<P>> {
+fn stored_to<const P: u32>(mark: &StepMark<P>, vertex: u32) -> Option<Word<P>> {
     if mark.vertex == vertex {
         mark.stored()
     } else {
@@ -55,7 +55,7 @@ fn stretches_of<const P: u32>(
     alloc: Global,
     vertex: u32,
     opening: Word<P>,
-    marks: &[Mark<P>],
+    marks: &[StepMark<P>],
 ) -> Result<Vec<Stretch<P>>, AllocError> {
     let mut stretches = Vec::new(alloc);
     let mut word = opening;
@@ -77,7 +77,7 @@ fn stretches_of<const P: u32>(
 pub(crate) fn lanes_of<const P: u32>(
     alloc: Global,
     programme: &Programme<P>,
-    marks: &[Mark<P>],
+    marks: &[StepMark<P>],
 ) -> Result<Vec<Lane<P>>, AllocError> {
     let machine = programme.machine(alloc)?;
     let mut lanes = Vec::new(alloc);

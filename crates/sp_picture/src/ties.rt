@@ -3,7 +3,7 @@ ghost use Rattle.std.specs.Prelude.{◌≡◌, ◌<◌, length, map, All, IfOk};
 ghost use Rattle.sp_picture.specs.Marks.{IsStoreTo};
 ghost use Rattle.sp_picture.specs.Ties.{IsLast, IsTie, lost_from};
 
-use crate::marks::{Deed, Mark};
+use crate::marks::{Deed, StepMark};
 use std::alloc::{AllocError, Global};
 
 /// The load and the store to which a lost exchange is tied. All three are given by the indices of their steps, counted
@@ -19,7 +19,7 @@ pub struct Tie {
 }
 
 // Returns the last of these steps that the actor made.
-fn last_step<const P: u32>(marks: &[Mark<P>], actor: u32) -> Option<usize>
+fn last_step<const P: u32>(marks: &[StepMark<P>], actor: u32) -> Option<usize>
     ensures { IsLast (λ mark. mark.actor ≡ actor) marks.now result }
 {
     let mut last = None;
@@ -32,7 +32,7 @@ fn last_step<const P: u32>(marks: &[Mark<P>], actor: u32) -> Option<usize>
 }
 
 // Returns the last of these steps that stored to the word of the vertex.
-fn last_store<const P: u32>(marks: &[Mark<P>], vertex: u32) -> Option<usize>
+fn last_store<const P: u32>(marks: &[StepMark<P>], vertex: u32) -> Option<usize>
     ensures { IsLast (IsStoreTo vertex) marks.now result }
 {
     let mut last = None;
@@ -45,7 +45,7 @@ fn last_store<const P: u32>(marks: &[Mark<P>], vertex: u32) -> Option<usize>
 }
 
 // Returns the tie of the exchange at this index.
-fn tie_at<const P: u32>(marks: &[Mark<P>], lost: usize) -> Tie
+fn tie_at<const P: u32>(marks: &[StepMark<P>], lost: usize) -> Tie
     requires { lost < length marks.now }
     ensures lost { result.lost ≡ lost }
     ensures tie { IsTie marks.now result }
@@ -62,7 +62,7 @@ fn tie_at<const P: u32>(marks: &[Mark<P>], lost: usize) -> Tie
 // Returns the ties of the lost exchanges among these steps, in their order.
 pub(crate) fn ties_of<const P: u32>(
     alloc: Global,
-    marks: &[Mark<P>],
+    marks: &[StepMark<P>],
 ) -> Result<Vec<Tie>, AllocError>
     ensures lost { IfOk result (λ ties. map (λ tie. tie.lost) ties.items ≡ lost_from 0 marks.now) }
     ensures each { IfOk result (λ ties. All (IsTie marks.now) ties.items) }

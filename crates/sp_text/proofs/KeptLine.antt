@@ -15,8 +15,8 @@ use Rattle.sp_text.specs.Collecting.{IsAfter, Answers, ItemIs}
 use Rattle.sp_text.specs.declared.formats.Form.{Form}
 use Rattle.sp_text.specs.declared.matching.Numbers.{Numbers}
 use Rattle.sp_text.specs.declared.matching.Numbers.TheVariants as lists
-use Rattle.sp_text.specs.declared.reading.Found.{Found}
-use Rattle.sp_text.specs.Matching.{Are, IsFound, front_of, letter_of}
+use Rattle.sp_text.specs.declared.reading.LineContent.{LineContent}
+use Rattle.sp_text.specs.Matching.{Are, IsContent, front_of, letter_of}
 use Rattle.sp_text.specs.First.{Judge}
 use Rattle.sp_text.specs.Feeding.{Takes}
 
@@ -218,8 +218,8 @@ item_taken format ranges Kept before line item (Ok u) keep ps counts is h =
 item_taken format ranges Kept before line item (Err kind) keep ps counts is (inl told) = inl (rw is told)
 item_taken format ranges Kept before line item (Err kind) keep ps counts is (inr memory) = inr (rw is memory.0, memory.1, item_line format line item is)
 
-pub found_at : (format other : Format) (ranges more : Ranges) (ps line : List ℕ) (found : Found) → other ≡ format → more ≡ ranges → IsFound other more ps (reading other line) found → IsFound format ranges ps (reading format line) found
-found_at format other ranges more ps line found e f is = subst (λ (r : Ranges). IsFound format r ps (reading format line) found) f (subst (λ (x : Format). IsFound x more ps (reading x line) found) e is)
+pub found_at : (format other : Format) (ranges more : Ranges) (ps line : List ℕ) (found : LineContent) → other ≡ format → more ≡ ranges → IsContent other more ps (reading other line) found → IsContent format ranges ps (reading format line) found
+found_at format other ranges more ps line found e f is = subst (λ (r : Ranges). IsContent format r ps (reading format line) found) f (subst (λ (x : Format). IsContent x more ps (reading x line) found) e is)
 
 -- The numbers of the problem line, where it has come.
 pub are_seen : (ranges : Ranges) (problem : Option (List ℕ)) (ref : Option (Bor (List ℕ))) (d seen : Bor (List ℕ)) (item : Item) (numbers : Numbers) → option_copied ref ≡ problem → seen ≡ unwrap_or ref d

@@ -9,8 +9,8 @@ use Rattle.sp_text.specs.declared.matching.Numbers.{Numbers}
 use Rattle.sp_text.specs.declared.matching.Numbers.TheVariants as lists
 use Rattle.sp_text.specs.declared.matching.Spelled.{Spelled}
 use Rattle.sp_text.specs.declared.matching.Spelled.TheVariants.{No, Out, Within}
-use Rattle.sp_text.specs.declared.reading.Found.{Found}
-use Rattle.sp_text.specs.declared.reading.Found.TheVariants as founds
+use Rattle.sp_text.specs.declared.reading.LineContent.{LineContent}
+use Rattle.sp_text.specs.declared.reading.LineContent.TheVariants as contents
 use Rattle.sp_text.specs.Formats.{Format, form_of, IsSmallForm}
 use Rattle.sp_text.specs.Text.{Reading, Comment, Bad, IsProblem, IsItem, Item, with_number, numbers, behind_words, top, first_out, first_letter}
 
@@ -65,12 +65,13 @@ pub record AreSpaced (ranges : Ranges) (ps : List ℕ) (ds : List Field) (text n
   pub spelled : numbers ds (fields_from [] text) ≡ Some ns
   pub within : first_out ranges ps ds ns ≡ None
 
-abbrev pub IsFound : Format → Ranges → List ℕ → Reading → Found → Type 0
-IsFound format ranges ps reading founds.Comment = reading ≡ Comment
-IsFound format ranges ps reading founds.Bad = reading ≡ Bad
-IsFound format ranges ps reading (founds.Problem numbers) = (ns : List ℕ) × (reading ≡ IsProblem ns) × Are ranges [] format.problem.fields ns numbers
-IsFound format ranges ps reading (founds.Item place form numbers) = (item : Item) × (reading ≡ IsItem item) × (item.kind ≡ place) × (slice_get format.items place ≡ Some item.form) × (item.form ≡ form_of form.now) × IsSmallForm form.now × Are ranges ps item.form.fields item.numbers numbers
+-- A line with this reading was found to have this content.
+abbrev pub IsContent : Format → Ranges → List ℕ → Reading → LineContent → Type 0
+IsContent format ranges ps reading contents.Comment = reading ≡ Comment
+IsContent format ranges ps reading contents.Bad = reading ≡ Bad
+IsContent format ranges ps reading (contents.Problem numbers) = (ns : List ℕ) × (reading ≡ IsProblem ns) × Are ranges [] format.problem.fields ns numbers
+IsContent format ranges ps reading (contents.Item place form numbers) = (item : Item) × (reading ≡ IsItem item) × (item.kind ≡ place) × (slice_get format.items place ≡ Some item.form) × (item.form ≡ form_of form.now) × IsSmallForm form.now × Are ranges ps item.form.fields item.numbers numbers
 
 -- This is an item of the form at this index with these numbers, which are in their ranges.
 abbrev pub IsUsualItem : Format → Ranges → List ℕ → Reading → ℕ × Bor Form × List ℕ → Type 0
-IsUsualItem format ranges ps reading (place, form, ns) = IsFound format ranges ps reading (founds.Item place form (lists.Within ns))
+IsUsualItem format ranges ps reading (place, form, ns) = IsContent format ranges ps reading (contents.Item place form (lists.Within ns))

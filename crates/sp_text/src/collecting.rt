@@ -13,7 +13,7 @@ use crate::faults::Kind;
 use crate::feeding::LineTaker;
 use crate::formats::{Field, FileFormat, Form, Ranges};
 use crate::matching::{Numbers, greatest};
-use crate::reading::{Found, read_line, usual_item};
+use crate::reading::{LineContent, read_line, usual_item};
 use crate::rooms::Values;
 use std::alloc::AllocError;
 
@@ -182,10 +182,10 @@ impl<K: Keep> Collector<K> {
         let none = Values::new();
         let problem = self.problem.as_ref().unwrap_or(&none);
         match read_line(&self.keep.format(), &self.keep.ranges(), problem, line) {
-            Found::Comment => Ok(()),
-            Found::Bad => Err(Kind::BadLine),
-            Found::Problem(numbers) => self.take_problem(numbers),
-            Found::Item(place, form, numbers) => self.take_item(place, form, numbers),
+            LineContent::Comment => Ok(()),
+            LineContent::Bad => Err(Kind::BadLine),
+            LineContent::Problem(numbers) => self.take_problem(numbers),
+            LineContent::Item(place, form, numbers) => self.take_item(place, form, numbers),
         }
     }
 }

@@ -3,16 +3,16 @@ ghost use Rattle.std.specs.Prelude.{◌≡◌, [], IfSome};
 ghost use Rattle.sp_text.specs.Lines.{fields_from};
 ghost use Rattle.sp_text.specs.Formats.{format_of, IsSmall};
 ghost use Rattle.sp_text.specs.Text.{is_comment, reading};
-ghost use Rattle.sp_text.specs.Matching.{IsFound, IsUsualItem};
+ghost use Rattle.sp_text.specs.Matching.{IsContent, IsUsualItem};
 
 use crate::fields::{drop_cr, next_field, starts_otherwise};
 use crate::formats::{FileFormat, Form, Ranges};
 use crate::matching::{Numbers, after_letter, begins_otherwise, match_form, spaced_numbers};
 use crate::rooms::Values;
 
-/// What a line was found to be.
+/// What a line holds.
 #[derive(Drop)]
-pub enum Found {
+pub enum LineContent {
     Comment,
     Bad,
     Problem(Numbers),
@@ -72,23 +72,23 @@ pub(crate) fn read_line(
     ranges: &Ranges,
     problem: &Values,
     line: &[u8],
-) -> Found
+) -> LineContent
     requires { IsSmall format.now }
-    ensures { IsFound (format_of format.now) ranges.now problem.now
+    ensures { IsContent (format_of format.now) ranges.now problem.now
         (reading (format_of format.now) line.now) result }
 {
     let text = drop_cr(line);
     if is_remark(text) {
-        return Found::Comment;
+        return LineContent::Comment;
     }
     if let Some(numbers) = match_form(&format.problem, ranges, &Values::new(), text) {
-        return Found::Problem(numbers);
+        return LineContent::Problem(numbers);
     }
     let items: &'static [Form] = format.items;
     for (place, form) in items.iter().enumerate() {
         if let Some(numbers) = match_form(form, ranges, problem, text) {
-            return Found::Item(place, form, numbers);
+            return LineContent::Item(place, form, numbers);
         }
     }
-    Found::Bad
+    LineContent::Bad
 }

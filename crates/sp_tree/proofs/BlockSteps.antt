@@ -9,24 +9,24 @@ use Rattle.sp_text.specs.Feeding.{Refused}
 use Rattle.sp_tree.specs.Spelling.{tree_judge}
 use Rattle.sp_tree.specs.declared.reading.TreeReader.{TreeReader}
 use Rattle.sp_tree.specs.Reading.{IsBehindTree}
-use Rattle.sp_tree.specs.declared.place.Place.{Place}
-use Rattle.sp_tree.specs.declared.place.Place.TheVariants.{Fresh, Over}
+use Rattle.sp_tree.specs.declared.block_state.BlockState.{BlockState}
+use Rattle.sp_tree.specs.declared.block_state.BlockState.TheVariants.{Fresh, Over}
 use Rattle.sp_tree.specs.Block.{Runs}
 use Rattle.sp_tree.specs.Stream.{Stream, left_in, IsShort, BlockFed, BlockRefused}
-use Rattle.sp_tree.proofs.Places.{runs_both}
+use Rattle.sp_tree.proofs.BlockStates.{runs_both}
 use Rattle.sp_tree.proofs.LeftBytes.{taken, refilled, kept, at_end, and_nothing}
 
 -- These bytes of a block came since `old`.
-pub record IsFed {R : Type 0} (left : R → Option (List ℕ)) (passed : R → ℕ) (old : Stream R) (front : List ℕ) (place : Place) (new : Stream R) : Type 0 where
-  pub runs : Runs Fresh front place
+pub record IsFed {R : Type 0} (left : R → Option (List ℕ)) (passed : R → ℕ) (old : Stream R) (front : List ℕ) (state : BlockState) (new : Stream R) : Type 0 where
+  pub runs : Runs Fresh front state
   pub came : Consumes (left_in left old) (left_in left new) front
   pub small : length front ≤ 2 ^ 62
   pub counted : length front + length new.piece ≤ passed new.reader
   pub short : IsShort passed new
 
 -- They were fed, and more may follow.
-abbrev pub IsFeeding : {P : ℕ} {R : Type 0} → (R → Option (List ℕ)) → (R → ℕ) → Stream R → Place → Stream R → TreeReader P → Type 0
-IsFeeding left passed old place new tree = (front : List ℕ) × IsFed left passed old front place new × (place ≢ Over) × IsBehindTree front tree
+abbrev pub IsFeeding : {P : ℕ} {R : Type 0} → (R → Option (List ℕ)) → (R → ℕ) → Stream R → BlockState → Stream R → TreeReader P → Type 0
+IsFeeding left passed old state new tree = (front : List ℕ) × IsFed left passed old front state new × (state ≢ Over) × IsBehindTree front tree
 
 small_run : (most front n all passed : ℕ) → front ≤ most → n ≤ all → front + all ≤ passed → (0 < all → passed ≤ most) → front + n ≤ most
 small_run most front n zero passed small within counted limit = omega (arith, small, within)
@@ -38,18 +38,18 @@ small_drop : (most n all rest passed : ℕ) → rest + n ≡ all → (0 < all �
 small_drop most n all rest passed parts limit some = limit (omega (arith, parts, some))
 
 -- The first bytes that wait were taken.
-pub run_fed : {R : Type 0} (left : R → Option (List ℕ)) (passed : R → ℕ) (old now new : Stream R) (front : List ℕ) (place end : Place) (n : ℕ)
-    → IsFed left passed old front place now → n ≤ length now.piece → Runs place (take n now.piece) end
+pub run_fed : {R : Type 0} (left : R → Option (List ℕ)) (passed : R → ℕ) (old now new : Stream R) (front : List ℕ) (state end : BlockState) (n : ℕ)
+    → IsFed left passed old front state now → n ≤ length now.piece → Runs state (take n now.piece) end
     → new.piece ≡ drop n now.piece → new.reader ≡ now.reader
     → IsFed left passed old (front ++ take n now.piece) end new
-run_fed left passed old now new front place end n h within runs piece reader =
+run_fed left passed old now new front state end n h within runs piece reader =
     let run = take n now.piece in
     let n_is : length run ≡ n = length-take-le n now.piece within in
     let parts : length (drop n now.piece) + n ≡ length now.piece = omega (arith, n_is, length-append run (drop n now.piece), ap length (take-append-drop n now.piece)) in
     let small : length (front ++ run) ≤ 2 ^ 62 = rw (length-append front run, n_is) (small_run (2 ^ 62) (length front) n (length now.piece) (passed now.reader) h.small within h.counted h.short.limit) in
     let came : Consumes (left_in left old) (prepend_known (drop n now.piece) (left now.reader)) (front ++ run) = Consumes-trans (left_in left old) (left_in left now) (prepend_known (drop n now.piece) (left now.reader)) front run h.came (taken (left now.reader) n now.piece) in
     record {
-      runs = runs_both Fresh place end front run h.runs runs;
+      runs = runs_both Fresh state end front run h.runs runs;
       came = rw (piece, reader) came;
       small = small;
       counted = rw (piece, reader, length-append front run, n_is) (omega (arith, parts, h.counted));
@@ -60,11 +60,11 @@ run_fed left passed old now new front place end n h within runs piece reader =
     }
 
 -- None waited, and the next bytes of the device came.
-pub piece_fed : {R : Type 0} (left : R → Option (List ℕ)) (passed : R → ℕ) (old now new : Stream R) (front : List ℕ) (place : Place)
-    → IsFed left passed old front place now → now.piece ≡ []
+pub piece_fed : {R : Type 0} (left : R → Option (List ℕ)) (passed : R → ℕ) (old now new : Stream R) (front : List ℕ) (state : BlockState)
+    → IsFed left passed old front state now → now.piece ≡ []
     → Consumes (left now.reader) (left new.reader) new.piece → passed new.reader ≡ passed now.reader + length new.piece → passed new.reader ≤ 2 ^ 62
-    → IsFed left passed old front place new
-piece_fed left passed old now new front place h none bytes more limit =
+    → IsFed left passed old front state new
+piece_fed left passed old now new front state h none bytes more limit =
     let came = refilled (left now.reader) (left new.reader) new.piece bytes in
     let counted : length front ≤ passed now.reader = omega (arith, h.counted) in
     record {
@@ -76,27 +76,27 @@ piece_fed left passed old now new front place h none bytes more limit =
     }
 
 -- The block is over.
-pub fed_whole : {P : ℕ} {R U : Type 0} (left : R → Option (List ℕ)) (passed : R → ℕ) (has_failed : R → Bool) (old new : Stream R) (front : List ℕ) (place : Place) (u : U) (tree : TreeReader P)
-    → IsFed left passed old front place new → place ≡ Over → IsBehindTree front tree → BlockFed left passed has_failed old (Ok u) new tree
-fed_whole left passed has_failed old new front place u tree h over behind =
+pub fed_whole : {P : ℕ} {R U : Type 0} (left : R → Option (List ℕ)) (passed : R → ℕ) (has_failed : R → Bool) (old new : Stream R) (front : List ℕ) (state : BlockState) (u : U) (tree : TreeReader P)
+    → IsFed left passed old front state new → state ≡ Over → IsBehindTree front tree → BlockFed left passed has_failed old (Ok u) new tree
+fed_whole left passed has_failed old new front state u tree h over behind =
     let runs = rw over at h.runs in
     (front, (Over, runs), h.came, inl runs, h.small, h.short, behind)
 
 -- The text is over.
-pub fed_all : {P : ℕ} {R U : Type 0} (left : R → Option (List ℕ)) (passed : R → ℕ) (has_failed : R → Bool) (old new : Stream R) (front : List ℕ) (place : Place) (u : U) (tree : TreeReader P)
-    → IsFed left passed old front place new → new.piece ≡ [] → IsAtEnd (left new.reader) → IsBehindTree front tree → BlockFed left passed has_failed old (Ok u) new tree
-fed_all left passed has_failed old new front place u tree h none all behind =
-    (front, (place, h.runs), h.came, inr (rw none (at_end (left new.reader) all)), h.small, h.short, behind)
+pub fed_all : {P : ℕ} {R U : Type 0} (left : R → Option (List ℕ)) (passed : R → ℕ) (has_failed : R → Bool) (old new : Stream R) (front : List ℕ) (state : BlockState) (u : U) (tree : TreeReader P)
+    → IsFed left passed old front state new → new.piece ≡ [] → IsAtEnd (left new.reader) → IsBehindTree front tree → BlockFed left passed has_failed old (Ok u) new tree
+fed_all left passed has_failed old new front state u tree h none all behind =
+    (front, (state, h.runs), h.came, inr (rw none (at_end (left new.reader) all)), h.small, h.short, behind)
 
 -- A beginning of the block shows a fault.
-pub fed_refused : {R : Type 0} (P : ℕ) (left : R → Option (List ℕ)) (passed : R → ℕ) (has_failed : R → Bool) (old new : Stream R) (front : List ℕ) (place : Place) (e : DimacsError)
-    → IsFed left passed old front place new → Refused (tree_judge P) [] front e → BlockRefused P left has_failed old new e
-fed_refused P left passed has_failed old new front place e h refused = (front, (place, h.runs), h.came, inl refused)
+pub fed_refused : {R : Type 0} (P : ℕ) (left : R → Option (List ℕ)) (passed : R → ℕ) (has_failed : R → Bool) (old new : Stream R) (front : List ℕ) (state : BlockState) (e : DimacsError)
+    → IsFed left passed old front state new → Refused (tree_judge P) [] front e → BlockRefused P left has_failed old new e
+fed_refused P left passed has_failed old new front state e h refused = (front, (state, h.runs), h.came, inl refused)
 
 -- The device has failed.
-pub fed_failed : {R : Type 0} (P : ℕ) (left : R → Option (List ℕ)) (passed : R → ℕ) (has_failed : R → Bool) (old now new : Stream R) (front : List ℕ) (place : Place) (e : DimacsError)
-    → IsFed left passed old front place now → now.piece ≡ [] → new.piece ≡ [] → Keeps (left now.reader) (left new.reader) → has_failed new.reader ≡ true
+pub fed_failed : {R : Type 0} (P : ℕ) (left : R → Option (List ℕ)) (passed : R → ℕ) (has_failed : R → Bool) (old now new : Stream R) (front : List ℕ) (state : BlockState) (e : DimacsError)
+    → IsFed left passed old front state now → now.piece ≡ [] → new.piece ≡ [] → Keeps (left now.reader) (left new.reader) → has_failed new.reader ≡ true
     → fault_at_failure (tree_judge P) front ≡ Some e → BlockRefused P left has_failed old new e
-fed_failed P left passed has_failed old now new front place e h none cleared keeps failed told =
+fed_failed P left passed has_failed old now new front state e h none cleared keeps failed told =
     let same = kept (left now.reader) (left new.reader) keeps in
-    (front, (place, h.runs), and_nothing (left_in left old) (left_in left now) (left_in left new) front h.came (rw (none, cleared) same), inr (inr (failed, told)))
+    (front, (state, h.runs), and_nothing (left_in left old) (left_in left now) (left_in left new) front h.came (rw (none, cleared) same), inr (inr (failed, told)))

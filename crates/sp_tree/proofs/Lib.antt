@@ -6,7 +6,7 @@ pub mod TreeTexts
 pub mod SpelledTables
 pub mod FileEnds
 pub mod CappedNumbers
-pub mod Places
+pub mod BlockStates
 pub mod LeftBytes
 pub mod BlockSteps
 pub mod GivenTrees

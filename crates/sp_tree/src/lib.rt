@@ -2,10 +2,10 @@
 //! block in the memory of one tree.
 #![tactic(auto)]
 
+mod block_state;
 mod blocks;
 mod laws;
 mod lines;
-mod place;
 mod reading;
 mod stream;
 mod taking;

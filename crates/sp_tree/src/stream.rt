@@ -4,7 +4,7 @@ ghost use Rattle.sp_device.specs.Failing.{Never};
 ghost use Rattle.sp_tree.specs.Reading.{IsBehindTree};
 ghost use Rattle.sp_tree.specs.Stream.{stream, IsShort, IsLookedAt, BlockFed};
 
-use crate::place::{Place, run_of};
+use crate::block_state::{BlockState, run_of};
 use crate::reading::TreeReader;
 use sp_device::{Failed, Read};
 use sp_dimacs::Piece;
@@ -23,13 +23,13 @@ pub fn feed_block<const P: u32, R: Read>(
         → R.has_failed reader.new ≡ false }
     ensures lasting { R.failing reader.new ≡ R.failing reader.old }
 {
-    let mut place = Place::Fresh;
+    let mut state = BlockState::Fresh;
     loop {
-        let taken = run_of(&mut place, piece.bytes());
+        let taken = run_of(&mut state, piece.bytes());
         let fed = tree.feed(&piece.bytes()[..taken]);
         piece.skip(taken);
         fed?;
-        if place == Place::Over {
+        if state == BlockState::Over {
             return Ok(());
         }
         if piece.refill(reader).is_err() {

@@ -5,10 +5,10 @@ use Rattle.sp_tree.specs.Stream.{stream, IsShort}
 use Rattle.sp_tree.proofs.BlockSteps.{IsFeeding}
 use Rattle.sp_tree.proofs.stream.feed_block.Given as goal
 
-abbrev pub invariant-loop-place : goal.invariant-loop-place
-invariant-loop-place g l = (IsShort g.R.Read.passed (stream l.fn.piece l.fn.reader) → IsBehindTree [] l.fn.tree → IsFeeding g.R.Read.left g.R.Read.passed (stream l.fn.piece l.fn.reader) l.place (stream l.piece l.reader) l.tree)
+abbrev pub invariant-loop-state : goal.invariant-loop-state
+invariant-loop-state g l = (IsShort g.R.Read.passed (stream l.fn.piece l.fn.reader) → IsBehindTree [] l.fn.tree → IsFeeding g.R.Read.left g.R.Read.passed (stream l.fn.piece l.fn.reader) l.state (stream l.piece l.reader) l.tree)
     × (g.R.Read.failing l.reader ≡ g.R.Read.failing l.fn.reader)
     × (g.R.Read.failing l.fn.reader ≡ Never → g.R.Read.has_failed l.fn.reader ≡ false → g.R.Read.has_failed l.reader ≡ false)
 
-abbrev pub decreases-loop-place : goal.decreases-loop-place
-decreases-loop-place g l = 2 ^ 62 - g.R.Read.passed l.reader
+abbrev pub decreases-loop-state : goal.decreases-loop-state
+decreases-loop-state g l = 2 ^ 62 - g.R.Read.passed l.reader

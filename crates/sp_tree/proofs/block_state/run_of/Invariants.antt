@@ -1,6 +1,6 @@
 use Rattle.std.proofs.Common.{take}
 use Rattle.sp_tree.specs.Block.{Runs}
-use Rattle.sp_tree.proofs.place.run_of.Given as goal
+use Rattle.sp_tree.proofs.block_state.run_of.Given as goal
 
 abbrev pub invariant-loop-end : goal.invariant-loop-end
-invariant-loop-end l = Runs l.fn.place (take l.end l.bytes) l.place
+invariant-loop-end l = Runs l.fn.state (take l.end l.bytes) l.state

@@ -4,7 +4,7 @@ ghost use Rattle.sp_tree.specs.Block.{after, Runs};
 
 /// Where in a block the bytes so far end.
 #[derive(Clone, Copy, Debug, PartialEq, Eq)]
-pub enum Place {
+pub enum BlockState {
     /// Before a line.
     Fresh,
     /// In a line that begins with `e`.
@@ -15,33 +15,33 @@ pub enum Place {
     Over,
 }
 
-impl Place {
+impl BlockState {
     // Where one byte more ends.
-    fn after(self, byte: u8) -> Place
+    fn after(self, byte: u8) -> BlockState
         ensures { result ≡ after self byte }
     {
         match (self, byte) {
-            (Place::Over, _) => Place::Over,
-            (Place::Last, b'\n') => Place::Over,
-            (Place::Last, _) => Place::Last,
-            (_, b'\n') => Place::Fresh,
-            (Place::Fresh, b'e') => Place::Last,
-            _ => Place::Within,
+            (BlockState::Over, _) => BlockState::Over,
+            (BlockState::Last, b'\n') => BlockState::Over,
+            (BlockState::Last, _) => BlockState::Last,
+            (_, b'\n') => BlockState::Fresh,
+            (BlockState::Fresh, b'e') => BlockState::Last,
+            _ => BlockState::Within,
         }
     }
 }
 
 /// How many of the bytes belong to the block, all of them where it goes on behind them.
-pub fn run_of(place: &mut Place, bytes: &[u8]) -> usize
+pub fn run_of(state: &mut BlockState, bytes: &[u8]) -> usize
     ensures within { result ≤ length bytes.now }
-    ensures run { Runs place.old (take result bytes.now) place.new }
-    ensures all { place.new ≢ Place.Over → result ≡ length bytes.now }
+    ensures run { Runs state.old (take result bytes.now) state.new }
+    ensures all { state.new ≢ BlockState.Over → result ≡ length bytes.now }
 {
     for (end, byte) in bytes.iter().enumerate() {
-        if *place == Place::Over {
+        if *state == BlockState::Over {
             return end;
         }
-        *place = place.after(*byte);
+        *state = state.after(*byte);
     }
     bytes.len()
 }
