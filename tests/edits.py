@@ -96,7 +96,8 @@ def function_at(file, text, number):
     for first in range(number, -1, -1):
         head = HEAD.match(lines[first])
         if head:
-            end = next(it for it in range(first, len(lines)) if lines[it].rstrip(",;") == head[1] + "}")
+            # the brace that ends a body, also an empty one, stands as far in as the head
+            end = next(it for it in range(first, len(lines)) if re.fullmatch(rf"{head[1]}(?:\S.*)?\}}[,;]*", lines[it]))
             module = re.fullmatch(r"src/(.*)\.rt", file)[1].replace("/", "::")
             module = "" if module in ("lib", "main") else module
             owner, is_of_a_trait = owner_of(lines, first) if head[1] else ("", False)
