@@ -18,7 +18,7 @@ use Rattle.sp_offer.specs.Story.{Knowledge, known_table}
 use Rattle.sp_offer.proofs.Orders.{at_most-both}
 use Rattle.sp_bins.specs.declared.entry.Entry.{Entry}
 use Rattle.sp_bucket.specs.Content.{Content, IsLowest, Takes, bucket_of}
-use Rattle.sp_store.specs.declared.marks.Mark.{Mark}
+use Rattle.sp_store.specs.declared.marks.LeaderMark.{LeaderMark}
 use Rattle.sp_store.specs.Stage.{Stage, IsStage, Learns}
 use Rattle.sp_store.specs.Marks.{no_mark, light_at, is_remembered}
 use Rattle.sp_phase.specs.Lead.{Lead}
@@ -49,7 +49,7 @@ module _ (P : ℕ) (st : Stage) (stage : IsStage P st) where
   -- ## Copies
 
   -- what is open lies behind nothing
-  open_later : (low : ℕ) (before : Table) (c : Knowledge) (marks : List Mark) (words : List Word) (b : Bounds) → IsCopied P st c marks words → ((v : ℕ) → IsVertex st.graph.n v → IsNoMore (word_at words v) (before v)) → IsFinal P st low low before marks
+  open_later : (low : ℕ) (before : Table) (c : Knowledge) (marks : List LeaderMark) (words : List Word) (b : Bounds) → IsCopied P st c marks words → ((v : ℕ) → IsVertex st.graph.n v → IsNoMore (word_at words v) (before v)) → IsFinal P st low low before marks
       → (entries : List Entry) → All (IsOpen words marks b) entries → EntriesFrom low entries
   open_later low before c marks words b copy under f entries all k none inside =
       let e = get_or entries k none in
@@ -75,7 +75,7 @@ module _ (P : ℕ) (st : Stage) (stage : IsStage P st) where
   -- ## Tests
 
   -- a bucket that passed its test is final
-  pub final_tested : TestedIsSettled → (c : Knowledge) (marks : List Mark) (words : List Word) → IsCopied P st c marks words → (i : ℕ) (b : Bounds) → b.light ≡ (i + 1) * st.delta → b.heavy ≡ i * st.delta
+  pub final_tested : TestedIsSettled → (c : Knowledge) (marks : List LeaderMark) (words : List Word) → IsCopied P st c marks words → (i : ℕ) (b : Bounds) → b.light ≡ (i + 1) * st.delta → b.heavy ≡ i * st.delta
       → AreRelaxed words marks b (length words) → IsFinal P st ((i + 1) * st.delta) (i * st.delta) (known_table c.story) marks
   final_tested law c marks words copy i b light heavy all =
       let there : (v : ℕ) → IsVertex st.graph.n v → IsVertex (length words) v = λ v at. subst (λ k. IsVertex k v) (sym copy.size) at in
@@ -84,7 +84,7 @@ module _ (P : ℕ) (st : Stage) (stage : IsStage P st) where
       = λ v d p at is below. pair_was ((i + 1) * st.delta) (word_at words) settled v d p (known_table c.story v) is below (known_pair P st v (known_table c.story v) d p (copy.lawful v) is).1 (known_lawful P st v (known_table c.story v) (copy.lawful v)) (copy.above v at) in
       record {
         order = omega arith;
-        settled = test_told P st c marks words copy law i b light heavy all;
+        settled = (test_told P st c marks words copy law i b light heavy all).settled;
         light_below = λ v d p at is below. (all v d p (there v at) (was v d p at is below)).0 (subst (λ k. d < k) (sym light) below);
         heavy_below = λ v d p at is below. (all v d p (there v at) (was v d p at is (omega arith))).1 (subst (λ k. d < k) (sym heavy) below);
       }

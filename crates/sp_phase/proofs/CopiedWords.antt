@@ -18,7 +18,7 @@ use Rattle.sp_offer.specs.Order.{IsKnownWord, IsNoMore}
 use Rattle.sp_offer.specs.Story.{Knowledge, known_table, IsCopy}
 use Rattle.sp_bins.specs.declared.entry.Entry.{Entry}
 use Rattle.sp_answer.specs.Table.{TreeTable, HasPredWithin, table_of, tree_of}
-use Rattle.sp_store.specs.declared.marks.Mark.{Mark}
+use Rattle.sp_store.specs.declared.marks.LeaderMark.{LeaderMark}
 use Rattle.sp_answer.specs.declared.answer.RunError.TheVariants.{TooFar}
 use Rattle.sp_store.specs.Stage.{Stage, IsStage, law_of}
 use Rattle.sp_store.specs.Marks.{Noted, mark_of, light_at, heavy_at}
@@ -88,7 +88,7 @@ pub dist_fits : (P d : ℕ) → is_layout P ≡ true → d ≤ max_dist P → d 
 dist_fits P d layout low = by_layout (λ Q. d ≤ max_dist Q → d < 18446744073709551615) P layout (λ h. omega arith) (λ h. omega arith) (λ h. omega arith) (λ h. omega arith) low
 
 -- where no entry is open, no vertex is
-pub none_open : (P : ℕ) (st : Stage) (c : Knowledge) (marks : List Mark) (words : List Word) (b : Bounds) → b.light ≡ 18446744073709551615 → b.heavy ≡ 18446744073709551615 → IsCopied P st c marks words
+pub none_open : (P : ℕ) (st : Stage) (c : Knowledge) (marks : List LeaderMark) (words : List Word) (b : Bounds) → b.light ≡ 18446744073709551615 → b.heavy ≡ 18446744073709551615 → IsCopied P st c marks words
     → AreRelaxed words marks b (length words) → IsSwept P st c marks words
 none_open P st c marks words b light heavy copy all = (
   copy,
@@ -105,7 +105,7 @@ pred_within g s v Unreached gr law = tt
 pred_within g s v (Pair d p) gr (inl own) = let zero_is = own.2 in omega arith
 pred_within g s v (Pair d p) gr (inr by) = let parts = walk_by_parts g s v d p by in (arc_in g gr p v parts.1 parts.3).0.1
 
-pub preds_within : (P : ℕ) (st : Stage) (c : Knowledge) (marks : List Mark) (words : List Word) → IsCopied P st c marks words → All (HasPredWithin (length words)) words
+pub preds_within : (P : ℕ) (st : Stage) (c : Knowledge) (marks : List LeaderMark) (words : List Word) → IsCopied P st c marks words → All (HasPredWithin (length words)) words
 preds_within P st c marks words copy k d lt =
     let at : IsVertex st.graph.n (k + 1) = (let s = copy.size in (omega arith, omega arith)) in
     let law : IsLawful st.graph st.source (k + 1) (word_at words (k + 1)) = copy.of.table.lawful (k + 1) at in
@@ -113,7 +113,7 @@ preds_within P st c marks words copy k d lt =
     let is : word_at words (k + 1) ≡ get_or words k d = ap (λ i. get_or words i Unreached) place ∙ get_or_default words k Unreached d lt in
     subst (λ n. HasPredWithin n (get_or words k d)) (sym copy.size) (subst (HasPredWithin st.graph.n) is (pred_within st.graph st.source (k + 1) (word_at words (k + 1)) copy.of.graph law))
 
-module _ (P : ℕ) (st : Stage) (c : Knowledge) (marks : List Mark) (words : List Word) (copy : IsCopied P st c marks words) (t : TreeTable) (is : t ≡ tree_of st.source words) (each : (v : ℕ) → 1 ≤ v → v ≤ t.n → slice_get words (v - 1) ≡ Some (table_of t v)) where
+module _ (P : ℕ) (st : Stage) (c : Knowledge) (marks : List LeaderMark) (words : List Word) (copy : IsCopied P st c marks words) (t : TreeTable) (is : t ≡ tree_of st.source words) (each : (v : ℕ) → 1 ≤ v → v ≤ t.n → slice_get words (v - 1) ≡ Some (table_of t v)) where
   pub has_words : HasWords t st.graph.n (word_at words)
   has_words v at =
       let n : t.n ≡ length words = ap (λ x. x.n) is in
@@ -131,14 +131,14 @@ module _ (P : ℕ) (st : Stage) (c : Knowledge) (marks : List Mark) (words : Lis
   }
 
 -- the leader knows no more than the tree's words, and no less
-pub known_words : (P : ℕ) (st : Stage) (c : Knowledge) (marks : List Mark) (words : List Word) (t : TreeTable) → IsCopied P st c marks words → IsTree st.graph st.source (table_of t) → HasWords t st.graph.n (word_at words)
+pub known_words : (P : ℕ) (st : Stage) (c : Knowledge) (marks : List LeaderMark) (words : List Word) (t : TreeTable) → IsCopied P st c marks words → IsTree st.graph st.source (table_of t) → HasWords t st.graph.n (word_at words)
     → HasWords t st.graph.n (known_table c.story)
 known_words P st c marks words t copy tree has v at =
     tree_known P st v (table_of t v) (known_table c.story v) (tree v at) (copy.lawful v) (subst (IsNoMore (known_table c.story v)) (has v at) (copy.above v at))
 
 -- ## The search for open vertices
 
-relaxed_more : (words : List Word) (marks : List Mark) (b : Bounds) (k : ℕ) → AreRelaxed words marks b k → IsRelaxedHere words marks b (k + 1) → AreRelaxed words marks b (k + 1)
+relaxed_more : (words : List Word) (marks : List LeaderMark) (b : Bounds) (k : ℕ) → AreRelaxed words marks b k → IsRelaxedHere words marks b (k + 1) → AreRelaxed words marks b (k + 1)
 relaxed_more words marks b k before here u d p at is = go (cases_lt k u)
   where
     go : (k < u) ⊎ (u ≤ k) → IsRelaxedAtDist marks b u d
@@ -152,7 +152,7 @@ nothing_more : (xs : List Entry) (x : Entry) → xs ++ x ∷ [] ≡ [] → ⊥
 nothing_more [] x e = absurd (cc)
 nothing_more (y ∷ ys) x e = absurd (cc)
 
-pub open_more : (words : List Word) (marks : List Mark) (b : Bounds) (k : ℕ) (old new : List Entry) (o : Option Entry) → new ≡ old ++ option_to_list o → (old ≡ [] → AreRelaxed words marks b k)
+pub open_more : (words : List Word) (marks : List LeaderMark) (b : Bounds) (k : ℕ) (old new : List Entry) (o : Option Entry) → new ≡ old ++ option_to_list o → (old ≡ [] → AreRelaxed words marks b k)
     → IfNone o (IsRelaxedHere words marks b (k + 1)) → new ≡ [] → AreRelaxed words marks b (k + 1)
 open_more words marks b k old new None is before here none = relaxed_more words marks b k (before (sym (append-nil old) ∙ (sym is ∙ none))) here
 open_more words marks b k old new (Some e) is before here none = absurd (nothing_more old e (sym is ∙ none))
@@ -162,34 +162,34 @@ entries_more F old new None is all one = subst (λ xs. All F xs) (sym (is ∙ ap
 entries_more F old new (Some e) is all one = subst (λ xs. All F xs) (sym is) (All-push F old e all one)
 
 -- a vertex with no distance, and one with a distance
-pub none_here : (words : List Word) (marks : List Mark) (b : Bounds) (u : ℕ) (w : Word) → w ≡ word_at words u → dist_of w ≡ None → IsRelaxedHere words marks b u
+pub none_here : (words : List Word) (marks : List LeaderMark) (b : Bounds) (u : ℕ) (w : Word) → w ≡ word_at words u → dist_of w ≡ None → IsRelaxedHere words marks b u
 none_here words marks b u Unreached read is d p at = absurd (let e : Unreached ≡ Pair d p = read ∙ at in cc)
 none_here words marks b u (Pair e q) read is d p at = absurd (cc)
 
-pub relaxed_here : (words : List Word) (marks : List Mark) (b : Bounds) (u dist : ℕ) (w : Word) (m : Mark) → w ≡ word_at words u → dist_of w ≡ Some dist → m ≡ mark_of marks u
+pub relaxed_here : (words : List Word) (marks : List LeaderMark) (b : Bounds) (u dist : ℕ) (w : Word) (m : LeaderMark) → w ≡ word_at words u → dist_of w ≡ Some dist → m ≡ mark_of marks u
     → IsMarkedAt m b dist → IsRelaxedHere words marks b u
 relaxed_here words marks b u dist w m read is mark h d p at =
     let same : dist ≡ d = some_same dist d (sym is ∙ ap dist_of (read ∙ at)) in
     let H : ℕ → Type 0 = λ x. IsRelaxedAtDist marks b u x in
     subst H same (λ lt. ap (λ k. k.light) (sym mark) ∙ h.0 lt, λ lt. ap (λ k. k.heavy) (sym mark) ∙ h.1 lt)
 
-pub open_here : (words : List Word) (marks : List Mark) (b : Bounds) (u dist : ℕ) (w : Word) (m : Mark) → IsVertex (length words) u → w ≡ word_at words u → dist_of w ≡ Some dist → m ≡ mark_of marks u
+pub open_here : (words : List Word) (marks : List LeaderMark) (b : Bounds) (u dist : ℕ) (w : Word) (m : LeaderMark) → IsVertex (length words) u → w ≡ word_at words u → dist_of w ≡ Some dist → m ≡ mark_of marks u
     → (IsMarkedAt m b dist → ⊥) → IsOpen words marks b (record { vertex = u; dist = dist })
 open_here words marks b u dist w m at read is mark h =
     let pair = dist_pair w dist is in
     (at, (pair.0, sym read ∙ pair.1), λ r. h (λ lt. ap (λ k. k.light) mark ∙ r.0 lt, λ lt. ap (λ k. k.heavy) mark ∙ r.1 lt))
 
-pub kept_here : (words : List Word) (marks : List Mark) (b : Bounds) (u dist : ℕ) (w : Word) (m : Mark) (o : Option Entry) → w ≡ word_at words u → dist_of w ≡ Some dist → m ≡ mark_of marks u → IfNone o (IsMarkedAt m b dist) → IfNone o (IsRelaxedHere words marks b u)
+pub kept_here : (words : List Word) (marks : List LeaderMark) (b : Bounds) (u dist : ℕ) (w : Word) (m : LeaderMark) (o : Option Entry) → w ≡ word_at words u → dist_of w ≡ Some dist → m ≡ mark_of marks u → IfNone o (IsMarkedAt m b dist) → IfNone o (IsRelaxedHere words marks b u)
 kept_here words marks b u dist w m None read is mark h = relaxed_here words marks b u dist w m read is mark h
 kept_here words marks b u dist w m (Some e) read is mark h = tt
 
-pub told_open : (words : List Word) (marks : List Mark) (b : Bounds) (u dist : ℕ) (w : Word) (m : Mark) (o : Option Entry) → IsVertex (length words) u → w ≡ word_at words u → dist_of w ≡ Some dist → m ≡ mark_of marks u
+pub told_open : (words : List Word) (marks : List LeaderMark) (b : Bounds) (u dist : ℕ) (w : Word) (m : LeaderMark) (o : Option Entry) → IsVertex (length words) u → w ≡ word_at words u → dist_of w ≡ Some dist → m ≡ mark_of marks u
     → IfSome o (λ e. e ≡ record { vertex = u; dist = dist }) → IfSome o (λ _. IsMarkedAt m b dist → ⊥) → IfSome o (IsOpen words marks b)
 told_open words marks b u dist w m None at read is mark same h = tt
 told_open words marks b u dist w m (Some e) at read is mark same h = subst (IsOpen words marks b) (sym same) (open_here words marks b u dist w m at read is mark h)
 
 -- what is open may be queued
-pub open_queued : (P : ℕ) (st : Stage) (c : Knowledge) (marks : List Mark) (words : List Word) (b : Bounds) (open' : List Entry) → IsCopied P st c marks words → All (IsOpen words marks b) open' → All (IsQueued P st 0) open'
+pub open_queued : (P : ℕ) (st : Stage) (c : Knowledge) (marks : List LeaderMark) (words : List Word) (b : Bounds) (open' : List Entry) → IsCopied P st c marks words → All (IsOpen words marks b) open' → All (IsQueued P st 0) open'
 open_queued P st c marks words b open' copy all k d lt =
     let h = all k d lt in
     let e = get_or open' k d in
@@ -205,9 +205,9 @@ left_of_graph g n arcs words o size same h =
     let L : ℕ → List Arc → Type 0 = λ m as'. IsLeastLeftOut (network m as') words o in
     subst (λ as'. L g.n as') same (subst (λ m. L m arcs) size h)
 
-pub told_far : (P : ℕ) (st : Stage) (c : Knowledge) (marks : List Mark) (words : List Word) (v : ℕ) → SweptIsFar → IsSwept P st c marks words → IsLeastLeftOut st.graph (word_at words) (Some v) → IsRefusal P st.graph st.source (TooFar v)
+pub told_far : (P : ℕ) (st : Stage) (c : Knowledge) (marks : List LeaderMark) (words : List Word) (v : ℕ) → SweptIsFar → IsSwept P st c marks words → IsLeastLeftOut st.graph (word_at words) (Some v) → IsRefusal P st.graph st.source (TooFar v)
 told_far P st c marks words v far swept out =
     (swept.0.stage.source, far st.graph st.source (max_dist P) st.delta swept.0.words (word_at words) (light_at marks) (heavy_at marks) swept.0.of swept.1 v out.0 out.1)
 
-pub told_tree : (P : ℕ) (st : Stage) (c : Knowledge) (marks : List Mark) (words : List Word) → SweptIsTree → IsSwept P st c marks words → IsLeastLeftOut st.graph (word_at words) None → IsTree st.graph st.source (word_at words) × IsFar st.graph st.source (max_dist P) None
+pub told_tree : (P : ℕ) (st : Stage) (c : Knowledge) (marks : List LeaderMark) (words : List Word) → SweptIsTree → IsSwept P st c marks words → IsLeastLeftOut st.graph (word_at words) None → IsTree st.graph st.source (word_at words) × IsFar st.graph st.source (max_dist P) None
 told_tree P st c marks words tree swept out = tree st.graph st.source (max_dist P) st.delta swept.0.words (word_at words) (light_at marks) (heavy_at marks) swept.0.of swept.1 out

@@ -8,7 +8,7 @@ use Rattle.sp_offer.specs.Order.{IsKnownWord, IsNoMore}
 use Rattle.sp_offer.specs.Story.{Knowledge, known_table}
 use Rattle.sp_offer.proofs.Orders.{at_most-refl, at_most-trans}
 use Rattle.sp_task.specs.declared.task.Task.{Task}
-use Rattle.sp_store.specs.declared.marks.Mark.{Mark}
+use Rattle.sp_store.specs.declared.marks.LeaderMark.{LeaderMark}
 use Rattle.sp_store.specs.Stage.{Stage, IsStage, Falls, Learns, law_of}
 use Rattle.sp_store.specs.Marks.{heavy_at, SameDistances}
 use Rattle.sp_phase.specs.Lead.{Lead}
@@ -49,7 +49,7 @@ learns_round P st c tasks l l' learns ran =
 pub learns_none : (P : ℕ) (st : Stage) (c : Knowledge) → ((v : ℕ) → IsKnownWord (law_of P st) v (known_table c.story v)) → Learns P st c c
 learns_none P st c lawful = record { table = refl; falls = falls_refl (known_table c.story); lawful = lawful }
 
-pub same_trans : (a b c : List Mark) → SameDistances a b → SameDistances b c → SameDistances a c
+pub same_trans : (a b c : List LeaderMark) → SameDistances a b → SameDistances b c → SameDistances a c
 same_trans a b c one two = (
   two.0 ∙ one.0,
   λ v at.
@@ -57,12 +57,12 @@ same_trans a b c one two = (
       ((two.1 v there).0 ∙ (one.1 v at).0, (two.1 v there).1 ∙ (one.1 v at).1),
 )
 
-pub same_refl : (a : List Mark) → SameDistances a a
+pub same_refl : (a : List LeaderMark) → SameDistances a a
 same_refl a = (refl, λ v at. (refl, refl))
 
 -- ## What is carried
 
-pub carried_falls : (before after : Table) (marks : List Mark) (Owed : ℕ → Type 0) (v d : ℕ) → Falls before after → IsCarried before marks Owed v d → IsCarried after marks Owed v d
+pub carried_falls : (before after : Table) (marks : List LeaderMark) (Owed : ℕ → Type 0) (v d : ℕ) → Falls before after → IsCarried before marks Owed v d → IsCarried after marks Owed v d
 carried_falls before after marks Owed v d falls c =
     let low = pair_below (after v) (before v) c.dist c.pred c.word (falls v) in
     let le : low.0 ≤ c.dist = low.3 in
@@ -75,7 +75,7 @@ carried_falls before after marks Owed v d falls c =
       heavy = λ (same : low.0 ≡ d). c.heavy (omega arith);
     }
 
-pub carried_as : (words : Table) (marks after : List Mark) (Owed Due : ℕ → Type 0) (v d : ℕ) → heavy_at after v ≡ heavy_at marks v → (Owed v → Due v) → IsCarried words marks Owed v d → IsCarried words after Due v d
+pub carried_as : (words : Table) (marks after : List LeaderMark) (Owed Due : ℕ → Type 0) (v d : ℕ) → heavy_at after v ≡ heavy_at marks v → (Owed v → Due v) → IsCarried words marks Owed v d → IsCarried words after Due v d
 carried_as words marks after Owed Due v d same owed c = record {
   dist = c.dist;
   pred = c.pred;
@@ -97,7 +97,7 @@ module _ (P : ℕ) (st : Stage) (stage : IsStage P st) where
       let tree : IsTreeWord st.graph st.source v (before v) = settled v least.0 least.1 (omega arith) (omega arith) in
       sym (word_stays P st before after falls lawful v tree) ∙ is
 
-  pub final_falls : (light heavy : ℕ) (before after : Table) (marks : List Mark) → Falls before after → ((v : ℕ) → IsKnownWord (law_of P st) v (after v)) → IsFinal P st light heavy before marks → IsFinal P st light heavy after marks
+  pub final_falls : (light heavy : ℕ) (before after : Table) (marks : List LeaderMark) → Falls before after → ((v : ℕ) → IsKnownWord (law_of P st) v (after v)) → IsFinal P st light heavy before marks → IsFinal P st light heavy after marks
   final_falls light heavy before after marks falls lawful f = record {
     order = f.order;
     settled = settled_stays P st before after falls lawful light f.settled;
@@ -105,7 +105,7 @@ module _ (P : ℕ) (st : Stage) (stage : IsStage P st) where
     heavy_below = λ v d p at is below. f.heavy_below v d p at (known_before before after falls lawful light f.settled v d p is (let o = f.order in omega arith)) below;
   }
 
-  pub final_same : (light heavy : ℕ) (words : Table) (marks after : List Mark) → length marks ≡ st.graph.n → SameDistances marks after → IsFinal P st light heavy words marks → IsFinal P st light heavy words after
+  pub final_same : (light heavy : ℕ) (words : Table) (marks after : List LeaderMark) → length marks ≡ st.graph.n → SameDistances marks after → IsFinal P st light heavy words marks → IsFinal P st light heavy words after
   final_same light heavy words marks after size same f = record {
     order = f.order;
     settled = f.settled;
@@ -114,7 +114,7 @@ module _ (P : ℕ) (st : Stage) (stage : IsStage P st) where
   }
 
 -- less is asked of a run that has come less far
-pub final_less : (P : ℕ) (st : Stage) (light heavy low : ℕ) (words : Table) (marks : List Mark) → low ≤ heavy → IsFinal P st light heavy words marks → IsFinal P st low low words marks
+pub final_less : (P : ℕ) (st : Stage) (light heavy low : ℕ) (words : Table) (marks : List LeaderMark) → low ≤ heavy → IsFinal P st light heavy words marks → IsFinal P st low low words marks
 final_less P st light heavy low words marks le f =
     let o : heavy ≤ light = f.order in
     record {

@@ -4,10 +4,10 @@ use Rattle.std.proofs.lemmas.Bool.{cases_lt}
 use Rattle.sp_word.specs.Word.{Word, Unreached, Pair, Fits, max_dist}
 use Rattle.sp_word.specs.History.{Table}
 use Rattle.sp_paths.specs.Paths.{Graph, IsGraph, IsVertex, HasArc, HasWalk, HasWalkBy, IsLeast, IsPredecessor, IsTreePair, IsLawful, IsTreeWord, IsAtMost}
-use Rattle.sp_paths.proofs.Walks.{arc_in, walk_none, walk_from_by, walk_by_parts, walk_cases, walk_more}
+use Rattle.sp_paths.proofs.Walks.{arc_in, walk_from_by, walk_by_parts, walk_cases, walk_more}
 use Rattle.sp_offer.specs.Order.{IsKnownWord, IsNoMore}
 use Rattle.sp_offer.proofs.Orders.{at_most-both}
-use Rattle.sp_store.specs.declared.marks.Mark.{Mark}
+use Rattle.sp_store.specs.declared.marks.LeaderMark.{LeaderMark}
 use Rattle.sp_store.specs.Stage.{Stage, law_of, Falls}
 use Rattle.sp_store.specs.Rounds.{IsRunning}
 use Rattle.sp_solve.proofs.WholeRun.{lawful_walk}
@@ -31,7 +31,7 @@ zero_stays (Pair d p) b is le =
     ⊎_elim (λ (k : d < 0). absurd (omega arith)) (λ (k : (d ≡ 0) × (p ≤ 0)). let one = k.0 in let two : p ≡ 0 = (let low' = k.1 in omega arith) in λ i. Pair (one i) (two i)) low
 
 -- a run goes on as more becomes known
-pub running_falls : (P : ℕ) (st : Stage) (before after : Table) (marks : List Mark) → Falls before after → ((v : ℕ) → IsKnownWord (law_of P st) v (after v)) → IsRunning P st before marks → IsRunning P st after marks
+pub running_falls : (P : ℕ) (st : Stage) (before after : Table) (marks : List LeaderMark) → Falls before after → ((v : ℕ) → IsKnownWord (law_of P st) v (after v)) → IsRunning P st before marks → IsRunning P st after marks
 running_falls P st before after marks falls lawful run = record {
   source = zero_stays (after st.source) (before st.source) run.source (falls st.source);
   lawful = lawful;

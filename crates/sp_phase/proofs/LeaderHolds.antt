@@ -17,7 +17,7 @@ use Rattle.sp_bucket.proofs.EntryPlaces.{All-before, All-behind}
 use Rattle.sp_task.specs.declared.task.TaskKind.{TaskKind}
 use Rattle.sp_task.specs.declared.task.Task.{Task}
 use Rattle.sp_task.specs.Left.{RoundDone}
-use Rattle.sp_store.specs.declared.marks.Mark.{Mark}
+use Rattle.sp_store.specs.declared.marks.LeaderMark.{LeaderMark}
 use Rattle.sp_store.specs.Stage.{Stage, IsStage, Learns, law_of, rows_of}
 use Rattle.sp_store.specs.Marks.{Noted, no_mark, mark_of, light_at, heavy_at, SameDistances, Remembers}
 use Rattle.sp_store.specs.Rounds.{IsRunning, IsDue, KeepsRunning}
@@ -42,7 +42,7 @@ remember_more : (n v : ℕ) (before after : Noted) → IsVertex n v → Remember
 remember_more n v before after at (inl same) all = subst (λ xs. All (IsVertex n) xs) (sym same) all
 remember_more n v before after at (inr more) all = subst (λ xs. All (IsVertex n) xs) (sym more) (All-push (IsVertex n) before.remembered v all at)
 
-same_distances : (P : ℕ) (st : Stage) (words : Table) (before after : List Mark) → IsGraph st.graph → SameDistances before after → IsRunning P st words before → IsRunning P st words after
+same_distances : (P : ℕ) (st : Stage) (words : Table) (before after : List LeaderMark) → IsGraph st.graph → SameDistances before after → IsRunning P st words before → IsRunning P st words after
 same_distances P st words before after gr same run =
     running_same P st words before after gr same.0 (λ u at. same.1 u (subst (λ k. IsVertex k u) (sym run.size) at)) run
 

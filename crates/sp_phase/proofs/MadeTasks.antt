@@ -11,7 +11,7 @@ use Rattle.sp_offer.specs.Story.{Knowledge, known_table}
 use Rattle.sp_task.specs.declared.task.TaskKind.{TaskKind}
 use Rattle.sp_task.specs.declared.task.TaskKind.TheVariants.{Light, Heavy}
 use Rattle.sp_task.specs.declared.task.Task.{Task}
-use Rattle.sp_store.specs.declared.marks.Mark.{Mark}
+use Rattle.sp_store.specs.declared.marks.LeaderMark.{LeaderMark}
 use Rattle.sp_store.specs.Stage.{Stage, Learns, law_of}
 use Rattle.sp_store.specs.Marks.{Noted, SameDistances, is_remembered, Enters, Forgets}
 use Rattle.sp_store.specs.Rounds.{HasTask, IsDue}
@@ -55,7 +55,7 @@ module _ (P : ℕ) (st : Stage) where
   -- no task, and the same is remembered
   pub light_none : (c c' : Knowledge) (m m' : Noted) → Learns P st c c' → m'.each ≡ m.each → m'.remembered ≡ m.remembered → MakesLight P st c c' m m' []
   light_none c c' m m' learns same list =
-      let S : List Mark → Type 0 = λ ms. SameDistances m.each ms in
+      let S : List LeaderMark → Type 0 = λ ms. SameDistances m.each ms in
       record {
         makes = makes_none Light c c' m m' learns (subst S (sym same) (same_refl m.each));
         grows = λ v h. subst (λ r. Contains r v) (sym list) h;
@@ -102,9 +102,9 @@ module _ (P : ℕ) (st : Stage) where
 
   pub hands_none : (c : Knowledge) (m m' : Noted) (vertices : List ℕ) → ((v : ℕ) → IsKnownWord (law_of P st) v (known_table c.story v)) → m'.each ≡ m.each → vertices ≡ m.remembered → HandsSome P st c c m m' [] vertices 0
   hands_none c m m' vertices lawful same is =
-      let S : List Mark → Type 0 = λ ms. SameDistances m.each ms in
-      let F : List Mark → Type 0 = λ ms. (v : ℕ) → IsVertex st.graph.n v → is_remembered ms v ≡ true → IsFrom vertices 0 v in
-      let C : List Mark → Type 0 = λ ms. AreCarried st.graph.n (known_table c.story) ms (λ v. IsFrom vertices 0 v ⊎ ((d : ℕ) × HasTask [] Heavy v d)) in
+      let S : List LeaderMark → Type 0 = λ ms. SameDistances m.each ms in
+      let F : List LeaderMark → Type 0 = λ ms. (v : ℕ) → IsVertex st.graph.n v → is_remembered ms v ≡ true → IsFrom vertices 0 v in
+      let C : List LeaderMark → Type 0 = λ ms. AreCarried st.graph.n (known_table c.story) ms (λ v. IsFrom vertices 0 v ⊎ ((d : ℕ) × HasTask [] Heavy v d)) in
       let from : (v : ℕ) → Contains m.remembered v → IsFrom vertices 0 v = λ v h. from_contains vertices v (subst (λ xs. Contains xs v) (sym is) h) in
       record {
         makes = makes_none Heavy c c m m' (learns_none P st c lawful) (subst S (sym same) (same_refl m.each));

@@ -14,7 +14,7 @@ use Rattle.sp_task.specs.declared.task.TaskKind.{TaskKind}
 use Rattle.sp_task.specs.declared.task.TaskKind.TheVariants.{Light, Heavy}
 use Rattle.sp_task.specs.declared.task.Task.{Task}
 use Rattle.sp_task.specs.Left.{RoundDone}
-use Rattle.sp_store.specs.declared.marks.Mark.{Mark}
+use Rattle.sp_store.specs.declared.marks.LeaderMark.{LeaderMark}
 use Rattle.sp_store.specs.Stage.{Stage, IsStage, Falls, Learns, law_of, rows_of}
 use Rattle.sp_store.specs.Marks.{Noted, light_at, heavy_at, SameDistances, is_remembered}
 use Rattle.sp_store.specs.Rounds.{HasTask, IsMarkedBy, AreMarked}
@@ -90,7 +90,7 @@ module _ (P : ℕ) (st : Stage) (stage : IsStage P st) (first last : Table) (tas
   marked_at bound settled kind v d p before after is below was (inl (e, there, at)) = at ∙ ap (λ x. Some x) (on_time bound settled kind v e d p there is below)
   marked_at bound settled kind v d p before after is below was (inr stays) = stays.0 ∙ was
 
-  pub final_marked : (light heavy : ℕ) (marks after : List Mark) → length marks ≡ st.graph.n → IsSettled st.graph st.source (max_dist P) light first → AreMarked tasks marks after → IsFinal P st light heavy last marks → IsFinal P st light heavy last after
+  pub final_marked : (light heavy : ℕ) (marks after : List LeaderMark) → length marks ≡ st.graph.n → IsSettled st.graph st.source (max_dist P) light first → AreMarked tasks marks after → IsFinal P st light heavy last marks → IsFinal P st light heavy last after
   final_marked light heavy marks after size settled done f =
       let there : (v : ℕ) → IsVertex st.graph.n v → IsVertex (length marks) v = λ v at. subst (λ n. IsVertex n v) (sym size) at in
       let o : heavy ≤ light = f.order in

@@ -9,7 +9,7 @@ use Rattle.sp_bins.specs.declared.entry.Entry.{Entry}
 use Rattle.sp_task.specs.declared.task.TaskKind.{TaskKind}
 use Rattle.sp_task.specs.declared.task.TaskKind.TheVariants.{Light, Heavy}
 use Rattle.sp_task.specs.declared.task.Task.{Task}
-use Rattle.sp_store.specs.declared.marks.Mark.{Mark}
+use Rattle.sp_store.specs.declared.marks.LeaderMark.{LeaderMark}
 use Rattle.sp_store.specs.Stage.{Stage, Falls, Learns, law_of}
 use Rattle.sp_store.specs.Marks.{Noted, light_at, heavy_at, SameDistances, is_remembered, Forgets}
 use Rattle.sp_store.specs.Rounds.{IsDue, IsRoundOf, HasTask, AreMarked}
@@ -20,14 +20,14 @@ use Rattle.sp_phase.specs.Running.{HasPut, EntriesFrom}
 
 -- The light arcs of the vertex were relaxed at d, so its known word is at most d. If the known distance is d itself,
 -- its heavy arcs were relaxed there too, or are owed.
-pub record IsCarried (words : Table) (marks : List Mark) (Owed : ℕ → Type 0) (v d : ℕ) : Type 0 where
+pub record IsCarried (words : Table) (marks : List LeaderMark) (Owed : ℕ → Type 0) (v d : ℕ) : Type 0 where
   pub dist : ℕ
   pub pred : ℕ
   pub word : words v ≡ Pair dist pred
   pub within : dist ≤ d
   pub heavy : dist ≡ d → (heavy_at marks v ≡ Some d) ⊎ Owed v
 
-abbrev pub AreCarried : (n : ℕ) → Table → List Mark → (Owed : ℕ → Type 0) → Type 0
+abbrev pub AreCarried : (n : ℕ) → Table → List LeaderMark → (Owed : ℕ → Type 0) → Type 0
 AreCarried n words marks Owed = (v d : ℕ) → IsVertex n v → light_at marks v ≡ Some d → IsCarried words marks Owed v d
 
 -- The vertices that are remembered are owed their heavy arcs.
@@ -37,7 +37,7 @@ pub record OwesHeavy (n : ℕ) (words : Table) (m : Noted) : Type 0 where
 
 -- The words known below `light` are final and were relaxed light there; those known below `heavy` were relaxed heavy
 -- too.
-pub record IsFinal (P : ℕ) (st : Stage) (light heavy : ℕ) (words : Table) (marks : List Mark) : Type 0 where
+pub record IsFinal (P : ℕ) (st : Stage) (light heavy : ℕ) (words : Table) (marks : List LeaderMark) : Type 0 where
   pub order : heavy ≤ light
   pub settled : IsSettled st.graph st.source (max_dist P) light words
   pub light_below : (v d p : ℕ) → IsVertex st.graph.n v → words v ≡ Pair d p → d < light → light_at marks v ≡ Some d

@@ -3,7 +3,7 @@ use Rattle.std.specs.Prelude.{List, []}
 use Rattle.sp_word.specs.Word.{Word}
 use Rattle.sp_offer.specs.Story.{Knowledge}
 use Rattle.sp_bucket.specs.Content.{Content}
-use Rattle.sp_store.specs.declared.marks.Marks.{Marks}
+use Rattle.sp_store.specs.declared.marks.LeaderMarks.{LeaderMarks}
 use Rattle.sp_store.specs.Stage.{Stage}
 use Rattle.sp_store.specs.Marks.{Noted, notes_of}
 
@@ -16,7 +16,7 @@ pub record Lead : Type 0 where
   pub buckets : Content
   pub words : List Word
 
-abbrev pub lead_of : Stage → Knowledge → Marks → Content → List Word → Lead
+abbrev pub lead_of : Stage → Knowledge → LeaderMarks → Content → List Word → Lead
 lead_of st c m b words = record { stage = st; caller = c; marks = notes_of m; buckets = b; words = words }
 
 -- Nothing is remembered any more.

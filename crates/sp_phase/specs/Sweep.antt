@@ -8,34 +8,34 @@ use Rattle.sp_offer.specs.Order.{IsKnownWord, IsNoMore}
 use Rattle.sp_offer.specs.Story.{Knowledge, known_table}
 use Rattle.sp_answer.specs.Table.{TreeTable, table_of}
 use Rattle.sp_bins.specs.declared.entry.Entry.{Entry}
-use Rattle.sp_store.specs.declared.marks.Mark.{Mark}
+use Rattle.sp_store.specs.declared.marks.LeaderMark.{LeaderMark}
 use Rattle.sp_store.specs.Stage.{Stage, IsStage, Learns, law_of}
 use Rattle.sp_store.specs.Marks.{mark_of, light_at, heavy_at}
 use Rattle.sp_phase.specs.declared.sweeping.Bounds.{Bounds}
 use Rattle.sp_phase.specs.Lead.{Lead}
 
 -- The mark says that the vertex was relaxed at the distance d, if that is below the bounds.
-abbrev pub IsMarkedAt : Mark → Bounds → (d : ℕ) → Type 0
+abbrev pub IsMarkedAt : LeaderMark → Bounds → (d : ℕ) → Type 0
 IsMarkedAt m b d = (d < b.light → m.light ≡ Some d) × (d < b.heavy → m.heavy ≡ Some d)
 
-abbrev pub IsRelaxedAtDist : List Mark → Bounds → (u d : ℕ) → Type 0
+abbrev pub IsRelaxedAtDist : List LeaderMark → Bounds → (u d : ℕ) → Type 0
 IsRelaxedAtDist marks b u d = IsMarkedAt (mark_of marks u) b d
 
 -- This holds for each of the first n vertices at the distance of its word.
-abbrev pub AreRelaxed : List Word → List Mark → Bounds → (n : ℕ) → Type 0
+abbrev pub AreRelaxed : List Word → List LeaderMark → Bounds → (n : ℕ) → Type 0
 AreRelaxed words marks b n = (u d p : ℕ) → IsVertex n u → word_at words u ≡ Pair d p → IsRelaxedAtDist marks b u d
 
 -- This holds for the vertex at the distance of its word.
-abbrev pub IsRelaxedHere : List Word → List Mark → Bounds → (u : ℕ) → Type 0
+abbrev pub IsRelaxedHere : List Word → List LeaderMark → Bounds → (u : ℕ) → Type 0
 IsRelaxedHere words marks b u = (d p : ℕ) → word_at words u ≡ Pair d p → IsRelaxedAtDist marks b u d
 
 -- The entry's vertex has its distance, and wasn't relaxed there.
-abbrev pub IsOpen : List Word → List Mark → Bounds → Entry → Type 0
+abbrev pub IsOpen : List Word → List LeaderMark → Bounds → Entry → Type 0
 IsOpen words marks b e = IsVertex (length words) e.vertex × ((p : ℕ) × (word_at words e.vertex ≡ Pair e.dist p)) × (IsRelaxedAtDist marks b e.vertex e.dist → ⊥)
 
 -- This is a copy of all words. It is lawful, at most what was known when the marks were made, and at least what the
 -- caller knows now, which is lawful too.
-pub record IsCopied (P : ℕ) (st : Stage) (c : Knowledge) (marks : List Mark) (copy : List Word) : Type 0 where
+pub record IsCopied (P : ℕ) (st : Stage) (c : Knowledge) (marks : List LeaderMark) (copy : List Word) : Type 0 where
   pub words : Table
   pub of : IsMarkedCopy st.graph st.source (max_dist P) st.delta words (word_at copy) (light_at marks) (heavy_at marks)
   pub size : length copy ≡ st.graph.n
@@ -44,7 +44,7 @@ pub record IsCopied (P : ℕ) (st : Stage) (c : Knowledge) (marks : List Mark) (
   pub lawful : (v : ℕ) → IsKnownWord (law_of P st) v (known_table c.story v)
 
 -- No vertex is open in it.
-abbrev pub IsSwept : (P : ℕ) → Stage → Knowledge → List Mark → List Word → Type 0
+abbrev pub IsSwept : (P : ℕ) → Stage → Knowledge → List LeaderMark → List Word → Type 0
 IsSwept P st c marks copy = IsCopied P st c marks copy × HasNoOpen st.graph (word_at copy) (light_at marks) (heavy_at marks)
 
 -- This holds for the leader's copy.

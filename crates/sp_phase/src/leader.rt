@@ -10,7 +10,7 @@ ghost use Rattle.sp_phase.specs.Behind.{HasCome, Reads};
 use sp_bucket::{Buckets, Entry};
 use sp_claim::Claimer;
 use sp_offer::Caller;
-use sp_store::{Marks, Store};
+use sp_store::{LeaderMarks, Store};
 use sp_word::{Word, Workers};
 use std::alloc::{AllocError, Global};
 use std::marker::Model;
@@ -27,7 +27,7 @@ pub(crate) struct Leader<'a, 'g, const P: u32> {
     pub(crate) workers: Workers,
     pub(crate) caller: Caller,
     pub(crate) claimer: Claimer,
-    pub(crate) marks: Marks,
+    pub(crate) marks: LeaderMarks,
     pub(crate) buckets: Buckets,
     /// Room for a copy of all words.
     pub(crate) words: Vec<Word<P>>,
@@ -71,7 +71,7 @@ impl<'a, 'g, const P: u32> Leader<'a, 'g, P> {
             vertex: store.source(),
             dist: 0,
         })?;
-        let marks = Marks::new(alloc, n)?;
+        let marks = LeaderMarks::new(alloc, n)?;
         let words = vec![in alloc; Word::unreached(); n as usize]?;
         store.open(&mut caller);
         Ok(Leader {

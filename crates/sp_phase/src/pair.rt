@@ -7,9 +7,8 @@ ghost use Rattle.sp_phase.specs.Pairs.{IsPairAnswer, IsPairRefusal, KnowsTarget}
 
 use crate::advancing::Until;
 use crate::leader::Leader;
-use sp_claim::Claimer;
+use crate::run::RunStart;
 use sp_graph::{Graph, left_out, look_up};
-use sp_offer::Caller;
 use sp_paths::swept_copy;
 use sp_store::{RunError, Store};
 use sp_task::{Gate, OpenGate};
@@ -77,11 +76,16 @@ pub fn run_pair_with<const P: u32, R: Threads + Wait + Sync, G: Gate + Sync>(
     ensures pair { IfOk result (IsPairAnswer P graph.now source target) }
     ensures refused { IfErr result (IsPairRefusal P graph.now source target) }
 {
-    if target < 1 || target > graph.n() {
+    if !graph.has_vertex(target) {
         return Err(RunError::NoSuchVertex);
     }
     let (store, caller, claimer) = Store::new(alloc, graph, delta, source)?;
-    run_stored_pair(rt, alloc, &store, caller, claimer, workers, target, gate)
+    let start = RunStart {
+        caller,
+        claimer,
+        workers,
+    };
+    run_stored_pair(rt, alloc, &store, start, target, gate)
 }
 
 // Runs over a store, for one target.
@@ -89,23 +93,21 @@ fn run_stored_pair<const P: u32, R: Threads + Wait + Sync, G: Gate + Sync>(
     rt: &R,
     alloc: Global,
     store: &Store<P>,
-    caller: Caller,
-    claimer: Claimer,
-    workers: Workers,
+    start: RunStart,
     target: u32,
     gate: &G,
 ) -> Result<Option<Word<P>>, RunError>
-    requires caller { caller.table ≡ store.now.table }
-    requires claimer { claimer.table ≡ store.now.claims }
+    requires caller { start.caller.table ≡ store.now.table }
+    requires claimer { start.claimer.table ≡ store.now.claims }
     requires stage { IsStage P store.now }
     requires target { IsVertex store.now.graph.n target }
     ensures pair { IfOk result (IsPairAnswer P store.now.graph store.now.source target) }
     ensures refused { IfErr result (IsPairRefusal P store.now.graph store.now.source target) }
 {
-    let Ok(leader) = Leader::new(alloc, store, caller, claimer) else {
+    let Ok(leader) = Leader::new(alloc, store, start.caller, start.claimer) else {
         return Err(RunError::Memory);
     };
-    let leader = leader.with_workers(workers);
+    let leader = leader.with_workers(start.workers);
     match leader.advance(rt, gate, Until::Final(target)) {
         Err(_) => Err(RunError::Memory),
         Ok(settled) => settled.leader.pair_answer(target),

@@ -12,7 +12,7 @@ ghost use Rattle.sp_phase.specs.Behind.{HasRun, PreparesLight, GivesHeavy, Keeps
 
 use crate::leader::Leader;
 use sp_bucket::{Buckets, Entry};
-use sp_store::Crew;
+use sp_store::RoundTeam;
 use sp_task::{Gate, Task, TaskKind};
 use std::alloc::AllocError;
 use std::sync::Wait;
@@ -61,7 +61,7 @@ impl<'a, 'g, const P: u32> Leader<'a, 'g, P> {
             mut buckets,
             words,
         } = self;
-        let crew = Crew {
+        let team = RoundTeam {
             alloc,
             number: marks.round,
             workers,
@@ -69,7 +69,7 @@ impl<'a, 'g, const P: u32> Leader<'a, 'g, P> {
             claimer,
         };
         let list = tasks.as_slice();
-        let out = store.relax_tasks(rt, gate, list, crew)?;
+        let out = store.relax_tasks(rt, gate, list, team)?;
         marks.write(list);
         put_all(&mut buckets, out.found.as_slice())?;
         Ok(Leader {

@@ -21,6 +21,14 @@ use std::marker::Model;
 use std::sync::Wait;
 use std::thread::Threads;
 
+/// What a run begins with: the first caller and the first claimer of its store, and its workers.
+#[derive(Drop)]
+pub(crate) struct RunStart {
+    pub caller: Caller,
+    pub claimer: Claimer,
+    pub workers: Workers,
+}
+
 /// A run of delta-stepping from a store's source. A run that failed is spent.
 ///
 /// Contracts see the store's stage, the caller, unless the run is spent, and how far the run has come.
@@ -148,7 +156,8 @@ impl<'a, 'g, const P: u32> Run<'a, 'g, P> {
         }
     }
 
-    /// Reads the word of a vertex by the run's caller. What `settle` returned stays true.
+    /// Reads the word of a vertex by the run's caller. What `settle` returned stays true: a pair whose distance lies
+    /// below the end of a bucket that it returned is the vertex's word in the tree.
     pub fn read(&mut self, vertex: u32) -> Word<P>
         requires vertex { IsVertex self.old.stage.graph.n vertex }
         requires unspent { IsUnspent self.old }

@@ -3,11 +3,9 @@ ghost use Rattle.std.specs.Prelude.{◌≡◌, ◌≤◌, true, IfOk, IfErr};
 ghost use Rattle.sp_word.specs.Word.{is_layout, max_pred};
 ghost use Rattle.sp_answer.specs.Answer.{IsAnswer, IsRefusal};
 
-use crate::run::Run;
+use crate::run::{Run, RunStart};
 use sp_answer::Tree;
-use sp_claim::Claimer;
 use sp_graph::Graph;
-use sp_offer::Caller;
 use sp_store::{RunError, Store};
 use sp_task::Gate;
 use sp_word::{Delta, Workers};
@@ -32,7 +30,12 @@ pub fn run_source_with<const P: u32, R: Threads + Wait + Sync, G: Gate + Sync>(
     ensures refused { IfErr result (IsRefusal P graph.now source) }
 {
     let (store, caller, claimer) = Store::new(alloc, graph, delta, source)?;
-    run_stored(rt, alloc, &store, caller, claimer, workers, gate)
+    let start = RunStart {
+        caller,
+        claimer,
+        workers,
+    };
+    run_stored(rt, alloc, &store, start, gate)
 }
 
 // Runs over a store to the end.
@@ -40,18 +43,16 @@ fn run_stored<const P: u32, R: Threads + Wait + Sync, G: Gate + Sync>(
     rt: &R,
     alloc: Global,
     store: &Store<P>,
-    caller: Caller,
-    claimer: Claimer,
-    workers: Workers,
+    start: RunStart,
     gate: &G,
 ) -> Result<Tree<P>, RunError>
-    requires caller { caller.table ≡ store.now.table }
-    requires claimer { claimer.table ≡ store.now.claims }
+    requires caller { start.caller.table ≡ store.now.table }
+    requires claimer { start.claimer.table ≡ store.now.claims }
     ensures tree { IfOk result (IsAnswer P store.now.graph store.now.source) }
     ensures refused { IfErr result (IsRefusal P store.now.graph store.now.source) }
 {
     let _ = store.n();
-    let run = Run::begin(alloc, store, caller, claimer, workers)?;
+    let run = Run::begin(alloc, store, start.caller, start.claimer, start.workers)?;
     let done = run.finish(rt, gate)?;
     Ok(done.0)
 }

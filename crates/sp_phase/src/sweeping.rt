@@ -11,7 +11,7 @@ use crate::rounds::{push_some, put_all};
 use sp_bucket::Entry;
 use sp_graph::look_up;
 use sp_paths::swept_copy;
-use sp_store::Mark;
+use sp_store::LeaderMark;
 use sp_word::Word;
 use std::alloc::{AllocError, Global};
 
@@ -23,7 +23,7 @@ pub(crate) struct Bounds {
 }
 
 // Returns whether a vertex was relaxed at its distance.
-fn is_relaxed(dist: u64, mark: &Mark, bounds: Bounds) -> bool
+fn is_relaxed(dist: u64, mark: &LeaderMark, bounds: Bounds) -> bool
     ensures { IsTrue result ↔ IsMarkedAt mark.now bounds dist }
 {
     (dist >= bounds.light || mark.light == Some(dist))
@@ -31,7 +31,7 @@ fn is_relaxed(dist: u64, mark: &Mark, bounds: Bounds) -> bool
 }
 
 // Returns the mark of a vertex.
-fn mark_of(marks: &[Mark], vertex: u32) -> Mark
+fn mark_of(marks: &[LeaderMark], vertex: u32) -> LeaderMark
     requires { IsVertex (length marks.now) vertex }
     ensures { result ≡ mark_of marks.now vertex }
 {
@@ -39,7 +39,7 @@ fn mark_of(marks: &[Mark], vertex: u32) -> Mark
 }
 
 // Returns the entry of a vertex that wasn't relaxed at this distance.
-fn open_at(vertex: u32, dist: u64, mark: &Mark, bounds: Bounds) -> Option<Entry>
+fn open_at(vertex: u32, dist: u64, mark: &LeaderMark, bounds: Bounds) -> Option<Entry>
     ensures none { IfNone result (IsMarkedAt mark.now bounds dist) }
     ensures is { IfSome result (λ e. e ≡ record { vertex = vertex; dist = dist }) }
     ensures open { IfSome result (λ _. IsMarkedAt mark.now bounds dist → ⊥) }
@@ -54,7 +54,7 @@ fn open_at(vertex: u32, dist: u64, mark: &Mark, bounds: Bounds) -> Option<Entry>
 // Returns the entry of a vertex that wasn't relaxed at its distance.
 fn open_entry<const P: u32>(
     words: &[Word<P>],
-    marks: &[Mark],
+    marks: &[LeaderMark],
     bounds: Bounds,
     vertex: u32,
 ) -> Option<Entry>
@@ -75,7 +75,7 @@ fn open_entry<const P: u32>(
 fn open_entries<const P: u32>(
     alloc: Global,
     words: &[Word<P>],
-    marks: &[Mark],
+    marks: &[LeaderMark],
     bounds: Bounds,
 ) -> Result<Vec<Entry>, AllocError>
     requires size { length words.now ≡ length marks.now }

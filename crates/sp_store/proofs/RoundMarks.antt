@@ -8,7 +8,7 @@ use Rattle.sp_paths.specs.Paths.{IsVertex}
 use Rattle.sp_task.specs.declared.task.TaskKind.{TaskKind}
 use Rattle.sp_task.specs.declared.task.TaskKind.TheVariants.{Light, Heavy}
 use Rattle.sp_task.specs.declared.task.Task.{Task}
-use Rattle.sp_store.specs.declared.marks.Mark.{Mark}
+use Rattle.sp_store.specs.declared.marks.LeaderMark.{LeaderMark}
 use Rattle.sp_store.specs.Marks.{mark_of, light_at, heavy_at, with_task, marks_with, is_remembered}
 use Rattle.sp_store.specs.Rounds.{HasTask, IsMarkedBy, AreMarked}
 use Rattle.sp_store.proofs.TaskMarks.{mark_here, mark_other, task_of}
@@ -37,8 +37,8 @@ light_heavy e = cc
 pub heavy_light : Heavy ≡ Light → ⊥
 heavy_light e = cc
 
-module _ (ts : List Task) (before now : List Mark) (done : AreMarked ts before now) (v d : ℕ) (at : IsVertex (length now) v) where
-  abbrev then : TaskKind → List Mark
+module _ (ts : List Task) (before now : List LeaderMark) (done : AreMarked ts before now) (v d : ℕ) (at : IsVertex (length now) v) where
+  abbrev then : TaskKind → List LeaderMark
   then kind = marks_with now (task_of kind v d)
 
   light_then : (kind : TaskKind) (u : ℕ) → IsVertex (length before) u → (u ≡ v) ⊎ (u ≡ v → ⊥) → IsMarkedBy (ts ++ task_of kind v d ∷ []) Light u (light_at before u) (light_at (then kind) u)
@@ -63,7 +63,7 @@ module _ (ts : List Task) (before now : List Mark) (done : AreMarked ts before n
       (ap (λ m. m.heavy) (mark_other now v u (with_task kind d (mark_of now v)) at.0 there.0 ne))
       (vertex_differs (task_of kind v d) Heavy u ne) (done.heavy u there)
 
-  with_remembered : (kind : TaskKind) (m : Mark) → (with_task kind d m).remembered ≡ m.remembered
+  with_remembered : (kind : TaskKind) (m : LeaderMark) → (with_task kind d m).remembered ≡ m.remembered
   with_remembered Light m = refl
   with_remembered Heavy m = refl
 
@@ -83,7 +83,7 @@ module _ (ts : List Task) (before now : List Mark) (done : AreMarked ts before n
 no_task : (t : Task) → Contains [] t → ⊥
 no_task t there = let low = there.1 in omega arith
 
-pub marked_none : (before : List Mark) → AreMarked [] before before
+pub marked_none : (before : List LeaderMark) → AreMarked [] before before
 marked_none before = record {
   size = refl;
   light = λ v at. inr (refl, λ d there. no_task (task_of Light v d) there);
@@ -91,9 +91,9 @@ marked_none before = record {
   remembered = λ v at. refl;
 }
 
-pub marked_more : (tasks : List Task) (i : ℕ) (none t : Task) (before now after : List Mark) → i < length tasks → get_or tasks i none ≡ t → IsVertex (length now) t.vertex → after ≡ marks_with now t → AreMarked (take i tasks) before now → AreMarked (take (i + 1) tasks) before after
+pub marked_more : (tasks : List Task) (i : ℕ) (none t : Task) (before now after : List LeaderMark) → i < length tasks → get_or tasks i none ≡ t → IsVertex (length now) t.vertex → after ≡ marks_with now t → AreMarked (take i tasks) before now → AreMarked (take (i + 1) tasks) before after
 marked_more tasks i none t before now after inside is at by done =
     let M : List Task → Type 0 = λ ts. AreMarked ts before (marks_with now t) in
-    let N : List Mark → Type 0 = λ ms. AreMarked (take (i + 1) tasks) before ms in
+    let N : List LeaderMark → Type 0 = λ ms. AreMarked (take (i + 1) tasks) before ms in
     let grown : take (i + 1) tasks ≡ take i tasks ++ t ∷ [] = take_more tasks i none inside ∙ ap (λ x. take i tasks ++ x ∷ []) is in
     subst N (sym by) (subst M (sym grown) (marked_push (take i tasks) before now done t.vertex t.dist at t.kind))

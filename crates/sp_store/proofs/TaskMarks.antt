@@ -12,16 +12,16 @@ use Rattle.sp_paths.proofs.RowSteps.{rows_hold_arcs}
 use Rattle.sp_task.specs.declared.task.TaskKind.{TaskKind}
 use Rattle.sp_task.specs.declared.task.TaskKind.TheVariants.{Light, Heavy}
 use Rattle.sp_task.specs.declared.task.Task.{Task}
-use Rattle.sp_store.specs.declared.marks.Mark.{Mark}
+use Rattle.sp_store.specs.declared.marks.LeaderMark.{LeaderMark}
 use Rattle.sp_store.specs.Stage.{Stage}
 use Rattle.sp_store.specs.Marks.{no_mark, mark_of, light_at, heavy_at, with_task, marks_with}
 use Rattle.sp_store.specs.Rounds.{IsRunning, IsDone}
 
 -- the mark of a vertex after a write
-pub mark_here : (marks : List Mark) (v u : ℕ) (m : Mark) → IsVertex (length marks) v → u ≡ v → mark_of (set marks (v - 1) m) u ≡ m
+pub mark_here : (marks : List LeaderMark) (v u : ℕ) (m : LeaderMark) → IsVertex (length marks) v → u ≡ v → mark_of (set marks (v - 1) m) u ≡ m
 mark_here marks v u m at same = ap (λ x. get_or (set marks (v - 1) m) (x - 1) no_mark) same ∙ get_or-set_same marks (v - 1) m no_mark (let h = at in omega arith)
 
-pub mark_other : (marks : List Mark) (v u : ℕ) (m : Mark) → 1 ≤ v → 1 ≤ u → (u ≡ v → ⊥) → mark_of (set marks (v - 1) m) u ≡ mark_of marks u
+pub mark_other : (marks : List LeaderMark) (v u : ℕ) (m : LeaderMark) → 1 ≤ v → 1 ≤ u → (u ≡ v → ⊥) → mark_of (set marks (v - 1) m) u ≡ mark_of marks u
 mark_other marks v u m at there ne = get_or-set_other marks (v - 1) (u - 1) m no_mark (λ same. ne (omega arith))
 
 pub some_same : (a b : ℕ) → Some a ≡ Some b → a ≡ b
@@ -41,7 +41,7 @@ module _ (P : ℕ) (st : Stage) (words : Table) (u d : ℕ) where
       All-contains (IsArcRelaxed (max_dist P) words d) (heavy_of st.graph.arcs st.delta u) (record { tail = u; head = v; len = l }) done (((rows_hold_arcs st.graph st.delta).heavy u v l).0 (a, long)) fits
 
 -- marks that agree on the distances
-pub running_same : (P : ℕ) (st : Stage) (words : Table) (marks after : List Mark) → IsGraph st.graph → length after ≡ length marks
+pub running_same : (P : ℕ) (st : Stage) (words : Table) (marks after : List LeaderMark) → IsGraph st.graph → length after ≡ length marks
     → ((u : ℕ) → IsVertex st.graph.n u → (light_at after u ≡ light_at marks u) × (heavy_at after u ≡ heavy_at marks u)) → IsRunning P st words marks → IsRunning P st words after
 running_same P st words marks after gr size same run = record {
   source = run.source;
@@ -54,8 +54,8 @@ running_same P st words marks after gr size same run = record {
 }
 
 -- a task that is done is marked
-module _ (P : ℕ) (st : Stage) (words : Table) (marks : List Mark) (t d : ℕ) (gr : IsGraph st.graph) (run : IsRunning P st words marks) (at : IsVertex (length marks) t) where
-  abbrev after : TaskKind → List Mark
+module _ (P : ℕ) (st : Stage) (words : Table) (marks : List LeaderMark) (t d : ℕ) (gr : IsGraph st.graph) (run : IsRunning P st words marks) (at : IsVertex (length marks) t) where
+  abbrev after : TaskKind → List LeaderMark
   after kind = marks_with marks (task_of kind t d)
 
   here : (kind : TaskKind) (u : ℕ) → u ≡ t → mark_of (after kind) u ≡ with_task kind d (mark_of marks t)

@@ -13,7 +13,7 @@ use Rattle.sp_task.specs.declared.task.TaskKind.TheVariants.{Light, Heavy}
 use Rattle.sp_task.specs.declared.task.Task.{Task}
 use Rattle.sp_task.specs.Left.{RoundDone}
 use Rattle.sp_task.specs.Offers.{arcs_of}
-use Rattle.sp_store.specs.declared.marks.Mark.{Mark}
+use Rattle.sp_store.specs.declared.marks.LeaderMark.{LeaderMark}
 use Rattle.sp_store.specs.Stage.{Stage, law_of, rows_of}
 use Rattle.sp_store.specs.Marks.{light_at, heavy_at, is_remembered}
 
@@ -31,14 +31,14 @@ IsDone P st words t = All (IsArcRelaxed (max_dist P) words t.dist) (arcs_of (row
 
 -- What the leader knows is lawful, and the source has its pair. The marks give the distances at which arcs were
 -- relaxed.
-pub record IsRunning (P : ℕ) (st : Stage) (words : Table) (marks : List Mark) : Type 0 where
+pub record IsRunning (P : ℕ) (st : Stage) (words : Table) (marks : List LeaderMark) : Type 0 where
   pub source : words st.source ≡ Pair 0 0
   pub lawful : (v : ℕ) → IsKnownWord (law_of P st) v (words v)
   pub size : length marks ≡ st.graph.n
   pub relaxed : IsRelaxedAt st.graph (max_dist P) st.delta words (light_at marks) (heavy_at marks)
 
 -- What holds for a run still holds once the completed tasks are marked.
-abbrev pub KeepsRunning : List Task → (before after : List Mark) → Type 0
+abbrev pub KeepsRunning : List Task → (before after : List LeaderMark) → Type 0
 KeepsRunning tasks before after = (P : ℕ) (st : Stage) (words : Table) → IsGraph st.graph → All (IsDone P st words) tasks → IsRunning P st words before → IsRunning P st words after
 
 -- ## Marks of the tasks
@@ -50,7 +50,7 @@ HasTask tasks kind v d = Contains tasks (record { vertex = v; dist = d; kind = k
 abbrev pub IsMarkedBy : List Task → TaskKind → (v : ℕ) → (before after : Option ℕ) → Type 0
 IsMarkedBy tasks kind v before after = ((d : ℕ) × HasTask tasks kind v d × (after ≡ Some d)) ⊎ ((after ≡ before) × ((d : ℕ) → HasTask tasks kind v d → ⊥))
 
-pub record AreMarked (tasks : List Task) (before after : List Mark) : Type 0 where
+pub record AreMarked (tasks : List Task) (before after : List LeaderMark) : Type 0 where
   pub size : length after ≡ length before
   pub light : (v : ℕ) → IsVertex (length before) v → IsMarkedBy tasks Light v (light_at before v) (light_at after v)
   pub heavy : (v : ℕ) → IsVertex (length before) v → IsMarkedBy tasks Heavy v (heavy_at before v) (heavy_at after v)

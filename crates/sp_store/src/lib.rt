@@ -8,6 +8,6 @@ mod held;
 mod marks;
 mod store;
 
-pub use marks::{Mark, Marks};
+pub use marks::{LeaderMark, LeaderMarks};
 pub use sp_answer::RunError;
-pub use store::{Crew, Store};
+pub use store::{RoundTeam, Store};

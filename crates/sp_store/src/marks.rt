@@ -10,7 +10,7 @@ use std::mem;
 
 /// What the leader records about a vertex.
 #[derive(Clone, Copy, Debug)]
-pub struct Mark {
+pub struct LeaderMark {
     /// The distance at which its light arcs were last relaxed.
     pub light: Option<u64>,
     /// The distance at which its heavy arcs were last relaxed.
@@ -21,12 +21,12 @@ pub struct Mark {
     pub remembered: bool,
 }
 
-impl Mark {
+impl LeaderMark {
     // Returns the mark of a vertex that took part in no round.
-    fn none() -> Mark
+    fn none() -> LeaderMark
         ensures { result ≡ no_mark }
     {
-        Mark {
+        LeaderMark {
             light: None,
             heavy: None,
             round: 0,
@@ -37,22 +37,22 @@ impl Mark {
 
 /// The marks of all vertices, that of vertex `v` at `v - 1`.
 #[derive(Drop)]
-pub struct Marks {
-    pub each: Vec<Mark>,
+pub struct LeaderMarks {
+    pub each: Vec<LeaderMark>,
     /// The vertices that were in a light round, and in no heavy round since.
     pub remembered: Vec<u32>,
     /// The number of the last round.
     pub round: u64,
 }
 
-impl Marks {
+impl LeaderMarks {
     /// Makes the marks of `n` vertices, before the first round.
-    pub fn new(alloc: Global, n: u32) -> Result<Marks, AllocError>
+    pub fn new(alloc: Global, n: u32) -> Result<LeaderMarks, AllocError>
         ensures each { IfOk result (λ m. m.each.items ≡ replicate n no_mark) }
         ensures remembered { IfOk result (λ m. m.remembered.items ≡ []) }
     {
-        Ok(Marks {
-            each: vec![in alloc; Mark::none(); n as usize]?,
+        Ok(LeaderMarks {
+            each: vec![in alloc; LeaderMark::none(); n as usize]?,
             remembered: Vec::new(alloc),
             round: 0,
         })
@@ -87,7 +87,7 @@ impl Marks {
         if !mark.remembered {
             self.remembered.push(vertex)?;
         }
-        self.each[place] = Mark {
+        self.each[place] = LeaderMark {
             round: self.round,
             remembered: true,
             ..mark
@@ -129,7 +129,7 @@ impl Marks {
 }
 
 // Records that a task was run.
-fn mark_task(marks: &mut Vec<Mark>, task: Task)
+fn mark_task(marks: &mut Vec<LeaderMark>, task: Task)
     requires { IsVertex (vec_len marks.old) task.vertex }
     ensures { marks.new.items ≡ marks_with marks.old.items task }
 {
@@ -141,7 +141,7 @@ fn mark_task(marks: &mut Vec<Mark>, task: Task)
 }
 
 // Records that tasks were run.
-fn mark_tasks(marks: &mut Vec<Mark>, tasks: &[Task])
+fn mark_tasks(marks: &mut Vec<LeaderMark>, tasks: &[Task])
     requires { All (λ t. IsVertex (vec_len marks.old) t.vertex) tasks.now }
     ensures length { vec_len marks.new ≡ vec_len marks.old }
     ensures running { KeepsRunning tasks.now marks.old.items marks.new.items }

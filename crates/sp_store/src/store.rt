@@ -1,5 +1,5 @@
 //! What a run works on: rows, the table of words, and the table of claims.
-ghost use Rattle.std.specs.Prelude.{◌≡◌, ◌<◌, ◌≤◌, ◌↔◌, [], true, IsTrue, length, vec_len, All, IfOk, IfErr};
+ghost use Rattle.std.specs.Prelude.{◌≡◌, ◌<◌, ◌≤◌, [], true, length, vec_len, All, IfOk, IfErr};
 ghost use Rattle.sp_word.specs.Word.{Pair, is_layout, max_pred};
 ghost use Rattle.sp_paths.specs.Paths.{IsVertex, IsArc};
 ghost use Rattle.sp_offer.specs.Story.{empty_story, known_table, IsCopy};
@@ -22,7 +22,7 @@ use std::thread::Threads;
 
 /// What a round needs: its number, by which tasks are claimed, its workers, and the caller and the claimer of its leader.
 #[derive(Drop)]
-pub struct Crew {
+pub struct RoundTeam {
     pub alloc: Global,
     pub number: u64,
     pub workers: Workers,
@@ -74,12 +74,6 @@ impl<'g, const P: u32> Model for Store<'g, P> {
         × AreOfStage st (split_of s.rows) s.table.law s.table.vertices s.claims.words };
 }
 
-fn is_vertex(graph: &Graph, vertex: u32) -> bool
-    ensures { IsTrue result ↔ IsVertex graph.now.n vertex }
-{
-    1 <= vertex && vertex <= graph.n()
-}
-
 impl<'g, const P: u32> Store<'g, P> {
     /// Makes the tables for a run from `source`, with their first caller and their first claimer. Every round is
     /// shared.
@@ -100,7 +94,7 @@ impl<'g, const P: u32> Store<'g, P> {
             (λ made. (made.2.table ≡ made.0.claims) × (made.2.grants ≡ [])) }
         ensures refused { IfErr result (IsUnstored graph.entry.now source) }
     {
-        if !is_vertex(graph, source) {
+        if !graph.has_vertex(source) {
             return Err(RunError::NoSuchVertex);
         }
         let Ok(rows) = Rows::split(alloc, graph, delta.get()) else {
@@ -129,7 +123,7 @@ impl<'g, const P: u32> Store<'g, P> {
             (λ made. (made.2.table ≡ made.0.claims) × (made.2.grants ≡ [])) }
         ensures refused { IfErr result (IsUnstored graph.entry.now source) }
     {
-        if !is_vertex(graph, source) {
+        if !graph.has_vertex(source) {
             return Err(RunError::NoSuchVertex);
         }
         Store::make(alloc, graph, Held::Lent(rows), delta, source).map_err(|_| RunError::Memory)
@@ -271,20 +265,20 @@ impl<'g, const P: u32> Store<'g, P> {
         }
     }
 
-    /// Runs a round of tasks. The leader runs a short round alone. If the round fails, the crew is spent.
+    /// Runs a round of tasks. The leader runs a short round alone. If the round fails, the team is spent.
     pub fn relax_tasks<R: Threads + Wait + Sync, G: Gate + Sync>(
         &self,
         rt: &R,
         gate: &G,
         tasks: &[Task],
-        crew: Crew,
+        team: RoundTeam,
     ) -> Result<RoundOut, AllocError>
-        requires caller { crew.caller.table ≡ self.now.table }
-        requires claimer { crew.claimer.table ≡ self.now.claims }
+        requires caller { team.caller.table ≡ self.now.table }
+        requires claimer { team.claimer.table ≡ self.now.claims }
         requires tasks { All (IsDue P self.now) tasks.now }
         ensures done { IfOk result (λ out.
-            IsRoundOf P self.now tasks.now crew.caller out.caller out.found.items) }
-        ensures claimer { IfOk result (λ o. o.claimer.table ≡ crew.claimer.table) }
+            IsRoundOf P self.now tasks.now team.caller out.caller out.found.items) }
+        ensures claimer { IfOk result (λ o. o.claimer.table ≡ team.claimer.table) }
         ensures alone { IfOk result (λ o. length tasks.now < self.now.shared_from → o.started ≡ 1) }
     {
         walks_allow_arcs();
@@ -293,10 +287,10 @@ impl<'g, const P: u32> Store<'g, P> {
             claims: &self.claims,
             rows: self.rows.rows(),
             tasks,
-            number: crew.number,
-            workers: self.workers_for(tasks.len(), crew.workers),
+            number: team.number,
+            workers: self.workers_for(tasks.len(), team.workers),
         };
-        match run_round(rt, crew.alloc, &round, crew.caller, crew.claimer, gate) {
+        match run_round(rt, team.alloc, &round, team.caller, team.claimer, gate) {
             Ok(out) => Ok(out),
             Err(_) => Err(AllocError),
         }

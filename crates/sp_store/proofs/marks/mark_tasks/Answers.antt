@@ -2,7 +2,7 @@ use Rattle.std.proofs.Common.{◌≡◌, ℕ, ◌-◌, ◌<◌, length, get_or, 
 use Rattle.sp_paths.specs.Paths.{IsVertex}
 use Rattle.sp_task.specs.declared.task.TaskKind.TheVariants.{Light}
 use Rattle.sp_task.specs.declared.task.Task.{Task}
-use Rattle.sp_store.specs.declared.marks.Mark.{Mark}
+use Rattle.sp_store.specs.declared.marks.LeaderMark.{LeaderMark}
 use Rattle.sp_store.specs.Marks.{mark_of, with_task}
 use Rattle.sp_store.proofs.TaskMarks.{task_marked}
 use Rattle.sp_store.proofs.RoundMarks.{marked_more, marked_none}
@@ -19,7 +19,7 @@ loop-task-preserved c =
     let size : length marks ≡ length c.args.marks.now.items = c.loop-task.invariant.0 in
     let ok : length c.args.marks.now.items ≡ c.args.marks.now.len = sym c.args.marks.now.ok.0 in
     let at : IsVertex (length marks) t.vertex = (let h = c.requires i none inside in (omega (arith, h), omega (arith, h))) in (
-      ap length c.mark_task.ensures ∙ (length-set {A = Mark} marks (t.vertex - 1) (with_task t.kind t.dist (mark_of marks t.vertex)) ∙ size),
+      ap length c.mark_task.ensures ∙ (length-set {A = LeaderMark} marks (t.vertex - 1) (with_task t.kind t.dist (mark_of marks t.vertex)) ∙ size),
       λ P st words gr done run. rw c.mark_task.ensures (task_marked P st words marks t.vertex t.dist gr (c.loop-task.invariant.1 P st words gr done run) at t.kind (done i none inside)),
       marked_more tasks i none t c.args.marks.now.items marks _ inside refl at c.mark_task.ensures c.loop-task.invariant.2,
     )

@@ -2,7 +2,7 @@ use Rattle.std.proofs.Common.{◌≡◌, [], false, true, Some, ◌∙◌, ap, s
 use Rattle.sp_word.specs.Word.{dist_of}
 use Rattle.sp_paths.specs.Paths.{IsVertex}
 use Rattle.sp_offer.specs.Story.{known_table}
-use Rattle.sp_store.specs.declared.marks.Marks.{Marks}
+use Rattle.sp_store.specs.declared.marks.LeaderMarks.{LeaderMarks}
 use Rattle.sp_store.specs.Stage.{Stage}
 use Rattle.sp_store.specs.Marks.{notes_of}
 use Rattle.sp_phase.specs.Lead.{Lead, lead_of}
@@ -18,7 +18,7 @@ pub returns-then-not-branch-clause-prepares : goal.returns-then-not-branch-claus
 returns-then-not-branch-clause-prepares g c =
     let r = c.self.inside in
     let off : c.in_ok-enter.field-0 ≡ false = search rules in
-    let L : Marks → Lead = λ m. lead_of r.store.now r.caller m r.buckets r.words.items in
+    let L : LeaderMarks → Lead = λ m. lead_of r.store.now r.caller m r.buckets r.words.items in
     let is = ap L (c.in_ok-enter.ensures.stayed off) ∙ c.self.view_is in
     subst (λ l. PreparesLight g.row.P [] c.args.self.now l) (sym is) (light_idle g.row.P c.args.self.now c.read-word.new.self c.read-word.ensures.reads)
 

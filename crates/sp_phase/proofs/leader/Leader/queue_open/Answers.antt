@@ -6,7 +6,7 @@ use Rattle.sp_word.specs.Word.{Word}
 use Rattle.sp_bins.specs.declared.entry.Entry.{Entry}
 use Rattle.sp_bucket.specs.Content.{Content}
 use Rattle.sp_bucket.proofs.EntryPlaces.{empty_is}
-use Rattle.sp_store.specs.declared.marks.Mark.{Mark}
+use Rattle.sp_store.specs.declared.marks.LeaderMark.{LeaderMark}
 use Rattle.sp_phase.specs.Lead.{Lead, lead_of}
 use Rattle.sp_phase.specs.Running.{EntriesFrom}
 use Rattle.sp_phase.specs.Sweep.{IsOpen, AreRelaxed, HasCopied, TakesCopy}
@@ -18,7 +18,7 @@ invariant_of-self g c =
     let r = c.self.inside in
     let found = c.in_ok-open.open.items in
     let l : Lead = lead_of r.store.now r.caller r.marks r.buckets r.words.items in
-    let O : List Word → List Mark → Type 0 = λ w m. All (IsOpen w m c.args.bounds) found in
+    let O : List Word → List LeaderMark → Type 0 = λ w m. All (IsOpen w m c.args.bounds) found in
     let all = subst (λ m. O r.words.items m) c.as_slice-marks.ensures.value (subst (λ w. O w c.as_slice-marks.result.now) c.as_slice.ensures.value c.in_ok-open.ensures.open) in
     let copied = subst (HasCopied g.row.P) (sym c.self.view_is) c.take_copy.ensures.copied in
     let put = c.put_all.ensures in
@@ -29,7 +29,7 @@ invariant_of-self-2 g c =
     let r = c.self.inside in
     let found = c.in_ok-open.open.items in
     let l : Lead = lead_of r.store.now r.caller r.marks r.buckets r.words.items in
-    let O : List Word → List Mark → Type 0 = λ w m. All (IsOpen w m c.args.bounds) found in
+    let O : List Word → List LeaderMark → Type 0 = λ w m. All (IsOpen w m c.args.bounds) found in
     let all = subst (λ m. O r.words.items m) c.as_slice-marks.ensures.value (subst (λ w. O w c.as_slice-marks.result.now) c.as_slice.ensures.value c.in_ok-open.ensures.open) in
     let copied = subst (HasCopied g.row.P) (sym c.self.view_is) c.take_copy.ensures.copied in
     let put = c.put_all.ensures in
@@ -42,7 +42,7 @@ returns-clause-none g c is =
     let none : c.in_ok-open.open.len ≡ 0 = eqb-true c.in_ok-open.open.len 0 (sym c.is_empty.ensures ∙ is) in
     let size : c.in_ok-open.open.len ≡ length found = c.in_ok-open.open.ok.0 in
     let empty : found ≡ [] = empty_is (λ (e : Entry). Unit {0}) found (omega arith) in
-    let A : List Word → List Mark → Type 0 = λ w m. AreRelaxed w m c.args.bounds (length w) in
+    let A : List Word → List LeaderMark → Type 0 = λ w m. AreRelaxed w m c.args.bounds (length w) in
     subst (λ m. A r.words.items m) c.as_slice-marks.ensures.value (subst (λ w. A w c.as_slice-marks.result.now) c.as_slice.ensures.value (c.in_ok-open.ensures.none empty))
 
 pub returns-clause-past : goal.returns-clause-past
@@ -50,7 +50,7 @@ returns-clause-past g c =
     let r = c.self.inside in
     let found = c.in_ok-open.open.items in
     let l : Lead = lead_of r.store.now r.caller r.marks r.buckets r.words.items in
-    let O : List Word → List Mark → Type 0 = λ w m. All (IsOpen w m c.args.bounds) found in
+    let O : List Word → List LeaderMark → Type 0 = λ w m. All (IsOpen w m c.args.bounds) found in
     let all = subst (λ m. O r.words.items m) c.as_slice-marks.ensures.value (subst (λ w. O w c.as_slice-marks.result.now) c.as_slice.ensures.value c.in_ok-open.ensures.open) in
     let q = c.put_all.new.buckets in
     let M : List Entry → Type 0 = λ es. IsPermutation (r.buckets.entries ++ es) q.entries in
