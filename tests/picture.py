@@ -26,19 +26,15 @@ import tempfile
 import xml.etree.ElementTree as ElementTree
 
 sys.dont_write_bytecode = True
+from cases.shared import GREATEST  # noqa: E402
 from harness import HOME, Count, run as started  # noqa: E402
 
 SVG = "{http://www.w3.org/2000/svg}"
 TOO_MANY = "spt: replay: more than 60 steps\n"
 WIDEST = 2500  # with numbers of at most 10 digits
 FARTHEST_NAME = 700  # from one name of a lane to the next
-# Of each layout the longest distance and predecessor, and how wide a picture of 60 steps with them is at most.
-LAYOUTS = [
-    (20, 17592186044414, 1048574, 3250),
-    (24, 1099511627774, 16777214, 3050),
-    (28, 68719476734, 268435454, 2650),
-    (32, 4294967294, 4294967294, WIDEST),
-]
+# how wide a picture of 60 steps with the longest numbers of a layout is at most
+WIDEST_OF = {"20": 3250, "24": 3050, "28": 2650, "32": WIDEST}
 
 program = f"{HOME}/spt"
 counted = Count()
@@ -373,9 +369,9 @@ def check_long_runs(folder):
         for digits in (5, 8, 10):
             programme = drawn_by_lot(10 * actors + digits, 60, actors, 10 ** (digits - 1), 10**digits - 1, 10**6)
             check(f"{actors} actors, {digits} digits", programme)
-    for bits, dist, pred, widest in LAYOUTS:
-        check(f"the longest reads of {bits} bits", reads_of(dist, pred), widest, "--pred-bits", str(bits))
-        check(f"the longest stores of {bits} bits", stores_from(dist, pred), widest, "--pred-bits", str(bits))
+    for bits, longest in GREATEST.items():
+        check(f"the longest reads of {bits} bits", reads_of(*longest), WIDEST_OF[bits], "--pred-bits", bits)
+        check(f"the longest stores of {bits} bits", stores_from(*longest), WIDEST_OF[bits], "--pred-bits", bits)
     check("reads of ten digits", reads_of(9999999999, 9999999))
     check("stores of ten digits", stores_from(9999999999, 9999999))
     check("64 actors", crowd())

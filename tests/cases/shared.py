@@ -2,8 +2,6 @@
 
 import dataclasses
 
-LAYOUTS = ("20", "24", "28", "32")
-
 # the greatest distance and the greatest predecessor of a word, by the bits of its predecessor
 GREATEST = {
     "20": (17592186044414, 1048574),
@@ -11,6 +9,7 @@ GREATEST = {
     "28": (68719476734, 268435454),
     "32": (4294967294, 4294967294),
 }
+LAYOUTS = tuple(GREATEST)
 
 # deltas and numbers of workers, which change no byte
 TEAMS = [

@@ -1,10 +1,10 @@
 """Command lines that are no order, and files that can't be had."""
 
-from .shared import ALONE, FROM_1, Case
+from .shared import ALONE, FROM_1, LAYOUTS, Case
 
 REPLAY = {"f.rep": "p rep 1 1\n"}
 HELP = "\nFor more information, try '--help'.\n"
-BITS = "  [possible values: 20, 24, 28, 32]\n"
+BITS = f"  [possible values: {', '.join(LAYOUTS)}]\n"
 
 DELTA = "spt: D is a whole number from 1 to 17592186044414, or mean\n"
 
