@@ -1,8 +1,12 @@
 //! How runs from sources are made and told of, and how they end.
-ghost use Rattle.std.specs.Prelude.{◌≡◌, true, Ok, Err, IfErr, MatchResult};
+ghost use Rattle.std.specs.Prelude.{◌≡◌, ℕ, true, List, Some, Ok, Err, IfOk, MatchOption, MatchResult};
 ghost use Rattle.sp_word.specs.Word.{is_layout};
 ghost use Rattle.sp_word.specs.Ranges.{IsCrew};
+ghost use Rattle.clap.specs.Matches.{found_of};
 ghost use Rattle.sp_options.specs.Ends.{end_of, fault_of};
+ghost use Rattle.sp_options.specs.Numbers.{SpellsNumber, IsFlag};
+ghost use Rattle.sp_options.specs.Running.{IsAskedFor, LacksRunning, HasCrew, LacksCrew};
+ghost use Rattle.sp_options.specs.Width.{bucket_of, IsBucket};
 ghost use Rattle.sp_command.specs.declared.faults.Fault.TheVariants.{DeltaOutOfRange};
 
 use crate::width::Width;
@@ -18,12 +22,11 @@ pub struct Running {
     // The width of a bucket.
     width: Width,
     // How many threads may work, the main thread counted.
-    workers: u32,
+    workers: Workers,
     // Whether a run is done where a vertex is too far.
     pub far_ok: bool,
     // Whether it is told how far a run is.
     progress: bool,
-    ghost crew: { IsCrew workers },
 }
 
 impl Running {
@@ -54,37 +57,36 @@ impl Running {
     }
 
     /// Reads them.
-    pub fn read(alloc: Global, given: &ArgMatches<'_>) -> Result<Option<Self>, Error> {
-        let (Some(delta), Some(workers)) = (given.get_str(Width::ID), given.get_one("workers"))
-        else {
+    pub fn read(alloc: Global, given: &ArgMatches<'_>) -> Result<Option<Self>, Error>
+        ensures { IfOk result (λ found. MatchOption found
+            (LacksRunning (found_of given.now)) (IsAskedFor (found_of given.now))) }
+    {
+        let (Some(delta), Some(workers)) = (given.get_str(Width::ID), workers_in(given)) else {
             return Ok(None);
         };
-        if Workers::new(workers).is_none() {
-            return Ok(None);
-        }
         let Some(width) = Width::read(alloc, delta)? else {
             return Ok(None);
         };
         Ok(Some(Running {
             width,
             workers,
-            far_ok: given.get_flag("far-ok"),
-            progress: given.get_flag("progress"),
+            far_ok: flag_in(given, "far-ok"),
+            progress: flag_in(given, "progress"),
         }))
     }
 
     /// The width and the number of threads, if words with `P` bits of predecessor have such a distance.
     pub fn team<const P: u32>(&self) -> Result<(BucketWidth<P>, Workers), Fault>
         requires { is_layout P ≡ true }
-        ensures { IfErr result (λ fault. fault ≡ DeltaOutOfRange) }
+        ensures { MatchResult result
+            (λ team. IsBucket P self.now.width
+            × (team ≡ (bucket_of self.now.width, self.now.workers)))
+            (λ fault. ¬ (IsBucket P self.now.width) × (fault ≡ DeltaOutOfRange)) }
     {
-        let Some(width) = self.width.bucket::<P>() else {
-            return Err(Fault::DeltaOutOfRange);
-        };
-        let Some(workers) = Workers::new(self.workers) else {
-            unreachable!()
-        };
-        Ok((width, workers))
+        match self.width.bucket::<P>() {
+            Some(width) => Ok((width, self.workers)),
+            None => Err(Fault::DeltaOutOfRange),
+        }
     }
 
     /// Tells how far a run is, where that was asked for.
@@ -105,6 +107,20 @@ impl Running {
             Err(error) => Err(fault_of(error)),
         }
     }
+}
+
+// The number of workers.
+fn workers_in(given: &ArgMatches<'_>) -> Option<Workers>
+    ensures { MatchOption result (LacksCrew (found_of given.now)) (HasCrew (found_of given.now)) }
+{
+    Workers::new(given.get_one("workers")?)
+}
+
+// Whether a flag was given.
+fn flag_in(given: &ArgMatches<'_>, name: &str) -> bool
+    ensures { IsFlag (found_of given.now) name.now result }
+{
+    given.get_flag(name)
 }
 
 /// Tells by the files of a command line how far a run is.

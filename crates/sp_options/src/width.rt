@@ -1,7 +1,9 @@
 //! The width of a bucket: a number, or the word that stands for the mean length of an arc.
-ghost use Rattle.std.specs.Prelude.{◌≡◌, ◌↔◌, true, codes, Ok, Some, IfOk, IsSome, IfSome};
+ghost use Rattle.std.specs.Prelude.{◌≡◌, ◌≤◌, ℕ, true, Ok, Some, IfOk, IfSome, IsNone, MatchOption};
+ghost use Rattle.std.specs.Option.{SomeIff};
 ghost use Rattle.sp_word.specs.Word.{is_layout};
-ghost use Rattle.sp_options.specs.Width.{bucket_of, IsBucket};
+ghost use Rattle.sp_options.specs.Numbers.{SpellsNumber};
+ghost use Rattle.sp_options.specs.Width.{bucket_of, IsBucket, SpellsWidth};
 
 use clap::{Arg, Command, Error, value_parser};
 use sp_command::valued;
@@ -10,7 +12,7 @@ use sp_word::Delta;
 use std::alloc::Global;
 
 // The greatest distance of any word.
-const MAX_DELTA: i64 = 17_592_186_044_414;
+const MAX_DELTA: u64 = 17_592_186_044_414;
 
 // The word for the mean length.
 const MEAN: &str = "mean";
@@ -40,24 +42,25 @@ impl Width {
         valued(alloc, Self::ID, "D", about, LONG).required(true)
     }
 
-    /// Reads the option's text. One that is neither a number in range nor `mean` is refused as `clap` refuses one that is no
-    /// number in range.
+    /// Reads the option's text. One that spells no width is refused as `clap` refuses one that is no number in range.
     pub fn read(alloc: Global, text: &str) -> Result<Option<Width>, Error>
-        ensures mean { text.now ≡ codes "mean" → result ≡ Ok (Some Width.MeanLength) }
-        ensures number { IfOk result
-            (λ found. found ≡ Some Width.MeanLength → text.now ≡ codes "mean") }
+        ensures spelled { IfOk result (λ found. IfSome found (SpellsWidth text.now)) }
+        ensures exactly { (width : Width) → SpellsWidth text.now width
+            → result ≡ Ok (Some width) }
     {
         if text == MEAN {
             return Ok(Some(Width::MeanLength));
         }
-        Ok(read_number(alloc, text)?.map(Width::Number))
+        match number_in(text) {
+            Some(number) => Ok(Some(Width::Number(number))),
+            None => refuse(alloc, text),
+        }
     }
 
     /// What runs are given, if words with `P` bits of predecessor have such a distance.
     pub fn bucket<const P: u32>(self) -> Option<BucketWidth<P>>
         requires { is_layout P ≡ true }
-        ensures same { IfSome result (λ bucket. bucket ≡ bucket_of self) }
-        ensures exactly { IsSome result ↔ IsBucket P self }
+        ensures { SomeIff result (IsBucket P self) (bucket_of self) }
     {
         match self {
             Width::Number(number) => Some(BucketWidth::Of(Delta::new(number)?)),
@@ -66,19 +69,30 @@ impl Width {
     }
 }
 
-// A number in range, read by `clap`, which tells what is none.
-fn read_number(alloc: Global, text: &str) -> Result<Option<u64>, Error> {
-    let word = format!(in alloc; "--delta={text}")?;
-    number_of(alloc, &["spt", word.as_str()])
+// The number from 1 to the greatest distance of any word that a text spells.
+fn number_in(text: &str) -> Option<u64>
+    ensures { MatchOption result ((number : ℕ) → SpellsWidth text.now (Width.Number number) → ⊥)
+        (λ number. SpellsWidth text.now (Width.Number number)) }
+{
+    let number = text.parse().ok()?;
+    if number < 1 || number > MAX_DELTA {
+        return None;
+    }
+    Some(number)
 }
 
-// The number in a command line that has this option alone.
-fn number_of<'a>(alloc: Global, words: &'a [&'a str]) -> Result<Option<u64>, Error> {
-    let mut reader = Command::new(alloc, "spt").arg(number_option(alloc))?;
-    Ok(reader.try_get_matches_from_mut(words)?.get_one(Width::ID))
+// Has `clap` tell that a text is no number in range.
+fn refuse(alloc: Global, text: &str) -> Result<Option<Width>, Error>
+    ensures { IfOk result IsNone }
+{
+    let word = format!(in alloc; "--delta={text}")?;
+    Command::new(alloc, "spt")
+        .arg(number_option(alloc))?
+        .try_get_matches_from(&["spt", word.as_str()])?;
+    Ok(None)
 }
 
 // The option, with a number in range for its value.
 fn number_option<'a>(alloc: Global) -> Arg<'a> {
-    Width::option(alloc).value_parser(value_parser!(u64).range(1..=MAX_DELTA))
+    Width::option(alloc).value_parser(value_parser!(u64).range(1..=MAX_DELTA as i64))
 }
