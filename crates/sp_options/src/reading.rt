@@ -23,7 +23,11 @@ pub struct Watched<'t, 'f, D, F> {
 impl<'t, 'f, D: Read, F: Inputs> Watched<'t, 'f, D, F> {
     /// A device of which nothing was read yet.
     pub fn new(device: D, file: FileKind, teller: &'t Teller<'f, F>) -> Self
-        ensures { ⟦<Watched<'static, 'static, D, F> as Read>⟧.left result ≡ D.left device }
+        ensures left { ⟦<Watched<'static, 'static, D, F> as Read>⟧.left result ≡ D.left device }
+        ensures has_failed { ⟦<Watched<'static, 'static, D, F> as Read>⟧.has_failed result
+            ≡ D.has_failed device }
+        ensures failing { ⟦<Watched<'static, 'static, D, F> as Read>⟧.failing result
+            ≡ D.failing device }
     {
         Watched {
             device,
@@ -55,6 +59,8 @@ impl<D: Read, F: Inputs> Read for Watched<'_, '_, D, F> {
     ghost passed = { λ d. D.passed d.device };
 
     ghost has_failed = { λ d. D.has_failed d.device };
+
+    ghost failing = { λ d. D.failing d.device };
 
     fn read(&mut self, buf: &mut [u8]) -> Result<usize, Failed> {
         let bytes = self.device.read(buf)?;
