@@ -204,14 +204,15 @@ def left_open(crate, said):
 
 
 def refusals(crate, part, kept):
-    """Whether a refusal shows something by itself, of each edit of a part that is refused; halves are tried where the prover doesn't get so far."""
+    """Of the edits of a part that are refused, whether that shows something by itself, by their names; halves are tried where the prover
+    doesn't get so far."""
     said = verdict(crate, part, kept)
     if said is None:
         middle = len(part) // 2
         return {**refusals(crate, part[:middle], kept), **refusals(crate, part[middle:], kept)} if middle else {}
     wrong, is_open = re.findall(WRONG.format(crate.name), said, re.M), left_open(crate, said)
     found = [edit for edit in part if any(it.is_named(path) for it in edit.functions for path in wrong)]
-    return {edit: not is_open.isdisjoint(edit.functions) for edit in found}
+    return {edit.name: not is_open.isdisjoint(edit.functions) for edit in found}
 
 
 # What the last check of each crate said, whoever called it.
@@ -269,25 +270,25 @@ def proved_twins(crate, edits, kept, kept_whole):
 
 def tried(crate):
     """Whether each edit of the crate is refused, and shows something; what is said of it is printed."""
-    edits = list(edits_of(crate))
+    edits, shown, said = list(edits_of(crate)), {}, {}
     with tempfile.TemporaryDirectory() as kept, tempfile.TemporaryDirectory() as kept_whole:
-        shown, said = {}, {}
         for part in parts_of([it for it in edits if it.functions]):
             shown.update(refusals(crate, part, kept))
+        # the whole crate tells of the others, and of their twins
+        edits = [it if it.name in shown else dataclasses.replace(it, functions=frozenset()) for it in edits]
         for edit in edits:
-            said[edit] = f"{crate.name}/{edit.name}: refused"
-            if edit not in shown:
-                is_refused, shows, said[edit] = alone(crate, edit, kept_whole)
+            said[edit.name] = f"{crate.name}/{edit.name}: refused"
+            if edit.name not in shown:
+                is_refused, shows, said[edit.name] = alone(crate, edit, kept_whole)
                 if is_refused:
-                    shown[edit] = shows
-        twins = proved_twins(crate, [it for it in edits if shown.get(it) is False], kept, kept_whole)
-    for edit in edits:
-        if shown.get(edit) is False:
-            is_proved = edit.name in twins
-            said[edit] += ", by no clause that is left open; its twin is proved" if is_proved else ", but SHOWS NOTHING: no clause is left open, and no twin is proved"
-            shown[edit] = is_proved
-        print(said[edit], flush=True)
-    return [shown.get(edit, False) for edit in edits]
+                    shown[edit.name] = shows
+        doubted = [it for it in edits if shown.get(it.name) is False]
+        twins = proved_twins(crate, doubted, kept, kept_whole)
+    for name in (it.name for it in doubted):
+        shown[name] = name in twins
+        said[name] += ", by no clause that is left open; its twin is proved" if shown[name] else ", but SHOWS NOTHING: no clause is left open, and no twin is proved"
+    print("\n".join(said.values()), flush=True)
+    return [shown.get(it.name, False) for it in edits]
 
 
 def sum_of(crate):
