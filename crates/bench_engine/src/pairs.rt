@@ -8,7 +8,7 @@ use crate::report::print_each;
 use crate::whole::Plan;
 use sp_dimacs::{GrFile, OfRead, PairsFile, read_gr, read_pairs};
 use sp_graph::Graph;
-use sp_solve::{run_targets, useful_team};
+use sp_solve::{Query, run_targets, useful_team};
 use sp_word::{Meter, Team};
 use std::alloc::{AllocError, Global};
 use std::rt::Files;
@@ -83,16 +83,19 @@ fn find<R: AllocGlobal + Threads + Wait + Sync>(
 ) -> Result<(), AllocError>
     requires { graph.now.n ≤ max_pred 28 }
 {
-    if source < 1 || source > graph.n() {
+    if !graph.has_vertex(source) {
         return Ok(());
     }
-    let targets = targets_of(rt.alloc(), graph, pairs, source)?;
+    let query = Query {
+        source,
+        targets: targets_of(rt.alloc(), graph, pairs, source)?,
+    };
     let team = Team {
         delta: plan.delta,
         workers: plan.workers,
     };
     let team = useful_team(rt, graph.n(), &team);
-    let _ = run_targets::<28, R>(rt, rt.alloc(), graph, team, &Meter::new(), source, targets)?;
+    let _ = run_targets::<28, R>(rt, rt.alloc(), graph, team, &Meter::new(), query)?;
     Ok(())
 }
 

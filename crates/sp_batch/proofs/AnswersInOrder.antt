@@ -15,7 +15,7 @@ use Rattle.sp_job.specs.declared.answers.Summary.{Summary}
 use Rattle.sp_job.specs.declared.answers.BatchError.{BatchError}
 use Rattle.sp_job.specs.declared.answers.BatchError.TheVariants.{Gr, Ss, Pairs, NoSuchVertex, Memory, Write}
 use Rattle.sp_batch.specs.Batch.{Answer, AreAnswers, answer_text, batch_text, is_far, IsSummary}
-use Rattle.sp_batch.specs.declared.finding.Found.{Found}
+use Rattle.sp_batch.specs.declared.finding.SourceAnswer.{SourceAnswer}
 use Rattle.sp_batch.specs.declared.answering.Step.{Step}
 use Rattle.sp_batch.specs.Found.{answer_of, IsFound, AreFound}
 use Rattle.sp_batch.specs.Steps.{none, sum_of, Fits, IsWritten, AreWritten, AreDone, HasBegunFirst, AreAllAnswered, IsStep, IsStepped}
@@ -34,21 +34,21 @@ same_length P g [] (a ∷ answers) are = absurd are
 same_length P g (s ∷ sources) [] are = absurd are
 same_length P g (s ∷ sources) (a ∷ answers) are = omega (arith, same_length P g sources answers are.1)
 
-pub found_both : (P : ℕ) (g : Graph) (front back : List ℕ) (first second : List (Found P)) → AreFound g front first → AreFound g back second → AreFound g (front ++ back) (first ++ second)
+pub found_both : (P : ℕ) (g : Graph) (front back : List ℕ) (first second : List (SourceAnswer P)) → AreFound g front first → AreFound g back second → AreFound g (front ++ back) (first ++ second)
 found_both P g front back first second are more = rw (map-append (answer_of {P = P}) first second) (answers_both P g front back (map answer_of first) (map answer_of second) are more)
 
 -- One more was found.
-pub found_more : (P : ℕ) (g : Graph) (sources : List ℕ) (i : ℕ) (group : List (Found P)) (found : Found P) → i < length sources → AreFound g (take i sources) group → IsFound g (get_or sources i 0) found → AreFound g (take (i + 1) sources) (group ++ found ∷ [])
+pub found_more : (P : ℕ) (g : Graph) (sources : List ℕ) (i : ℕ) (group : List (SourceAnswer P)) (found : SourceAnswer P) → i < length sources → AreFound g (take i sources) group → IsFound g (get_or sources i 0) found → AreFound g (take (i + 1) sources) (group ++ found ∷ [])
 found_more P g sources i group found less are is = rw (take_more sources i 0 less) (found_both P g (take i sources) (get_or sources i 0 ∷ []) group (found ∷ []) are (is, tt))
 
 -- The answers before one, it, and those behind it.
-pub group_parts : {P : ℕ} (group : List (Found P)) (i : ℕ) (found : Found P) → i < length group → found ≡ get_or group i found → map answer_of group ≡ (map answer_of (take i group) ++ answer_of found ∷ []) ++ map answer_of (drop (i + 1) group)
+pub group_parts : {P : ℕ} (group : List (SourceAnswer P)) (i : ℕ) (found : SourceAnswer P) → i < length group → found ≡ get_or group i found → map answer_of group ≡ (map answer_of (take i group) ++ answer_of found ∷ []) ++ map answer_of (drop (i + 1) group)
 group_parts {P} group i found less is =
-    let answers : List (Found P) → List Answer = λ (l : List (Found P)). map answer_of l in
+    let answers : List (SourceAnswer P) → List Answer = λ (l : List (SourceAnswer P)). map answer_of l in
     let later = answers (drop (i + 1) group) in
     let front : answers (take (i + 1) group) ≡ answers (take i group) ++ answer_of found ∷ [] =
     ap answers (take_more group i found less)
-    ∙ (map-append (answer_of {P = P}) (take i group) (get_or group i found ∷ []) ∙ ap (λ (f : Found P). answers (take i group) ++ answer_of f ∷ []) (sym is)) in
+    ∙ (map-append (answer_of {P = P}) (take i group) (get_or group i found ∷ []) ∙ ap (λ (f : SourceAnswer P). answers (take i group) ++ answer_of f ∷ []) (sym is)) in
     ap answers (sym (take-append-drop (i + 1) group)) ∙ (map-append (answer_of {P = P}) (take (i + 1) group) (drop (i + 1) group) ∙ ap (λ (l : List Answer). l ++ later) front)
 
 pub text_both : (first second : List Answer) → batch_text (first ++ second) ≡ batch_text first ++ batch_text second
@@ -198,7 +198,7 @@ refused_later P g sources front back later device old mid new one (Pairs e) part
 refused_later P g sources front back later device old mid new one (NoSuchVertex v) parts h begun = absurd begun
 
 -- The first sources were answered, the answers to those behind them were found and wait, and the rest is to come.
-pub record IsBetween {W : Type 0} (P : ℕ) (g : Graph) (sources : List ℕ) (device : Writer W) (old : W) (summary : Summary) (new : W) (waiting : List (Found P)) (rest : List ℕ) : Type 0 where
+pub record IsBetween {W : Type 0} (P : ℕ) (g : Graph) (sources : List ℕ) (device : Writer W) (old : W) (summary : Summary) (new : W) (waiting : List (SourceAnswer P)) (rest : List ℕ) : Type 0 where
   pub front : List ℕ
   pub back : List ℕ
   pub parts : sources ≡ (front ++ back) ++ rest
@@ -211,7 +211,7 @@ none_between P g sources device out = record { front = []; back = []; parts = re
 regroup : (sources front back rest group later : List ℕ) → sources ≡ (front ++ back) ++ rest → rest ≡ group ++ later → sources ≡ (front ++ (back ++ group)) ++ later
 regroup sources front back rest group later parts cut = parts ∙ (ap (λ (l : List ℕ). (front ++ back) ++ l) cut ∙ simp append_assoc)
 
-module _ {W : Type 0} (P : ℕ) (g : Graph) (sources : List ℕ) (device : Writer W) (old mid new : W) (summary : Summary) (waiting : List (Found P)) where
+module _ {W : Type 0} (P : ℕ) (g : Graph) (sources : List ℕ) (device : Writer W) (old mid new : W) (summary : Summary) (waiting : List (SourceAnswer P)) where
   -- A further group was refused.
   pub between_refused : (rest group later : List ℕ) (e : BatchError) → IsBetween P g sources device old summary mid waiting rest → rest ≡ group ++ later
       → ((front : List ℕ) → AreFound g front waiting → IsStepped P g (front ++ group) device mid (Err e) new) → AreAllAnswered P g sources device old (Err e) new

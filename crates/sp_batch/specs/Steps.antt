@@ -9,7 +9,7 @@ use Rattle.sp_job.specs.declared.answers.BatchError.{BatchError}
 use Rattle.sp_job.specs.declared.answers.BatchError.TheVariants.{Memory, Write}
 use Rattle.sp_batch.specs.declared.answering.Step.{Step}
 use Rattle.sp_batch.specs.Batch.{Answer, AreAnswers, batch_text, IsSummary}
-use Rattle.sp_batch.specs.declared.finding.Found.{Found}
+use Rattle.sp_batch.specs.declared.finding.SourceAnswer.{SourceAnswer}
 use Rattle.sp_batch.specs.Found.{answer_of, AreFound}
 
 -- of no source
@@ -44,7 +44,7 @@ AreWritten device answers old (Err Write) new = IsBegun (batch_text answers) (de
 AreWritten device answers old (Err e) new = ⊥
 
 -- The same of the answers that were found for some sources.
-abbrev pub IsGroupWritten : {P : ℕ} {W : Type 0} → Writer W → List (Found P) → W → Result Summary BatchError → W → Type 0
+abbrev pub IsGroupWritten : {P : ℕ} {W : Type 0} → Writer W → List (SourceAnswer P) → W → Result Summary BatchError → W → Type 0
 IsGroupWritten {P} device group old result new = AreWritten device (map answer_of group) old result new
 
 -- The sources were answered, and their answers written and counted.
@@ -83,5 +83,5 @@ IsStepped P g sources device old (Ok step) new = IsStep P g sources device old s
 IsStepped P g sources device old (Err e) new = AreAllAnswered P g sources device old (Err e) new
 
 -- From sources of which the answers wait, and those behind them.
-abbrev pub MovesOn : {P : ℕ} {W : Type 0} → Graph → (waiting : List (Found P)) → (sources : List ℕ) → Writer W → W → Result (Step P) BatchError → W → Type 0
+abbrev pub MovesOn : {P : ℕ} {W : Type 0} → Graph → (waiting : List (SourceAnswer P)) → (sources : List ℕ) → Writer W → W → Result (Step P) BatchError → W → Type 0
 MovesOn {P} g waiting sources device old result new = (front : List ℕ) → AreFound g front waiting → IsStepped P g (front ++ sources) device old result new

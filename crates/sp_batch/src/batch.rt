@@ -8,22 +8,22 @@ ghost use Rattle.sp_job.specs.Places.{AreNumbered};
 ghost use Rattle.sp_job.specs.Answers.{is_early};
 ghost use Rattle.sp_batch.specs.Answered.{BatchAnswered, BatchOfSome, GivenAnswered, GivenOfSome, IsBatch};
 
-use crate::answering::answer_sources;
+use crate::answering::{Batch, answer_batch};
 use crate::watch::{Unwatched, Watch};
 use sp_dimacs::{GrFile, Read, Write, read_gr, read_ss};
 use sp_graph::Graph;
 use sp_job::{
-    BatchError, BucketWidth, Lead, Listener, Nobody, Places, Progress, Settings, Summary, chosen,
+    BatchError, BucketWidth, Job, Listener, Nobody, Places, Progress, Settings, Summary, chosen,
 };
 use sp_word::{Meter, Workers};
 use std::alloc::Global;
 use std::sync::Wait;
 use std::thread::Threads;
 
-/// A thread for the sources of a graph with fewer vertices and arcs in all takes longer to start than it saves.
+/// In a graph with fewer vertices and arcs in all, a thread takes longer to start than it saves.
 pub(crate) const LEAST_ITEMS: usize = 2000;
 
-// The first source that isn't a vertex.
+// Returns the first source that isn't a vertex, if one isn't.
 fn first_above(sources: &[u32], n: u32) -> Option<u32>
     ensures first { IfSome result (IsFirstAbove n sources.now) }
     ensures none { IfNone result (All (λ s. s ≤ n) sources.now) }
@@ -36,25 +36,23 @@ fn first_above(sources: &[u32], n: u32) -> Option<u32>
     None
 }
 
-/// Tests the sources, and writes the answers, several sources at once where the graph has at least so many vertices and
-/// arcs in all.
+/// Tests the sources of a batch, and then finds and writes their answers.
 #[tactic(auto, using(crate::proofs::OfFile::not_early))]
 pub(crate) fn answer_file<const P: u32, R: Threads + Wait + Sync + Watch, W: Write, L: Listener>(
     rt: &R,
     alloc: Global,
     file: GrFile,
-    sources: &[u32],
-    least: usize,
+    batch: &Batch,
     settings: &Settings<P, L>,
     out: &mut W,
 ) -> Result<Summary, BatchError>
     requires layout { is_layout P ≡ true }
     requires network { IsNetwork P file }
-    requires sources { AreNumbered sources.now }
-    ensures batch { IsBatch P file sources.now W.Write out.old out.new result }
+    requires sources { AreNumbered batch.now.sources.now }
+    ensures batch { IsBatch P file batch.now.sources.now W.Write out.old out.new result }
     ensures untouched { IfErr result (λ e. is_early e ≡ true → out.new ≡ out.old) }
 {
-    if let Some(source) = first_above(sources, file.n) {
+    if let Some(source) = first_above(batch.sources, file.n) {
         return Err(BatchError::NoSuchVertex(source));
     }
     let graph = Graph::from_arcs(alloc, file.n, file.arcs)?;
@@ -63,23 +61,24 @@ pub(crate) fn answer_file<const P: u32, R: Threads + Wait + Sync + Watch, W: Wri
         arcs: graph.m(),
     });
     let uncounted = Meter::new();
-    let lead = Lead {
+    let job = Job {
+        graph: &graph,
         team: settings.team_for(&graph),
         meter: settings.listener.meter().unwrap_or(&uncounted),
         listener: settings.listener,
     };
-    answer_sources::<P, R, W, L>(rt, alloc, &graph, least, &lead, sources, out)
+    answer_batch::<P, R, W, L>(rt, alloc, &job, batch, out)
 }
 
 /// Reads a graph and a list of sources, and writes for each source, in the order of the list, its shortest-path tree,
 /// or the line of the vertex that is too far for a word of `P` bits of predecessor.
 ///
-/// The graph is read first, then the sources; then all sources are tested before anything is written. `width` is that of
-/// a bucket, `workers` the number of threads, the leader counted; what is written is the same for each of both. Where
-/// memory is refused or the writer fails, a beginning of the text stands.
+/// The graph is read first, then the sources; then all sources are tested before anything is written. `width` is the width
+/// of a bucket, and `workers` the number of threads, this one counted; what is written is the same for all widths and
+/// numbers. Where memory is refused or the writer fails, a beginning of the text stands.
 ///
-/// Of several sources as many are answered at once as there are workers, each by one of them, and the answers for a group
-/// of sources are written by this thread while the workers find those for the next.
+/// As many sources are answered at once as there are workers, each by one of them. This thread writes the answers for a
+/// group of sources while the workers find those for the next.
 pub fn run_batch<const P: u32, R: Threads + Wait + Sync, G: Read, S: Read, W: Write>(
     rt: &R,
     alloc: Global,
@@ -105,8 +104,9 @@ pub fn run_batch<const P: u32, R: Threads + Wait + Sync, G: Read, S: Read, W: Wr
     run_batch_told::<P, R, G, S, W, Nobody>(rt, alloc, gr, ss, None, out, &settings)
 }
 
-/// The same as `run_batch`, for the sources at these places of the list alone where places are given, and tells how far it is:
-/// when the graph stands, and before each source, or each group of those that are answered at once.
+/// Does what `run_batch` does, and tells a listener how far it is: when the graph stands, and before each source, or each
+/// group of sources that are answered at once. Where places are given, it answers the sources at these places of the list
+/// alone.
 pub fn run_batch_told<
     const P: u32,
     R: Threads + Wait + Sync,
@@ -139,12 +139,15 @@ pub fn run_batch_told<
         Ok(list) => list,
         Err(error) => return Err(BatchError::Ss(error)),
     };
-    let sources = chosen::<P>(places, &list);
+    let batch = Batch {
+        sources: chosen::<P>(places, &list),
+        least_items: LEAST_ITEMS,
+    };
     let rt = &(rt, Unwatched);
-    answer_file::<P, (&R, Unwatched), W, L>(rt, alloc, file, sources, LEAST_ITEMS, settings, out)
+    answer_file::<P, (&R, Unwatched), W, L>(rt, alloc, file, &batch, settings, out)
 }
 
-/// The same for sources that were given, in place of the text of a list.
+/// Does what `run_batch_told` does, for sources that are given in place of the text of a list.
 pub fn run_given_told<const P: u32, R: Threads + Wait + Sync, G: Read, W: Write, L: Listener>(
     rt: &R,
     alloc: Global,
@@ -160,18 +163,14 @@ pub fn run_given_told<const P: u32, R: Threads + Wait + Sync, G: Read, W: Write,
     ensures untouched { IfErr result (λ e. is_early e ≡ true → out.new ≡ out.old) }
     ensures found { GivenOfSome P sources.now W.Write out.old out.new result }
 {
+    let batch = Batch {
+        sources,
+        least_items: LEAST_ITEMS,
+    };
     let rt = &(rt, Unwatched);
     match read_gr::<P, G>(alloc, gr) {
         Ok(file) => {
-            answer_file::<P, (&R, Unwatched), W, L>(
-                rt,
-                alloc,
-                file,
-                sources,
-                LEAST_ITEMS,
-                settings,
-                out,
-            )
+            answer_file::<P, (&R, Unwatched), W, L>(rt, alloc, file, &batch, settings, out)
         }
         Err(error) => Err(BatchError::Gr(error)),
     }

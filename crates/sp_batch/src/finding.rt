@@ -1,4 +1,4 @@
-//! What is to be told of sources, found one after the other or side by side.
+//! The answers for sources, found one after the other or side by side.
 ghost use Rattle.std.specs.Prelude.{◌≡◌, ◌++◌, All, IfOk};
 ghost use denote.Param.Send.{IsSync};
 ghost use Rattle.sp_paths.specs.Paths.{IsVertex};
@@ -14,16 +14,16 @@ use std::alloc::{AllocError, Global};
 use std::sync::Wait;
 use std::thread::{Threads, join};
 
-/// What is to be told of a source.
+/// The answer for a source.
 #[derive(Drop)]
-pub(crate) enum Found<const P: u32> {
-    /// Its tree.
+pub(crate) enum SourceAnswer<const P: u32> {
+    /// The shortest-path tree of the source.
     Tree(Tree<P>),
-    /// The vertex that is too far from it.
-    Far { source: u32, vertex: u32 },
+    /// The smallest vertex that is too far from the source.
+    TooFar { source: u32, vertex: u32 },
 }
 
-/// What is to be told of a source.
+/// Finds the answer for a source.
 pub(crate) fn find_source<const P: u32, R: Threads + Wait + Sync + Watch>(
     rt: &R,
     alloc: Global,
@@ -31,7 +31,7 @@ pub(crate) fn find_source<const P: u32, R: Threads + Wait + Sync + Watch>(
     team: &Team<P>,
     meter: &Meter,
     source: u32,
-) -> Result<Found<P>, AllocError>
+) -> Result<SourceAnswer<P>, AllocError>
     requires ready { IsReady P graph.now }
     requires vertex { IsVertex graph.now.n source }
     ensures { IfOk result (IsFound graph.now source) }
@@ -39,14 +39,14 @@ pub(crate) fn find_source<const P: u32, R: Threads + Wait + Sync + Watch>(
     rt.before_source(source);
     let team = useful_team(rt, graph.n(), team);
     match run_by_team::<P, R>(rt, alloc, graph, team, meter, source) {
-        Ok(tree) => Ok(Found::Tree(tree)),
-        Err(RunError::TooFar(vertex)) => Ok(Found::Far { source, vertex }),
+        Ok(tree) => Ok(SourceAnswer::Tree(tree)),
+        Err(RunError::TooFar(vertex)) => Ok(SourceAnswer::TooFar { source, vertex }),
         Err(RunError::NoSuchVertex) => unreachable!(),
         Err(RunError::Memory) => Err(AllocError),
     }
 }
 
-// What is to be told of sources, one after the other.
+// Finds the answers for sources, one after the other.
 fn find_in_turn<const P: u32, R: Threads + Wait + Sync + Watch>(
     rt: &R,
     alloc: Global,
@@ -54,7 +54,7 @@ fn find_in_turn<const P: u32, R: Threads + Wait + Sync + Watch>(
     team: &Team<P>,
     meter: &Meter,
     sources: &[u32],
-) -> Result<Vec<Found<P>>, AllocError>
+) -> Result<Vec<SourceAnswer<P>>, AllocError>
     requires ready { IsReady P graph.now }
     requires vertices { All (IsVertex graph.now.n) sources.now }
     ensures { IfOk result (λ group. AreFound graph.now sources.now group.items) }
@@ -66,20 +66,20 @@ fn find_in_turn<const P: u32, R: Threads + Wait + Sync + Watch>(
     Ok(group)
 }
 
-// Answers, and others behind them.
+// Puts answers behind others.
 fn put_behind<const P: u32>(
-    mut first: Vec<Found<P>>,
-    mut second: Vec<Found<P>>,
-) -> Result<Vec<Found<P>>, AllocError>
+    mut first: Vec<SourceAnswer<P>>,
+    mut second: Vec<SourceAnswer<P>>,
+) -> Result<Vec<SourceAnswer<P>>, AllocError>
     ensures { IfOk result (λ group. group.items ≡ first.entry.items ++ second.entry.items) }
 {
     first.append(&mut second)?;
     Ok(first)
 }
 
-/// What is to be told of sources, in their order, each found on a thread of its own by so many workers.
+/// Finds the answers for sources, in their order, each on a thread of its own by the workers of a team.
 ///
-/// Where no thread can be had its sources are found last, on this one.
+/// Where no thread can be had, this one finds the answers that are left.
 #[cycle(groups)]
 pub(crate) fn find_group<const P: u32, R: Threads + Wait + Sync + Watch>(
     rt: &R,
@@ -88,7 +88,7 @@ pub(crate) fn find_group<const P: u32, R: Threads + Wait + Sync + Watch>(
     team: &Team<P>,
     meter: &Meter,
     sources: &[u32],
-) -> Result<Vec<Found<P>>, AllocError>
+) -> Result<Vec<SourceAnswer<P>>, AllocError>
     requires ready { IsReady P graph.now }
     requires vertices { All (IsVertex graph.now.n) sources.now }
     ensures { IfOk result (λ group. AreFound graph.now sources.now group.items) }
@@ -98,11 +98,11 @@ pub(crate) fn find_group<const P: u32, R: Threads + Wait + Sync + Watch>(
     }
     let half = sources.len() / 2;
     let (left, right) = sources.split_at(half);
-    let back = move || -> Result<Vec<Found<P>>, AllocError>
+    let back = move || -> Result<Vec<SourceAnswer<P>>, AllocError>
         requires { IsSync R.row × IsReady P graph.now × All (IsVertex graph.now.n) right.now }
         ensures { IfOk result (λ group. AreFound graph.entry.now right.entry.now group.items) }
     { find_group(rt, alloc, graph, team, meter, right) };
-    let front = move || -> Result<Vec<Found<P>>, AllocError>
+    let front = move || -> Result<Vec<SourceAnswer<P>>, AllocError>
         requires { IsSync R.row × IsReady P graph.now × All (IsVertex graph.now.n) left.now }
         ensures { IfOk result (λ group. AreFound graph.entry.now left.entry.now group.items) }
     { find_group(rt, alloc, graph, team, meter, left) };

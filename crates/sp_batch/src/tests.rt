@@ -8,6 +8,7 @@ mod groups;
 mod meeting;
 mod threads;
 
+use crate::answering::Batch;
 use crate::batch::answer_file;
 use crate::watch::{Unwatched, Watch};
 use crate::{BatchError, BucketWidth, Nobody, Settings, Summary, run_batch};
@@ -30,51 +31,55 @@ pub struct Ran {
     pub out: UpToWriter,
 }
 
-/// So many workers.
+/// Makes a number of workers.
 pub fn crew(rt: &impl Abort, number: u32) -> Workers {
     Workers::new(number).expect(rt, "a number of workers in range")
 }
 
-/// Runs a batch into a writer that takes so many bytes in all.
+/// The texts of a graph and of its sources, and how many bytes the writer takes in all.
+#[derive(Drop)]
+pub struct Case<'t> {
+    pub gr: &'t [u8],
+    pub ss: &'t [u8],
+    pub room: usize,
+}
+
+/// Runs a batch in buckets of this width.
 pub fn run_into<const P: u32, R: Threads + Wait + Sync + Abort>(
     rt: &R,
     alloc: Global,
-    gr: &[u8],
-    ss: &[u8],
-    room: usize,
+    case: &Case,
     delta: u64,
     workers: u32,
 ) -> Ran
     requires layout { is_layout P ≡ true }
-    requires gr { length gr.now ≤ 2 ^ 62 }
-    requires ss { length ss.now ≤ 2 ^ 62 }
-    requires room { room ≤ 2 ^ 62 }
+    requires gr { length case.now.gr.now ≤ 2 ^ 62 }
+    requires ss { length case.now.ss.now ≤ 2 ^ 62 }
+    requires room { case.now.room ≤ 2 ^ 62 }
 {
     let delta = Delta::new(delta).expect(rt, "a width in range");
-    run_in::<P, R>(rt, alloc, gr, ss, room, BucketWidth::Of(delta), workers)
+    run_in::<P, R>(rt, alloc, case, BucketWidth::Of(delta), workers)
 }
 
-/// The same in buckets of any width.
+/// Runs a batch in buckets of a width that is chosen, or that of the graph's mean length.
 pub fn run_in<const P: u32, R: Threads + Wait + Sync + Abort>(
     rt: &R,
     alloc: Global,
-    gr: &[u8],
-    ss: &[u8],
-    room: usize,
+    case: &Case,
     width: BucketWidth<P>,
     workers: u32,
 ) -> Ran
     requires layout { is_layout P ≡ true }
-    requires gr { length gr.now ≤ 2 ^ 62 }
-    requires ss { length ss.now ≤ 2 ^ 62 }
-    requires room { room ≤ 2 ^ 62 }
+    requires gr { length case.now.gr.now ≤ 2 ^ 62 }
+    requires ss { length case.now.ss.now ≤ 2 ^ 62 }
+    requires room { case.now.room ≤ 2 ^ 62 }
 {
-    let mut out = UpToWriter::new(alloc, room, AMPLE);
+    let mut out = UpToWriter::new(alloc, case.room, AMPLE);
     let answer = run_batch::<P, R, _, _, _>(
         rt,
         alloc,
-        &mut UpTo::whole(gr),
-        &mut UpTo::whole(ss),
+        &mut UpTo::whole(case.gr),
+        &mut UpTo::whole(case.ss),
         &mut out,
         width,
         crew(rt, workers),
@@ -82,29 +87,27 @@ pub fn run_in<const P: u32, R: Threads + Wait + Sync + Abort>(
     Ran { answer, out }
 }
 
-/// Runs a batch with a watch, several sources at once where the graph has at least so many vertices and arcs in all.
+/// Runs a batch with a watch, several sources at once where the graph has at least `least_items` vertices and arcs in all.
 pub fn run_watched<R: Threads + Wait + Sync + Watch>(
     rt: &R,
     alloc: Global,
-    gr: &[u8],
-    ss: &[u8],
-    room: usize,
-    least: usize,
+    case: &Case,
+    least_items: usize,
     workers: Workers,
 ) -> Ran
-    requires gr { length gr.now ≤ 2 ^ 62 }
-    requires ss { length ss.now ≤ 2 ^ 62 }
-    requires room { room ≤ 2 ^ 62 }
+    requires gr { length case.now.gr.now ≤ 2 ^ 62 }
+    requires ss { length case.now.ss.now ≤ 2 ^ 62 }
+    requires room { case.now.room ≤ 2 ^ 62 }
 {
-    let mut out = UpToWriter::new(alloc, room, AMPLE);
-    let file = match read_gr::<28, _>(alloc, &mut UpTo::whole(gr)) {
+    let mut out = UpToWriter::new(alloc, case.room, AMPLE);
+    let file = match read_gr::<28, _>(alloc, &mut UpTo::whole(case.gr)) {
         Ok(file) => file,
         Err(error) => {
             let answer = Err(BatchError::Gr(error));
             return Ran { answer, out };
         }
     };
-    let list = match read_ss::<28, _>(alloc, &mut UpTo::whole(ss)) {
+    let list = match read_ss::<28, _>(alloc, &mut UpTo::whole(case.ss)) {
         Ok(list) => list,
         Err(error) => {
             let answer = Err(BatchError::Ss(error));
@@ -116,8 +119,11 @@ pub fn run_watched<R: Threads + Wait + Sync + Watch>(
         workers,
         listener: &Nobody,
     };
-    let sources = chosen::<28>(None, &list);
-    let answer = answer_file::<28, R, _, _>(rt, alloc, file, sources, least, &settings, &mut out);
+    let batch = Batch {
+        sources: chosen::<28>(None, &list),
+        least_items,
+    };
+    let answer = answer_file::<28, R, _, _>(rt, alloc, file, &batch, &settings, &mut out);
     Ran { answer, out }
 }
 
@@ -125,17 +131,15 @@ pub fn run_watched<R: Threads + Wait + Sync + Watch>(
 pub fn run_groups<R: Threads + Wait + Sync + Abort>(
     rt: &R,
     alloc: Global,
-    gr: &[u8],
-    ss: &[u8],
-    room: usize,
+    case: &Case,
     workers: u32,
 ) -> Ran
-    requires gr { length gr.now ≤ 2 ^ 62 }
-    requires ss { length ss.now ≤ 2 ^ 62 }
-    requires room { room ≤ 2 ^ 62 }
+    requires gr { length case.now.gr.now ≤ 2 ^ 62 }
+    requires ss { length case.now.ss.now ≤ 2 ^ 62 }
+    requires room { case.now.room ≤ 2 ^ 62 }
 {
     let watched = (rt, Unwatched);
-    run_watched(&watched, alloc, gr, ss, room, 0, crew(rt, workers))
+    run_watched(&watched, alloc, case, 0, crew(rt, workers))
 }
 
 /// Asserts what a batch answers and writes, for some widths and numbers of workers, and by groups.
@@ -150,18 +154,23 @@ pub fn expect<R: Threads + Wait + Sync + Abort>(
     requires gr { length gr.now ≤ 2 ^ 62 }
     requires ss { length ss.now ≤ 2 ^ 62 }
 {
+    let case = Case {
+        gr,
+        ss,
+        room: AMPLE,
+    };
     for (delta, workers) in [(1, 1), (2, 2), (100, 64), (68719476734, 1)] {
-        let ran = run_into::<28, R>(rt, alloc, gr, ss, AMPLE, delta, workers);
+        let ran = run_into::<28, R>(rt, alloc, &case, delta, workers);
         assert_eq!(rt; ran.answer, answer);
         assert_eq!(rt; from_utf8(ran.out.taken()), Ok(text));
     }
     for workers in [1, 2] {
-        let ran = run_in::<28, R>(rt, alloc, gr, ss, AMPLE, BucketWidth::MeanLength, workers);
+        let ran = run_in::<28, R>(rt, alloc, &case, BucketWidth::MeanLength, workers);
         assert_eq!(rt; ran.answer, answer);
         assert_eq!(rt; from_utf8(ran.out.taken()), Ok(text));
     }
     for workers in [2, 64] {
-        let ran = run_groups(rt, alloc, gr, ss, AMPLE, workers);
+        let ran = run_groups(rt, alloc, &case, workers);
         assert_eq!(rt; ran.answer, answer);
         assert_eq!(rt; from_utf8(ran.out.taken()), Ok(text));
     }

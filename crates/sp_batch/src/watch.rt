@@ -1,11 +1,11 @@
-//! What is told of sources while they are found.
+//! Who hears of sources while their answers are found.
 
-/// Is told of each source before its answer is found, on the thread that finds it.
+/// Hears of each source before its answer is found, on the thread that finds it.
 pub(crate) trait Watch {
     fn before_source(&self, source: u32);
 }
 
-/// Does nothing: a batch runs with it.
+/// Takes no notice of what it hears. A batch runs with it.
 #[derive(Drop)]
 pub(crate) struct Unwatched;
 
@@ -13,7 +13,7 @@ impl Watch for Unwatched {
     fn before_source(&self, _source: u32) {}
 }
 
-/// A runtime's handle, and what is told beside it.
+/// A runtime's handle, and who hears beside it.
 impl<R, V: Watch> Watch for (R, V) {
     fn before_source(&self, source: u32) {
         self.1.before_source(source);

@@ -3,12 +3,12 @@ ghost use Rattle.std.specs.Prelude.{◌≡◌, [], ◌∷◌};
 ghost use Rattle.sp_batch.specs.Found.{answer_of};
 ghost use Rattle.sp_batch.specs.Steps.{AreWritten, IsGroupWritten, Fits, none, sum_of};
 
-use crate::finding::Found;
+use crate::finding::SourceAnswer;
 use sp_dimacs::Write;
 use sp_job::{BatchError, Summary};
 use sp_tree::{write_far, write_tree};
 
-/// Of no source.
+/// Returns the summary of no source.
 pub(crate) fn nothing() -> Summary
     ensures { result ≡ none }
 {
@@ -19,7 +19,7 @@ pub(crate) fn nothing() -> Summary
     }
 }
 
-/// Of some sources and of those behind them.
+/// Returns the summary of some sources and of those behind them, from that of each.
 pub(crate) fn sum(first: Summary, second: Summary) -> Summary
     requires { Fits first second }
     ensures { result ≡ sum_of first second }
@@ -33,18 +33,18 @@ pub(crate) fn sum(first: Summary, second: Summary) -> Summary
 
 /// Writes the answer for one source, and counts it.
 pub(crate) fn write_one<const P: u32, W: Write>(
-    found: &Found<P>,
+    found: &SourceAnswer<P>,
     out: &mut W,
 ) -> Result<Summary, BatchError>
     ensures { AreWritten W.Write (answer_of found.now ∷ []) out.old result out.new }
 {
     match found {
-        Found::Tree(tree) => Ok(Summary {
+        SourceAnswer::Tree(tree) => Ok(Summary {
             sources: 1,
             too_far: 0,
             bytes: write_tree(tree, out)?,
         }),
-        Found::Far { source, vertex } => Ok(Summary {
+        SourceAnswer::TooFar { source, vertex } => Ok(Summary {
             sources: 1,
             too_far: 1,
             bytes: write_far(*source, *vertex, out)?,
@@ -54,7 +54,7 @@ pub(crate) fn write_one<const P: u32, W: Write>(
 
 /// Writes the answers for some sources, in their order, and counts them.
 pub(crate) fn write_group<const P: u32, W: Write>(
-    group: &[Found<P>],
+    group: &[SourceAnswer<P>],
     out: &mut W,
 ) -> Result<Summary, BatchError>
     ensures { IsGroupWritten W.Write group.now out.old result out.new }

@@ -1,4 +1,4 @@
-//! What a batch answers, of sources or of pairs.
+//! What a batch of sources or of pairs answers.
 ghost use Rattle.std.specs.Prelude.{◌≡◌};
 ghost use Rattle.sp_job.specs.declared.answers.BatchError.TheVariants.{Memory, Write};
 
@@ -11,7 +11,7 @@ use thiserror::Error;
 pub struct Summary {
     /// How many sources, or pairs, there were.
     pub sources: u64,
-    /// How many of them are answered by a vertex that is too far.
+    /// How many of them have a vertex that is too far as their answer.
     pub too_far: u64,
     /// How many bytes were written.
     pub bytes: u64,
@@ -20,19 +20,19 @@ pub struct Summary {
 /// Why a batch wasn't written to its end.
 #[derive(Clone, Copy, Debug, PartialEq, Eq, Error)]
 pub enum BatchError {
-    /// The first fault of the graph's text.
+    /// The graph's text has a fault, and this is the first.
     #[error("gr: {0}")]
     Gr(DimacsError),
-    /// The first fault of the sources' text.
+    /// The sources' text has a fault, and this is the first.
     #[error("ss: {0}")]
     Ss(DimacsError),
-    /// The first fault of the pairs' text.
+    /// The pairs' text has a fault, and this is the first.
     #[error("pairs: {0}")]
     Pairs(DimacsError),
-    /// The first number of a source or a target that isn't a vertex of the graph.
+    /// A source or a target isn't a vertex of the graph, and this is the first such number.
     #[error("source {0}: no such vertex")]
     NoSuchVertex(u32),
-    /// A growth was refused.
+    /// Memory was refused.
     #[error("memory")]
     Memory,
     /// The writer failed.

@@ -1,4 +1,4 @@
-//! Places of a list, whose sources alone have an answer.
+//! Places of a list of sources. Those that stand there are answered, and no others.
 ghost use Rattle.std.specs.Prelude.{◌≡◌, ◌≤◌, ◌↔◌, IsSome, IfSome, Some};
 ghost use Rattle.sp_dimacs.specs.Sources.{AreSourcesWithin};
 ghost use Rattle.sp_job.specs.Places.{part_of, AreNumbered};
@@ -28,7 +28,7 @@ impl Model for Places {
 }
 
 impl Places {
-    /// From a first place to a last, where the first is at least 1.
+    /// Makes the places from a first to a last, if the first is at least 1.
     pub fn new(first: u32, last: u32) -> Option<Places>
         ensures places { IfSome result (λ places. places ≡ (first, last)) }
         ensures exactly { IsSome result ↔ (1 ≤ first) }
@@ -39,7 +39,7 @@ impl Places {
         Some(Places { first, last })
     }
 
-    /// What stands there in a list, as far as it goes.
+    /// Returns what stands at these places of a list, as far as the list goes.
     #[tactic(auto, using(std::proofs::lemmas::List::take_min, std::proofs::lemmas::List::drop_min))]
     pub fn of(self, list: &[u32]) -> &[u32]
         ensures { result.now ≡ part_of (Some self) list.now }
@@ -49,7 +49,7 @@ impl Places {
     }
 }
 
-/// The sources of a file that stand at these places, or all.
+/// Returns the sources of a file that stand at these places, or all of them where no places are given.
 #[tactic(auto, using(crate::proofs::PartsOfLists::chosen_numbered))]
 pub fn chosen<const P: u32>(places: Option<Places>, file: &SsFile) -> &[u32]
     requires { AreSourcesWithin P file.now }

@@ -8,9 +8,9 @@ use std::fmt;
 pub enum Progress {
     /// The files are read, and the graph's rows are made.
     Graph { vertices: u32, arcs: usize },
-    /// Of so many sources those of the summary are written.
+    /// The answers for the sources of the summary are written, of `count` sources in all.
     Sources { written: Summary, count: usize },
-    /// Of so many pairs the answers to the first ones are found.
+    /// The answers for the first `found` pairs are known, of `count` pairs in all.
     Pairs { found: usize, count: usize },
 }
 
@@ -29,18 +29,19 @@ impl fmt::Display for Progress {
     }
 }
 
-/// Is told how far a batch is, by the thread that called it. What is answered and written is the same for each.
+/// Hears how far a batch is, on the thread that called it. A batch answers and writes the same for each listener.
 pub trait Listener: Drop {
-    /// Is told before the next source, group of sources or pair is answered, and once the graph stands.
+    /// Hears how far the batch is: once its graph stands, and before each source, group of sources or pair that is answered
+    /// next.
     fn hear(&self, progress: Progress);
 
-    /// Where the workers count what they have relaxed, if the listener looks at that while they work.
+    /// Returns the meter on which the workers count the vertices that they relax, if the listener reads it while they work.
     fn meter(&self) -> Option<&Meter> {
         None
     }
 }
 
-/// Listens to nothing.
+/// Takes no notice of what it hears.
 #[derive(Drop)]
 pub struct Nobody;
 

@@ -6,28 +6,28 @@ ghost use Rattle.sp_job.specs.Width.{width_among};
 use sp_graph::Graph;
 use sp_word::{Delta, Team, Word, Workers};
 
-/// How wide a bucket of tentative distances is. What is written is the same for each width.
+/// How wide a bucket of tentative distances is. A batch answers and writes the same for each width.
 #[derive(Clone, Copy, Debug, PartialEq, Eq)]
 pub enum BucketWidth<const P: u32> {
-    /// So wide.
+    /// A bucket has this width.
     Of(Delta<P>),
-    /// As wide as an arc of the graph is long in the mean, rounded down, but no wider than the greatest distance of a word;
-    /// 1 where there is no arc.
+    /// A bucket is as wide as an arc of the graph is long in the mean, rounded down, but no wider than the greatest distance
+    /// of a word. In a graph without arcs it has the width 1.
     MeanLength,
 }
 
-/// How runs are to be made, and who is told how far they are.
+/// What the user asks of a job: how its runs are made, and who is told how far it is.
 #[derive(Drop)]
 pub struct Settings<'a, const P: u32, L> {
     /// The width of a bucket.
     pub width: BucketWidth<P>,
-    /// How many threads may work, the leader counted.
+    /// How many threads may work, the calling one counted.
     pub workers: Workers,
-    /// Who is told.
+    /// Who is told how far the job is.
     pub listener: &'a L,
 }
 
-// The width for this graph.
+// Returns the width of a bucket in this graph.
 fn width_for<const P: u32>(width: &BucketWidth<P>, graph: &Graph) -> Delta<P>
     requires { is_layout P ≡ true }
     ensures { result ≡ width_among graph.now.arcs width.now }
@@ -45,7 +45,7 @@ fn width_for<const P: u32>(width: &BucketWidth<P>, graph: &Graph) -> Delta<P>
 }
 
 impl<const P: u32, L> Settings<'_, P, L> {
-    /// How runs are made in this graph.
+    /// Returns the team of the runs in this graph.
     pub fn team_for(&self, graph: &Graph) -> Team<P>
         requires { is_layout P ≡ true }
         ensures delta { result.delta ≡ width_among graph.now.arcs self.now.width }

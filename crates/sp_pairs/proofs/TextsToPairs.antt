@@ -1,11 +1,11 @@
 -- From the two texts to the answers of pairs.
-use Rattle.std.proofs.Common.{ℕ, Bool, List, Option, Result, Ok, Err, refl}
+use Rattle.std.proofs.Common.{ℕ, List, Result, Ok, Err}
 use Rattle.sp_device.specs.declared.devices.Read.{Ghosts as Reader}
 use Rattle.sp_device.specs.declared.devices.Write.{Ghosts as Writer}
 use Rattle.sp_dimacs.specs.declared.graphs.GrFile.{GrFile}
 use Rattle.sp_dimacs.specs.declared.pairs.PairsFile.{PairsFile}
 use Rattle.sp_dimacs.specs.Graph.{SpellsGraph}
-use Rattle.sp_dimacs.specs.Pairs.{SpellsPairs, PairsRead}
+use Rattle.sp_dimacs.specs.Pairs.{SpellsPairs}
 use Rattle.sp_job.specs.declared.answers.Summary.{Summary}
 use Rattle.sp_job.specs.declared.answers.BatchError.{BatchError}
 use Rattle.sp_job.specs.declared.answers.BatchError.TheVariants.{Gr, Ss, Pairs, NoSuchVertex, Memory, Write}

@@ -1,11 +1,11 @@
-//! The answers to pairs, found by one run from each source.
+//! The answers for pairs, found by one run from each source.
 ghost use Rattle.std.specs.Prelude.{◌≡◌, ◌+◌, ◌<◌, false, length, All, IfOk, IfSome};
 ghost use Rattle.sp_job.specs.Ready.{IsReady};
 ghost use Rattle.sp_pairs.specs.Slots.{IsClosed, slot_of, IsPairOf, AreAllOpen, pair_at, AreHeld, AreFirstClosed, StayClosed, IsPlaceBehind, AreTargetsOf, IsFor, IsClosedAt};
 
 use sp_graph::Graph;
-use sp_job::{Lead, Listener, Progress};
-use sp_solve::{PairAnswer, Reach, run_targets, useful_team};
+use sp_job::{Job, Listener, Progress};
+use sp_solve::{PairAnswer, Query, Reach, run_targets, useful_team};
 use std::alloc::{AllocError, Global};
 use std::sync::Wait;
 use std::thread::Threads;
@@ -13,16 +13,18 @@ use std::thread::Threads;
 /// What is known of a pair, in 16 bytes: fields lie in the order in which they stand here.
 #[derive(Clone, Copy)]
 pub(crate) enum Slot {
-    /// Nothing yet. The next pair of the same source stands at this place; where there is none, it is the number of pairs.
+    /// No answer is known yet. The next pair of the same source stands at this place; where there is none, it is the number
+    /// of pairs.
     Open { next: usize },
-    /// The target's word.
+    /// The target has this word of the tree.
     Found { pred: u32, dist: u64 },
-    /// The vertex that is too far.
+    /// The target has no word, and this is the smallest vertex that is too far.
     TooFar(u32),
     /// No walk leads to the target.
     NoWalk,
 }
 
+// Returns the slot in which an answer is kept.
 fn slot_of(answer: PairAnswer) -> Slot
     ensures { result ≡ slot_of answer }
 {
@@ -33,6 +35,7 @@ fn slot_of(answer: PairAnswer) -> Slot
     }
 }
 
+// Whether no answer is known yet.
 fn is_open(slot: &Slot) -> bool
     ensures { result ≡ false → IsClosed slot.now }
 {
@@ -42,27 +45,27 @@ fn is_open(slot: &Slot) -> bool
     }
 }
 
-// Open slots for pairs of so many vertices. From the last pair to the first, a table tells for each source where its next
-// pair stands.
+// Makes an open slot for each pair. From the last pair to the first, a table tells for each vertex where the next pair with
+// this source stands.
 fn open_slots(alloc: Global, n: u32, pairs: &[(u32, u32)]) -> Result<Vec<Slot>, AllocError>
     requires { All (IsPairOf n) pairs.now }
     ensures { IfOk result (λ slots. AreAllOpen pairs.now slots.items) }
 {
     let count = pairs.len();
-    let mut nearest = vec![in alloc; count; n as usize]?;
+    let mut next_of_source = vec![in alloc; count; n as usize]?;
     let mut slots = vec![in alloc; Slot::Open { next: count }; count]?;
     for done in 0..count {
         let place = count - 1 - done;
         let source = pairs[place].0 as usize - 1;
         slots[place] = Slot::Open {
-            next: nearest[source],
+            next: next_of_source[source],
         };
-        nearest[source] = place;
+        next_of_source[source] = place;
     }
     Ok(slots)
 }
 
-// The place of the next pair of the same source.
+// Returns the place of the next pair of the same source, if there is one.
 fn next_place(pairs: &[(u32, u32)], slots: &[Slot], place: usize) -> Option<usize>
     requires here { place < length pairs.now }
     requires size { length slots.now ≡ length pairs.now }
@@ -77,7 +80,7 @@ fn next_place(pairs: &[(u32, u32)], slots: &[Slot], place: usize) -> Option<usiz
     None
 }
 
-// The target of the pair at a place, and those of the pairs of the same source behind it.
+// Returns the target of the pair at a place, and those of the pairs of the same source behind it.
 fn targets_from(
     alloc: Global,
     graph: &Graph,
@@ -148,53 +151,54 @@ fn keep_answers<const P: u32>(
     }
 }
 
-// Finds the answer to the pair at a place, and to those of the same source behind it.
+// Finds the answer for the pair at a place, and for those of the same source behind it.
 fn ask<const P: u32, R: Threads + Wait + Sync, L>(
     rt: &R,
     alloc: Global,
-    graph: &Graph,
-    lead: &Lead<P, L>,
+    job: &Job<P, L>,
     pairs: &[(u32, u32)],
     slots: &mut Vec<Slot>,
     place: usize,
 ) -> Result<(), AllocError>
-    requires ready { IsReady P graph.now }
-    requires pairs { All (IsPairOf graph.now.n) pairs.now }
+    requires ready { IsReady P job.now.graph.now }
+    requires pairs { All (IsPairOf job.now.graph.now.n) pairs.now }
     requires here { place < length pairs.now }
-    requires held { AreHeld P graph.now pairs.now slots.old.items }
+    requires held { AreHeld P job.now.graph.now pairs.now slots.old.items }
     requires first { AreFirstClosed place slots.old.items }
-    ensures held { IfOk result (λ _. AreHeld P graph.now pairs.now slots.new.items) }
+    ensures held { IfOk result (λ _. AreHeld P job.now.graph.now pairs.now slots.new.items) }
     ensures first { IfOk result (λ _. AreFirstClosed (place + 1) slots.new.items) }
 {
-    let targets = targets_from(alloc, graph, pairs, slots, place)?;
-    let team = useful_team(rt, graph.n(), &lead.team);
-    let source = pairs[place].0;
-    let reach = run_targets::<P, R>(rt, alloc, graph, team, lead.meter, source, targets)?;
+    let graph = job.graph;
+    let query = Query {
+        source: pairs[place].0,
+        targets: targets_from(alloc, graph, pairs, slots, place)?,
+    };
+    let team = useful_team(rt, graph.n(), &job.team);
+    let reach = run_targets::<P, R>(rt, alloc, graph, team, job.meter, query)?;
     keep_answers(&reach, pairs, slots, place);
     Ok(())
 }
 
-/// The answers to pairs, in their order.
+/// Finds the answers for pairs, in their order.
 pub(crate) fn find_answers<const P: u32, R: Threads + Wait + Sync, L: Listener>(
     rt: &R,
     alloc: Global,
-    graph: &Graph,
-    lead: &Lead<P, L>,
+    job: &Job<P, L>,
     pairs: &[(u32, u32)],
 ) -> Result<Vec<Slot>, AllocError>
-    requires ready { IsReady P graph.now }
-    requires pairs { All (IsPairOf graph.now.n) pairs.now }
-    ensures held { IfOk result (λ slots. AreHeld P graph.now pairs.now slots.items) }
+    requires ready { IsReady P job.now.graph.now }
+    requires pairs { All (IsPairOf job.now.graph.now.n) pairs.now }
+    ensures held { IfOk result (λ slots. AreHeld P job.now.graph.now pairs.now slots.items) }
     ensures closed { IfOk result (λ slots. All IsClosed slots.items) }
 {
-    let mut slots = open_slots(alloc, graph.n(), pairs)?;
+    let mut slots = open_slots(alloc, job.graph.n(), pairs)?;
     for place in 0..pairs.len() {
         if is_open(&slots[place]) {
-            lead.listener.hear(Progress::Pairs {
+            job.listener.hear(Progress::Pairs {
                 found: place,
                 count: pairs.len(),
             });
-            ask::<P, R, L>(rt, alloc, graph, lead, pairs, &mut slots, place)?;
+            ask::<P, R, L>(rt, alloc, job, pairs, &mut slots, place)?;
         }
     }
     Ok(slots)

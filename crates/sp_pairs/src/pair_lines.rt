@@ -1,4 +1,4 @@
-//! The answers to pairs, written a line each and counted.
+//! The answers for pairs, written a line each and counted.
 ghost use Rattle.std.specs.Prelude.{◌≡◌, ◌+◌, ◌≤◌, ◌++◌, length, map, All};
 ghost use Rattle.std.specs.List.{count_by};
 ghost use Rattle.sp_device.specs.Printing.{Sends};

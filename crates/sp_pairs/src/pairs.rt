@@ -10,13 +10,13 @@ use crate::asking::find_answers;
 use crate::pair_lines::write_pairs;
 use sp_dimacs::{GrFile, PairsFile, Read, Write, read_gr, read_pairs};
 use sp_graph::Graph;
-use sp_job::{BatchError, BucketWidth, Lead, Listener, Nobody, Progress, Settings, Summary};
+use sp_job::{BatchError, BucketWidth, Job, Listener, Nobody, Progress, Settings, Summary};
 use sp_word::{Meter, Workers};
 use std::alloc::Global;
 use std::sync::Wait;
 use std::thread::Threads;
 
-// The first number that isn't a vertex, of a pair the source before the target.
+// Returns the first number that isn't a vertex, of a pair the source before the target, if one isn't.
 fn first_pair_above(pairs: &[(u32, u32)], n: u32) -> Option<u32>
     ensures first { IfSome result (IsFirstPairAbove n pairs.now) }
     ensures none { IfNone result (All (IsPairUpTo n) pairs.now) }
@@ -57,24 +57,25 @@ fn answer_pairs<const P: u32, R: Threads + Wait + Sync, W: Write, L: Listener>(
         arcs: graph.m(),
     });
     let uncounted = Meter::new();
-    let lead = Lead {
+    let job = Job {
+        graph: &graph,
         team: settings.team_for(&graph),
         meter: settings.listener.meter().unwrap_or(&uncounted),
         listener: settings.listener,
     };
-    let slots = find_answers::<P, R, L>(rt, alloc, &graph, &lead, &list.pairs)?;
+    let slots = find_answers::<P, R, L>(rt, alloc, &job, &list.pairs)?;
     write_pairs(&list.pairs, &slots, out)
 }
 
-/// Reads a graph and a list of pairs, and writes for each pair, in the order of the list, one line: what the target has in
-/// the source's shortest-path tree, or the vertex that is too far for a word of `P` bits of predecessor, or that no walk
-/// leads there.
+/// Reads a graph and a list of pairs, and writes for each pair, in the order of the list, one line: the target's word of the
+/// source's shortest-path tree, or the vertex that is too far for a word of `P` bits of predecessor, or that no walk leads
+/// there.
 ///
 /// The graph is read first, then the pairs; then all their numbers are tested, and all answers are found, before anything
-/// is written. `width` is that of a bucket, `workers` the number of threads, the leader counted; what is written is
-/// the same for each of both. Where the writer fails, a beginning of the text stands.
+/// is written. `width` is the width of a bucket, and `workers` the number of threads, this one counted; what is written is
+/// the same for all widths and numbers. Where the writer fails, a beginning of the text stands.
 ///
-/// Each source is run from once, wherever its pairs stand, and no further than to the farthest of their targets.
+/// It makes one run from each source, wherever its pairs stand, and no further than to the farthest of their targets.
 pub fn run_pairs<const P: u32, R: Threads + Wait + Sync, G: Read, S: Read, W: Write>(
     rt: &R,
     alloc: Global,
@@ -100,7 +101,7 @@ pub fn run_pairs<const P: u32, R: Threads + Wait + Sync, G: Read, S: Read, W: Wr
     run_pairs_told::<P, R, G, S, W, Nobody>(rt, alloc, gr, pairs, out, &settings)
 }
 
-/// The same as `run_pairs`, and tells how far it is: when the graph stands, and before each run from a source.
+/// Does what `run_pairs` does, and tells a listener how far it is: when the graph stands, and before each run from a source.
 pub fn run_pairs_told<
     const P: u32,
     R: Threads + Wait + Sync,

@@ -1,5 +1,5 @@
 -- The answer for each target.
-use Rattle.std.proofs.Common.{◌≡◌, ℕ, ◌+◌, ◌*◌, ◌<◌, ◌≤◌, List, length, get_or, Option, Some, None, refl, sym, subst, arith, ◌∙◌}
+use Rattle.std.proofs.Common.{◌≡◌, ℕ, ◌+◌, ◌*◌, ◌<◌, ◌≤◌, List, [], length, get_or, Option, Some, None, refl, sym, subst, arith, ◌∙◌}
 use Rattle.std.specs.Prelude.{All, slice_index, nat_le}
 use Rattle.std.proofs.lemmas.Grind.{get_or_default_zero}
 use Rattle.std.proofs.lemmas.List.Elements.{All-filter, All-contains}
@@ -13,10 +13,11 @@ use Rattle.sp_paths.proofs.TheoremProofs.{passed_is_pair, finished_is_pair}
 use Rattle.sp_graph.specs.LeftOut.{IsLeastLeftOut}
 use Rattle.sp_walks.specs.Walks.{WalksFrom}
 use Rattle.sp_scan.specs.Shown.{Shows, LeadsOut, IsClosedUpTo, IsArcRelaxed as IsEachRelaxed}
-use Rattle.sp_scan.specs.declared.scan.Scan.TheVariants.{Whole, LeavesOut}
+use Rattle.sp_scan.specs.declared.scan.Scan.{Scan}
+use Rattle.sp_scan.specs.declared.scan.Scan.TheVariants.{Whole, LeavesOut, Open}
 use Rattle.sp_solve.specs.declared.reach.PairAnswer.{PairAnswer as Told}
 use Rattle.sp_solve.specs.WholeRun.{IsPlace, IsOfWalks, IsRelaxedCopy}
-use Rattle.sp_solve.specs.Reach.{Reached, AnswersTargets, IsAnswerFor, IsUpTo, answer_of, answer_by, reach_of}
+use Rattle.sp_solve.specs.Reach.{Reached, AnswersTargets, IsFinal, IsShown, IsAnswerFor, IsUpTo, answer_of, answer_by}
 use Rattle.sp_solve.proofs.WholeRun.{whole_left}
 
 -- what the word of the target at a place tells
@@ -50,11 +51,18 @@ module _ (P : ℕ) (run : WalksFrom) (place : IsPlace P run) (words : List Word)
   near_answer far closed t at (Pair d p) is up =
       passed_is_pair run.graph run.source (max_dist P) (far + 1) 0 (word_at words) (passed far closed) t d p at is (omega (arith, up)) (copy.2 t d p at is)
 
-  pub near_answers : (far : ℕ) (targets : List ℕ) → IsClosedUpTo run.graph (max_dist P) far (word_at words) → All (IsVertex run.graph.n) targets → All (λ t. IsUpTo far (word_at words t)) targets → AnswersTargets P (reach_of run targets) words None
-  near_answers far targets closed vertices up = record {
-    size = copy.0;
-    vertices = vertices;
-    answers = λ k d low. near_answer far closed (get_or targets k d) (vertices k d low) (word_at words (get_or targets k d)) refl (up k d low);
+  none_named : (targets : List ℕ) → 0 < length targets → targets ≡ [] → ⊥
+  none_named targets some none = let at : 0 < length {A = ℕ} [] = subst (λ (ts : List ℕ). 0 < length ts) none some in omega (arith, at)
+
+  pub near_answers : (far : ℕ) (targets : List ℕ) → IsClosedUpTo run.graph (max_dist P) far (word_at words) → All (IsVertex run.graph.n) targets → 0 < length targets → All (λ t. IsUpTo far (word_at words t)) targets → IsFinal P run targets words None
+  near_answers far targets closed vertices some up = record {
+    answers = record {
+      size = copy.0;
+      vertices = vertices;
+      answers = λ k d low. near_answer far closed (get_or targets k d) (vertices k d low) (word_at words (get_or targets k d)) refl (up k d low);
+    };
+    relaxed = λ none. absurd (none_named targets some none);
+    least = λ none. absurd (none_named targets some none);
   }
 
   -- ## All arcs are relaxed
@@ -83,15 +91,19 @@ module _ (P : ℕ) (run : WalksFrom) (place : IsPlace P run) (words : List Word)
   whole_answer_by (Some v) relaxed left t at Unreached is = (finished_is_pair run.graph run.source (max_dist P) (word_at words) relaxed.1 t).too_far v is left.0 left.1
   whole_answer_by None relaxed left t at Unreached is = (finished_is_pair run.graph run.source (max_dist P) (word_at words) relaxed.1 t).no_walk is left
 
-  whole_answers : (far : Option ℕ) (targets : List ℕ) → IsRelaxedCopy P run words → IsLeastLeftOut run.graph (word_at words) far → All (IsVertex run.graph.n) targets → AnswersTargets P (reach_of run targets) words far
+  whole_answers : (far : Option ℕ) (targets : List ℕ) → IsRelaxedCopy P run words → IsLeastLeftOut run.graph (word_at words) far → All (IsVertex run.graph.n) targets → IsFinal P run targets words far
   whole_answers far targets relaxed left vertices = record {
-    size = copy.0;
-    vertices = vertices;
-    answers = λ k d low. whole_answer_by far relaxed left (get_or targets k d) (vertices k d low) (word_at words (get_or targets k d)) refl;
+    answers = record {
+      size = copy.0;
+      vertices = vertices;
+      answers = λ k d low. whole_answer_by far relaxed left (get_or targets k d) (vertices k d low) (word_at words (get_or targets k d)) refl;
+    };
+    relaxed = λ none. relaxed;
+    least = λ none. left;
   }
 
-  pub answers_whole : (targets : List ℕ) → All (IsVertex run.graph.n) targets → Shows (max_dist P) (word_at words) run.graph.arcs Whole → AnswersTargets P (reach_of run targets) words None
-  answers_whole targets vertices shows = whole_answers None targets (relaxed shows.0) (whole_left P run words shows) vertices
-
-  pub answers_left : (v : ℕ) (targets : List ℕ) → All (IsVertex run.graph.n) targets → Shows (max_dist P) (word_at words) run.graph.arcs (LeavesOut v) → AnswersTargets P (reach_of run targets) words (Some v)
-  answers_left v targets vertices shows = whole_answers (Some v) targets (relaxed shows.0) (left_left v shows) vertices
+  -- what all arcs show, the words show of the targets
+  pub shown_by_arcs : (targets : List ℕ) (scan : Scan) → All (IsVertex run.graph.n) targets → Shows (max_dist P) (word_at words) run.graph.arcs scan → IsShown P run targets words scan
+  shown_by_arcs targets Whole vertices shows = whole_answers None targets (relaxed shows.0) (whole_left P run words shows) vertices
+  shown_by_arcs targets (LeavesOut v) vertices shows = whole_answers (Some v) targets (relaxed shows.0) (left_left v shows) vertices
+  shown_by_arcs targets Open vertices shows = tt

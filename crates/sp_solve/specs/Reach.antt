@@ -1,11 +1,13 @@
 -- What a run finds for some targets of its source.
-use Rattle.std.specs.Prelude.{◌≡◌, ◌≤◌, ℕ, List, All, length, Option, Some, None}
+use Rattle.std.specs.Prelude.{◌≡◌, ◌≤◌, ℕ, List, [], All, length, Option, Some, None}
 use Rattle.sp_word.specs.Word.{Word, Pair, Unreached, max_dist}
 use Rattle.sp_paths.specs.Paths.{Graph, IsVertex, IsPair, PairAnswer, word_at}
 use Rattle.sp_paths.specs.Paths.{Found as FoundPair, TooFar as FarVertex, NoWalk as NoWay}
 use Rattle.sp_walks.specs.Walks.{WalksFrom}
-use Rattle.sp_solve.specs.declared.reach.Shown.{Shown}
-use Rattle.sp_solve.specs.declared.reach.Shown.TheVariants.{Final, Open}
+use Rattle.sp_graph.specs.LeftOut.{IsLeastLeftOut}
+use Rattle.sp_scan.specs.declared.scan.Scan.{Scan}
+use Rattle.sp_scan.specs.declared.scan.Scan.TheVariants.{Whole, LeavesOut, Open}
+use Rattle.sp_solve.specs.WholeRun.{IsRelaxedCopy}
 use Rattle.sp_solve.specs.declared.reach.PairAnswer.{PairAnswer as Told}
 use Rattle.sp_solve.specs.declared.reach.PairAnswer.TheVariants.{Found, TooFar, NoWalk}
 
@@ -44,7 +46,15 @@ abbrev pub IsUpTo : (far : ℕ) → Word → Type 0
 IsUpTo far Unreached = ⊥
 IsUpTo far (Pair d p) = d ≤ far
 
--- what a copy of the words shows of the targets: their answers, or nothing
-abbrev pub IsShown : (P : ℕ) → WalksFrom → (targets : List ℕ) → List Word → Shown → Type 0
-IsShown P run targets words (Final far) = AnswersTargets P (reach_of run targets) words far
+-- The words, and the vertex that is too far, tell the answer for each of the targets. Where no target is named every arc is
+-- relaxed, and that vertex is the smallest one that the words leave out.
+pub record IsFinal (P : ℕ) (run : WalksFrom) (targets : List ℕ) (words : List Word) (left : Option ℕ) : Type 0 where
+  pub answers : AnswersTargets P (reach_of run targets) words left
+  pub relaxed : targets ≡ [] → IsRelaxedCopy P run words
+  pub least : targets ≡ [] → IsLeastLeftOut run.graph (word_at words) left
+
+-- what a copy of the words shows of the targets: that it is final, or nothing
+abbrev pub IsShown : (P : ℕ) → WalksFrom → (targets : List ℕ) → List Word → Scan → Type 0
+IsShown P run targets words Whole = IsFinal P run targets words None
+IsShown P run targets words (LeavesOut v) = IsFinal P run targets words (Some v)
 IsShown P run targets words Open = Unit {0}

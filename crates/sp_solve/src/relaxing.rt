@@ -1,14 +1,13 @@
-//! The words of a whole run: a team lowers them, and a copy of them all shows whether every arc is relaxed.
-ghost use Rattle.std.specs.Prelude.{◌≡◌, length, IfOk, OnOk};
-ghost use Rattle.sp_word.specs.Word.{max_dist};
-ghost use Rattle.sp_paths.specs.Paths.{word_at};
-ghost use Rattle.sp_graph.specs.LeftOut.{IsLeastLeftOut};
-ghost use Rattle.sp_scan.specs.Shown.{Shows};
-ghost use Rattle.sp_solve.specs.WholeRun.{TakesWalks, HasOpened, IsOfWalks, IsRelaxedCopy};
+//! The words of a run: a team lowers them, and a copy of them all shows whether they are final.
+ghost use Rattle.std.specs.Prelude.{◌≡◌, ◌<◌, length, All, IfOk, IfSome};
+ghost use Rattle.sp_paths.specs.Paths.{IsVertex, word_at};
+ghost use Rattle.sp_solve.specs.WholeRun.{TakesWalks, HasOpened, IsOfWalks};
+ghost use Rattle.sp_solve.specs.Reach.{IsFinal, IsShown, IsUpTo};
 
 use crate::whole::WholeRun;
+use sp_graph::look_up;
 use sp_offer::{Caller, OfferTable};
-use sp_scan::{Scan, open_tails, scan_arcs};
+use sp_scan::{Scan, is_relaxed_up_to, open_tails, scan_arcs};
 use sp_team::{Relaxed, Search, relax_all};
 use sp_walks::Walks;
 use sp_word::Word;
@@ -16,19 +15,25 @@ use std::alloc::AllocError;
 use std::sync::Wait;
 use std::thread::Threads;
 
-/// What a turn of a whole run leaves.
-#[derive(Drop)]
-struct Turn {
-    caller: Caller,
-    // what the arcs show of the copy of the words
-    told: Scan,
-    // whether entries may be missing, for want of memory
-    lost: bool,
+// The distance of the farthest target, if there are targets and each of them has one.
+fn farthest<const P: u32>(words: &[Word<P>], targets: &[u32]) -> Option<u64>
+    requires { All (IsVertex (length words.now)) targets.now }
+    ensures some { IfSome result (λ _. 0 < length targets.now) }
+    ensures far { IfSome result (λ far. All (λ t. IsUpTo far (word_at words.now t)) targets.now) }
+{
+    if targets.is_empty() {
+        return None;
+    }
+    let mut far = 0;
+    for target in targets {
+        far = look_up(words, *target).dist()?.max(far);
+    }
+    Some(far)
 }
 
 impl<'g, const P: u32> WholeRun<'g, P> {
-    /// The table of the run, in which the source has its pair.
-    pub(crate) fn open(&self) -> Result<(OfferTable<Walks<'g>, P>, Caller), AllocError>
+    // Makes the table of the run, in which the source has its pair.
+    fn open(&self) -> Result<(OfferTable<Walks<'g>, P>, Caller), AllocError>
         ensures table { IfOk result (λ made. TakesWalks self.now made.0.law made.0.vertices) }
         ensures caller { IfOk result (λ made. made.1.table ≡ made.0.id) }
         ensures opened { IfOk result (λ made. HasOpened self.now made.1) }
@@ -39,12 +44,12 @@ impl<'g, const P: u32> WholeRun<'g, P> {
         Ok((table, caller))
     }
 
-    /// The team relaxes what the queue asks for, as far as the targets lie; then all words are copied.
-    pub(crate) fn lower<R: Threads + Wait + Sync>(
+    // Lets the team relax what the queue asks for, as far as the targets lie, and then copies all words.
+    fn lower<R: Threads + Wait + Sync>(
         &self,
         rt: &R,
         table: &OfferTable<Walks<'g>, P>,
-        search: Search,
+        search: &Search<P>,
         caller: Caller,
         words: &mut [Word<P>],
     ) -> Relaxed
@@ -57,80 +62,79 @@ impl<'g, const P: u32> WholeRun<'g, P> {
         ensures copy { IsOfWalks P self.now words.new }
     {
         let Relaxed { mut caller, lost } = relax_all(
-            rt, self.alloc, self.graph, table, self.team, search, caller,
+            rt, self.alloc, self.graph, table, search, caller,
         );
         table.copy_words(&mut caller, words);
         Relaxed { caller, lost }
     }
 
-    // All words are lowered and copied, and each arc is looked at in the copy.
-    fn relax_once<R: Threads + Wait + Sync>(
-        &self,
-        rt: &R,
-        table: &OfferTable<Walks<'g>, P>,
-        queue: &[u32],
-        caller: Caller,
-        words: &mut [Word<P>],
-    ) -> Turn
-        requires table { TakesWalks self.now table.now.law table.now.vertices }
-        requires caller { caller.table ≡ table.now.id }
-        requires opened { HasOpened self.now caller }
-        requires room { length words.old ≡ self.now.graph.n }
-        ensures caller { result.caller.table ≡ table.entry.now.id }
-        ensures opened { HasOpened self.now result.caller }
-        ensures copy { IsOfWalks P self.now words.new }
-        ensures shows { Shows (max_dist P) (word_at words.new) self.now.graph.arcs result.told }
+    // Judges a copy of the words by the arcs that bear on the targets: those within the farthest of them, or all arcs where
+    // a target has no word, or no target is named.
+    fn judge<R: Threads + Wait + Sync>(&self, rt: &R, words: &[Word<P>], targets: &[u32]) -> Scan
+        requires copy { IsOfWalks P self.now words.now }
+        requires targets { All (IsVertex self.now.graph.n) targets.now }
+        ensures { IsShown P self.now targets.now words.now result }
     {
-        let search = Search {
-            queue,
-            targets: &[],
-            meter: self.meter,
-        };
-        let Relaxed { caller, lost } = self.lower(rt, table, search, caller, words);
-        let told = scan_arcs(rt, words, self.graph.arcs(), self.team.workers.get());
-        Turn { caller, told, lost }
+        if let Some(far) = farthest(words, targets) {
+            return if is_relaxed_up_to(words, self.graph, far) {
+                Scan::Whole
+            } else {
+                Scan::Open
+            };
+        }
+        scan_arcs(rt, words, self.graph.arcs(), self.team.workers.get())
     }
 
-    // Turn after turn, until every arc is relaxed in the copy. Answers the smallest vertex that is left out.
+    // Relaxes turn after turn, until the words of the targets are final in the copy. Returns the smallest vertex that is too
+    // far, if one is and bears on the targets.
     fn relax_turns<R: Threads + Wait + Sync>(
         &self,
         rt: &R,
         table: &OfferTable<Walks<'g>, P>,
         mut caller: Caller,
+        targets: &[u32],
         words: &mut [Word<P>],
     ) -> Result<Option<u32>, AllocError>
         requires table { TakesWalks self.now table.now.law table.now.vertices }
         requires caller { caller.table ≡ table.now.id }
         requires opened { HasOpened self.now caller }
+        requires targets { All (IsVertex self.now.graph.n) targets.now }
         requires room { length words.old ≡ self.now.graph.n }
-        ensures relaxed { OnOk result (IsRelaxedCopy P self.now words.new) }
-        ensures left { IfOk result (IsLeastLeftOut self.now.graph (word_at words.new)) }
+        ensures { IfOk result (IsFinal P self.now targets.now words.new) }
     {
         let mut queue = vec![in self.alloc; self.source]?;
         for _ in rt.forever() {
-            let turn = self.relax_once(rt, table, queue.as_slice(), caller, words);
-            match turn.told {
+            let search = Search {
+                team: self.team,
+                queue: queue.as_slice(),
+                targets,
+                meter: self.meter,
+            };
+            let done = self.lower(rt, table, &search, caller, words);
+            match self.judge(rt, words, targets) {
                 Scan::Whole => return Ok(None),
                 Scan::LeavesOut(vertex) => return Ok(Some(vertex)),
-                Scan::Open if turn.lost => return Err(AllocError),
+                Scan::Open if done.lost => return Err(AllocError),
                 Scan::Open => queue = open_tails(self.alloc, words, self.graph.arcs())?,
             }
-            caller = turn.caller;
+            caller = done.caller;
         }
         unreachable!()
     }
 
-    /// Relaxes every arc, in a table that is given back before it answers. Answers the smallest vertex that is left out.
+    /// Lowers words until those of the targets are final, or all words where no target is named, in a table that is given
+    /// back before it returns. Returns the smallest vertex that is too far, if one is and bears on the targets.
     pub(crate) fn relax<R: Threads + Wait + Sync>(
         &self,
         rt: &R,
+        targets: &[u32],
         words: &mut [Word<P>],
     ) -> Result<Option<u32>, AllocError>
+        requires targets { All (IsVertex self.now.graph.n) targets.now }
         requires room { length words.old ≡ self.now.graph.n }
-        ensures relaxed { OnOk result (IsRelaxedCopy P self.now words.new) }
-        ensures left { IfOk result (IsLeastLeftOut self.now.graph (word_at words.new)) }
+        ensures { IfOk result (IsFinal P self.now targets.now words.new) }
     {
         let (table, caller) = self.open()?;
-        self.relax_turns(rt, &table, caller, words)
+        self.relax_turns(rt, &table, caller, targets, words)
     }
 }

@@ -15,7 +15,7 @@ use std::thread::Threads;
 // A worker for fewer vertices takes longer to start than it saves.
 const LEAST_VERTICES: u32 = 5000;
 
-// How many of the workers there is work for: no more than processors, and one for some thousand vertices.
+// Returns for how many of the workers there is work: for no more than processors, and one for some thousand vertices.
 fn useful_workers<R: Threads>(rt: &R, n: u32, workers: Workers) -> Workers
     ensures { result ≤ workers }
 {
@@ -40,10 +40,10 @@ pub fn useful_team<const P: u32, R: Threads>(rt: &R, n: u32, team: &Team<P>) -> 
     }
 }
 
-/// The shortest-path tree from the source, or the vertex that is too far for a word of `P` bits of predecessor.
+/// Returns the shortest-path tree from the source, or the vertex that is too far for a word of `P` bits of predecessor.
 ///
-/// `delta` is the width of a bucket, `workers` the greatest number of threads, the leader counted. The answer is the same
-/// for each of both. There are no more threads than processors, and one for some thousand vertices.
+/// `delta` is the width of a bucket, and `workers` the greatest number of threads, this one counted. The answer is the same
+/// for all widths and numbers. There are no more threads than processors, and one for some thousand vertices.
 pub fn run_source<const P: u32, R: Threads + Wait + Sync>(
     rt: &R,
     alloc: Global,
@@ -64,7 +64,8 @@ pub fn run_source<const P: u32, R: Threads + Wait + Sync>(
     run_by_team(rt, alloc, graph, team, &Meter::new(), source)
 }
 
-/// Returns what `run_source` does, by exactly as many threads as the team has workers. They count on the meter what they relax.
+/// Returns what `run_source` does, by exactly as many threads as the team has workers. They count on the meter the vertices
+/// that they relax.
 pub fn run_by_team<const P: u32, R: Threads + Wait + Sync>(
     rt: &R,
     alloc: Global,
@@ -78,8 +79,7 @@ pub fn run_by_team<const P: u32, R: Threads + Wait + Sync>(
     ensures tree { IfOk result (IsAnswer P graph.now source) }
     ensures refused { IfErr result (IsRefusal P graph.now source) }
 {
-    let n = graph.n();
-    if source < 1 || source > n {
+    if !graph.has_vertex(source) {
         return Err(RunError::NoSuchVertex);
     }
     WholeRun::new(alloc, graph, source, team, meter).solve(rt)

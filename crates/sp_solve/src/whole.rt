@@ -2,12 +2,11 @@
 //!
 //! The team lowers the words, in whatever order. What the run answers rests on a copy of the words alone: where every arc
 //! is relaxed there, it is the tree's.
-ghost use Rattle.std.specs.Prelude.{◌≡◌, ◌≤◌, None, true, length, IfOk, IfErr};
+ghost use Rattle.std.specs.Prelude.{◌≡◌, ◌≤◌, [], None, true, IfOk, IfErr};
 ghost use Rattle.sp_word.specs.Word.{is_layout, max_pred};
-ghost use Rattle.sp_paths.specs.Paths.{IsVertex, word_at};
-ghost use Rattle.sp_graph.specs.LeftOut.{IsLeastLeftOut};
+ghost use Rattle.sp_paths.specs.Paths.{IsVertex};
 ghost use Rattle.sp_answer.specs.Answer.{IsAnswer, IsRefusal};
-ghost use Rattle.sp_solve.specs.WholeRun.{IsRelaxedCopy};
+ghost use Rattle.sp_solve.specs.Reach.{IsFinal};
 
 use sp_answer::{RunError, Tree};
 use sp_graph::Graph;
@@ -18,7 +17,7 @@ use std::marker::Model;
 use std::sync::Wait;
 use std::thread::Threads;
 
-/// A run from a source of a graph to its end, by a team. Contracts see the graph and the source.
+/// A run from a source of a graph, by a team. Contracts see the graph and the source.
 #[derive(Drop)]
 pub(crate) struct WholeRun<'g, const P: u32> {
     pub(crate) alloc: Global,
@@ -41,7 +40,7 @@ impl<'g, const P: u32> Model for WholeRun<'g, P> {
 }
 
 impl<'g, const P: u32> WholeRun<'g, P> {
-    /// A run from a vertex of the graph.
+    /// Makes a run from a vertex of the graph.
     pub(crate) fn new(
         alloc: Global,
         graph: &'g Graph,
@@ -65,10 +64,9 @@ impl<'g, const P: u32> WholeRun<'g, P> {
         }
     }
 
-    // The tree of words in which every arc is relaxed, and that leave no vertex out.
+    // Makes the tree of words in which every arc is relaxed, and which leave no vertex out.
     fn tree_of(&self, words: &[Word<P>]) -> Result<Tree<P>, AllocError>
-        requires relaxed { IsRelaxedCopy P self.now words.now }
-        requires none { IsLeastLeftOut self.now.graph (word_at words.now) None }
+        requires { IsFinal P self.now [] words.now None }
         ensures { IfOk result (IsAnswer P self.now.graph self.now.source) }
     {
         finished_table();
@@ -77,10 +75,9 @@ impl<'g, const P: u32> WholeRun<'g, P> {
         Ok(tree)
     }
 
-    // What words in which every arc is relaxed say, with the smallest vertex that they leave out.
+    // Answers by words in which every arc is relaxed, and by the smallest vertex that they leave out, if one is.
     fn answer_of(&self, words: &[Word<P>], left: Option<u32>) -> Result<Tree<P>, RunError>
-        requires relaxed { IsRelaxedCopy P self.now words.now }
-        requires left { IsLeastLeftOut self.now.graph (word_at words.now) left }
+        requires { IsFinal P self.now [] words.now left }
         ensures tree { IfOk result (IsAnswer P self.now.graph self.now.source) }
         ensures refused { IfErr result (IsRefusal P self.now.graph self.now.source) }
     {
@@ -94,7 +91,7 @@ impl<'g, const P: u32> WholeRun<'g, P> {
         }
     }
 
-    /// The tree, or the vertex that is too far.
+    /// Runs until all words are final, and returns the tree, or the vertex that is too far.
     pub(crate) fn solve<R: Threads + Wait + Sync>(&self, rt: &R) -> Result<Tree<P>, RunError>
         ensures tree { IfOk result (IsAnswer P self.now.graph self.now.source) }
         ensures refused { IfErr result (IsRefusal P self.now.graph self.now.source) }
@@ -103,7 +100,7 @@ impl<'g, const P: u32> WholeRun<'g, P> {
         let Ok(mut words) = vec![in self.alloc; Word::unreached(); n] else {
             return Err(RunError::Memory);
         };
-        let Ok(left) = self.relax(rt, words.as_mut_slice()) else {
+        let Ok(left) = self.relax(rt, &[], words.as_mut_slice()) else {
             return Err(RunError::Memory);
         };
         self.answer_of(words.as_slice(), left)

@@ -1,17 +1,17 @@
 //! The deques of a team.
-use crate::entries::Block;
+use crate::chunk::Chunk;
 use crossbeam_deque::{Stealer, Worker};
 use std::alloc::{AllocError, Global};
 
-/// The deques of a team: the workers' own, and a thief's side of each.
+/// The deques of a team: each worker's own side, and the side from which the others steal.
 #[derive(Drop)]
-pub struct Deques {
-    pub owners: Vec<Worker<Block>>,
-    pub stealers: Vec<Stealer<Block>>,
+pub struct TeamDeques {
+    pub owners: Vec<Worker<Chunk>>,
+    pub stealers: Vec<Stealer<Chunk>>,
 }
 
-/// A deque for each of so many workers.
-pub fn make_deques(alloc: Global, workers: usize) -> Result<Deques, AllocError> {
+/// Makes one deque for each worker.
+pub fn make_deques(alloc: Global, workers: usize) -> Result<TeamDeques, AllocError> {
     let mut owners = Vec::with_capacity(alloc, workers)?;
     let mut stealers = Vec::with_capacity(alloc, workers)?;
     for _ in 0..workers {
@@ -19,5 +19,5 @@ pub fn make_deques(alloc: Global, workers: usize) -> Result<Deques, AllocError> 
         stealers.push(own.stealer()?)?;
         owners.push(own)?;
     }
-    Ok(Deques { owners, stealers })
+    Ok(TeamDeques { owners, stealers })
 }

@@ -1,7 +1,7 @@
 //! What a worker has in hand, and how it finds more.
 
-use crate::board::Board;
-use crate::entries::Block;
+use crate::chunk::Chunk;
+use crate::common::Common;
 use crate::tally::Tally;
 use crossbeam_deque::{Steal, Stealer, Worker};
 use sp_bins::{Bins, Entry};
@@ -11,7 +11,7 @@ use std::hint::spin_loop;
 use std::sync::Wait;
 use std::thread::yield_now;
 
-/// The fewest entries that are worth a block.
+/// The fewest entries that are worth a chunk.
 const LEAST_PIECE: usize = 16;
 
 /// How often a worker that is ahead looks for the others before it goes on all the same.
@@ -22,10 +22,10 @@ const LOOKS: u32 = 1000;
 
 const YIELDS: u32 = 1010;
 
-/// How often a deque that answers neither a block nor that it is empty is asked again.
+/// How often a deque that answers neither a chunk nor that it is empty is asked again.
 const TRIES: u32 = 100;
 
-/// For so many microseconds a worker sleeps at most.
+/// How many microseconds a worker sleeps at most.
 const NAP: u64 = 500;
 
 /// What a worker has in hand.
@@ -33,9 +33,7 @@ const NAP: u64 = 500;
 pub struct Hands<'m> {
     alloc: Global,
     worker: usize,
-    // how many buckets it may be ahead of the others without waiting for them
-    ahead: u64,
-    own: Worker<Block>,
+    own: Worker<Chunk>,
     bins: Bins,
     // what is worked off, and how much of it is done
     list: Vec<Entry>,
@@ -43,12 +41,12 @@ pub struct Hands<'m> {
     tally: Tally<'m>,
 }
 
-// A block of another worker's, if one is got.
-fn steal(stealers: &[Stealer<Block>]) -> Option<Block> {
+// Steals a chunk from a deque, if one is got.
+fn steal(stealers: &[Stealer<Chunk>]) -> Option<Chunk> {
     for stealer in stealers {
         for _ in 0..TRIES {
             match stealer.steal() {
-                Steal::Success(block) => return Some(block),
+                Steal::Success(chunk) => return Some(chunk),
                 Steal::Empty => break,
                 Steal::Retry => {}
             }
@@ -58,28 +56,25 @@ fn steal(stealers: &[Stealer<Block>]) -> Option<Block> {
 }
 
 impl<'m> Hands<'m> {
-    /// Empty hands of a worker, with buckets 2 to the power of `shift` wide, and where it counts what it has relaxed.
+    /// Makes the empty hands of a worker, which counts on the meter what it has relaxed.
     pub fn new(
-        alloc: Global,
+        common: &Common,
         worker: usize,
-        own: Worker<Block>,
-        shift: u32,
-        ahead: u64,
+        own: Worker<Chunk>,
         meter: &'m Meter,
     ) -> Result<Hands<'m>, AllocError> {
         Ok(Hands {
-            alloc,
+            alloc: common.alloc,
             worker,
-            ahead,
             own,
-            bins: Bins::new(alloc, shift)?,
-            list: Vec::new(alloc),
+            bins: Bins::new(common.alloc, common.shift)?,
+            list: Vec::new(common.alloc),
             next: 0,
             tally: Tally::new(meter),
         })
     }
 
-    /// Whether they are the first worker's, who has the first entries.
+    /// Whether they are the hands of the first worker, which has the first entries.
     pub fn is_first(&self) -> bool {
         self.worker == 0
     }
@@ -89,14 +84,14 @@ impl<'m> Hands<'m> {
         &mut self.bins
     }
 
-    /// The next entries of the list, up to so many.
+    /// The next entries of the list, as many as there are up to a number.
     pub fn upcoming(&self, most: usize) -> &[Entry] {
         let rest = self.list.as_slice().get(self.next..).unwrap_or(&[]);
         let (front, _) = rest.split_at(rest.len().min(most));
         front
     }
 
-    /// The next entry of the list.
+    /// Takes the next entry of the list.
     pub fn take(&mut self) -> Option<Entry> {
         if self.next < self.list.len() {
             let entry = self.list[self.next];
@@ -117,98 +112,94 @@ impl<'m> Hands<'m> {
         self.list.len().saturating_sub(self.next)
     }
 
-    // Cuts a block off the end of the list.
-    fn cut(&mut self, piece: usize) -> Result<Block, AllocError> {
+    // Cuts a chunk off the end of the list.
+    fn cut(&mut self, piece: usize) -> Result<Chunk, AllocError> {
         let at = self.list.len().saturating_sub(piece);
         let entries = Vec::from_slice(self.alloc, &self.list[at..])?;
         self.list.truncate(at);
-        Ok(Block {
+        Ok(Chunk {
             bucket: self.bins.lowest(),
             entries,
         })
     }
 
-    // Puts blocks where others find them.
-    fn share(&mut self, board: &Board) -> Result<(), AllocError> {
-        let hungry = board.hungry().min(64) as usize;
+    // Puts chunks where others find them.
+    fn share(&mut self, common: &Common) -> Result<(), AllocError> {
+        let hungry = common.signals.hungry().min(64) as usize;
         let piece = self.left() / (hungry + 1);
         if piece < LEAST_PIECE {
             return Ok(());
         }
         for _ in 0..hungry {
-            let block = self.cut(piece)?;
-            if self.own.push(block).is_err() {
+            let chunk = self.cut(piece)?;
+            if self.own.push(chunk).is_err() {
                 return Err(AllocError);
             }
-            board.put();
+            common.signals.put();
         }
         Ok(())
     }
 
-    // Takes a block for the list.
-    fn hold(&mut self, block: Block) {
-        let Block { bucket: _, entries } = block;
+    // Takes a chunk for the list.
+    fn hold(&mut self, chunk: Chunk) {
+        let Chunk { bucket: _, entries } = chunk;
         self.list = entries;
         self.next = 0;
     }
 
-    // A block of another worker's.
-    fn steal(&mut self, board: &Board, stealers: &[Stealer<Block>]) -> Option<Block> {
-        let block = steal(stealers)?;
-        board.taken();
-        board.set_level(self.worker, block.bucket);
-        Some(block)
+    // Steals a chunk from another worker, if one is got.
+    fn steal(&mut self, common: &Common) -> Option<Chunk> {
+        let chunk = steal(&common.stealers)?;
+        common.signals.taken();
+        common.signals.set_level(self.worker, chunk.bucket);
+        Some(chunk)
     }
 
-    // Waits for the others to come to a bucket, for some time. A block that comes in the meantime is the answer.
-    fn wait_for(
-        &mut self,
-        board: &Board,
-        stealers: &[Stealer<Block>],
-        bucket: u64,
-    ) -> Option<Block> {
-        if board.lowest().saturating_add(self.ahead) >= bucket {
+    // Whether the others are so far behind a bucket that the worker waits for them.
+    fn is_ahead(&self, common: &Common, bucket: u64) -> bool {
+        common.signals.lowest().saturating_add(common.ahead) < bucket
+    }
+
+    // Waits for some time for the others to come to a bucket, and returns a chunk that comes in the meantime.
+    fn wait_for(&mut self, common: &Common, bucket: u64) -> Option<Chunk> {
+        if !self.is_ahead(common, bucket) {
             return None;
         }
-        board.begin_hunger();
-        let mut block = None;
+        common.signals.begin_hunger();
+        let mut chunk = None;
         for _ in 0..PATIENCE {
-            if board.lowest().saturating_add(self.ahead) >= bucket {
+            if !self.is_ahead(common, bucket) {
                 break;
             }
-            if board.shared() > 0 {
-                block = self.steal(board, stealers);
-                if block.is_some() {
+            if common.signals.shared() > 0 {
+                chunk = self.steal(common);
+                if chunk.is_some() {
                     break;
                 }
             }
             spin_loop();
         }
-        board.end_hunger();
-        block
+        common.signals.end_hunger();
+        chunk
     }
 
-    // Waits for a block of another worker's. None says that all work is done.
-    fn rest<R: Wait>(
-        &mut self,
-        rt: &R,
-        board: &Board,
-        stealers: &[Stealer<Block>],
-    ) -> Option<Block> {
-        board.begin_hunger();
+    // Waits for a chunk of another worker. None says that all work is done.
+    fn rest<R: Wait>(&mut self, rt: &R, common: &Common) -> Option<Chunk> {
+        let signals = &common.signals;
+        signals.begin_hunger();
         let mut turn = 0u32;
         for _ in rt.forever() {
-            if board.shared() > 0 {
-                board.begin_work();
-                let block = self.steal(board, stealers);
-                if block.is_some() {
-                    board.end_hunger();
-                    return block;
+            if signals.shared() > 0 {
+                signals.begin_work();
+                let chunk = self.steal(common);
+                if chunk.is_some() {
+                    signals.end_hunger();
+                    return chunk;
                 }
-                board.end_work();
+                signals.end_work();
             }
-            if board.is_over() {
-                board.dismiss();
+            if signals.is_over() {
+                signals.dismiss();
                 return None;
             }
             if turn < LOOKS {
@@ -216,60 +207,51 @@ impl<'m> Hands<'m> {
             } else if turn < YIELDS {
                 yield_now();
             } else {
-                board.sleep(rt, NAP);
+                signals.sleep(rt, NAP);
             }
             turn = turn.saturating_add(1);
         }
         unreachable!()
     }
 
-    /// A worker with no entry waits for the first. It tells whether there is one.
-    pub fn begin<R: Wait>(&mut self, rt: &R, board: &Board, stealers: &[Stealer<Block>]) -> bool {
-        match self.rest(rt, board, stealers) {
-            Some(block) => {
-                self.bins.open(block.bucket);
-                self.hold(block);
+    /// Waits for a first entry, where the worker has none. Returns whether there is one.
+    pub fn begin<R: Wait>(&mut self, rt: &R, common: &Common) -> bool {
+        match self.rest(rt, common) {
+            Some(chunk) => {
+                self.bins.open(chunk.bucket);
+                self.hold(chunk);
                 true
             }
             None => false,
         }
     }
 
-    // The list was worked off, and so was the bucket: the next one.
-    fn advance<R: Wait>(
-        &mut self,
-        rt: &R,
-        board: &Board,
-        stealers: &[Stealer<Block>],
-    ) -> Result<bool, AllocError> {
+    // Goes on to the next bucket, where the list was worked off and so was its bucket. False says that all work is done.
+    fn advance<R: Wait>(&mut self, rt: &R, common: &Common) -> Result<bool, AllocError> {
+        let signals = &common.signals;
         let Some(bucket) = self.bins.advance()? else {
             self.tally.tell();
-            if board.is_alone() {
+            if signals.is_alone() {
                 return Ok(false);
             }
-            board.leave(self.worker);
-            return Ok(self.begin(rt, board, stealers));
+            signals.leave(self.worker);
+            return Ok(self.begin(rt, common));
         };
-        if !board.is_alone() {
-            board.set_level(self.worker, bucket);
-            if let Some(block) = self.wait_for(board, stealers, bucket) {
-                self.hold(block);
+        if !signals.is_alone() {
+            signals.set_level(self.worker, bucket);
+            if let Some(chunk) = self.wait_for(common, bucket) {
+                self.hold(chunk);
             }
         }
         Ok(true)
     }
 
     /// Sees to it that the list has an entry. False says that all work is done.
-    pub fn find<R: Wait>(
-        &mut self,
-        rt: &R,
-        board: &Board,
-        stealers: &[Stealer<Block>],
-    ) -> Result<bool, AllocError> {
+    pub fn find<R: Wait>(&mut self, rt: &R, common: &Common) -> Result<bool, AllocError> {
         for _ in rt.forever() {
             if self.left() > 0 {
-                if board.hungry() > 0 {
-                    self.share(board)?;
+                if common.signals.hungry() > 0 {
+                    self.share(common)?;
                 }
                 return Ok(true);
             }
@@ -278,12 +260,12 @@ impl<'m> Hands<'m> {
                 continue;
             }
             self.list.clear();
-            if let Some(block) = self.own.pop() {
-                board.taken();
-                self.hold(block);
+            if let Some(chunk) = self.own.pop() {
+                common.signals.taken();
+                self.hold(chunk);
                 continue;
             }
-            if !self.advance(rt, board, stealers)? {
+            if !self.advance(rt, common)? {
                 return Ok(false);
             }
         }

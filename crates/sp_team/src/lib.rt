@@ -5,12 +5,13 @@
 //! they tell one another is a schedule: it is safe, and nothing rests on it.
 #![tactic(auto)]
 
-mod board;
+mod chunk;
+mod common;
 mod deques;
-mod entries;
 mod hands;
 mod relax;
 mod search;
+mod signals;
 mod tally;
 mod team;
 

@@ -13,7 +13,7 @@ use sp_paths::Arc;
 use sp_word::{Reply, Word};
 use std::alloc::AllocError;
 
-/// The distance of a vertex, if it is reached: one that the law allows it.
+/// Reads the distance of a vertex, if it is reached: one that the law allows it.
 pub(crate) fn read_dist<L: Lawful, const P: u32>(
     table: &OfferTable<L, P>,
     vertex: u32,
@@ -103,7 +103,7 @@ pub(crate) fn warm<L: Lawful, const P: u32>(
     ensures { IsLater (lawful P (L.allows table.now.law)) caller.old caller.new }
 {
     for entry in entries {
-        if entry.vertex >= 1 && entry.vertex <= graph.n() {
+        if graph.has_vertex(entry.vertex) {
             let _ = read_dist(table, entry.vertex, caller);
             warm_heads(table, graph.row(entry.vertex), caller);
         }
@@ -123,7 +123,7 @@ pub(crate) fn relax<L: Lawful, const P: u32>(
     ensures { IsLater (lawful P (L.allows table.now.law)) caller.old caller.new }
 {
     let vertex = entry.vertex;
-    if vertex < 1 || vertex > graph.n() {
+    if !graph.has_vertex(vertex) {
         return Ok(false);
     }
     match read_dist(table, vertex, caller) {

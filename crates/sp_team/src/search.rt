@@ -7,22 +7,26 @@ ghost use Rattle.sp_team.specs.Later.{IsLater};
 use crate::relax::read_dist;
 use sp_graph::Graph;
 use sp_offer::{Caller, Lawful, OfferTable};
-use sp_word::Meter;
+use sp_word::{Meter, Team};
 
-/// At so many targets a worker looks at once.
+/// How many targets a worker looks at at once.
 const GLANCE: usize = 16;
 
-/// What a team looks for: from the vertices of a queue on, the words of some targets; all words, where none is named. The workers count
-/// on the meter what they have relaxed.
-#[derive(Clone, Copy)]
-pub struct Search<'q> {
+/// What a team looks for, and who looks for it.
+#[derive(Drop)]
+pub struct Search<'q, const P: u32> {
+    /// How many workers look, and how wide a bucket of theirs is.
+    pub team: Team<P>,
+    /// The vertices whose arcs are relaxed first.
     pub queue: &'q [u32],
+    /// The vertices whose words are looked for; all vertices, where none is named.
     pub targets: &'q [u32],
+    /// Where the workers count the vertices that they relax.
     pub meter: &'q Meter,
 }
 
 /// How far a worker has to go: to the farthest of the targets, once all of them are reached. Since distances only fall, it
-/// goes too far at first, and never not far enough.
+/// goes too far at first, and far enough always.
 #[derive(Clone, Copy)]
 pub(crate) struct Horizon {
     // the greatest distance of an entry that may have a bearing on the targets' words
@@ -34,7 +38,7 @@ pub(crate) struct Horizon {
 }
 
 impl Horizon {
-    /// Of targets that weren't looked at.
+    /// Makes the horizon of targets that weren't looked at.
     pub(crate) fn new() -> Horizon {
         Horizon {
             end: u64::MAX,
@@ -48,7 +52,7 @@ impl Horizon {
         dist <= self.end
     }
 
-    // All targets are reached: it lies at the farthest, and they are looked at from the first on again.
+    // Where all targets are reached, puts it at the farthest, and looks at them from the first on again.
     fn close_in(&mut self) {
         self.end = self.farthest;
         self.seen = 0;
@@ -72,7 +76,7 @@ impl Horizon {
             let Some(target) = targets.get(self.seen) else {
                 return self.close_in();
             };
-            if *target < 1 || *target > graph.n() {
+            if !graph.has_vertex(*target) {
                 return;
             }
             let Some(dist) = read_dist(table, *target, caller) else {

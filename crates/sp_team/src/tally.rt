@@ -1,7 +1,7 @@
 //! What a worker counts for the meter of its run.
 use sp_word::Meter;
 
-/// How many vertices a worker tells the meter of at once: seldom enough to cost nothing.
+/// How many vertices a worker adds to the meter at once: it does so seldom enough to cost nothing.
 const LOT: u64 = 256;
 
 /// What a worker has relaxed since it last told the meter.
@@ -12,7 +12,7 @@ pub(crate) struct Tally<'m> {
 }
 
 impl<'m> Tally<'m> {
-    /// For a worker that has relaxed nothing.
+    /// Makes the tally of a worker that has relaxed nothing.
     pub(crate) fn new(meter: &'m Meter) -> Tally<'m> {
         Tally { meter, untold: 0 }
     }

@@ -6,17 +6,16 @@ ghost use Rattle.sp_offer.specs.Story.{Follows, own_calls};
 ghost use Rattle.sp_team.specs.Law.{IsReady};
 ghost use Rattle.sp_team.specs.Later.{IsLater};
 
-use crate::board::Board;
-use crate::deques::{Deques, make_deques};
-use crate::entries::Block;
+use crate::chunk::Chunk;
+use crate::common::Common;
 use crate::hands::Hands;
 use crate::relax::{read_dist, relax, warm};
 use crate::search::{Horizon, Search};
-use crossbeam_deque::{Stealer, Worker};
+use crossbeam_deque::Worker;
 use sp_bins::Entry;
 use sp_graph::Graph;
 use sp_offer::{Caller, Lawful, OfferTable};
-use sp_word::{Delta, Meter, Team};
+use sp_word::Meter;
 use std::alloc::{AllocError, Global};
 use std::sync::Wait;
 use std::thread::{Threads, join};
@@ -24,38 +23,35 @@ use std::thread::{Threads, join};
 /// How many entries a worker works off before it looks whether others want some.
 const STRETCH: usize = 16;
 
-/// A worker orders its entries by buckets that are delta wide, divided by 2 to this power, and may be delta ahead of the
-/// others.
-const FINER: u32 = 3;
-
 /// What a team leaves when it ends.
 #[derive(Drop)]
 pub struct Relaxed {
-    /// It has seen what all workers had.
+    /// A caller that has seen what the callers of all workers had.
     pub caller: Caller,
-    /// Memory was refused to a worker that had entries, so some may not have been relaxed. Offers that were made stay made.
+    /// Whether memory was refused to a worker that had entries, so that some may not have been relaxed. Offers that were
+    /// made stay made.
     pub lost: bool,
 }
 
 /// What a worker begins with.
 #[derive(Drop)]
-struct Seat {
+struct Start {
     worker: usize,
-    own: Worker<Block>,
+    own: Worker<Chunk>,
     caller: Caller,
 }
 
 /// Workers that follow one another, before they begin.
 #[derive(Drop)]
-struct Crew {
+struct Squad {
     /// The number of the first of them.
     worker: usize,
     /// Their deques.
-    owners: Vec<Worker<Block>>,
+    owners: Vec<Worker<Chunk>>,
     caller: Caller,
 }
 
-// Works off some entries, but for those beyond the horizon.
+// Works off some entries, and drops those beyond the horizon.
 fn run_some<L: Lawful, const P: u32>(
     graph: &Graph,
     table: &OfferTable<L, P>,
@@ -82,7 +78,7 @@ fn run_some<L: Lawful, const P: u32>(
     Ok(())
 }
 
-// The first entries.
+// Puts the vertices of the queue that are reached among a worker's entries.
 fn put_queue<L: Lawful, const P: u32>(
     graph: &Graph,
     table: &OfferTable<L, P>,
@@ -96,7 +92,7 @@ fn put_queue<L: Lawful, const P: u32>(
 {
     for vertex in queue {
         let vertex = *vertex;
-        if vertex < 1 || vertex > graph.n() {
+        if !graph.has_vertex(vertex) {
             continue;
         }
         if let Some(dist) = read_dist(table, vertex, caller) {
@@ -112,9 +108,7 @@ fn begin<R: Wait, L: Lawful, const P: u32>(
     rt: &R,
     graph: &Graph,
     table: &OfferTable<L, P>,
-    board: &Board,
-    stealers: &[Stealer<Block>],
-    queue: &[u32],
+    common: &Common,
     hands: &mut Hands,
     caller: &mut Caller,
 ) -> Result<bool, AllocError>
@@ -123,9 +117,9 @@ fn begin<R: Wait, L: Lawful, const P: u32>(
     ensures { IsLater (lawful P (L.allows table.now.law)) caller.old caller.new }
 {
     if !hands.is_first() {
-        return Ok(hands.begin(rt, board, stealers));
+        return Ok(hands.begin(rt, common));
     }
-    put_queue(graph, table, hands, caller, queue)?;
+    put_queue(graph, table, hands, caller, common.queue.as_slice())?;
     Ok(true)
 }
 
@@ -134,9 +128,7 @@ fn work<R: Wait, L: Lawful, const P: u32>(
     rt: &R,
     graph: &Graph,
     table: &OfferTable<L, P>,
-    board: &Board,
-    stealers: &[Stealer<Block>],
-    queue: &[u32],
+    common: &Common,
     hands: &mut Hands,
     caller: &mut Caller,
 ) -> Result<(), AllocError>
@@ -144,69 +136,54 @@ fn work<R: Wait, L: Lawful, const P: u32>(
     requires caller { caller.old.table ≡ table.now.id }
     ensures { IsLater (lawful P (L.allows table.now.law)) caller.old caller.new }
 {
-    if !begin(rt, graph, table, board, stealers, queue, hands, caller)? {
+    if !begin(rt, graph, table, common, hands, caller)? {
         return Ok(());
     }
     let mut horizon = Horizon::new();
     for _ in rt.forever() {
-        if !hands.find(rt, board, stealers)? {
+        if !hands.find(rt, common)? {
             return Ok(());
         }
-        horizon.look(graph, table, board.targets(), caller);
+        horizon.look(graph, table, common.targets.as_slice(), caller);
         run_some(graph, table, hands, horizon, caller)?;
     }
     unreachable!()
 }
 
-// One worker, which begins with a queue, or waits for others.
+// Runs one worker, which begins with the queue or waits for entries of others.
 fn run_worker<R: Wait, L: Lawful, const P: u32>(
     rt: &R,
-    alloc: Global,
     graph: &Graph,
     table: &OfferTable<L, P>,
-    board: &Board,
-    stealers: &[Stealer<Block>],
-    queue: &[u32],
-    delta: Delta<P>,
+    common: &Common,
     meter: &Meter,
-    seat: Seat,
+    start: Start,
 ) -> Relaxed
     requires ready { IsReady P (lawful P (L.allows table.now.law)) table.now.vertices graph.now }
-    requires caller { seat.caller.table ≡ table.now.id }
-    ensures { IsLater (lawful P (L.allows table.now.law)) seat.caller result.caller }
+    requires caller { start.caller.table ≡ table.now.id }
+    ensures { IsLater (lawful P (L.allows table.now.law)) start.caller result.caller }
 {
-    let Seat {
+    let Start {
         worker,
         own,
         mut caller,
-    } = seat;
-    let shift = delta.get().ilog2().saturating_sub(FINER);
-    let Ok(mut hands) = Hands::new(alloc, worker, own, shift, 1 << FINER, meter) else {
+    } = start;
+    let Ok(mut hands) = Hands::new(common, worker, own, meter) else {
         // the first worker would have had the queue
         let lost = worker == 0;
         if lost {
-            board.leave(worker);
+            common.signals.leave(worker);
         }
         return Relaxed { caller, lost };
     };
-    let lost = work(
-        rt,
-        graph,
-        table,
-        board,
-        stealers,
-        queue,
-        &mut hands,
-        &mut caller,
-    )
-    .is_err();
+    let lost = work(rt, graph, table, common, &mut hands, &mut caller).is_err();
     if lost {
-        board.leave(worker);
+        common.signals.leave(worker);
     }
     Relaxed { caller, lost }
 }
 
-// What two groups leave when they end. The caller knows what both did, and has the calls of both.
+// Joins what two squads leave when they end. The caller knows what both did, and has the calls of both.
 fn merge<L: Lawful, const P: u32>(
     table: &OfferTable<L, P>,
     mine: Relaxed,
@@ -227,120 +204,98 @@ fn merge<L: Lawful, const P: u32>(
     }
 }
 
-// A crew in two: the second one has these deques, and a caller of its own.
+// Parts a squad in two: the second one has these deques, and a caller of its own.
 fn part<L: Lawful, const P: u32>(
     table: &OfferTable<L, P>,
-    crew: Crew,
-    owners: Vec<Worker<Block>>,
-) -> (Crew, Crew)
-    requires { crew.caller.table ≡ table.now.id }
-    ensures first { IsLater (lawful P (L.allows table.now.law)) crew.caller result.0.caller }
+    squad: Squad,
+    owners: Vec<Worker<Chunk>>,
+) -> (Squad, Squad)
+    requires { squad.caller.table ≡ table.now.id }
+    ensures first { IsLater (lawful P (L.allows table.now.law)) squad.caller result.0.caller }
     ensures second { result.1.caller.table ≡ table.now.id }
-    ensures first_owners { result.0.owners ≡ crew.owners }
+    ensures first_owners { result.0.owners ≡ squad.owners }
     ensures second_owners { result.1.owners ≡ owners }
 {
-    let Ok((caller, other)) = table.split(crew.caller) else {
+    let Ok((caller, other)) = table.split(squad.caller) else {
         unreachable!()
     };
-    let second = Crew {
-        worker: crew.worker.saturating_add(crew.owners.len()),
+    let second = Squad {
+        worker: squad.worker.saturating_add(squad.owners.len()),
         owners,
         caller: other,
     };
-    let first = Crew {
-        worker: crew.worker,
-        owners: crew.owners,
+    let first = Squad {
+        worker: squad.worker,
+        owners: squad.owners,
         caller,
     };
     (first, second)
 }
 
-// The first worker of a crew, on this thread.
+// Runs the first worker of a squad, on this thread.
 fn run_first<R: Wait, L: Lawful, const P: u32>(
     rt: &R,
-    alloc: Global,
     graph: &Graph,
     table: &OfferTable<L, P>,
-    board: &Board,
-    stealers: &[Stealer<Block>],
-    queue: &[u32],
-    delta: Delta<P>,
+    common: &Common,
     meter: &Meter,
-    crew: Crew,
+    squad: Squad,
 ) -> Relaxed
     requires ready { IsReady P (lawful P (L.allows table.now.law)) table.now.vertices graph.now }
-    requires caller { crew.caller.table ≡ table.now.id }
-    ensures { IsLater (lawful P (L.allows table.now.law)) crew.caller result.caller }
+    requires caller { squad.caller.table ≡ table.now.id }
+    ensures { IsLater (lawful P (L.allows table.now.law)) squad.caller result.caller }
 {
-    let Crew {
+    let Squad {
         worker,
         mut owners,
         caller,
-    } = crew;
+    } = squad;
     let Some(own) = owners.pop() else {
         return Relaxed { caller, lost: true };
     };
-    let seat = Seat {
+    let start = Start {
         worker,
         own,
         caller,
     };
-    run_worker(
-        rt, alloc, graph, table, board, stealers, queue, delta, meter, seat,
-    )
+    run_worker(rt, graph, table, common, meter, start)
 }
 
-// A worker for each of the deques, one on this thread and the others on threads that it starts. Each half starts its own,
-// so that the last of many workers starts soon. Where memory is refused there are fewer.
+// Runs a worker for each of the deques, one on this thread and the others on threads that it starts. Each half starts its
+// own, so that the last of many workers starts soon. Where memory is refused there are fewer.
 #[cycle(workers)]
 fn run_workers<R: Threads + Wait + Sync, L: Lawful + Send + Sync, const P: u32>(
     rt: &R,
-    alloc: Global,
     graph: &Graph,
     table: &OfferTable<L, P>,
-    board: &Board,
-    stealers: &[Stealer<Block>],
-    queue: &[u32],
-    delta: Delta<P>,
+    common: &Common,
     meter: &Meter,
-    mut crew: Crew,
+    mut squad: Squad,
 ) -> Relaxed
     requires ready { IsReady P (lawful P (L.allows table.now.law)) table.now.vertices graph.now }
-    requires caller { crew.caller.table ≡ table.now.id }
-    ensures { IsLater (lawful P (L.allows table.now.law)) crew.caller result.caller }
+    requires caller { squad.caller.table ≡ table.now.id }
+    ensures { IsLater (lawful P (L.allows table.now.law)) squad.caller result.caller }
 {
-    let half = crew.owners.len() / 2;
+    let half = squad.owners.len() / 2;
     if half == 0 {
-        return run_first(
-            rt, alloc, graph, table, board, stealers, queue, delta, meter, crew,
-        );
+        return run_first(rt, graph, table, common, meter, squad);
     }
-    let Ok(owners) = crew.owners.split_off(half) else {
-        return run_first(
-            rt, alloc, graph, table, board, stealers, queue, delta, meter, crew,
-        );
+    let Ok(owners) = squad.owners.split_off(half) else {
+        return run_first(rt, graph, table, common, meter, squad);
     };
-    let (first, second) = part(table, crew, owners);
+    let (first, second) = part(table, squad, owners);
     let theirs = move || -> Relaxed
         requires { IsSync R.row × IsSync L.row × IsSend L.row
             × IsReady P (lawful P (L.allows table.now.law)) table.now.vertices graph.now
             × (second.caller.table ≡ table.now.id) }
         ensures { IsLater (lawful P (L.allows table.entry.now.law)) second.caller result.caller }
-    {
-        run_workers(
-            rt, alloc, graph, table, board, stealers, queue, delta, meter, second,
-        )
-    };
+    { run_workers(rt, graph, table, common, meter, second) };
     let mine = move || -> Relaxed
         requires { IsSync R.row × IsSync L.row × IsSend L.row
             × IsReady P (lawful P (L.allows table.now.law)) table.now.vertices graph.now
             × (first.caller.table ≡ table.now.id) }
         ensures { IsLater (lawful P (L.allows table.entry.now.law)) first.caller result.caller }
-    {
-        run_workers(
-            rt, alloc, graph, table, board, stealers, queue, delta, meter, first,
-        )
-    };
+    { run_workers(rt, graph, table, common, meter, first) };
     let (later, sooner) = join(rt, theirs, mine);
     merge(table, sooner, later)
 }
@@ -348,44 +303,28 @@ fn run_workers<R: Threads + Wait + Sync, L: Lawful + Send + Sync, const P: u32>(
 /// Relaxes the arcs of the vertices in the queue, and of all whose distance becomes smaller thereby, as long as there is
 /// memory for the entries; where targets are named, of those no farther than the farthest target.
 ///
-/// Its workers are this thread and threads that it starts and joins. Each has a caller of its own.
+/// The workers are this thread and threads that it starts and joins. Each has a caller of its own.
 pub fn relax_all<R: Threads + Wait + Sync, L: Lawful + Send + Sync, const P: u32>(
     rt: &R,
     alloc: Global,
     graph: &Graph,
     table: &OfferTable<L, P>,
-    team: Team<P>,
-    search: Search,
+    search: &Search<P>,
     caller: Caller,
 ) -> Relaxed
     requires ready { IsReady P (lawful P (L.allows table.now.law)) table.now.vertices graph.now }
     requires caller { caller.table ≡ table.now.id }
     ensures { IsLater (lawful P (L.allows table.now.law)) caller result.caller }
 {
-    let workers = team.workers.get() as usize;
-    let (board, deques) = match (
-        Board::new(alloc, workers, search.targets),
-        make_deques(alloc, workers),
-    ) {
-        (Ok(board), Ok(deques)) => (board, deques),
-        _ => return Relaxed { caller, lost: true },
+    let (team, queue, targets, meter) = (search.team, search.queue, search.targets, search.meter);
+    let (common, owners) = match Common::new(alloc, team, queue, targets) {
+        Ok(made) => made,
+        Err(_) => return Relaxed { caller, lost: true },
     };
-    let Deques { owners, stealers } = deques;
-    let crew = Crew {
+    let squad = Squad {
         worker: 0,
         owners,
         caller,
     };
-    run_workers(
-        rt,
-        alloc,
-        graph,
-        table,
-        &board,
-        stealers.as_slice(),
-        search.queue,
-        team.delta,
-        search.meter,
-        crew,
-    )
+    run_workers(rt, graph, table, &common, meter, squad)
 }

@@ -4,7 +4,7 @@ use crate::sample::Sample;
 use sp_device::Write;
 use sp_graph::Graph;
 use sp_phase::{run_pair, run_source_with};
-use sp_solve::{PairAnswer, run_by_team, run_source, run_targets};
+use sp_solve::{PairAnswer, Query, run_by_team, run_source, run_targets};
 use sp_task::OpenGate;
 use sp_word::{Meter, Team, Workers};
 use std::io;
@@ -119,7 +119,8 @@ pub fn call_run_targets<R: AllocGlobal + Print + Threads + Wait + Sync>(
     let mut targets = Vec::new(alloc);
     targets.push(graph.n())?;
     targets.push(1)?;
-    let Ok(reach) = run_targets::<28, R>(rt, alloc, &graph, team, &Meter::new(), 1, targets) else {
+    let query = Query { source: 1, targets };
+    let Ok(reach) = run_targets::<28, R>(rt, alloc, &graph, team, &Meter::new(), query) else {
         return Ok(Ending::Memory);
     };
     for place in 0..reach.targets().len() {

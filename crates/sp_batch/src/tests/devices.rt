@@ -2,7 +2,7 @@
 ghost use Rattle.std.specs.Prelude.{◌≤◌, length};
 
 use super::graphs::{ALONE, DIAMOND, ONE, TWO, TWO_TEXT};
-use super::{crew, gr, run_into, summary};
+use super::{Case, crew, gr, run_into, summary};
 use crate::{BatchError, BucketWidth, Summary, run_batch};
 use sp_dimacs::{Kind, UpTo, UpToWriter};
 use sp_word::{Delta, Workers};
@@ -15,7 +15,12 @@ use std::thread::Threads;
 
 #[test]
 fn failing_writer(rt: HostRuntime) -> Result<(), Fail> {
-    let ran = run_into::<28, _>(&rt, rt.alloc(), ALONE, ONE, 12, 1, 1);
+    let case = Case {
+        gr: ALONE,
+        ss: ONE,
+        room: 12,
+    };
+    let ran = run_into::<28, _>(&rt, rt.alloc(), &case, 1, 1);
     assert_eq!(rt; ran.answer, Err(BatchError::Write));
     assert_eq!(rt; from_utf8(ran.out.taken()), Ok("p spt 1 1\nv "));
     Ok(())
@@ -24,11 +29,21 @@ fn failing_writer(rt: HostRuntime) -> Result<(), Fail> {
 #[test]
 fn writers_that_fail_after_some_bytes(rt: HostRuntime) -> Result<(), Fail> {
     for room in 0..68usize {
-        let ran = run_into::<28, _>(&rt, rt.alloc(), DIAMOND, TWO, room, 2, 2);
+        let case = Case {
+            gr: DIAMOND,
+            ss: TWO,
+            room,
+        };
+        let ran = run_into::<28, _>(&rt, rt.alloc(), &case, 2, 2);
         assert_eq!(rt; ran.answer, Err(BatchError::Write));
         assert_eq!(rt; Some(ran.out.taken()), TWO_TEXT.get(..room));
     }
-    let ran = run_into::<28, _>(&rt, rt.alloc(), DIAMOND, TWO, 68, 2, 2);
+    let case = Case {
+        gr: DIAMOND,
+        ss: TWO,
+        room: 68,
+    };
+    let ran = run_into::<28, _>(&rt, rt.alloc(), &case, 2, 2);
     assert_eq!(rt; ran.answer, summary(2, 0, 68));
     assert_eq!(rt; ran.out.taken(), TWO_TEXT);
     Ok(())

@@ -1,5 +1,5 @@
 //! Graphs and the texts of their trees. What is written for worked examples is compared by `tests/commands.py`.
-use super::{expect, run_in, summary};
+use super::{Case, expect, run_in, summary};
 use crate::{BatchError, BucketWidth};
 use std::str::from_utf8;
 use std::test::Fail;
@@ -36,7 +36,12 @@ fn sources_of_the_diamond(rt: HostRuntime) -> Result<(), Fail> {
 fn too_far(rt: HostRuntime) -> Result<(), Fail> {
     let gr = b"p sp 3 2\na 1 2 4294967294\na 2 3 1\n";
     let mean = BucketWidth::MeanLength;
-    let ran = run_in::<32, _>(&rt, rt.alloc(), gr, ONE, 100, mean, 1);
+    let case = Case {
+        gr,
+        ss: ONE,
+        room: 100,
+    };
+    let ran = run_in::<32, _>(&rt, rt.alloc(), &case, mean, 1);
     assert_eq!(rt; ran.answer, summary(1, 1, 6));
     assert_eq!(rt; from_utf8(ran.out.taken()), Ok("x 1 3\n"));
     Ok(())

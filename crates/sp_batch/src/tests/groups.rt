@@ -1,7 +1,7 @@
 //! Sources answered several at once.
 
 use super::graphs::DIAMOND;
-use super::{run_groups, run_into, summary};
+use super::{Case, run_groups, run_into, summary};
 use crate::BatchError;
 use std::alloc::Global;
 use std::test::Fail;
@@ -16,11 +16,21 @@ const FIVE_TEXT: &[u8] =
 fn writers_that_fail_in_any_group(rt: HostRuntime) -> Result<(), Fail> {
     for workers in [2, 3, 4] {
         for room in 0..182usize {
-            let ran = run_groups(&rt, rt.alloc(), DIAMOND, FIVE, room, workers);
+            let case = Case {
+                gr: DIAMOND,
+                ss: FIVE,
+                room,
+            };
+            let ran = run_groups(&rt, rt.alloc(), &case, workers);
             assert_eq!(rt; ran.answer, Err(BatchError::Write));
             assert_eq!(rt; Some(ran.out.taken()), FIVE_TEXT.get(..room));
         }
-        let ran = run_groups(&rt, rt.alloc(), DIAMOND, FIVE, 182, workers);
+        let case = Case {
+            gr: DIAMOND,
+            ss: FIVE,
+            room: 182,
+        };
+        let ran = run_groups(&rt, rt.alloc(), &case, workers);
         assert_eq!(rt; ran.answer, summary(5, 0, 182));
         assert_eq!(rt; ran.out.taken(), FIVE_TEXT);
     }
@@ -31,7 +41,12 @@ fn writers_that_fail_in_any_group(rt: HostRuntime) -> Result<(), Fail> {
 // text. (The writer is over memory, and fails where that is refused.)
 #[test]
 fn memory_refused(rt: HostRuntime) -> Result<(), Fail> {
-    let ran = run_groups(&rt, rt.alloc(), DIAMOND, FIVE, 182, 2);
+    let case = Case {
+        gr: DIAMOND,
+        ss: FIVE,
+        room: 182,
+    };
+    let ran = run_groups(&rt, rt.alloc(), &case, 2);
     match ran.answer {
         Ok(told) => {
             assert_eq!(rt; Ok(told), summary(5, 0, 182));
@@ -93,9 +108,14 @@ fn nine_sources_by_groups(rt: HostRuntime) -> Result<(), Fail> {
     let gr = town(alloc)?;
     let gr = gr.as_bytes();
     assert!(rt; gr.len() <= 1_000_000);
-    let alone = run_into::<28, _>(&rt, alloc, gr, NINE, 1 << 20, 2, 1);
+    let case = Case {
+        gr,
+        ss: NINE,
+        room: 1 << 20,
+    };
+    let alone = run_into::<28, _>(&rt, alloc, &case, 2, 1);
     for workers in [2, 3, 4, 64] {
-        let ran = run_groups(&rt, alloc, gr, NINE, 1 << 20, workers);
+        let ran = run_groups(&rt, alloc, &case, workers);
         assert_eq!(rt; ran.answer, alone.answer);
         assert_eq!(rt; ran.out.taken(), alone.out.taken());
     }

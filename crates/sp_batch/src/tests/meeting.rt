@@ -1,7 +1,7 @@
 //! Several workers at work at once.
 use super::graphs::{DIAMOND, TWO, TWO_TEXT};
 use super::groups::{NINE, town};
-use super::{AMPLE, count_processors, crew, run_into, run_watched, summary};
+use super::{AMPLE, Case, count_processors, crew, run_into, run_watched, summary};
 use crate::batch::LEAST_ITEMS;
 use crate::watch::Watch;
 use std::sync::atomic::{AtomicU64, Ordering};
@@ -58,15 +58,12 @@ fn workers_meet_at_two_sources(rt: HostRuntime) -> Result<(), Fail> {
     for workers in [2, 64] {
         let wanted = count_at_once(&rt, workers, 2);
         let watched = (&rt, Meeting::new(wanted));
-        let ran = run_watched(
-            &watched,
-            rt.alloc(),
-            DIAMOND,
-            TWO,
-            AMPLE,
-            0,
-            crew(&rt, workers),
-        );
+        let case = Case {
+            gr: DIAMOND,
+            ss: TWO,
+            room: AMPLE,
+        };
+        let ran = run_watched(&watched, rt.alloc(), &case, 0, crew(&rt, workers));
         assert_eq!(rt; ran.answer, summary(2, 0, 68));
         assert_eq!(rt; ran.out.taken(), TWO_TEXT);
         assert_eq!(rt; watched.1.met(), wanted, "{workers} workers did not meet");
@@ -81,19 +78,16 @@ fn workers_meet_at_nine_sources(rt: HostRuntime) -> Result<(), Fail> {
     let gr = town(alloc)?;
     let gr = gr.as_bytes();
     assert!(rt; gr.len() <= 1_000_000);
-    let alone = run_into::<28, _>(&rt, alloc, gr, NINE, AMPLE, 2, 1);
+    let case = Case {
+        gr,
+        ss: NINE,
+        room: AMPLE,
+    };
+    let alone = run_into::<28, _>(&rt, alloc, &case, 2, 1);
     for workers in [2, 64] {
         let wanted = count_at_once(&rt, workers, 9);
         let watched = (&rt, Meeting::new(wanted));
-        let ran = run_watched(
-            &watched,
-            alloc,
-            gr,
-            NINE,
-            AMPLE,
-            LEAST_ITEMS,
-            crew(&rt, workers),
-        );
+        let ran = run_watched(&watched, alloc, &case, LEAST_ITEMS, crew(&rt, workers));
         assert_eq!(rt; ran.answer, alone.answer);
         assert_eq!(rt; ran.out.taken(), alone.out.taken());
         assert_eq!(rt; watched.1.met(), wanted, "{workers} workers did not meet");

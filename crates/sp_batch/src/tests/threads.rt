@@ -3,7 +3,7 @@ ghost use Rattle.std.specs.Prelude.{◌≤◌, ◌^◌, length};
 ghost use denote.Param.Send.{IsSync};
 
 use super::graphs::ONE;
-use super::{AMPLE, Ran, count_processors, run_into};
+use super::{AMPLE, Case, Ran, count_processors, run_into};
 use std::alloc::Global;
 use std::fs;
 use std::process::Abort;
@@ -75,7 +75,12 @@ fn run_looked_at<R: Files + AllocGlobal + Threads + Wait + Sync + Abort>(
     let run = move || -> Ran
         requires { IsSync R.row × (length gr.now ≤ 2 ^ 62) }
     {
-        let ran = run_into::<28, R>(rt, alloc, gr, ONE, AMPLE, 500, workers);
+        let case = Case {
+            gr,
+            ss: ONE,
+            room: AMPLE,
+        };
+        let ran = run_into::<28, R>(rt, alloc, &case, 500, workers);
         done.store(true, Ordering::SeqCst);
         ran
     };
@@ -110,7 +115,12 @@ fn one_source_starts_threads(rt: HostRuntime) -> Result<(), Fail> {
     let gr = ring(alloc)?;
     let gr = gr.as_bytes();
     assert!(rt; gr.len() <= 10_000_000);
-    let want = run_into::<28, _>(&rt, alloc, gr, ONE, AMPLE, 500, 1);
+    let case = Case {
+        gr,
+        ss: ONE,
+        room: AMPLE,
+    };
+    let want = run_into::<28, _>(&rt, alloc, &case, 500, 1);
     assert!(rt; want.answer.is_ok());
     if count_processors(&rt) > 1 {
         for workers in [2, 64] {

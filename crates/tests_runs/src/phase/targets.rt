@@ -7,7 +7,7 @@ use super::compare::plain;
 use super::{WORKERS, crew, graph_of, width};
 use sp_graph::Graph;
 use sp_plain::{Answer, GraphKind, Random, random_graph};
-use sp_solve::{PairAnswer, run_targets};
+use sp_solve::{PairAnswer, Query, run_targets};
 use sp_word::{Meter, Team, Word};
 use std::process::Abort;
 use std::sync::Wait;
@@ -46,12 +46,15 @@ fn told<const P: u32>(
 {
     assert!(rt; graph.n() <= Word::<P>::max_pred());
     assert!(rt; 1 <= source && source <= graph.n());
-    let list = vertices(rt, graph, targets)?;
+    let query = Query {
+        source,
+        targets: vertices(rt, graph, targets)?,
+    };
     let team = Team {
         delta: width::<P>(rt, delta),
         workers: crew(rt, workers),
     };
-    let reach = run_targets::<P, _>(rt, rt.alloc(), graph, team, &Meter::new(), source, list)?;
+    let reach = run_targets::<P, _>(rt, rt.alloc(), graph, team, &Meter::new(), query)?;
     let mut answers = Vec::new(rt.alloc());
     for place in 0..reach.targets().len() {
         answers.push(reach.answer(place))?;

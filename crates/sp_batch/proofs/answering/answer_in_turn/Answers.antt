@@ -10,14 +10,14 @@ returns-in_err-one g c =
     let sources = c.args.sources.now in
     let i = c.loop-source.source-index in
     let more = take_more sources i 0 c.loop-source-test.true in
-    rw (p.1, p.2) (refused_later g.row.P c.args.graph.now sources (take i sources) (get_or sources i 0 ∷ []) (drop (i + 1) sources) g.W.Write
+    rw (p.1, p.2) (refused_later g.row.P c.args.job.now.graph.now sources (take i sources) (get_or sources i 0 ∷ []) (drop (i + 1) sources) g.W.Write
     c.args.out.now c.loop-source.out c.answer_source.new.out c.loop-source.summary _ (rw (← more) (sym (take-append-drop (i + 1) sources))) c.loop-source.invariant c.in_err-one.ensures)
 
 pub sum-summary-requires : goal.sum-summary-requires
 sum-summary-requires g c =
     let sources = c.args.sources.now in
     let i = c.loop-source.source-index in
-    done_fit g.row.P c.args.graph.now (take i sources) (get_or sources i 0 ∷ []) g.W.Write c.args.out.now c.loop-source.out c.answer_source.new.out c.loop-source.summary c.in_ok-one.one
+    done_fit g.row.P c.args.job.now.graph.now (take i sources) (get_or sources i 0 ∷ []) g.W.Write c.args.out.now c.loop-source.out c.answer_source.new.out c.loop-source.summary c.in_ok-one.one
     c.loop-source.invariant c.in_ok-one.ensures (omega (arith, c.requires.short, length-take i sources))
 
 pub loop-source-preserved : goal.loop-source-preserved
@@ -25,5 +25,5 @@ loop-source-preserved g c =
     let sources = c.args.sources.now in
     let i = c.loop-source.source-index in
     rw (take_more sources i 0 c.loop-source-test.true, c.sum-summary.ensures)
-    (done_both g.row.P c.args.graph.now (take i sources) (get_or sources i 0 ∷ []) g.W.Write c.args.out.now c.loop-source.out c.answer_source.new.out c.loop-source.summary c.in_ok-one.one
+    (done_both g.row.P c.args.job.now.graph.now (take i sources) (get_or sources i 0 ∷ []) g.W.Write c.args.out.now c.loop-source.out c.answer_source.new.out c.loop-source.summary c.in_ok-one.one
     c.loop-source.invariant c.in_ok-one.ensures)

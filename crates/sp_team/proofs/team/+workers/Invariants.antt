@@ -8,4 +8,4 @@ abbrev pub decreases-mine : goal.decreases-mine
 decreases-mine g l = 2 * vec_len l.first.owners + 1
 
 abbrev pub decreases-run_workers : goal.decreases-run_workers
-decreases-run_workers g l = 2 * vec_len l.crew.owners
+decreases-run_workers g l = 2 * vec_len l.squad.owners

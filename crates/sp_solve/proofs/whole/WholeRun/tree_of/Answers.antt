@@ -1,4 +1,4 @@
-use Rattle.std.proofs.Common.{◌≡◌, ◌≤◌, subst, sym, arith}
+use Rattle.std.proofs.Common.{◌≡◌, ◌≤◌, refl, subst, sym, arith}
 use Rattle.std.specs.Prelude.{None}
 use Rattle.sp_word.specs.Word.{max_pred}
 use Rattle.sp_paths.specs.Paths.{word_at}
@@ -13,7 +13,7 @@ pub of_words-requires : goal.of_words-requires
 of_words-requires g c =
     let run : WalksFrom = record { graph = c.self.inside.graph.now; source = c.self.inside.source } in
     let place = c.self.invariant in
-    let copy : IsRelaxedCopy g.row.P run c.args.words.now = subst (λ r. IsRelaxedCopy g.row.P r c.args.words.now) (sym c.self.view_is) c.requires.relaxed in
+    let copy : IsRelaxedCopy g.row.P run c.args.words.now = subst (λ r. IsRelaxedCopy g.row.P r c.args.words.now) (sym c.self.view_is) (c.requires.relaxed refl) in
     let size = copy.0 in
     let low = place.source.0 in
     let high = place.source.1 in
@@ -24,8 +24,8 @@ returns g c =
     let run : WalksFrom = record { graph = c.self.inside.graph.now; source = c.self.inside.source } in
     let words = c.args.words.now in
     let is : run ≡ c.args.self.now = c.self.view_is in
-    let copy : IsRelaxedCopy g.row.P run words = subst (λ r. IsRelaxedCopy g.row.P r words) (sym is) c.requires.relaxed in
-    let none : IsLeastLeftOut run.graph (word_at words) None = subst (λ (r : WalksFrom). IsLeastLeftOut r.graph (word_at words) None) (sym is) c.requires.none in
+    let copy : IsRelaxedCopy g.row.P run words = subst (λ r. IsRelaxedCopy g.row.P r words) (sym is) (c.requires.relaxed refl) in
+    let none : IsLeastLeftOut run.graph (word_at words) None = subst (λ (r : WalksFrom). IsLeastLeftOut r.graph (word_at words) None) (sym is) (c.requires.least refl) in
     let tree = c.in_ok-tree.tree in
     subst (λ (r : WalksFrom). IsAnswer g.row.P r.graph r.source tree) is
     (whole_answer g.row.P run c.self.invariant words copy tree c.in_ok-tree.ensures.tree c.in_ok-tree.ensures.words c.finished_table.ensures.is_tree none)

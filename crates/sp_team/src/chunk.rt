@@ -1,9 +1,9 @@
 //! What waits to be relaxed.
 use sp_bins::Entry;
 
-/// Entries of a bucket that a worker shares.
+/// Some entries of one bucket, which a worker shares with the others.
 #[derive(Drop)]
-pub struct Block {
+pub struct Chunk {
     /// The number of their bucket.
     pub bucket: u64,
     pub entries: Vec<Entry>,

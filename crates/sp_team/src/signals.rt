@@ -42,85 +42,85 @@ impl Line {
 
 /// What the workers of a team tell one another.
 #[derive(Drop)]
-pub struct Board {
+pub struct Signals {
     // How many workers have entries, or look for some that were shared.
     active: Line,
     // How many look for work.
     hungry: Line,
-    // How many blocks lie in deques.
+    // How many chunks lie in deques.
     shared: Line,
     // How many sleep.
     asleep: Line,
-    // Changes when sleepers are to look again.
+    // Changes when those who sleep are to look again.
     bell: Line,
     // The lowest bucket of each worker.
     levels: Vec<Line>,
-    // Whose words are looked for; all words, where no vertex is named.
-    targets: Vec<u32>,
 }
 
-impl Board {
-    /// For so many workers, of whom the first has the first entries, and the targets of all.
-    pub fn new(alloc: Global, workers: usize, targets: &[u32]) -> Result<Board, AllocError> {
+impl Signals {
+    /// Makes the signals of some workers, of whom the first has the first entries.
+    pub fn new(alloc: Global, workers: usize) -> Result<Signals, AllocError> {
         let mut levels = Vec::with_capacity(alloc, workers)?;
         for worker in 0..workers {
             levels.push(Line::new(if worker == 0 { 0 } else { NONE }))?;
         }
-        Ok(Board {
+        Ok(Signals {
             active: Line::new(1),
             hungry: Line::new(0),
             shared: Line::new(0),
             asleep: Line::new(0),
             bell: Line::new(0),
             levels,
-            targets: Vec::from_slice(alloc, targets)?,
         })
     }
 
-    /// Whose words are looked for; all words, where no vertex is named.
-    pub fn targets(&self) -> &[u32] {
-        self.targets.as_slice()
-    }
-
+    /// Whether there is one worker, and no other to share with.
     pub(crate) fn is_alone(&self) -> bool {
         self.levels.len() <= 1
     }
 
+    /// How many workers look for work.
     pub(crate) fn hungry(&self) -> u64 {
         self.hungry.get()
     }
 
+    /// How many chunks lie in deques.
     pub(crate) fn shared(&self) -> u64 {
         self.shared.get()
     }
 
+    /// Whether no worker has an entry, and none looks for some that were shared.
     pub(crate) fn is_over(&self) -> bool {
         self.active.get() == 0
     }
 
+    /// Counts a worker more that has entries, or looks for some that were shared.
     pub(crate) fn begin_work(&self) {
         self.active.raise();
     }
 
+    /// Counts one of these less.
     pub(crate) fn end_work(&self) {
         self.active.lower();
     }
 
-    /// A worker that had entries works no more.
+    /// Tells that a worker that had entries works no more.
     pub fn leave(&self, worker: usize) {
         self.set_level(worker, NONE);
         self.end_work();
     }
 
+    /// Counts a worker more that looks for work.
     pub(crate) fn begin_hunger(&self) {
         self.hungry.raise();
     }
 
+    /// Counts one of these less.
     pub(crate) fn end_hunger(&self) {
         self.hungry.lower();
     }
 
-    /// The worker's lowest bucket.
+    /// Tells which bucket is the worker's lowest.
     pub(crate) fn set_level(&self, worker: usize, level: u64) {
         if let Some(line) = self.levels.get(worker) {
             line.set(level);
@@ -136,7 +136,7 @@ impl Board {
         least
     }
 
-    /// A block was put into a deque.
+    /// Tells that a chunk was put into a deque.
     pub(crate) fn put(&self) {
         self.shared.raise();
         if self.asleep.get() > 0 {
@@ -145,18 +145,18 @@ impl Board {
         }
     }
 
-    /// A block was taken out of a deque.
+    /// Tells that a chunk was taken out of a deque.
     pub(crate) fn taken(&self) {
         self.shared.lower();
     }
 
-    /// All work is done: those who sleep shall see it.
+    /// Wakes those who sleep, so that they see that all work is done.
     pub(crate) fn dismiss(&self) {
         self.bell.raise();
         self.bell.number.wake_all();
     }
 
-    /// Sleeps for a while, unless there is something to do.
+    /// Sleeps for some microseconds at most, unless there is something to do.
     pub(crate) fn sleep<R: Wait>(&self, rt: &R, micros: u64) {
         self.asleep.raise();
         let seen = self.bell.get();

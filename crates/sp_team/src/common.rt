@@ -1,0 +1,54 @@
+//! What all workers of a team have in common.
+use crate::chunk::Chunk;
+use crate::deques::{TeamDeques, make_deques};
+use crate::signals::Signals;
+use crossbeam_deque::{Stealer, Worker};
+use sp_word::Team;
+use std::alloc::{AllocError, Global};
+
+/// A worker orders its entries by buckets that are delta wide, divided by 2 to this power, and may be delta ahead of the
+/// others.
+const FINER: u32 = 3;
+
+/// What all workers of a team have in common.
+///
+/// It names no lifetime: a closure that holds a type with a lifetime loses its clauses.
+#[derive(Drop)]
+pub struct Common {
+    pub alloc: Global,
+    /// What the workers tell one another.
+    pub signals: Signals,
+    /// The sides of their deques from which they steal.
+    pub stealers: Vec<Stealer<Chunk>>,
+    /// The vertices whose arcs are relaxed first.
+    pub queue: Vec<u32>,
+    /// The vertices whose words are looked for; all vertices, where none is named.
+    pub targets: Vec<u32>,
+    /// The width of a bucket is 2 to this power.
+    pub shift: u32,
+    /// How many buckets a worker may be ahead of the others without waiting for them.
+    pub ahead: u64,
+}
+
+impl Common {
+    /// Makes what the workers of a search have in common, and the deque of each of them.
+    pub fn new<const P: u32>(
+        alloc: Global,
+        team: Team<P>,
+        queue: &[u32],
+        targets: &[u32],
+    ) -> Result<(Common, Vec<Worker<Chunk>>), AllocError> {
+        let workers = team.workers.get() as usize;
+        let TeamDeques { owners, stealers } = make_deques(alloc, workers)?;
+        let common = Common {
+            alloc,
+            signals: Signals::new(alloc, workers)?,
+            stealers,
+            queue: Vec::from_slice(alloc, queue)?,
+            targets: Vec::from_slice(alloc, targets)?,
+            shift: team.delta.get().ilog2().saturating_sub(FINER),
+            ahead: 1 << FINER,
+        };
+        Ok((common, owners))
+    }
+}
