@@ -22,8 +22,8 @@ PARAMETERS = 6
 OF_C = "a C program calls it"
 # what is specified with these parameters, before which the runtime's handle and the allocator stand
 SPECIFIED = "its parameters are specified, and the runtime's handle and the allocator stand before them"
-# what starts threads: a closure that captures a type which names a lifetime loses its clauses, so the parts stand one by one
-THREADS = "the closures that it starts threads by capture the parts one by one, since one that captures a borrowing type loses its clauses"
+# what does the same for a listener
+LIKE_SPECIFIED = "it takes what run_batch takes, whose parameters are specified, and the places of the list"
 EXCEPTIONS = {
     ("spt_c", "spt_tree"): OF_C,
     ("spt_c", "spt_trees"): OF_C,
@@ -31,9 +31,8 @@ EXCEPTIONS = {
     ("sp_phase", "run_pair"): SPECIFIED,
     ("sp_phase", "run_pair_with"): SPECIFIED,
     ("sp_batch", "run_batch"): SPECIFIED,
+    ("sp_batch", "run_batch_told"): LIKE_SPECIFIED,
     ("sp_pairs", "run_pairs"): SPECIFIED,
-    ("sp_team", "run_workers"): THREADS,
-    ("sp_batch", "find_and_write"): THREADS,
 }
 # a comment, a string or a character, any of which may hold brackets; a lifetime has no closing quote
 PASSED_OVER = re.compile(r"//[^\n]*|/\*.*?\*/|\"(?:\\.|[^\"\\])*\"|b?'(?:\\[^\n]*?|[^'\\\n])'", re.S)
