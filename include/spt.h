@@ -154,7 +154,10 @@ spt_answer spt_graph_new(const spt_arc *arcs, size_t m, uint32_t n, spt_graph *g
 spt_answer spt_graph_share(const spt_graph *from, spt_graph *to);
 
 /* Lets the place keep no graph any more. The graph's memory is freed with the last place that keeps it. A place that keeps none
- * may be freed again. */
+ * may be freed again.
+ *
+ * It is proved that the place then keeps none, that no call uses memory which was freed, and that none is freed twice. That all
+ * memory is freed in the end is tested, here and after SPT_MEMORY, and isn't proved. */
 void spt_graph_free(spt_graph *graph);
 
 /* Works like spt_trees on the graph that is kept, without testing and sorting its arcs again. The place still keeps the graph,

@@ -4,11 +4,11 @@ use Rattle.sp_paths.specs.Paths.{IsVertex}
 use Rattle.sp_answer.specs.declared.answer.RunError.{RunError}
 use Rattle.sp_answer.specs.declared.answer.RunError.TheVariants.{Memory, TooFar, NoSuchVertex}
 
--- the source and the target are vertices
+-- The source and the target are vertices.
 abbrev pub AreEnds : (n s t : ℕ) → Type 0
 AreEnds n s t = IsVertex n s × IsVertex n t
 
--- one of them isn't a vertex exactly where that is told; what is too far is told by the answer
+-- The refusal is NoSuchVertex exactly if one of them is no vertex. A vertex that is too far is an answer and no refusal.
 abbrev pub IsTargetRefusal : (n s t : ℕ) → RunError → Type 0
 IsTargetRefusal n s t Memory = AreEnds n s t
 IsTargetRefusal n s t (TooFar v) = ⊥

@@ -11,11 +11,11 @@ answer_of (Found d p) = FoundPair d p
 answer_of (TooFar v) = FarVertex v
 answer_of NoWalk = NoWay
 
--- the answer for a target
+-- This is the answer for the target.
 abbrev pub IsAnswerFor : Graph → (s t max : ℕ) → TargetAnswer → Type 0
 IsAnswerFor g s t max told = IsPair g s t max (answer_of told)
 
--- what a word of the tree tells of its vertex, or, where it is none, the vertex that is too far
+-- This is the answer that a vertex's word in the tree gives. If it is unreached, the vertex that is too far decides.
 abbrev pub answer_by : Word → (far : Option ℕ) → PairAnswer
 answer_by (Pair d p) far = FoundPair d p
 answer_by Unreached (Some v) = FarVertex v

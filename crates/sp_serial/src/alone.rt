@@ -12,7 +12,7 @@ use sp_plain::Answer;
 use sp_word::{Delta, Word};
 use std::alloc::Global;
 
-// The tree of words that are the plain program's answer.
+// Returns the tree of the words that the plain program answered.
 fn tree_of_words<const P: u32>(
     alloc: Global,
     graph: &Graph,
@@ -32,8 +32,8 @@ fn tree_of_words<const P: u32>(
     }
 }
 
-/// The shortest-path tree from the source, or the vertex that is too far, as `run_source` answers it, without another
-/// thread and without waiting: it returns.
+/// Returns the shortest-path tree from the source, or the vertex that is too far, as `run_source` does. It starts no
+/// thread and never waits.
 pub fn run_source_alone<const P: u32>(
     alloc: Global,
     graph: &Graph,
@@ -45,7 +45,7 @@ pub fn run_source_alone<const P: u32>(
     ensures tree { IfOk result (IsAnswer P graph.now source) }
     ensures refused { IfErr result (IsRefusal P graph.now source) }
 {
-    if source < 1 || source > graph.n() {
+    if !graph.has_vertex(source) {
         return Err(RunError::NoSuchVertex);
     }
     match solve_alone(alloc, graph, delta, source) {

@@ -10,8 +10,8 @@ use sp_graph::Graph;
 use sp_word::Delta;
 use std::alloc::Global;
 
-/// What is to be told of a target of the source, as `run_targets` answers it, without another thread and without waiting: it
-/// returns. It ends as soon as the target's word is final, so a near one takes little time.
+/// Returns the answer for a target of the source, as `run_targets` does. It starts no thread and never waits. It ends as
+/// soon as the target's word is final, so a near target takes little time.
 pub fn run_target_alone<const P: u32>(
     alloc: Global,
     graph: &Graph,
@@ -25,8 +25,7 @@ pub fn run_target_alone<const P: u32>(
     ensures answer { IfOk result (IsAnswerFor graph.now source target (max_dist P)) }
     ensures refused { IfErr result (IsTargetRefusal graph.now.n source target) }
 {
-    let n = graph.n();
-    if source < 1 || source > n || target < 1 || target > n {
+    if !graph.has_vertex(source) || !graph.has_vertex(target) {
         return Err(RunError::NoSuchVertex);
     }
     match solve_target(alloc, graph, delta, source, target) {

@@ -1,10 +1,11 @@
-//! Runs from one source by the thread that calls: no other thread, no waiting, and they return. They answer the words, the tree,
-//! or what is to be told of one target.
+//! Runs from one source on the calling thread. They start no other thread and never wait. They return the words, the
+//! tree, or the answer for one target.
 //!
-//! The words are lowered bucket by bucket, as in delta-stepping (Meyer and Sanders, "Delta-stepping: a parallelizable shortest
-//! path algorithm", Journal of Algorithms 49 (2003)), and then the plain program passes over all arcs until no word changes:
-//! once, where nothing was missed. So the answer rests on those passes alone, whatever stands in buckets. For one target the words
-//! are lowered up to its bucket, and a look at the arcs within its distance shows that its word is final.
+//! A run lowers the words bucket by bucket, as in delta-stepping (Meyer and Sanders, "Delta-stepping: a parallelizable
+//! shortest path algorithm", Journal of Algorithms 49 (2003)). Then the plain program passes over all arcs until no
+//! word changes, which takes one pass if nothing was missed. So the answer rests on these passes alone, whatever the
+//! buckets held. For one target, the run lowers the words up to the target's bucket, and then shows that the target's word is
+//! final by a look at the arcs within its distance.
 #![tactic(auto)]
 
 mod alone;

@@ -10,10 +10,11 @@ use sp_plain::{Answer, finish_table, open_table};
 use sp_word::Delta;
 use std::alloc::{AllocError, Global};
 
-/// The shortest-path tree from `source`, or the smallest vertex that is too far, found by this thread alone.
+/// Returns the shortest-path tree from `source`, or the smallest vertex that is too far.
 ///
-/// `delta` is the width of a bucket, rounded down to a power of two; the answer is the same for each. It takes 8 bytes a
-/// vertex for the words, and 16 for each vertex that waits in a bucket, and is refused where there is no memory for them.
+/// `delta` is the width of a bucket, rounded down to a power of two; the answer is the same for every width. The run
+/// takes 8 bytes for the word of each vertex, and 16 for each vertex that waits in a bucket. It fails only if there is
+/// no memory for them.
 pub fn solve_alone<const P: u32>(
     alloc: Global,
     graph: &Graph,

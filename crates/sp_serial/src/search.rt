@@ -10,7 +10,8 @@ use sp_plain::relax;
 use sp_word::{Delta, Word};
 use std::alloc::{AllocError, Global};
 
-// Relaxes the arcs of an entry's vertex, if it has the entry's distance still. Heads that came nearer are put into buckets.
+// Relaxes the arcs of an entry's vertex, if the vertex still has the entry's distance. Heads that came nearer are put
+// into buckets.
 fn relax_row<const P: u32>(
     graph: &Graph,
     source: u32,
@@ -25,7 +26,9 @@ fn relax_row<const P: u32>(
     ensures walks { IsTableOfWalks graph.now source (max_dist P) words.new.items }
 {
     let vertex = entry.vertex;
-    if vertex < 1 || vertex > graph.n() || look_up(words, vertex).dist() != Some(entry.dist) {
+    // The graph's arcs lead from vertices to vertices.
+    let _ = graph.n();
+    if !graph.has_vertex(vertex) || look_up(words, vertex).dist() != Some(entry.dist) {
         return Ok(());
     }
     for arc in graph.row(vertex) {
@@ -39,7 +42,7 @@ fn relax_row<const P: u32>(
     Ok(())
 }
 
-// Relaxes the arcs of each entry's vertex.
+// Relaxes the arcs of the vertex of each entry.
 fn relax_rows<const P: u32>(
     graph: &Graph,
     source: u32,
@@ -59,7 +62,7 @@ fn relax_rows<const P: u32>(
     Ok(())
 }
 
-// Whether the target has a distance in a bucket before this one.
+// Returns whether the target has a distance in a bucket before this one.
 fn is_before<const P: u32>(words: &[Word<P>], target: Option<u32>, bins: &Bins, bucket: u64) -> bool
     requires { IfSome target (IsVertex (length words.now)) }
 {
@@ -72,7 +75,8 @@ fn is_before<const P: u32>(words: &[Word<P>], target: Option<u32>, bins: &Bins, 
     }
 }
 
-/// Lowers words from the source on, until no entry waits; or, where there is a target, none in its bucket or before it.
+/// Lowers words from the source on, until no entry waits, or, if there is a target, until none waits in the target's
+/// bucket or before it.
 pub(crate) fn search<const P: u32>(
     alloc: Global,
     graph: &Graph,
@@ -94,7 +98,7 @@ pub(crate) fn search<const P: u32>(
         dist: 0,
     })?;
     let mut entries = Vec::new(alloc);
-    // What were left after so many buckets would be found by the passes.
+    // If entries were left after so many buckets, the passes would still find what they lead to.
     for _ in 0..u64::MAX {
         if bins.refill(&mut entries) {
             relax_rows(graph, source, &entries, words, &mut bins)?;

@@ -12,18 +12,19 @@ use sp_scan::is_relaxed_up_to;
 use sp_word::{Delta, Word};
 use std::alloc::{AllocError, Global};
 
-/// What is to be told of a target.
+/// The answer for a target.
 #[derive(Clone, Copy, Debug, PartialEq, Eq)]
 pub enum TargetAnswer {
-    /// Its word of the tree: its least length, and the smallest-numbered vertex before it on a walk of that length.
+    /// The target's word in the tree: its least length, and the smallest-numbered vertex before it on a walk of that
+    /// length.
     Found { dist: u64, pred: u32 },
-    /// Its least length is no word's, and this is the smallest vertex that is too far.
+    /// The target has no least length that fits a word, and this is the smallest vertex that is too far.
     TooFar(u32),
-    /// No walk leads to it.
+    /// No walk leads to the target.
     NoWalk,
 }
 
-// What a word of the tree tells of its vertex, or, where it is none, the vertex that is too far.
+// Returns the answer that a vertex's word in the tree gives. If it is unreached, the vertex that is too far decides.
 fn answer_by<const P: u32>(word: Word<P>, far: Option<u32>) -> TargetAnswer
     ensures { answer_of result ≡ answer_by word.entry far }
 {
@@ -36,7 +37,7 @@ fn answer_by<const P: u32>(word: Word<P>, far: Option<u32>) -> TargetAnswer
     }
 }
 
-// The target's answer, where the words show it: it has one, and all arcs within its distance are relaxed.
+// Returns the target's answer if the words show it: the target has a distance, and all arcs within it are relaxed.
 fn near_answer<const P: u32>(
     graph: &Graph,
     source: u32,
@@ -60,7 +61,7 @@ fn near_answer<const P: u32>(
     }
 }
 
-// The target's answer by words in which every arc is relaxed.
+// Returns the target's answer from words in which every arc is relaxed.
 fn whole_answer<const P: u32>(
     graph: &Graph,
     source: u32,
@@ -74,10 +75,10 @@ fn whole_answer<const P: u32>(
     answer_by(look_up(words, target), left_out(words, graph.arcs()))
 }
 
-/// What is to be told of a target of `source`, found by this thread alone. It ends as soon as the target's word is final, so a
-/// near one takes little time.
+/// Returns the answer for a target of `source`. It ends as soon as the target's word is final, so a near target takes
+/// little time.
 ///
-/// `delta` and memory are as `solve_alone` has them.
+/// It takes the same memory as `solve_alone`, and `delta` means the same.
 pub fn solve_target<const P: u32>(
     alloc: Global,
     graph: &Graph,

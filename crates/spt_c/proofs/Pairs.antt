@@ -1,13 +1,12 @@
 -- What is told of one target.
-use Rattle.std.proofs.Common.{ℕ, inr}
+use Rattle.std.proofs.Common.{ℕ, inr, Result, Ok, Err}
 use Rattle.sp_paths.specs.Paths.{Graph}
 use Rattle.sp_paths.specs.Paths.{TooFar as FarVertex}
 use Rattle.sp_paths.specs.Bags.{AreSame}
 use Rattle.sp_paths.proofs.SameArcs.{same_arcs_same_answers}
 use Rattle.spt_c.specs.declared.answers.Told.{Told}
 use Rattle.spt_c.specs.declared.answers.Told.TheVariants.{Tree, BadSize, BadDelta, BadArc, NoSuchVertex, TooFar, Memory, Wrong, NoGraph}
-use Rattle.spt_c.specs.declared.found.Found.{Found}
-use Rattle.spt_c.specs.declared.found.Found.TheVariants.{Cell, Not}
+use Rattle.spt_c.specs.declared.cells.Cell.{Cell}
 use Rattle.spt_c.specs.Limits.{reach}
 use Rattle.spt_c.specs.Asked.{Asked, IsGood}
 use Rattle.spt_c.specs.Found.{HasNoCell, IsFoundIn, IsFoundBy, unlimited}
@@ -24,11 +23,11 @@ same_none max g h s t (Wrong v) same is = is
 same_none max g h s t NoGraph same is = is
 
 -- What is found by the rows of a graph is found by the arcs that were passed.
-pub same_found : (max : ℕ) (g h : Graph) (s t : ℕ) (found : Found) → AreSame g h → IsFoundIn max g s t found → IsFoundIn max h s t found
-same_found max g h s t (Cell d p) same is = record { answer = is.answer; pair = (same_arcs_same_answers g h same).pair s t max is.answer is.pair; cell = is.cell }
-same_found max g h s t (Not told) same is = same_none max g h s t told same is
+pub same_found : (max : ℕ) (g h : Graph) (s t : ℕ) (found : Result Cell Told) → AreSame g h → IsFoundIn max g s t found → IsFoundIn max h s t found
+same_found max g h s t (Ok cell) same is = record { answer = is.answer; pair = (same_arcs_same_answers g h same).pair s t max is.answer is.pair; cell = is.cell }
+same_found max g h s t (Err told) same is = same_none max g h s t told same is
 
 -- Where nothing is wrong with a call, it is told what is found.
-pub good_found : (q : Asked) (g : Graph) (s t : ℕ) (found : Found) → IsGood q unlimited → IsFoundIn (reach q.n) g s t found → IsFoundBy q g s t found
-good_found q g s t (Cell d p) good is = (good, is)
-good_found q g s t (Not told) good is = inr (good, is)
+pub good_found : (q : Asked) (g : Graph) (s t : ℕ) (found : Result Cell Told) → IsGood q unlimited → IsFoundIn (reach q.n) g s t found → IsFoundBy q g s t found
+good_found q g s t (Ok cell) good is = (good, is)
+good_found q g s t (Err told) good is = inr (good, is)

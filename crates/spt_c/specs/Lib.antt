@@ -1,6 +1,7 @@
 pub mod Arcs
 pub mod Limits
 pub mod Asked
+pub mod Question
 pub mod Blocks
 pub mod Told
 pub mod Checked

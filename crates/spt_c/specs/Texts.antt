@@ -12,8 +12,8 @@ use Rattle.sp_dimacs.specs.Formats.{gr}
 use Rattle.sp_dimacs.specs.Graph.{SpellsGraph}
 use Rattle.spt_c.specs.declared.arcs.SptArc.{SptArc}
 use Rattle.spt_c.specs.declared.texts.SptText.{SptText}
-use Rattle.spt_c.specs.declared.texts.Read.{Read as Told}
-use Rattle.spt_c.specs.declared.texts.Read.TheVariants.{Graph, Room, Fault, Long}
+use Rattle.spt_c.specs.declared.texts.TextAnswer.{TextAnswer}
+use Rattle.spt_c.specs.declared.texts.TextAnswer.TheVariants.{Graph, FewPlaces, Fault, Long}
 
 -- ## Numbers
 
@@ -42,9 +42,9 @@ letter_of Memory = 0
 letter_of Read = 0
 
 -- These are the numbers of the header.
-abbrev pub text_of : Told → SptText
+abbrev pub text_of : TextAnswer → SptText
 text_of (Graph n m) = record { status = 0; n = n; m = m; kind = 0; letter = 0; line = 0 }
-text_of (Room n m) = record { status = 1; n = n; m = m; kind = 0; letter = 0; line = 0 }
+text_of (FewPlaces n m) = record { status = 1; n = n; m = m; kind = 0; letter = 0; line = 0 }
 text_of (Fault e) = record { status = 7; n = 0; m = 0; kind = kind_of e.kind; letter = letter_of e.kind; line = e.line }
 text_of Long = record { status = 8; n = 0; m = 0; kind = 0; letter = 0; line = 0 }
 
@@ -70,8 +70,8 @@ pub record IsSpelled (text : List ℕ) (n m : ℕ) (file : GrFile) : Type 0 wher
   pub arcs : m ≡ length file.arcs.items
 
 -- The answer is correct, and the slice holds what it says.
-abbrev pub IsRead : (text : List ℕ) → (old new : List SptArc) → Told → Type 0
+abbrev pub IsRead : (text : List ℕ) → (old new : List SptArc) → TextAnswer → Type 0
 IsRead text old new (Graph n m) = (file : GrFile) × IsSpelled text n m file × HasArcs m file.arcs.items old new
-IsRead text old new (Room n m) = (file : GrFile) × IsSpelled text n m file × (length old < m) × (new ≡ old)
+IsRead text old new (FewPlaces n m) = (file : GrFile) × IsSpelled text n m file × (length old < m) × (new ≡ old)
 IsRead text old new (Fault e) = IsFaultOf text e × (new ≡ old)
 IsRead text old new Long = (2 ^ 62 < length text) × (new ≡ old)

@@ -5,6 +5,7 @@ ghost use Rattle.sp_paths.specs.Bags.{AreSame};
 ghost use Rattle.spt_c.specs.Arcs.{arc_of, graph_of};
 ghost use Rattle.spt_c.specs.Asked.{IsArcOf, IsFirstWithout};
 
+use crate::limits::is_vertex;
 use sp_graph::Graph;
 use sp_paths::Arc;
 use std::alloc::{AllocError, Global};
@@ -22,7 +23,7 @@ pub struct SptArc {
 fn is_arc(n: u32, arc: SptArc) -> bool
     ensures { IsTrue result ↔ IsArcOf n arc }
 {
-    1 <= arc.tail && arc.tail <= n && 1 <= arc.head && arc.head <= n && 1 <= arc.len
+    is_vertex(n, arc.tail) && is_vertex(n, arc.head) && 1 <= arc.len
 }
 
 /// Returns the index of the first invalid arc, if there is one.

@@ -1,5 +1,5 @@
 //! A whole call, from what C passes to its answer.
-ghost use Rattle.spt_c.specs.Asked.{asked};
+ghost use Rattle.spt_c.specs.Question.{asked_by};
 ghost use Rattle.spt_c.specs.Blocks.{slices};
 ghost use Rattle.spt_c.specs.Told.{IsTold};
 
@@ -9,19 +9,27 @@ use crate::refusals::refusal;
 use crate::solving::solve_graph;
 use std::alloc::Global;
 
-/// Tests all arguments, and writes the trees of the sources. A delta of 0 stands for the mean length of an arc.
-pub(crate) fn solve(
-    alloc: Global,
-    arcs: &[SptArc],
-    n: u32,
-    sources: &[u32],
-    delta: u64,
-    dist: &mut [u64],
-    pred: &mut [u32],
-) -> Batch
-    ensures { IsTold (asked arcs.now n sources.now delta)
+/// What a call asks for: the trees from these sources in the graph of n vertices with these arcs, with buckets of width
+/// delta. A delta of 0 stands for the mean length of an arc.
+#[derive(Clone, Copy)]
+pub(crate) struct Question<'a> {
+    pub arcs: &'a [SptArc],
+    pub n: u32,
+    pub sources: &'a [u32],
+    pub delta: u64,
+}
+
+/// Tests all arguments, and writes the trees of the sources.
+pub(crate) fn solve(alloc: Global, question: &Question, dist: &mut [u64], pred: &mut [u32]) -> Batch
+    ensures { IsTold (asked_by question.now)
         (slices dist.old pred.old) (slices dist.new pred.new) result }
 {
+    let Question {
+        arcs,
+        n,
+        sources,
+        delta,
+    } = *question;
     let places = dist.len().min(pred.len());
     if let Some(told) = refusal(arcs, n, sources, delta, places) {
         return Batch { done: 0, told };

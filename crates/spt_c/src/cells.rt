@@ -6,13 +6,33 @@ ghost use Rattle.spt_c.specs.Blocks.{slices, IsCell, AreCells, KeepsOthers};
 use sp_answer::Tree;
 use sp_word::Word;
 
-// Returns what represents a word: its distance and predecessor, or the greatest number and 0.
-fn cell_of<const P: u32>(word: Word<P>) -> (u64, u32)
-    ensures { IsCell word.entry result.0 result.1 }
+/// What the caller gets of a vertex: its distance and its predecessor, or the greatest number and 0 if no walk leads to
+/// it.
+#[derive(Clone, Copy, Debug, PartialEq, Eq)]
+pub(crate) struct Cell {
+    pub dist: u64,
+    pub pred: u32,
+}
+
+impl Cell {
+    /// Returns what stands for a vertex to which no walk leads.
+    pub(crate) fn unreached() -> Cell
+        ensures { result ≡ record { dist = 18446744073709551615; pred = 0 } }
+    {
+        Cell {
+            dist: u64::MAX,
+            pred: 0,
+        }
+    }
+}
+
+// Returns what represents a word.
+fn cell_of<const P: u32>(word: Word<P>) -> Cell
+    ensures { IsCell word.entry result.dist result.pred }
 {
     match (word.dist(), word.pred()) {
-        (Some(dist), Some(pred)) => (dist, pred),
-        _ => (u64::MAX, 0),
+        (Some(dist), Some(pred)) => Cell { dist, pred },
+        _ => Cell::unreached(),
     }
 }
 
@@ -31,8 +51,8 @@ pub(crate) fn put_cells<const P: u32>(
 {
     let n = tree.n();
     for place in 0..n {
-        let (d, p) = cell_of(tree.word(place + 1));
-        dist[low + place as usize] = d;
-        pred[low + place as usize] = p;
+        let cell = cell_of(tree.word(place + 1));
+        dist[low + place as usize] = cell.dist;
+        pred[low + place as usize] = cell.pred;
     }
 }

@@ -1,5 +1,5 @@
 //! The functions that C calls.
-ghost use Rattle.std.specs.Prelude.{◌≡◌, ◌∷◌, []};
+ghost use Rattle.std.specs.Prelude.{◌≡◌, ◌∷◌, [], Result};
 ghost use Rattle.std.specs.declared.option.Option.TheVariants.{None};
 ghost use Rattle.sp_kept.specs.Kept.{kept};
 ghost use Rattle.spt_c.specs.Limits.{IsCount, reach};
@@ -12,13 +12,13 @@ ghost use Rattle.spt_c.specs.Texts.{IsRead, text_of};
 ghost use Rattle.spt_c.specs.Kept.{made_of, IsMade, IsShared, counts_of, IsToldOfKept};
 ghost use Rattle.spt_c.specs.declared.answers.Batch.{Batch};
 ghost use Rattle.spt_c.specs.declared.answers.Told.{Told};
-ghost use Rattle.spt_c.specs.declared.found.Found.{Found};
+ghost use Rattle.spt_c.specs.declared.cells.Cell.{Cell};
 ghost use Rattle.spt_c.specs.declared.making.Made.{Made};
-ghost use Rattle.spt_c.specs.declared.texts.Read.{Read};
+ghost use Rattle.spt_c.specs.declared.texts.TextAnswer.{TextAnswer};
 
 use crate::answers::{SptAnswer, SptBatch};
 use crate::arcs::SptArc;
-use crate::calls::solve;
+use crate::calls::{Question, solve};
 use crate::checking::check;
 use crate::counts::{SptCounts, counts};
 use crate::found::{SptFound, find, find_kept};
@@ -63,7 +63,13 @@ pub extern "C" fn spt_tree(
         (slices dist.old pred.old) (slices dist.new pred.new) batch }
 {
     let sources = [source];
-    let batch = solve(alloc, arcs, n, &sources, delta, dist, pred);
+    let question = Question {
+        arcs,
+        n,
+        sources: &sources,
+        delta,
+    };
+    let batch = solve(alloc, &question, dist, pred);
     batch.told.answer()
 }
 
@@ -83,7 +89,13 @@ pub extern "C" fn spt_trees(
         × IsTold (asked arcs.now n sources.now delta)
         (slices dist.old pred.old) (slices dist.new pred.new) batch }
 {
-    let batch = solve(alloc, arcs, n, sources, delta, dist, pred);
+    let question = Question {
+        arcs,
+        n,
+        sources,
+        delta,
+    };
+    let batch = solve(alloc, &question, dist, pred);
     batch.answer()
 }
 
@@ -91,7 +103,7 @@ pub extern "C" fn spt_trees(
 /// fault.
 #[unsafe(no_mangle)]
 pub extern "C" fn spt_gr(alloc: Global, text: &[u8], arcs: &mut [SptArc]) -> SptText
-    ensures { (read : Read) × (result ≡ text_of read) × IsRead text.now arcs.old arcs.new read }
+    ensures { (read : TextAnswer) × (result ≡ text_of read) × IsRead text.now arcs.old arcs.new read }
 {
     let read = read_graph(alloc, text, arcs);
     read.told()
@@ -108,11 +120,11 @@ pub extern "C" fn spt_pair(
     target: u32,
     delta: u64,
 ) -> SptFound
-    ensures { (found : Found) × (result ≡ found_of found)
+    ensures { (found : Result Cell Told) × (result ≡ found_of found)
         × IsFound n arcs.now source target delta found }
 {
     let found = find(alloc, arcs, n, source, target, delta);
-    found.told()
+    SptFound::of(found)
 }
 
 /// Checks whether the slices hold the shortest-path tree from a source, and if not, returns the first vertex at which
@@ -205,12 +217,12 @@ pub extern "C" fn spt_graph_pair(
     target: u32,
     delta: u64,
 ) -> SptFound
-    ensures told { (found : Found) × (result ≡ found_of found)
+    ensures told { (found : Result Cell Told) × (result ≡ found_of found)
         × IsFoundOfKept (kept graph.old) source target delta found }
     ensures same { kept graph.new ≡ kept graph.old }
 {
     let found = find_kept(alloc, graph, source, target, delta);
-    found.told()
+    SptFound::of(found)
 }
 
 /// Returns the numbers of vertices and arcs of the graph that is kept.

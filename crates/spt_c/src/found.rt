@@ -10,6 +10,7 @@ ghost use Rattle.spt_c.specs.Found.{found_of, IsFoundIn, IsFoundBy, IsFound, IsF
 
 use crate::answers::Told;
 use crate::arcs::{SptArc, graph_of};
+use crate::cells::Cell;
 use crate::refusals::refusal;
 use crate::solving::width_for;
 use sp_graph::Graph;
@@ -29,28 +30,19 @@ pub struct SptFound {
     pub index: u64,
 }
 
-/// The answer for a target.
-#[derive(Clone, Copy, Debug, PartialEq, Eq)]
-pub(crate) enum Found {
-    /// The target's distance and predecessor.
-    Cell(u64, u32),
-    /// Why there are none.
-    Not(Told),
-}
-
-impl Found {
-    /// Returns the answer in the form for C.
-    pub(crate) fn told(self) -> SptFound
-        ensures { result ≡ found_of self }
+impl SptFound {
+    /// Returns the target's cell, or why there is none, in the form for C.
+    pub(crate) fn of(found: Result<Cell, Told>) -> SptFound
+        ensures { result ≡ found_of found }
     {
-        match self {
-            Found::Cell(dist, pred) => SptFound {
+        match found {
+            Ok(cell) => SptFound {
                 status: 0,
-                pred,
-                dist,
+                pred: cell.pred,
+                dist: cell.dist,
                 index: 0,
             },
-            Found::Not(told) => {
+            Err(told) => {
                 let answer = told.answer();
                 SptFound {
                     status: answer.status,
@@ -64,14 +56,14 @@ impl Found {
 }
 
 // Converts an answer: no distance is equal to the greatest number, which stands for no walk.
-fn of_answer(answer: TargetAnswer) -> Found
+fn of_answer(answer: TargetAnswer) -> Result<Cell, Told>
     ensures { (g : Network) (s t max : ℕ) → IsAnswerFor g s t max answer
         → IsFoundIn max g s t result }
 {
     match answer {
-        TargetAnswer::Found { dist, pred } => Found::Cell(dist, pred),
-        TargetAnswer::TooFar(vertex) => Found::Not(Told::TooFar(vertex)),
-        TargetAnswer::NoWalk => Found::Cell(u64::MAX, 0),
+        TargetAnswer::Found { dist, pred } => Ok(Cell { dist, pred }),
+        TargetAnswer::TooFar(vertex) => Err(Told::TooFar(vertex)),
+        TargetAnswer::NoWalk => Ok(Cell::unreached()),
     }
 }
 
@@ -82,7 +74,7 @@ fn find_by<const P: u32>(
     source: u32,
     target: u32,
     width: Delta<P>,
-) -> Found
+) -> Result<Cell, Told>
     requires layout { is_layout P ≡ true }
     requires n { graph.now.n ≤ max_pred P }
     requires source { IsVertex graph.now.n source }
@@ -91,12 +83,12 @@ fn find_by<const P: u32>(
 {
     match run_target_alone(alloc, graph, width, source, target) {
         Ok(answer) => of_answer(answer),
-        Err(_) => Found::Not(Told::Memory),
+        Err(_) => Err(Told::Memory),
     }
 }
 
 // Returns the answer by the layout with the greatest distances that can name the vertices.
-fn find_in(alloc: Global, graph: &Graph, source: u32, target: u32, delta: u64) -> Found
+fn find_in(alloc: Global, graph: &Graph, source: u32, target: u32, delta: u64) -> Result<Cell, Told>
     requires n { IsCount graph.now.n }
     requires source { IsVertex graph.now.n source }
     requires target { IsVertex graph.now.n target }
@@ -124,27 +116,33 @@ pub(crate) fn find(
     source: u32,
     target: u32,
     delta: u64,
-) -> Found
+) -> Result<Cell, Told>
     ensures { IsFound n arcs.now source target delta result }
 {
     let ends = [source, target];
     if let Some(told) = refusal(arcs, n, &ends, delta, usize::MAX) {
-        return Found::Not(told);
+        return Err(told);
     }
     match graph_of(alloc, n, arcs) {
         Ok(graph) => find_in(alloc, &graph, source, target, delta),
-        Err(_) => Found::Not(Told::Memory),
+        Err(_) => Err(Told::Memory),
     }
 }
 
 // Tests all arguments that come with a graph, and finds the target in it.
-fn find_known(alloc: Global, graph: &Graph, source: u32, target: u32, delta: u64) -> Found
+fn find_known(
+    alloc: Global,
+    graph: &Graph,
+    source: u32,
+    target: u32,
+    delta: u64,
+) -> Result<Cell, Told>
     ensures { IsFoundBy (asked [] graph.now.n (source ∷ target ∷ []) delta)
         graph.now source target result }
 {
     let ends = [source, target];
     if let Some(told) = refusal(&[], graph.n(), &ends, delta, usize::MAX) {
-        return Found::Not(told);
+        return Err(told);
     }
     find_in(alloc, graph, source, target, delta)
 }
@@ -156,7 +154,7 @@ pub(crate) fn find_kept(
     source: u32,
     target: u32,
     delta: u64,
-) -> Found
+) -> Result<Cell, Told>
     ensures found { IsFoundOfKept (kept graph.old) source target delta result }
     ensures same { kept graph.new ≡ kept graph.old }
 {
@@ -166,6 +164,6 @@ pub(crate) fn find_kept(
             graph.put(alloc, held);
             found
         }
-        None => Found::Not(Told::NoGraph),
+        None => Err(Told::NoGraph),
     }
 }

@@ -1,5 +1,6 @@
 //! The limits on the number of vertices and on distances.
 ghost use Rattle.std.specs.Prelude.{◌≡◌, ◌≤◌, ◌*◌, ◌↔◌, IsTrue};
+ghost use Rattle.sp_paths.specs.Paths.{IsVertex};
 ghost use Rattle.spt_c.specs.Limits.{IsCount, reach};
 ghost use Rattle.spt_c.specs.Asked.{HasRoom};
 
@@ -10,6 +11,13 @@ pub(crate) fn is_count(n: u32) -> bool
     ensures { IsTrue result ↔ IsCount n }
 {
     1 <= n && n <= MOST_VERTICES
+}
+
+/// Returns whether a graph of `n` vertices has this vertex.
+pub(crate) fn is_vertex(n: u32, vertex: u32) -> bool
+    ensures { IsTrue result ↔ IsVertex n vertex }
+{
+    1 <= vertex && vertex <= n
 }
 
 /// Returns whether a graph may have `n` vertices, and there are `blocks` blocks of `n` places each.

@@ -5,7 +5,7 @@ ghost use Rattle.spt_c.specs.Asked.{asked, IsFirstWithout, IsRefused, IsGood};
 
 use crate::answers::Told;
 use crate::arcs::{SptArc, first_bad};
-use crate::limits::{has_room, reach};
+use crate::limits::{has_room, is_vertex, reach};
 
 // Returns the index of the first source that is no vertex.
 fn first_none(n: u32, sources: &[u32]) -> Option<usize>
@@ -13,7 +13,7 @@ fn first_none(n: u32, sources: &[u32]) -> Option<usize>
     ensures none { IfNone result (All (IsVertex n) sources.now) }
 {
     for (place, source) in sources.iter().enumerate() {
-        if *source < 1 || *source > n {
+        if !is_vertex(n, *source) {
             return Some(place);
         }
     }

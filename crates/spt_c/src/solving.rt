@@ -28,24 +28,31 @@ pub(crate) fn width_for<const P: u32>(graph: &Graph, delta: u64) -> Delta<P>
     width
 }
 
-// Writes the tree of a source from `low` on.
+// A source, and the index from which its tree is written.
+#[derive(Clone, Copy)]
+struct Block {
+    source: u32,
+    low: usize,
+}
+
+// Writes the tree of a source.
 fn solve_at<const P: u32>(
     alloc: Global,
     graph: &Graph,
-    source: u32,
     width: Delta<P>,
-    low: usize,
+    block: Block,
     dist: &mut [u64],
     pred: &mut [u32],
 ) -> Told
     requires layout { is_layout P ≡ true }
     requires n { graph.now.n ≤ max_pred P }
-    requires vertex { IsVertex graph.now.n source }
-    requires dist { low + graph.now.n ≤ length dist.old }
-    requires pred { low + graph.now.n ≤ length pred.old }
-    ensures { IsSolvedAt (max_dist P) graph.now source low
+    requires vertex { IsVertex graph.now.n block.source }
+    requires dist { block.low + graph.now.n ≤ length dist.old }
+    requires pred { block.low + graph.now.n ≤ length pred.old }
+    ensures { IsSolvedAt (max_dist P) graph.now block.source block.low
         (slices dist.old pred.old) (slices dist.new pred.new) result }
 {
+    let Block { source, low } = block;
     match run_source_alone(alloc, graph, width, source) {
         Ok(tree) => {
             put_cells(&tree, low, dist, pred);
@@ -77,7 +84,11 @@ fn solve_each<const P: u32>(
     let n = graph.n() as usize;
     let mut low: usize = 0;
     for place in 0..sources.len() {
-        match solve_at(alloc, graph, sources[place], width, low, dist, pred) {
+        let block = Block {
+            source: sources[place],
+            low,
+        };
+        match solve_at(alloc, graph, width, block, dist, pred) {
             Told::Tree => {}
             told => return Batch { done: place, told },
         }

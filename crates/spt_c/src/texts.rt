@@ -22,26 +22,26 @@ pub struct SptText {
 
 /// What a text is.
 #[derive(Clone, Copy, Debug, PartialEq, Eq)]
-pub(crate) enum Read {
+pub(crate) enum TextAnswer {
     /// The text spells a graph of n vertices and m arcs, which are in the slice.
     Graph(u32, usize),
     /// The slice has fewer than the m places that the arcs need.
-    Room(u32, usize),
+    FewPlaces(u32, usize),
     /// The first fault.
     Fault(DimacsError),
     /// The text has more bytes than are read.
     Long,
 }
 
-impl Read {
+impl TextAnswer {
     /// Returns the answer in the form for C.
     pub(crate) fn told(self) -> SptText
         ensures { result ≡ text_of self }
     {
         match self {
-            Read::Graph(n, m) => sizes(0, n, m),
-            Read::Room(n, m) => sizes(1, n, m),
-            Read::Fault(fault) => SptText {
+            TextAnswer::Graph(n, m) => sizes(0, n, m),
+            TextAnswer::FewPlaces(n, m) => sizes(1, n, m),
+            TextAnswer::Fault(fault) => SptText {
                 status: 7,
                 n: 0,
                 m: 0,
@@ -49,7 +49,7 @@ impl Read {
                 letter: letter_of(fault.kind),
                 line: fault.line,
             },
-            Read::Long => sizes(8, 0, 0),
+            TextAnswer::Long => sizes(8, 0, 0),
         }
     }
 }
@@ -124,11 +124,11 @@ fn put_arcs(from: &[Arc], arcs: &mut [SptArc])
 }
 
 /// Reads the graph of a text, and writes its arcs to the slice if there is room.
-pub(crate) fn read_graph(alloc: Global, text: &[u8], arcs: &mut [SptArc]) -> Read
+pub(crate) fn read_graph(alloc: Global, text: &[u8], arcs: &mut [SptArc]) -> TextAnswer
     ensures { IsRead text.now arcs.old arcs.new result }
 {
     if text.len() > 1 << 62 {
-        return Read::Long;
+        return TextAnswer::Long;
     }
     match graph_in(alloc, text) {
         Ok(file) => {
@@ -136,11 +136,11 @@ pub(crate) fn read_graph(alloc: Global, text: &[u8], arcs: &mut [SptArc]) -> Rea
             let from = file.arcs.as_slice();
             let m = from.len();
             if m > arcs.len() {
-                return Read::Room(n, m);
+                return TextAnswer::FewPlaces(n, m);
             }
             put_arcs(from, arcs);
-            Read::Graph(n, m)
+            TextAnswer::Graph(n, m)
         }
-        Err(fault) => Read::Fault(fault),
+        Err(fault) => TextAnswer::Fault(fault),
     }
 }

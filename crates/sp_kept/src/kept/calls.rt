@@ -68,7 +68,9 @@ impl KeptGraph {
         drop(replace(self, KeptGraph::of(graph)).into_held(alloc));
     }
 
-    /// Keeps nothing any more. The graph is freed if this was its last owner.
+    /// Keeps nothing any more. The graph is freed if this was its last owner. The contract says only what the place
+    /// then keeps: that memory is given back is no fact that a clause can state, so a body that forgot the pointer
+    /// would meet it too.
     pub fn clear(&mut self, alloc: Global)
         ensures { kept self.new ≡ None }
     {

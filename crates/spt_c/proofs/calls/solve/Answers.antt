@@ -10,9 +10,9 @@ pub returns-in-Ok : goal.returns-in-Ok
 returns-in-Ok c =
     let old = slices c.args.dist.now c.args.pred.now in
     let new = slices c.solve_graph.new.dist c.solve_graph.new.pred in
-    let S : ℕ → Type 0 = λ n. AreSolved (reach n) c.in-Ok.graph c.args.sources.now old new c.solve_graph.result in
+    let S : ℕ → Type 0 = λ n. AreSolved (reach n) c.in-Ok.graph c.args.question.now.sources.now old new c.solve_graph.result in
     inr (record {
-      good = subst (IsGood (asked c.args.arcs.now c.args.n c.args.sources.now c.args.delta)) c.min-places.ensures c.in_default.ensures.good;
-      solved = same_solved (reach c.args.n) c.in-Ok.graph (graph_of c.args.n c.args.arcs.now) c.args.sources.now old new c.solve_graph.result c.in-Ok.ensures.same
+      good = subst (IsGood (asked c.args.question.now.arcs.now c.args.question.now.n c.args.question.now.sources.now c.args.question.now.delta)) c.min-places.ensures c.in_default.ensures.good;
+      solved = same_solved (reach c.args.question.now.n) c.in-Ok.graph (graph_of c.args.question.now.n c.args.question.now.arcs.now) c.args.question.now.sources.now old new c.solve_graph.result c.in-Ok.ensures.same
           (subst S c.in-Ok.ensures.same.n c.solve_graph.ensures);
     })

@@ -10,7 +10,7 @@ returns-in-Ok g c =
         words = table_of c.in-Ok.tree;
         tree = c.in-Ok.ensures.tree.tree;
         far = c.in-Ok.ensures.tree.far;
-        cells = subst (λ n. AreCells c.args.low n (table_of c.in-Ok.tree) new) c.in-Ok.ensures.tree.n c.put_cells.ensures.cells;
+        cells = subst (λ n. AreCells c.args.block.low n (table_of c.in-Ok.tree) new) c.in-Ok.ensures.tree.n c.put_cells.ensures.cells;
       },
-      subst (λ n. KeepsOthers c.args.low n (slices c.args.dist.now c.args.pred.now) new) c.in-Ok.ensures.tree.n c.put_cells.ensures.others,
+      subst (λ n. KeepsOthers c.args.block.low n (slices c.args.dist.now c.args.pred.now) new) c.in-Ok.ensures.tree.n c.put_cells.ensures.others,
     )
