@@ -1,4 +1,4 @@
-//! Whether all arcs are relaxed in a list of words, and which vertex they leave out.
+//! The scan of arcs over a list of words: whether all of them are relaxed, and which vertex they leave out.
 ghost use Rattle.std.specs.Prelude.{◌≡◌, ◌≤◌, ◌↔◌, true, [], ◌∷◌, length, All, IsTrue, IfOk, OnOk};
 ghost use denote.Param.Send.{IsSync};
 ghost use Rattle.sp_word.specs.Word.{is_layout, max_dist, max_pred};
@@ -22,7 +22,7 @@ pub enum Scan {
     Open,
 }
 
-// What two parts of the arcs show together.
+// Returns what two parts of the arcs show together.
 fn both(first: Scan, second: Scan) -> Scan
     ensures { result ≡ both_of first second }
 {
@@ -37,7 +37,7 @@ fn both(first: Scan, second: Scan) -> Scan
     }
 }
 
-// What an arc shows.
+// Returns what an arc shows.
 fn scan_arc<const P: u32>(words: &[Word<P>], arc: Arc) -> Scan
     requires layout { is_layout P ≡ true }
     requires most { length words.now ≤ max_pred P }
@@ -51,7 +51,7 @@ fn scan_arc<const P: u32>(words: &[Word<P>], arc: Arc) -> Scan
     }
 }
 
-// What arcs show, one after the other.
+// Returns what arcs show, looked at one after the other.
 fn scan_part<const P: u32>(words: &[Word<P>], arcs: &[Arc]) -> Scan
     requires layout { is_layout P ≡ true }
     requires most { length words.now ≤ max_pred P }
@@ -110,7 +110,7 @@ fn is_vertex_relaxed<const P: u32>(words: &[Word<P>], graph: &Graph, far: u64, v
     }
 }
 
-/// Whether each arc is relaxed whose tail has no greater distance than this one. It looks at no other arcs.
+/// Returns whether each arc is relaxed whose tail has no greater distance than `far`. It looks at no other arcs.
 pub fn is_relaxed_up_to<const P: u32>(words: &[Word<P>], graph: &Graph, far: u64) -> bool
     requires layout { is_layout P ≡ true }
     requires most { graph.now.n ≤ max_pred P }
@@ -125,7 +125,7 @@ pub fn is_relaxed_up_to<const P: u32>(words: &[Word<P>], graph: &Graph, far: u64
     true
 }
 
-// Puts the tail of an arc that isn't relaxed behind others.
+// Puts the tail of an arc behind others, if the arc isn't relaxed.
 fn push_tail<const P: u32>(
     words: &[Word<P>],
     arc: Arc,
@@ -144,7 +144,7 @@ fn push_tail<const P: u32>(
     }
 }
 
-/// The tails of the arcs that aren't relaxed, in the order of the arcs.
+/// Returns the tails of the arcs that aren't relaxed, in the order of the arcs.
 pub fn open_tails<const P: u32>(
     alloc: Global,
     words: &[Word<P>],
@@ -163,7 +163,8 @@ pub fn open_tails<const P: u32>(
     Ok(tails)
 }
 
-/// What arcs show of a list of words that has the word of vertex `v` at `v - 1`, by so many threads.
+/// Returns what arcs show of a list of words that has the word of vertex `v` at `v - 1`. As many threads look at them as
+/// `threads` says.
 pub fn scan_arcs<R: Threads + Sync, const P: u32>(
     rt: &R,
     words: &[Word<P>],
