@@ -1,5 +1,5 @@
 -- One source alone, and slices that hold the same.
-use Rattle.std.proofs.Common.{◌≡◌, ◌<◌, ◌≤◌, ◌+◌, ◌-◌, ℕ, [], ◌∷◌, List, ◌++◌, length, take, drop, Some, refl, sym, subst, arith}
+use Rattle.std.proofs.Common.{◌≡◌, ◌<◌, ◌≤◌, ◌+◌, ◌-◌, ◌*◌, inl, inr, ℕ, [], ◌∷◌, List, ◌++◌, length, take, drop, Some, refl, sym, subst, arith}
 use Rattle.std.proofs.Math.Nat.{zero-mul}
 use Rattle.std.proofs.Math.Seq.{take-append_seam}
 use Rattle.std.proofs.lemmas.Option.{slice_get_within}
@@ -9,7 +9,12 @@ use Rattle.sp_paths.specs.Bags.{AreSame}
 use Rattle.spt_c.specs.declared.answers.Told.{Told}
 use Rattle.spt_c.specs.declared.answers.Told.TheVariants.{Tree, BadSize, BadDelta, BadArc, NoSuchVertex, TooFar, Memory, Wrong, NoGraph}
 use Rattle.spt_c.specs.declared.answers.Batch.{Batch}
-use Rattle.spt_c.specs.Blocks.{Slices, IsCell, HasSameAt, HasTreeAt, HasNone, EndsBy, AreSolved}
+use Rattle.spt_c.specs.declared.arcs.SptArc.{SptArc}
+use Rattle.spt_c.specs.Arcs.{graph_of}
+use Rattle.spt_c.specs.Limits.{reach}
+use Rattle.spt_c.specs.Asked.{asked}
+use Rattle.spt_c.specs.Told.{answer_of, IsTold}
+use Rattle.spt_c.specs.Blocks.{Slices, IsCell, HasSameAt, HasTreeAt, KeepsFrom, HasNone, EndsBy, AreSolved}
 use Rattle.spt_c.proofs.Same.{same_solved}
 
 -- A list of one source has no other.
@@ -65,3 +70,26 @@ same_there max g s right there is same = record {
 -- A list whose places were all written holds what was written.
 pub all_written : (m : ℕ) (new old : List ℕ) → m ≡ length new → take m (new ++ drop (length new) old) ≡ new
 all_written m new old e = subst (λ k. take k (new ++ drop (length new) old) ≡ new) (sym e) (take-append_seam new (drop (length new) old))
+
+-- ## A call for one source that tells of no tree writes nothing
+
+none_done : (max : ℕ) (g : Graph) (s done : ℕ) (told : Told) → EndsBy max g (s ∷ []) done told → ((answer_of told).status ≡ 0 → ⊥) → done ≡ 0
+none_done max g s done Tree is not = absurd (not refl)
+none_done max g s done (TooFar v) is not = let within : done < length (s ∷ []) = slice_get_within (s ∷ []) done is.0 is.1 in omega arith
+none_done max g s done Memory (inl low) not = omega (arith, low)
+none_done max g s done Memory (inr none) not = none
+none_done max g s done BadSize is not = absurd is
+none_done max g s done BadDelta is not = absurd is
+none_done max g s done (BadArc place) is not = absurd is
+none_done max g s done (NoSuchVertex place) is not = absurd is
+none_done max g s done (Wrong v) is not = absurd is
+none_done max g s done NoGraph is not = absurd is
+
+pub nothing_written : (arcs : List SptArc) (n s delta : ℕ) (old new : Slices) (b : Batch) → IsTold (asked arcs n (s ∷ []) delta) old new b → ((answer_of b.told).status ≡ 0 → ⊥) → KeepsFrom 0 old new
+nothing_written arcs n s delta old new b (inl refused) not = subst (KeepsFrom 0 old) (sym refused.same) (λ k low. (refl, refl))
+nothing_written arcs n s delta old new b (inr answer) not =
+    let none : b.done ≡ 0 = none_done (reach n) (graph_of n arcs) s b.done b.told answer.solved.1 not in
+    let F : ℕ → Type 0 = λ done. KeepsFrom (done * n) old new in
+    let from : KeepsFrom (0 * n) old new = subst F none answer.solved.0.rest in
+    let L : ℕ → Type 0 = λ low. KeepsFrom low old new in
+    subst L (zero-mul n) from

@@ -1,10 +1,10 @@
 //! The functions that C calls.
-ghost use Rattle.std.specs.Prelude.{◌≡◌, ◌∷◌, [], Result};
+ghost use Rattle.std.specs.Prelude.{◌≡◌, ◌≢◌, ◌∷◌, [], Result};
 ghost use Rattle.std.specs.declared.option.Option.TheVariants.{None};
 ghost use Rattle.sp_kept.specs.Kept.{kept};
 ghost use Rattle.spt_c.specs.Limits.{IsCount, reach};
 ghost use Rattle.spt_c.specs.Asked.{asked};
-ghost use Rattle.spt_c.specs.Blocks.{slices};
+ghost use Rattle.spt_c.specs.Blocks.{slices, KeepsFrom};
 ghost use Rattle.spt_c.specs.Told.{IsTold, answer_of, batch_of};
 ghost use Rattle.spt_c.specs.Checked.{IsChecked};
 ghost use Rattle.spt_c.specs.Found.{IsFound, IsFoundOfKept, found_of};
@@ -46,8 +46,8 @@ pub extern "C" fn spt_reach(n: u32) -> u64
     if is_count(n) { reach(n) } else { 0 }
 }
 
-/// Writes the shortest-path tree from a source, or tells why there is none. Each slice needs a place for each vertex. A
-/// delta of 0 stands for the mean length of an arc.
+/// Writes the shortest-path tree from a source, or tells why there is none, and then writes nothing. Each slice needs a
+/// place for each vertex. A delta of 0 stands for the mean length of an arc.
 #[unsafe(no_mangle)]
 pub extern "C" fn spt_tree(
     alloc: Global,
@@ -58,9 +58,11 @@ pub extern "C" fn spt_tree(
     dist: &mut [u64],
     pred: &mut [u32],
 ) -> SptAnswer
-    ensures { (batch : Batch) × (result ≡ answer_of batch.told)
+    ensures told { (batch : Batch) × (result ≡ answer_of batch.told)
         × IsTold (asked arcs.now n (source ∷ []) delta)
         (slices dist.old pred.old) (slices dist.new pred.new) batch }
+    ensures unchanged { result.status ≢ 0
+        → KeepsFrom 0 (slices dist.old pred.old) (slices dist.new pred.new) }
 {
     let sources = [source];
     let question = Question {
