@@ -1,5 +1,5 @@
 -- The answer of `check` to the texts of its files.
-use Rattle.std.specs.Prelude.{◌≡◌, ℕ, Bool, true, false, List, Some, Option, Result, Err}
+use Rattle.std.specs.Prelude.{◌≡◌, ℕ, Bool, true, false, List, Some, None, Option, Result, Err}
 use Rattle.std.specs.List.{flat_map}
 use Rattle.sp_text.specs.declared.faults.DimacsError.{DimacsError}
 use Rattle.sp_dimacs.specs.declared.graphs.GrFile.{GrFile}
@@ -12,8 +12,9 @@ use Rattle.sp_command.specs.declared.faults.Status.{Status}
 use Rattle.sp_command.specs.declared.faults.FileKind.{FileKind}
 use Rattle.sp_command.specs.declared.faults.FileKind.TheVariants as kind
 use Rattle.sp_command.specs.Scene.{Scene, Meaning}
+use Rattle.sp_command.specs.Causes.{Paths}
 use Rattle.sp_command.specs.Answers.{Tells}
-use Rattle.sp_tools.specs.declared.check.Check.{Check}
+use Rattle.sp_tools.specs.declared.check.CheckCommand.{CheckCommand}
 use Rattle.sp_tools.specs.declared.check.Verdict.{Verdict}
 use Rattle.sp_tools.specs.declared.check_all.Judged.{Judged}
 use Rattle.sp_tools.specs.Reading.{GraphIn, TreeIn}
@@ -63,7 +64,7 @@ TellsVerdicts P gr trees s result = Tells (TreesJudged P gr trees) judged_texts 
 -- ## The command
 
 -- These are the texts of the command's files.
-abbrev pub GiveTexts : (List ℕ → Option (List ℕ)) → Check → (gr tree : List ℕ) → Type 0
+abbrev pub GiveTexts : (List ℕ → Option (List ℕ)) → CheckCommand → (gr tree : List ℕ) → Type 0
 GiveTexts texts c gr tree = (texts c.graph.now ≡ Some gr) × (texts c.tree.now ≡ Some tree)
 
 abbrev pub SaysOf : (P : ℕ) → (all : Bool) → (gr tree : List ℕ) → Scene → Result Status Fault → Type 0
@@ -72,5 +73,11 @@ SaysOf P false gr tree s result = TellsVerdict P gr tree s result
 
 -- The answer is the verdict on the tree of the second file, or with `all` the verdicts on its trees, against the graph
 -- of the first file.
-abbrev pub CheckAnswers : (P : ℕ) → Meaning Check
-CheckAnswers P c s result = (gr tree : List ℕ) → GiveTexts s.texts c gr tree → SaysOf P c.all gr tree s result
+abbrev pub CheckAnswers : (P : ℕ) → Meaning CheckCommand
+CheckAnswers P c s result = (gr tree : List ℕ) → GiveTexts s.files.text c gr tree → SaysOf P c.all gr tree s result
+
+-- These are the paths of the command's files.
+abbrev pub check_paths : CheckCommand → Paths
+check_paths c kind.Graph = Some c.graph.now
+check_paths c kind.Tree = Some c.tree.now
+check_paths c _ = None

@@ -4,3 +4,4 @@ pub mod Reading
 pub mod CheckAnswers
 pub mod ReplayAnswers
 pub mod OffersAnswers
+pub mod Early

@@ -1,5 +1,5 @@
 -- The answer of `offers` to the text of its file.
-use Rattle.std.specs.Prelude.{ℕ, Bool, List, Option, Result, Err}
+use Rattle.std.specs.Prelude.{ℕ, Bool, List, Option, Some, None, Result, Err}
 use Rattle.sp_text.specs.declared.faults.DimacsError.{DimacsError}
 use Rattle.sp_text.specs.Text.{Item as Line, Spells}
 use Rattle.sp_text.specs.Formats.{ranges_of}
@@ -14,8 +14,9 @@ use Rattle.sp_command.specs.declared.faults.Status.{Status}
 use Rattle.sp_command.specs.declared.faults.FileKind.{FileKind}
 use Rattle.sp_command.specs.declared.faults.FileKind.TheVariants as kind
 use Rattle.sp_command.specs.Scene.{Scene, HasText, Meaning}
+use Rattle.sp_command.specs.Causes.{Paths}
 use Rattle.sp_command.specs.Answers.{Tells}
-use Rattle.sp_tools.specs.declared.offers.Offers.{Offers}
+use Rattle.sp_tools.specs.declared.offers.OffersCommand.{OffersCommand}
 use Rattle.sp_tools.specs.ReplayAnswers.{done}
 
 -- The text has no fault, and spells this programme.
@@ -41,5 +42,10 @@ abbrev pub TellsWords : (P : ℕ) → (text : List ℕ) → Scene → Result Sta
 TellsWords P text s result = Tells (AreLeft P text) words_text done (IsOffersRefused P text) s result
 
 -- The answer is the words that the offers of the file leave.
-abbrev pub OffersAnswers : (P : ℕ) → Meaning Offers
+abbrev pub OffersAnswers : (P : ℕ) → Meaning OffersCommand
 OffersAnswers P c s result = (text : List ℕ) → HasText s c.file.now text → TellsWords P text s result
+
+-- This is the path of the command's file.
+abbrev pub offers_paths : OffersCommand → Paths
+offers_paths c kind.Offers = Some c.file.now
+offers_paths c _ = None

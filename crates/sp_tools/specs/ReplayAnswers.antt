@@ -1,5 +1,5 @@
 -- The answer of `replay` to the text of its file.
-use Rattle.std.specs.Prelude.{◌≡◌, ◌<◌, ◌≤◌, ◌⊎◌, ℕ, Bool, true, false, List, length, map, All, Result, Ok, Err}
+use Rattle.std.specs.Prelude.{◌≡◌, ◌<◌, ◌≤◌, ◌⊎◌, ℕ, Bool, true, false, List, length, map, All, Some, None, Result, Ok, Err}
 use Rattle.std.specs.String.{string_bytes}
 use Rattle.sp_text.specs.declared.faults.DimacsError.{DimacsError}
 use Rattle.sp_machine.specs.declared.report.Report.{Report}
@@ -18,8 +18,9 @@ use Rattle.sp_command.specs.declared.faults.Status.TheVariants.{Done}
 use Rattle.sp_command.specs.declared.faults.FileKind.{FileKind}
 use Rattle.sp_command.specs.declared.faults.FileKind.TheVariants as kind
 use Rattle.sp_command.specs.Scene.{Scene, HasText, IsUnwritten, Meaning}
+use Rattle.sp_command.specs.Causes.{Paths}
 use Rattle.sp_command.specs.Answers.{Tells}
-use Rattle.sp_tools.specs.declared.replay.Replay.{Replay}
+use Rattle.sp_tools.specs.declared.replay.ReplayCommand.{ReplayCommand}
 use Rattle.sp_tools.specs.Reading.{ReplayIn, SpellsReplay}
 
 -- The text spells a programme and steps, and this is the report of their run.
@@ -69,5 +70,15 @@ SaysOf P true text s result = TellsPicture P text s result
 SaysOf P false text s result = TellsReport P text s result
 
 -- The answer is the report of the run of the file, or with `svg` a picture of it.
-abbrev pub ReplayAnswers : (P : ℕ) → Meaning Replay
+abbrev pub ReplayAnswers : (P : ℕ) → Meaning ReplayCommand
 ReplayAnswers P c s result = (text : List ℕ) → HasText s c.file.now text → SaysOf P c.svg text s result
+
+-- This is the path of the command's file.
+abbrev pub replay_paths : ReplayCommand → Paths
+replay_paths c kind.Replay = Some c.file.now
+replay_paths c _ = None
+
+-- Too many steps are told of only where a picture is asked for.
+abbrev pub replay_faults : ReplayCommand → Fault → Type 0
+replay_faults c TooManySteps = c.svg ≡ true
+replay_faults c _ = ⊥

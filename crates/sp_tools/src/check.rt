@@ -2,11 +2,13 @@
 ghost use Rattle.std.specs.Prelude.{◌≡◌, ◌≢◌, ℕ, List, ◌++◌, true, IfOk, IfErr};
 ghost use Rattle.sp_word.specs.Word.{is_layout};
 ghost use Rattle.sp_device.specs.Printing.{IsSending, Finished};
+ghost use Rattle.sp_command.specs.Causes.{IsBorneOut};
 ghost use Rattle.sp_command.specs.Faults.{is_done};
 ghost use Rattle.sp_command.specs.Scene.{scene};
 ghost use Rattle.sp_command.specs.Answers.{Hinders};
 ghost use Rattle.sp_tools.specs.Verdict.{IsVerdict, verdict_text, verdict_end};
-ghost use Rattle.sp_tools.specs.CheckAnswers.{TreeJudged, IsTreeRefused, TellsVerdict, GiveTexts, CheckAnswers};
+ghost use Rattle.sp_tools.specs.CheckAnswers.{TreeJudged, IsTreeRefused, TellsVerdict, GiveTexts, CheckAnswers, check_paths};
+ghost use Rattle.sp_tools.specs.Early.{IsEarly, no_faults};
 
 use crate::check_all::check_all_files;
 use crate::graphs::read_graph;
@@ -24,7 +26,7 @@ use std::thread::Threads;
 
 /// The arguments of `check`, with the names of its files.
 #[derive(Drop)]
-pub struct Check<'a> {
+pub struct CheckCommand<'a> {
     /// The path of the graph.
     pub graph: &'a str,
     /// The path of the tree.
@@ -33,7 +35,7 @@ pub struct Check<'a> {
     pub all: bool,
 }
 
-impl<'a> Command<'a> for Check<'a> {
+impl<'a> Command<'a> for CheckCommand<'a> {
     const NAME: &'static str = "check";
 
     const ABOUT: &'static str = "Check a tree against its graph";
@@ -106,7 +108,7 @@ being gr or tree; the kinds are those of `spt tree --help`. In a tree file
         let (Some(graph), Some(tree)) = (given.get_str("GR"), given.get_str("TREE")) else {
             return Ok(None);
         };
-        Ok(Some(Check {
+        Ok(Some(CheckCommand {
             graph,
             tree,
             all: given.get_flag("all"),
@@ -122,8 +124,12 @@ being gr or tree; the kinds are those of `spt tree --help`. In a tree file
     }
 }
 
-impl<const P: u32> Run<P> for Check<'_> {
+impl<const P: u32> Run<P> for CheckCommand<'_> {
     ghost answers = { CheckAnswers P };
+
+    ghost paths = { check_paths };
+
+    ghost own_faults = { λ _. no_faults };
 
     fn run<R: Threads + Wait + Sync, F: Inputs, W: Write>(
         &self,
@@ -144,14 +150,18 @@ impl<const P: u32> Run<P> for Check<'_> {
 fn check_file<const P: u32, R: Threads + Sync, F: Inputs, W: Write>(
     rt: &R,
     alloc: Global,
-    given: &Check<'_>,
+    given: &CheckCommand<'_>,
     files: &F,
     out: &mut W,
 ) -> Result<Status, Fault>
     requires layout { is_layout P ≡ true }
-    ensures answered { (gr tree : List ℕ) → GiveTexts (F.text files.now) given.now gr tree
+    ensures answered { (gr tree : List ℕ) → GiveTexts (F.files files.now).text given.now gr tree
         → TellsVerdict P gr tree
-        (scene (F.text files.now) (W.written out.old) (W.written out.new)) result }
+        (scene (F.files files.now)
+        (W.written out.old) (W.written out.new) (W.has_failed out.new)) result }
+    ensures borne_out { IfErr result (IsBorneOut (check_paths given.now) no_faults
+        (scene (F.files files.now)
+        (W.written out.old) (W.written out.new) (W.has_failed out.new))) }
     ensures done { IfOk result (λ status. is_done status ≡ true) }
     ensures unwritten { IfErr result (λ fault. fault ≢ Fault.WriteFailed → out.new ≡ out.old) }
 {
@@ -164,15 +174,16 @@ fn check_file<const P: u32, R: Threads + Sync, F: Inputs, W: Write>(
 fn find_verdict<const P: u32, R: Threads + Sync, F: Inputs>(
     rt: &R,
     alloc: Global,
-    given: &Check<'_>,
+    given: &CheckCommand<'_>,
     files: &F,
 ) -> Result<Verdict, Fault>
     requires { is_layout P ≡ true }
-    ensures judged { (gr tree : List ℕ) → GiveTexts (F.text files.now) given.now gr tree
+    ensures judged { (gr tree : List ℕ) → GiveTexts (F.files files.now).text given.now gr tree
         → IfOk result (TreeJudged P gr tree) }
-    ensures refused { (gr tree : List ℕ) → GiveTexts (F.text files.now) given.now gr tree
+    ensures refused { (gr tree : List ℕ) → GiveTexts (F.files files.now).text given.now gr tree
         → IfErr result (Hinders (IsTreeRefused P gr tree)) }
-    ensures unwritten { IfErr result (λ fault. fault ≢ Fault.WriteFailed) }
+    ensures early { IfErr result
+        (IsEarly (check_paths given.now) no_faults (F.files files.now)) }
 {
     let (mut gr, mut tree) = FileKind::Tree.open_with_graph(files, given.graph, given.tree)?;
     let graph = read_graph::<P, _>(alloc, &mut gr)?;

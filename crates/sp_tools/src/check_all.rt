@@ -1,15 +1,17 @@
 //! `spt check --all`: checks whether each block of a tree file holds the shortest-path tree of its source.
-ghost use Rattle.std.specs.Prelude.{◌≡◌, ◌≢◌, ℕ, List, Some, true, IfOk, IfErr};
+ghost use Rattle.std.specs.Prelude.{◌≡◌, ◌≢◌, ℕ, List, Some, true, false, IfOk, IfErr};
 ghost use Rattle.std.specs.List.{flat_map};
 ghost use Rattle.sp_word.specs.Word.{is_layout};
 ghost use Rattle.sp_device.specs.Printing.{Sends, Finished};
+ghost use Rattle.sp_command.specs.Causes.{IsBorneOut};
 ghost use Rattle.sp_command.specs.Faults.{is_done};
 ghost use Rattle.sp_command.specs.Scene.{scene};
 ghost use Rattle.sp_command.specs.Answers.{Hinders};
 ghost use Rattle.sp_tools.specs.Verdicts.{FileJudged, TellsFault, judged_text, end_of};
-ghost use Rattle.sp_tools.specs.CheckAnswers.{TreesJudged, AreTreesRefused, TellsVerdicts, GiveTexts};
+ghost use Rattle.sp_tools.specs.CheckAnswers.{TreesJudged, AreTreesRefused, TellsVerdicts, GiveTexts, check_paths};
+ghost use Rattle.sp_tools.specs.Early.{IsEarly, IsOfFile, no_faults};
 
-use crate::check::{Check, Verdict, judge};
+use crate::check::{CheckCommand, Verdict, judge};
 use crate::graphs::read_graph;
 use sp_command::{Fault, FileKind, Inputs, Status};
 use sp_device::{Printer, Read, Write, WriteFault, finish, print_number, print_text};
@@ -29,14 +31,18 @@ pub struct Judged {
 pub fn check_all_files<const P: u32, R: Threads + Sync, F: Inputs, W: Write>(
     rt: &R,
     alloc: Global,
-    given: &Check<'_>,
+    given: &CheckCommand<'_>,
     files: &F,
     out: &mut W,
 ) -> Result<Status, Fault>
     requires layout { is_layout P ≡ true }
-    ensures answered { (gr tree : List ℕ) → GiveTexts (F.text files.now) given.now gr tree
+    ensures answered { (gr tree : List ℕ) → GiveTexts (F.files files.now).text given.now gr tree
         → TellsVerdicts P gr tree
-        (scene (F.text files.now) (W.written out.old) (W.written out.new)) result }
+        (scene (F.files files.now)
+        (W.written out.old) (W.written out.new) (W.has_failed out.new)) result }
+    ensures borne_out { IfErr result (IsBorneOut (check_paths given.now) no_faults
+        (scene (F.files files.now)
+        (W.written out.old) (W.written out.new) (W.has_failed out.new))) }
     ensures done { IfOk result (λ status. is_done status ≡ true) }
     ensures unwritten { IfErr result (λ fault. fault ≢ Fault.WriteFailed → out.new ≡ out.old) }
 {
@@ -49,15 +55,16 @@ pub fn check_all_files<const P: u32, R: Threads + Sync, F: Inputs, W: Write>(
 fn find_verdicts<const P: u32, R: Threads + Sync, F: Inputs>(
     rt: &R,
     alloc: Global,
-    given: &Check<'_>,
+    given: &CheckCommand<'_>,
     files: &F,
 ) -> Result<Vec<Judged>, Fault>
     requires { is_layout P ≡ true }
-    ensures judged { (gr tree : List ℕ) → GiveTexts (F.text files.now) given.now gr tree
+    ensures judged { (gr tree : List ℕ) → GiveTexts (F.files files.now).text given.now gr tree
         → IfOk result (λ all. TreesJudged P gr tree all.items) }
-    ensures refused { (gr tree : List ℕ) → GiveTexts (F.text files.now) given.now gr tree
+    ensures refused { (gr tree : List ℕ) → GiveTexts (F.files files.now).text given.now gr tree
         → IfErr result (Hinders (AreTreesRefused P gr tree)) }
-    ensures unwritten { IfErr result (λ fault. fault ≢ Fault.WriteFailed) }
+    ensures early { IfErr result
+        (IsEarly (check_paths given.now) no_faults (F.files files.now)) }
 {
     let (mut gr, mut trees) = FileKind::Tree.open_with_graph(files, given.graph, given.tree)?;
     let graph = read_graph::<P, _>(alloc, &mut gr)?;
@@ -76,7 +83,8 @@ fn judge_blocks<const P: u32, R: Threads + Sync, D: Read>(
         → IfOk result (λ all. FileJudged P graph.now text all.items) }
     ensures refused { (text : List ℕ) → D.left trees.old ≡ Some text
         → IfErr result (TellsFault P text (D.has_failed trees.new)) }
-    ensures unwritten { IfErr result (λ fault. fault ≢ Fault.WriteFailed) }
+    ensures told { D.has_failed trees.old ≡ false
+        → IfErr result (IsOfFile FileKind.Tree (D.failing trees.old)) }
 {
     let mut blocks = TreeBlocks::<P>::new(alloc);
     let mut all = Vec::new(alloc);

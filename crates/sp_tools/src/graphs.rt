@@ -1,6 +1,7 @@
 //! Reads the graph of a file.
-ghost use Rattle.std.specs.Prelude.{◌≡◌, ◌≢◌, ℕ, List, Some, true, IfOk, IfErr};
+ghost use Rattle.std.specs.Prelude.{◌≡◌, ℕ, List, Some, true, IfOk, IfErr};
 ghost use Rattle.sp_word.specs.Word.{is_layout};
+ghost use Rattle.sp_tools.specs.Early.{IsOfFile};
 ghost use Rattle.sp_tools.specs.Reading.{IsGraphIn, IsGraphFault};
 
 use sp_command::{Fault, FileKind};
@@ -16,7 +17,7 @@ pub fn read_graph<const P: u32, D: Read>(alloc: Global, gr: &mut D) -> Result<Gr
         → IfOk result (IsGraphIn P text) }
     ensures refused { (text : List ℕ) → D.left gr.old ≡ Some text
         → IfErr result (IsGraphFault P text) }
-    ensures unwritten { IfErr result (λ fault. fault ≢ Fault.WriteFailed) }
+    ensures told { IfErr result (IsOfFile FileKind.Graph (D.failing gr.old)) }
 {
     let file = match read_gr::<P, _>(alloc, gr) {
         Ok(file) => file,

@@ -7,6 +7,6 @@ mod graphs;
 mod offers;
 mod replay;
 
-pub use check::Check;
-pub use offers::Offers;
-pub use replay::Replay;
+pub use check::CheckCommand;
+pub use offers::OffersCommand;
+pub use replay::ReplayCommand;

@@ -2,9 +2,11 @@
 ghost use Rattle.std.specs.Prelude.{◌≡◌, ◌≢◌, ℕ, List, Some, true, IfOk, IfErr};
 ghost use Rattle.sp_word.specs.Word.{is_layout};
 ghost use Rattle.sp_command.specs.declared.faults.Status.TheVariants.{Done};
+ghost use Rattle.sp_command.specs.Causes.{IsBorneOut};
 ghost use Rattle.sp_command.specs.Scene.{scene};
 ghost use Rattle.sp_command.specs.Answers.{Hinders};
-ghost use Rattle.sp_tools.specs.OffersAnswers.{SpellsOffers, IsOffersRefused, TellsWords, OffersAnswers};
+ghost use Rattle.sp_tools.specs.OffersAnswers.{SpellsOffers, IsOffersRefused, TellsWords, OffersAnswers, offers_paths};
+ghost use Rattle.sp_tools.specs.Early.{IsEarly, no_faults};
 
 use clap::{ArgMatches, Error};
 use sp_actors::final_words;
@@ -18,12 +20,12 @@ use std::thread::Threads;
 
 /// The arguments of `offers`, with the name of its file.
 #[derive(Drop)]
-pub struct Offers<'a> {
+pub struct OffersCommand<'a> {
     /// The path of the file.
     pub file: &'a str,
 }
 
-impl<'a> Command<'a> for Offers<'a> {
+impl<'a> Command<'a> for OffersCommand<'a> {
     const NAME: &'static str = "offers";
 
     const ABOUT: &'static str =
@@ -78,7 +80,7 @@ A fault is told with its line, as in `spt: offers: line 2: 5 OutOfRange A`:
     }
 
     fn read(_alloc: Global, given: &ArgMatches<'a>) -> Result<Option<Self>, Error> {
-        Ok(given.get_str("FILE").map(|file| Offers { file }))
+        Ok(given.get_str("FILE").map(|file| OffersCommand { file }))
     }
 
     fn path_of(&self, file: FileKind) -> Option<&'a str> {
@@ -89,8 +91,12 @@ A fault is told with its line, as in `spt: offers: line 2: 5 OutOfRange A`:
     }
 }
 
-impl<const P: u32> Run<P> for Offers<'_> {
+impl<const P: u32> Run<P> for OffersCommand<'_> {
     ghost answers = { OffersAnswers P };
+
+    ghost paths = { offers_paths };
+
+    ghost own_faults = { λ _. no_faults };
 
     fn run<R: Threads + Wait + Sync, F: Inputs, W: Write>(
         &self,
@@ -99,7 +105,7 @@ impl<const P: u32> Run<P> for Offers<'_> {
         files: &F,
         out: &mut W,
     ) -> Result<Status, Fault> {
-        offer_file::<P, R, F, W>(rt, alloc, self.file, files, out)
+        offer_file::<P, R, F, W>(rt, alloc, self, files, out)
     }
 }
 
@@ -107,18 +113,22 @@ impl<const P: u32> Run<P> for Offers<'_> {
 fn offer_file<const P: u32, R: Threads + Wait + Sync, F: Inputs, W: Write>(
     rt: &R,
     alloc: Global,
-    path: &str,
+    given: &OffersCommand<'_>,
     files: &F,
     out: &mut W,
 ) -> Result<Status, Fault>
     requires layout { is_layout P ≡ true }
-    ensures answered { (text : List ℕ) → F.text files.now path.now ≡ Some text
+    ensures answered { (text : List ℕ) → (F.files files.now).text given.now.file.now ≡ Some text
         → TellsWords P text
-        (scene (F.text files.now) (W.written out.old) (W.written out.new)) result }
+        (scene (F.files files.now)
+        (W.written out.old) (W.written out.new) (W.has_failed out.new)) result }
+    ensures borne_out { IfErr result (IsBorneOut (offers_paths given.now) no_faults
+        (scene (F.files files.now)
+        (W.written out.old) (W.written out.new) (W.has_failed out.new))) }
     ensures done { IfOk result (λ status. status ≡ Done) }
     ensures unwritten { IfErr result (λ fault. fault ≢ Fault.WriteFailed → out.new ≡ out.old) }
 {
-    let programme = read_file::<P, F>(alloc, path, files)?;
+    let programme = read_file::<P, F>(alloc, given, files)?;
     let words = final_words::<P, R>(rt, alloc, &programme)?;
     write_words::<P, W>(&words, out)?;
     Ok(Status::Done)
@@ -127,17 +137,18 @@ fn offer_file<const P: u32, R: Threads + Wait + Sync, F: Inputs, W: Write>(
 // Reads the file.
 fn read_file<const P: u32, F: Inputs>(
     alloc: Global,
-    path: &str,
+    given: &OffersCommand<'_>,
     files: &F,
 ) -> Result<Programme<P>, Fault>
     requires { is_layout P ≡ true }
-    ensures spelled { (text : List ℕ) → F.text files.now path.now ≡ Some text
+    ensures spelled { (text : List ℕ) → (F.files files.now).text given.now.file.now ≡ Some text
         → IfOk result (SpellsOffers text) }
-    ensures refused { (text : List ℕ) → F.text files.now path.now ≡ Some text
+    ensures refused { (text : List ℕ) → (F.files files.now).text given.now.file.now ≡ Some text
         → IfErr result (Hinders (IsOffersRefused P text)) }
-    ensures unwritten { IfErr result (λ fault. fault ≢ Fault.WriteFailed) }
+    ensures early { IfErr result
+        (IsEarly (offers_paths given.now) no_faults (F.files files.now)) }
 {
-    let mut reader = FileKind::Offers.open(files, path)?;
+    let mut reader = FileKind::Offers.open(files, given.file)?;
     match read_offers::<P, _>(alloc, &mut reader) {
         Ok(programme) => Ok(programme),
         Err(error) => Err(FileKind::Offers.fault(error)),

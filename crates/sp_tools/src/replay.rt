@@ -3,11 +3,13 @@ ghost use Rattle.std.specs.Prelude.{◌≡◌, ◌≢◌, ◌<◌, ◌≤◌, �
 ghost use Rattle.sp_word.specs.Word.{is_layout};
 ghost use Rattle.sp_command.specs.declared.faults.Fault.TheVariants.{Memory, TooManySteps, WriteFailed};
 ghost use Rattle.sp_command.specs.declared.faults.Status.TheVariants.{Done};
+ghost use Rattle.sp_command.specs.Causes.{IsBorneOut};
 ghost use Rattle.sp_command.specs.Scene.{scene};
 ghost use Rattle.sp_command.specs.Answers.{Hinders};
 ghost use Rattle.sp_machine.specs.Programme.{IsNumber};
 ghost use Rattle.sp_tools.specs.Reading.{SpellsReplay};
-ghost use Rattle.sp_tools.specs.ReplayAnswers.{IsReplayRefused, IsPictureOf, TellsReport, TellsPicture, ReplayAnswers};
+ghost use Rattle.sp_tools.specs.ReplayAnswers.{IsReplayRefused, IsPictureOf, TellsReport, TellsPicture, ReplayAnswers, replay_paths, replay_faults};
+ghost use Rattle.sp_tools.specs.Early.{IsEarly};
 
 use clap::{ArgMatches, Error};
 use sp_command::{Command, Fault, FileKind, Inputs, Run, Status, Words, after_help, file, flag};
@@ -20,14 +22,14 @@ use std::thread::Threads;
 
 /// The arguments of `replay`: the name of its file, and whether a picture is written in place of the report.
 #[derive(Drop)]
-pub struct Replay<'a> {
+pub struct ReplayCommand<'a> {
     /// The path of the file.
     pub file: &'a str,
     /// Whether a picture is written.
     pub svg: bool,
 }
 
-impl<'a> Command<'a> for Replay<'a> {
+impl<'a> Command<'a> for ReplayCommand<'a> {
     const NAME: &'static str = "replay";
 
     const ABOUT: &'static str = "Run the steps of several actors in a given order, and report them";
@@ -121,7 +123,11 @@ Others are
 
     fn read(_alloc: Global, given: &ArgMatches<'a>) -> Result<Option<Self>, Error> {
         let svg = given.get_flag("svg");
-        Ok(given.get_str("FILE").map(|file| Replay { file, svg }))
+        Ok(
+            given
+                .get_str("FILE")
+                .map(|file| ReplayCommand { file, svg }),
+        )
     }
 
     fn path_of(&self, file: FileKind) -> Option<&'a str> {
@@ -132,8 +138,12 @@ Others are
     }
 }
 
-impl<const P: u32> Run<P> for Replay<'_> {
+impl<const P: u32> Run<P> for ReplayCommand<'_> {
     ghost answers = { ReplayAnswers P };
+
+    ghost paths = { replay_paths };
+
+    ghost own_faults = { replay_faults };
 
     fn run<R: Threads + Wait + Sync, F: Inputs, W: Write>(
         &self,
@@ -143,9 +153,9 @@ impl<const P: u32> Run<P> for Replay<'_> {
         out: &mut W,
     ) -> Result<Status, Fault> {
         if self.svg {
-            draw::<P, F, W>(alloc, self.file, files, out)
+            draw::<P, F, W>(alloc, self, files, out)
         } else {
-            report::<P, F, W>(alloc, self.file, files, out)
+            report::<P, F, W>(alloc, self, files, out)
         }
     }
 }
@@ -153,18 +163,19 @@ impl<const P: u32> Run<P> for Replay<'_> {
 // Reads the file.
 fn read_file<const P: u32, F: Inputs>(
     alloc: Global,
-    path: &str,
+    given: &ReplayCommand<'_>,
     files: &F,
 ) -> Result<ReplayFile<P>, Fault>
     requires { is_layout P ≡ true }
-    ensures spelled { (text : List ℕ) → F.text files.now path.now ≡ Some text
+    ensures spelled { (text : List ℕ) → (F.files files.now).text given.now.file.now ≡ Some text
         → IfOk result (SpellsReplay text) }
-    ensures refused { (text : List ℕ) → F.text files.now path.now ≡ Some text
+    ensures refused { (text : List ℕ) → (F.files files.now).text given.now.file.now ≡ Some text
         → IfErr result (Hinders (IsReplayRefused P text)) }
     ensures steps { IfOk result (λ file. All (IsNumber file.programme.actors) file.steps.items) }
-    ensures unwritten { IfErr result (λ fault. fault ≢ WriteFailed) }
+    ensures early { IfErr result
+        (IsEarly (replay_paths given.now) (replay_faults given.now) (F.files files.now)) }
 {
-    let mut reader = FileKind::Replay.open(files, path)?;
+    let mut reader = FileKind::Replay.open(files, given.file)?;
     match read_replay::<P, _>(alloc, &mut reader) {
         Ok(file) => Ok(file),
         Err(error) => Err(FileKind::Replay.fault(error)),
@@ -174,18 +185,22 @@ fn read_file<const P: u32, F: Inputs>(
 // Runs the steps of the file, and writes the report.
 fn report<const P: u32, F: Inputs, W: Write>(
     alloc: Global,
-    path: &str,
+    given: &ReplayCommand<'_>,
     files: &F,
     out: &mut W,
 ) -> Result<Status, Fault>
     requires layout { is_layout P ≡ true }
-    ensures answered { (text : List ℕ) → F.text files.now path.now ≡ Some text
+    ensures answered { (text : List ℕ) → (F.files files.now).text given.now.file.now ≡ Some text
         → TellsReport P text
-        (scene (F.text files.now) (W.written out.old) (W.written out.new)) result }
+        (scene (F.files files.now)
+        (W.written out.old) (W.written out.new) (W.has_failed out.new)) result }
+    ensures borne_out { IfErr result (IsBorneOut (replay_paths given.now) (replay_faults given.now)
+        (scene (F.files files.now)
+        (W.written out.old) (W.written out.new) (W.has_failed out.new))) }
     ensures done { IfOk result (λ status. status ≡ Done) }
     ensures unwritten { IfErr result (λ fault. fault ≢ WriteFailed → out.new ≡ out.old) }
 {
-    let file = read_file::<P, F>(alloc, path, files)?;
+    let file = read_file::<P, F>(alloc, given, files)?;
     let report = sp_machine::replay::<P>(alloc, &file.programme, &file.steps)?;
     write_report::<P, W>(&report, out)?;
     Ok(Status::Done)
@@ -220,18 +235,23 @@ fn picture_in<const P: u32>(alloc: Global, file: &ReplayFile<P>) -> Result<Pictu
 // Runs the steps of the file, and writes the picture.
 fn draw<const P: u32, F: Inputs, W: Write>(
     alloc: Global,
-    path: &str,
+    given: &ReplayCommand<'_>,
     files: &F,
     out: &mut W,
 ) -> Result<Status, Fault>
     requires layout { is_layout P ≡ true }
-    ensures answered { (text : List ℕ) → F.text files.now path.now ≡ Some text
+    requires picture { given.now.svg ≡ true }
+    ensures answered { (text : List ℕ) → (F.files files.now).text given.now.file.now ≡ Some text
         → TellsPicture P text
-        (scene (F.text files.now) (W.written out.old) (W.written out.new)) result }
+        (scene (F.files files.now)
+        (W.written out.old) (W.written out.new) (W.has_failed out.new)) result }
+    ensures borne_out { IfErr result (IsBorneOut (replay_paths given.now) (replay_faults given.now)
+        (scene (F.files files.now)
+        (W.written out.old) (W.written out.new) (W.has_failed out.new))) }
     ensures done { IfOk result (λ status. status ≡ Done) }
     ensures unwritten { IfErr result (λ fault. fault ≢ WriteFailed → out.new ≡ out.old) }
 {
-    let file = read_file::<P, F>(alloc, path, files)?;
+    let file = read_file::<P, F>(alloc, given, files)?;
     let picture = picture_in::<P>(alloc, &file)?;
     write_picture::<P, W>(&picture, out)?;
     Ok(Status::Done)

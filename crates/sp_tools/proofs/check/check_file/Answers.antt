@@ -6,4 +6,4 @@ pub returns-in_err-write_verdict-clause-answered : goal.returns-in_err-write_ver
 returns-in_err-write_verdict-clause-answered g c = λ gr tree texts.
     let residual = c.from_residual-in_err-write_verdict in
     let p = err_from_is_err_and residual.result residual.ensures.1 in
-    rw (p.1, p.2) (inr (refl, (c.in_ok-verdict.verdict, c.in_ok-verdict.ensures.judged gr tree texts, c.in_err-write_verdict.ensures.0)))
+    rw (p.1, p.2) (inr (refl, c.in_err-write_verdict.ensures.1, (c.in_ok-verdict.verdict, c.in_ok-verdict.ensures.judged gr tree texts, c.in_err-write_verdict.ensures.0)))

@@ -3,10 +3,10 @@ use Rattle.sp_tools.proofs.check.find_verdict.Goals as goal
 
 pub returns-in-Err-clause-refused : goal.returns-in-Err-clause-refused
 returns-in-Err-clause-refused g c = λ gr tree texts.
-    let graph = c.in_ok-graph.ensures.graph gr (c.in_ok-gr.ensures.graph gr texts.0) in
-    rw c.fault.ensures (graph.0, graph.1, (g.F.File.Read.left c.read_tree.new.reader, g.F.File.Read.has_failed c.read_tree.new.reader, c.in-Err.ensures.exact tree (c.in_ok-gr.ensures.file tree texts.1)))
+    let graph = c.in_ok-graph.ensures.graph gr (c.in_ok-gr.ensures.graph.gives gr texts.0) in
+    rw c.fault.ensures (graph.0, graph.1, (g.F.File.Read.left c.read_tree.new.reader, g.F.File.Read.has_failed c.read_tree.new.reader, c.in-Err.ensures.exact tree (c.in_ok-gr.ensures.file.gives tree texts.1)))
 
 pub returns-clause-judged : goal.returns-clause-judged
 returns-clause-judged g c = λ gr tree texts.
     tree_judged g.row.P gr tree c.in_ok-graph.graph (g.F.File.Read.left c.read_tree.new.reader) (g.F.File.Read.has_failed c.read_tree.new.reader) c.in-Ok.tree c.in_ok-judge.field-0
-    (c.in_ok-graph.ensures.graph gr (c.in_ok-gr.ensures.graph gr texts.0)) (c.in-Ok.ensures.exact tree (c.in_ok-gr.ensures.file tree texts.1)) c.in-Ok.ensures.found c.in_ok-judge.ensures
+    (c.in_ok-graph.ensures.graph gr (c.in_ok-gr.ensures.graph.gives gr texts.0)) (c.in-Ok.ensures.exact tree (c.in_ok-gr.ensures.file.gives tree texts.1)) c.in-Ok.ensures.found c.in_ok-judge.ensures

@@ -7,4 +7,4 @@ returns-in_err-write_verdicts-clause-answered g c = λ gr trees texts.
     let residual = c.from_residual-in_err-write_verdicts in
     let p = err_from_is_err_and residual.result residual.ensures.1 in
     let begun = rw c.deref.ensures.value at c.in_err-write_verdicts.ensures in
-    rw (p.1, p.2) (inr (refl, (c.in_ok-all.all.items, c.in_ok-all.ensures.judged gr trees texts, begun.0)))
+    rw (p.1, p.2) (inr (refl, begun.1, (c.in_ok-all.all.items, c.in_ok-all.ensures.judged gr trees texts, begun.0)))

@@ -6,13 +6,13 @@ use Rattle.sp_tools.proofs.check_all.find_verdicts.Goals as goal
 
 pub returns-clause-judged : goal.returns-clause-judged
 returns-clause-judged g c = λ gr trees texts.
-    let graph = c.in_ok-graph.ensures.graph gr (c.in_ok-gr.ensures.graph gr texts.0) in
+    let graph = c.in_ok-graph.ensures.graph gr (c.in_ok-gr.ensures.graph.gives gr texts.0) in
     ok_as (λ all. FileJudged g.row.P c.in_ok-graph.graph trees all.items) (λ all. TreesJudged g.row.P gr trees all.items) c.judge_blocks.result
-    (λ all is. trees_judged g.row.P gr trees c.in_ok-graph.graph all.items graph is) (c.judge_blocks.ensures.judged trees (c.in_ok-gr.ensures.file trees texts.1))
+    (λ all is. trees_judged g.row.P gr trees c.in_ok-graph.graph all.items graph is) (c.judge_blocks.ensures.judged trees (c.in_ok-gr.ensures.file.gives trees texts.1))
 
 pub returns-clause-refused : goal.returns-clause-refused
 returns-clause-refused g c = λ gr trees texts.
-    let graph = c.in_ok-graph.ensures.graph gr (c.in_ok-gr.ensures.graph gr texts.0) in
+    let graph = c.in_ok-graph.ensures.graph gr (c.in_ok-gr.ensures.graph.gives gr texts.0) in
     let failed = g.F.File.Read.has_failed c.judge_blocks.new.trees in
     err_as (TellsFault g.row.P trees failed) (Hinders (AreTreesRefused g.row.P gr trees)) c.judge_blocks.result
-    (trees_refused g.row.P gr trees c.in_ok-graph.graph failed graph) (c.judge_blocks.ensures.refused trees (c.in_ok-gr.ensures.file trees texts.1))
+    (trees_refused g.row.P gr trees c.in_ok-graph.graph failed graph) (c.judge_blocks.ensures.refused trees (c.in_ok-gr.ensures.file.gives trees texts.1))

@@ -1,3 +1,4 @@
+use Rattle.std.proofs.Common.{refl}
 use Rattle.sp_tools.proofs.SameVerdicts.{same_graph}
 use Rattle.sp_tools.proofs.Texts.{graph_spelled}
 use Rattle.sp_tools.proofs.graphs.read_graph.Goals as goal
@@ -12,3 +13,6 @@ returns-clause-graph g c = λ text known. (
   graph_spelled g.row.P text (g.D.Read.left c.read_gr.new.reader) (g.D.Read.has_failed c.read_gr.new.reader) c.in-Ok.file (c.in-Ok.ensures.exact text known),
   same_graph c.in-Ok.file c.in_ok-from_arcs.field-0 c.in_ok-from_arcs.ensures.n c.in_ok-from_arcs.ensures.arcs,
 )
+
+pub returns-in-Err-clause-told : goal.returns-in-Err-clause-told
+returns-in-Err-clause-told g c = rw c.fault.ensures (refl, λ read never. c.in-Err.ensures.never never read)

@@ -9,7 +9,7 @@ returns-in_err-write_words-clause-answered g c = λ text known.
     let p = err_from_is_err_and residual.result residual.ensures.1 in
     let begun = rw c.deref.ensures.value at c.in_err-write_words.ensures in
     let left : AreLeft g.row.P text c.in_ok-words.words.items = record { programme = c.in_ok-programme.programme; spelled = c.in_ok-programme.ensures.spelled text known; least = c.in_ok-words.ensures } in
-    rw (p.1, p.2) (inr (refl, (c.in_ok-words.words.items, left, begun.0)))
+    rw (p.1, p.2) (inr (refl, begun.1, (c.in_ok-words.words.items, left, begun.0)))
 
 pub returns-clause-answered : goal.returns-clause-answered
 returns-clause-answered g c = λ text known.

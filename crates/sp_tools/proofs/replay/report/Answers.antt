@@ -9,7 +9,7 @@ returns-in_err-write_report-clause-answered g c = λ text known.
     let p = err_from_is_err_and residual.result residual.ensures.1 in
     let is = rw c.deref.ensures.value at c.in_ok-report.ensures.report in
     let replayed : IsReplayed {P = g.row.P} text c.in_ok-report.report = record { file = c.in_ok-file.file; spelled = c.in_ok-file.ensures.spelled text known; is = is } in
-    rw (p.1, p.2) (inr (refl, (c.in_ok-report.report, replayed, c.in_err-write_report.ensures.0)))
+    rw (p.1, p.2) (inr (refl, c.in_err-write_report.ensures.1, (c.in_ok-report.report, replayed, c.in_err-write_report.ensures.0)))
 
 pub returns-clause-answered : goal.returns-clause-answered
 returns-clause-answered g c = λ text known.
