@@ -1,5 +1,6 @@
 #!/usr/bin/env python3
-"""Whether each public function whose contract ensures something has an edit of crates/CRATE/edits or crates/CRATE/must-fail.
+"""Whether each public function whose contract ensures something has an edit of crates/CRATE/edits or crates/CRATE/must-fail, and
+whether each edit and its twin fit the sources: what they change stands there once.
 
 An edit is a function's where it changes its body, or that of the one function that its body passes on to: a body that is a call and
 nothing else. Public are the functions that a crate's root file exports, the methods of its types, also those of traits, and what C
@@ -8,8 +9,8 @@ clauses mean there. A law, whose body is empty, has nothing to change, and is le
 
 Usage: python3 tests/edit_coverage.py [--list]
 
-It prints for each crate how many of its public functions ensure something, and how many of these have an edit; then the functions that
-have none and stand in no line of EXCEPTIONS, and the lines that no longer apply. --list prints the functions of EXCEPTIONS too, as the
+It prints for each crate how many of its public functions ensure something, and how many of these have an edit; which edits don't fit; the
+functions that have no edit and stand in no line of EXCEPTIONS, and the lines that no longer apply. --list prints the functions of EXCEPTIONS too, as the
 lines of a table to put in its place. The last line is 'N passed, M failed'.
 """
 
@@ -74,13 +75,6 @@ EXCEPTIONS = {
     "sp_text::numbers::number": NONE_YET,
     "sp_tree::writing::write_far": NONE_YET,
     "sp_tree::writing::write_tree": NONE_YET,
-    "spt_c::exports::spt_check": NONE_YET,
-    "spt_c::exports::spt_gr": NONE_YET,
-    "spt_c::exports::spt_graph_new": NONE_YET,
-    "spt_c::exports::spt_graph_pair": NONE_YET,
-    "spt_c::exports::spt_graph_trees": NONE_YET,
-    "spt_c::exports::spt_pair": NONE_YET,
-    "spt_c::exports::spt_reach": NONE_YET,
     "tests_round_samples::any_tasks": OF_TESTS,
     "tests_samples::arcs_of": OF_TESTS,
     "tests_samples::graph_of": OF_TESTS,
@@ -188,12 +182,25 @@ def passed_on(one, of_all):
     return found[0] if len(found) == 1 else None
 
 
+def edits_of(crate):
+    """The files of a crate's edits, of either folder."""
+    return sorted(glob.glob(f"{crate.folder}/edits/*.edit") + glob.glob(f"{crate.folder}/must-fail/*.edit"))
+
+
 def edited(crate):
-    """The functions of a crate that an edit changes, of either folder."""
+    """The functions of a crate that an edit changes."""
     found = set()
-    for path in glob.glob(f"{crate.folder}/edits/*.edit") + glob.glob(f"{crate.folder}/must-fail/*.edit"):
+    for path in edits_of(crate):
         found |= tried.functions_of(tried.OF_TWIN.sub("", read(path)), crate.folder)
     return {(crate.name, it) for it in found}
+
+
+def fit(count, crate):
+    """Whether each edit of a crate fits the sources, and its twin."""
+    for path in edits_of(crate):
+        for kind, lines in (("edit", tried.OF_TWIN.sub("", read(path))), ("twin", tried.lines_of_twin(path))):
+            why = tried.rt.edited(lines, crate.folder)[1]
+            count.of(f"{os.path.relpath(path, HOME)}: the {kind} doesn't fit: {why}", not why)
 
 
 def has_edit(one, of_all, of_edits):
@@ -218,11 +225,14 @@ def main():
     options.add_argument("--list", action="store_true")
     chosen = options.parse_args()
     os.chdir(HOME)
-    crates = [it for it in tried.rt.rtlib.crates_below(HOME) if os.path.exists(f"{it.folder}/src/lib.rt")]
+    all_crates = tried.rt.rtlib.crates_below(HOME)
+    crates = [it for it in all_crates if os.path.exists(f"{it.folder}/src/lib.rt")]
     ensured = ensured_by_traits()
     of_all = [it for crate in crates for it in functions(crate.name, ensured)]
     of_edits = set().union(*(edited(it) for it in crates))
     count, without = Count(), set()
+    for crate in all_crates:
+        fit(count, crate)
     for crate in crates:
         asked = [it for it in of_all if it.crate == crate.name and it.is_public and it.ensures and it.body]
         none = [it.name() for it in asked if not has_edit(it, of_all, of_edits)]

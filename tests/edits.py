@@ -240,10 +240,15 @@ def alone(crate, edit, kept):
     return is_refusal(outcome), shows, said.replace("must-fail ", "alone: ").replace(".edit", "")
 
 
+def lines_of_twin(path):
+    """The lines of an edit's twin, as those of an edit."""
+    lines = [line for line in rt.rtlib.text_of(path).split("\n") if not line.startswith("new:")]
+    return "\n".join(f"new: {line[len('twin: '):]}" if line.startswith("twin: ") else line for line in lines)
+
+
 def twin_of(crate, edit):
     """The twin of an edit, as an edit; None where it has none."""
-    lines = [line for line in rt.rtlib.text_of(edit.path).split("\n") if not line.startswith("new:")]
-    lines = "\n".join(f"new: {line[len('twin: '):]}" if line.startswith("twin: ") else line for line in lines)
+    lines = lines_of_twin(edit.path)
     if not changes(lines, crate.folder):
         return None
     changed = functions_of(lines, crate.folder)
