@@ -1,14 +1,14 @@
 //! Why a run gave no tree.
 use thiserror::Error;
 
-/// Why a run gave no tree. It is shown by its number and its name, and the vertex.
+/// Why a run gave no tree. The fault displays as its number and its name, and the vertex if there is one.
 #[derive(Clone, Copy, Debug, PartialEq, Eq, Error)]
 pub enum RunError {
-    /// A growth was refused.
+    /// An allocation failed.
     #[error("1 Memory")]
     Memory,
-    /// The least length of this vertex doesn't fit a word. It is the smallest such vertex that an arc leads to from a
-    /// vertex whose least length does.
+    /// The least length to this vertex doesn't fit in a word. Of such vertices, this is the smallest one that an arc
+    /// reaches from a vertex whose least length fits.
     #[error("2 TooFar {0}")]
     TooFar(u32),
     /// The source isn't a vertex of the graph.

@@ -7,7 +7,7 @@ ghost use Rattle.sp_answer.specs.Table.{rows_from};
 use sp_word::Word;
 use std::alloc::{AllocError, Global};
 
-// Whether a walk has reached the vertex of a word.
+// Returns whether a walk has reached the vertex of a word.
 fn is_reached<const P: u32>(word: Word<P>) -> bool
     ensures test { result ≡ is_some (dist_of word.entry) }
     ensures range { Fits P word.entry }
@@ -15,7 +15,7 @@ fn is_reached<const P: u32>(word: Word<P>) -> bool
     word.dist().is_some()
 }
 
-/// The rows of the words of vertex 1, 2 and so on, in room that is taken once.
+/// Returns the rows of the reached vertices, whose words are given for vertex 1, 2 and so on. It allocates once.
 pub fn rows_of<const P: u32>(
     alloc: Global,
     words: &[Word<P>],

@@ -26,9 +26,9 @@ impl<const P: u32> Model for Tree<P> {
 }
 
 impl<const P: u32> Tree<P> {
-    /// The tree of a source in which the vertices have these words.
+    /// Returns the tree of a source in which the vertices have these words.
     ///
-    /// It takes the room for the rows once, and is linear.
+    /// It allocates once, for all rows, and takes linear time.
     pub fn of_words(alloc: Global, source: u32, words: &[Word<P>]) -> Result<Tree<P>, AllocError>
         requires layout { is_layout P ≡ true }
         requires least { 1 ≤ length words.now }
@@ -47,7 +47,7 @@ impl<const P: u32> Tree<P> {
         })
     }
 
-    /// A tree that has no row yet.
+    /// Returns a tree that has no rows yet.
     pub fn bare(alloc: Global, n: u32, source: u32) -> Tree<P>
         requires layout { is_layout P ≡ true }
         requires least { 1 ≤ n }
@@ -64,7 +64,7 @@ impl<const P: u32> Tree<P> {
         }
     }
 
-    /// One row more, above the others.
+    /// Appends a row, whose vertex has a greater number than the vertices of the other rows.
     pub fn push_row(&mut self, vertex: u32, dist: u64, pred: u32) -> Result<(), AllocError>
         requires above { last_vertex self.old.rows < vertex }
         requires most { vertex ≤ self.old.n }
@@ -77,7 +77,7 @@ impl<const P: u32> Tree<P> {
         Ok(())
     }
 
-    /// The vertex of the last row, or 0.
+    /// Returns the vertex of the last row, or 0 if there are no rows.
     pub fn last(&self) -> u32
         ensures { result ≡ last_vertex self.now.rows }
     {
@@ -87,7 +87,7 @@ impl<const P: u32> Tree<P> {
         }
     }
 
-    /// The number of vertices.
+    /// Returns the number of vertices.
     pub fn n(&self) -> u32
         ensures n { result ≡ self.now.n }
         ensures table { IsTable P self.now }
@@ -95,7 +95,7 @@ impl<const P: u32> Tree<P> {
         self.n
     }
 
-    /// The source.
+    /// Returns the source.
     pub fn source(&self) -> u32
         ensures source { result ≡ self.now.source }
         ensures table { IsTable P self.now }
@@ -103,7 +103,7 @@ impl<const P: u32> Tree<P> {
         self.source
     }
 
-    /// The vertices that are reached, by rising number, and their words.
+    /// Returns the reached vertices, by rising number, with their words.
     pub fn rows(&self) -> &[(u32, Word<P>)]
         ensures rows { result.now ≡ self.now.rows }
         ensures table { IsTable P self.now }
@@ -111,7 +111,7 @@ impl<const P: u32> Tree<P> {
         &self.rows
     }
 
-    // The word of a vertex that has a row.
+    // Returns the word of a vertex, if it has a row.
     fn word_of_row(&self, vertex: u32) -> Option<Word<P>>
         ensures { MatchOption result (table_of self.now vertex ≡ Unreached)
             (λ word. table_of self.now vertex ≡ word) }
@@ -127,7 +127,7 @@ impl<const P: u32> Tree<P> {
         }
     }
 
-    /// The word of a vertex.
+    /// Returns the word of a vertex.
     pub fn word(&self, vertex: u32) -> Word<P>
         requires least { 1 ≤ vertex }
         requires most { vertex ≤ self.now.n }

@@ -1,14 +1,14 @@
 //! Devices that bytes are read from and written to, and printing through a block of memory.
 #![tactic(auto)]
 
-mod block;
+mod buffer;
 mod devices;
 mod faults;
 mod memory;
 mod printing;
 mod streams;
 
-pub use block::Block;
+pub use buffer::{Block, Buffer};
 pub use devices::{Failed, Read, Write, write_all};
 pub use faults::WriteFault;
 pub use memory::{UpTo, UpToWriter};

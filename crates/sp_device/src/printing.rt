@@ -2,7 +2,7 @@
 ghost use Rattle.std.specs.Prelude.{◌≡◌, ◌+◌, ◌≤◌, [], length, decimal, false};
 ghost use Rattle.sp_device.specs.Printing.{Sends, KeepsSending, EndsSending, EndsCounting};
 
-use crate::block::Block;
+use crate::buffer::Block;
 use crate::devices::{Write, write_all};
 use crate::faults::WriteFault;
 use itoa::Buffer;

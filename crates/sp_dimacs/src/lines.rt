@@ -5,7 +5,7 @@ ghost use Rattle.sp_dimacs.specs.LineReading.{RunTaken, LineRead};
 
 use crate::piece::Piece;
 use sp_device::Read;
-use sp_text::{DimacsError, Kind, LONGEST_LINE, Room, cut_line};
+use sp_text::{DimacsError, Kind, LONGEST_LINE, LineBuffer, cut_line, extend_line};
 
 // Whether more lines may come, and otherwise why not.
 #[derive(Clone, Copy)]
@@ -17,16 +17,16 @@ pub enum State {
 
 // Moves the bytes up to the next LF, and removes the LF; or moves all bytes if there is none. Returns whether there was
 // an LF.
-fn take_run(piece: &mut Piece, room: &mut Room) -> Result<bool, Kind>
+fn take_run(piece: &mut Piece, room: &mut LineBuffer) -> Result<bool, Kind>
     ensures taken { RunTaken piece.old room.old result piece.new room.new }
     ensures short { OnOk result (length room.new ≤ LONGEST_LINE) }
 {
     let Some((line, _)) = cut_line(piece.bytes()) else {
-        room.extend(piece.bytes())?;
+        extend_line(room, piece.bytes())?;
         piece.clear();
         return Ok(false);
     };
-    room.extend(line)?;
+    extend_line(room, line)?;
     let taken = line.len() + 1;
     piece.skip(taken);
     Ok(true)
@@ -34,7 +34,11 @@ fn take_run(piece: &mut Piece, room: &mut Room) -> Result<bool, Kind>
 
 // Reads the next line into the buffer, and returns whether it has its LF. If it has neither an LF nor a byte, it is no
 // line.
-fn read_line<R: Read>(reader: &mut R, piece: &mut Piece, room: &mut Room) -> Result<bool, Kind>
+fn read_line<R: Read>(
+    reader: &mut R,
+    piece: &mut Piece,
+    room: &mut LineBuffer,
+) -> Result<bool, Kind>
     requires { room.old ≡ [] }
     ensures read { LineRead (R.left reader.old) (R.left reader.new)
         (R.has_failed reader.new) piece.old result piece.new room.new }
@@ -60,7 +64,7 @@ fn read_line<R: Read>(reader: &mut R, piece: &mut Piece, room: &mut Room) -> Res
 pub struct Lines<R> {
     reader: R,
     piece: Piece,
-    room: Room,
+    room: LineBuffer,
     number: u64,
     has_end: bool,
     state: State,
@@ -80,7 +84,7 @@ impl<R: Read> Lines<R> {
         Lines {
             reader,
             piece: Piece::new(),
-            room: Room::new(),
+            room: LineBuffer::new(),
             number: 0,
             has_end: false,
             state: State::Going,
@@ -162,7 +166,7 @@ impl<R: Read> Lines<R> {
             (Rests (the_row R.row) self.entry (Gives R.left R.has_failed self.old result)) }
     {
         match self.advance() {
-            Ok(true) => Ok(Some(self.room.line())),
+            Ok(true) => Ok(Some(self.room.bytes())),
             Ok(false) => Ok(None),
             Err(error) => Err(error),
         }

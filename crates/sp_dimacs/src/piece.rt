@@ -57,8 +57,7 @@ impl Piece {
     pub fn clear(&mut self)
         ensures { self.new ≡ [] }
     {
-        self.start = 0;
-        self.end = 0;
+        self.start = self.end;
     }
 
     /// Replaces the bytes with the next ones of a device; there are none only at its end.

@@ -1,11 +1,12 @@
 -- The position of a reader that is fed in pieces.
-use Rattle.std.specs.Prelude.{◌≡◌, ℕ, ◌+◌, ◌≤◌, ◌⊎◌, Bool, true, false, List, [], ◌∷◌, ◌++◌, length, Some, None, Result, Ok, Err}
+use Rattle.std.specs.Prelude.{◌≡◌, ℕ, ◌+◌, ◌^◌, ◌<◌, ◌≤◌, ◌⊎◌, Bool, true, false, List, [], ◌∷◌, ◌++◌, length, Some, None, Result, Ok, Err}
 use Rattle.sp_text.specs.declared.faults.Kind.{Kind}
 use Rattle.sp_text.specs.declared.faults.Kind.TheVariants.{Memory}
 use Rattle.sp_text.specs.declared.faults.DimacsError.{DimacsError}
 use Rattle.sp_text.specs.declared.feeding.Feeder.{Feeder}
 use Rattle.sp_text.specs.Lines.{ended, rest, lines}
-use Rattle.sp_text.specs.First.{Judge, first_fault, fault_so_far, fault_at_end}
+use Rattle.sp_text.specs.Meaning.{HasNoLf}
+use Rattle.sp_text.specs.First.{Judge, first_fault, fault_so_far, fault_at_failure, fault_at_end}
 
 -- This is what a taker of lines answers to a line: its fault; otherwise the next state follows, or there was no memory
 -- for the value of an item line. `After` relates a state to the lines that it was given, none of which has a fault.
@@ -74,3 +75,48 @@ pub record IsClosed {T : Type 0} (judge : Judge) (After : T → List (List ℕ) 
 abbrev pub Closed : {T U : Type 0} → Judge → (T → List (List ℕ) → Type 0) → List ℕ → Result U DimacsError → Feeder T → Type 0
 Closed judge After text (Ok u) new = IsClosed judge After text new
 Closed judge After text (Err e) new = (new.spent ≡ Some e) × IsToldOf judge text e
+
+-- A text has at most 2^62 bytes. What follows says what a reader answers, and where it is then, whatever text it has
+-- read before.
+
+-- The reader reads these bytes, or refuses the text.
+abbrev pub Reads : {T U : Type 0} → Judge → (T → List (List ℕ) → Type 0) → (bytes : List ℕ) → Feeder T → Result U DimacsError → Feeder T → Type 0
+Reads judge After bytes old result new = (text : List ℕ) → length (text ++ bytes) ≤ 2 ^ 62 → IsBehind judge After text old → Fed judge After (ended text) (text ++ bytes) result new
+
+-- The reader reads these bytes of a line that may be there. None of them is an LF.
+abbrev pub ReadsPart : {T U : Type 0} → Judge → (T → List (List ℕ) → Type 0) → (bytes : List ℕ) → Feeder T → Result U DimacsError → Feeder T → Type 0
+ReadsPart judge After bytes old result new =
+    (text : List ℕ) → length (text ++ bytes) ≤ 2 ^ 62 → judge.closed (ended text) ≡ false → HasNoLf bytes → IsBehind judge After text old → Fed judge After (ended text) (text ++ bytes) result new
+
+-- The reader reads these bytes, the last ones of a line that may be there, and then its LF.
+abbrev pub ReadsRest : {T U : Type 0} → Judge → (T → List (List ℕ) → Type 0) → (bytes : List ℕ) → Feeder T → Result U DimacsError → Feeder T → Type 0
+ReadsRest judge After bytes old result new =
+    (text : List ℕ) → length (text ++ bytes) ≤ 2 ^ 62 → judge.closed (ended text) ≡ false → HasNoLf bytes → IsBehind judge After text old → Fed judge After (ended text) (text ++ bytes ++ 10 ∷ []) result new
+
+-- The reader reads the LF of a line that may be there.
+abbrev pub ReadsLf : {T U : Type 0} → Judge → (T → List (List ℕ) → Type 0) → Feeder T → Result U DimacsError → Feeder T → Type 0
+ReadsLf judge After old result new =
+    (text : List ℕ) → length text ≤ 2 ^ 62 → judge.closed (ended text) ≡ false → IsBehind judge After text old → Fed judge After (ended text) (text ++ 10 ∷ []) result new
+
+-- The reader has read some of these bytes, and the others are left.
+pub record HasReadSome {T : Type 0} (judge : Judge) (After : T → List (List ℕ) → Type 0) (bytes left : List ℕ) (old new : Feeder T) : Type 0 where
+  pub front : List ℕ
+  pub parts : bytes ≡ front ++ left
+  pub some : 0 < length front
+  pub read : (text : List ℕ) → length (text ++ bytes) ≤ 2 ^ 62 → IsBehind judge After text old → IsBehind judge After (text ++ front) new
+
+-- The reader refuses, because of these bytes, the text to which they belong.
+abbrev pub Refuses : {T : Type 0} → Judge → (T → List (List ℕ) → Type 0) → (bytes : List ℕ) → Feeder T → DimacsError → Feeder T → Type 0
+Refuses judge After bytes old e new = (text : List ℕ) → length (text ++ bytes) ≤ 2 ^ 62 → IsBehind judge After text old → (new.spent ≡ Some e) × Refused judge (ended text) (text ++ bytes) e
+
+-- The text ends, and the reader takes its last line.
+abbrev pub Closes : {T U : Type 0} → Judge → (T → List (List ℕ) → Type 0) → Feeder T → Result U DimacsError → Feeder T → Type 0
+Closes judge After old result new = (text : List ℕ) → length text ≤ 2 ^ 62 → IsBehind judge After text old → Closed judge After text result new
+
+-- The text ends, and the reader gives its value, or refuses it.
+abbrev pub Finishes : {T V : Type 0} → Judge → (T → List (List ℕ) → Type 0) → (List (List ℕ) → V → Type 0) → Feeder T → Result V DimacsError → Feeder T → Type 0
+Finishes judge After Spelled old result new = (text : List ℕ) → length text ≤ 2 ^ 62 → IsBehind judge After text old → Finished judge After Spelled text result new
+
+-- The device fails, and the reader refuses the text.
+abbrev pub Fails : {T : Type 0} → Judge → (T → List (List ℕ) → Type 0) → Feeder T → DimacsError → Feeder T → Type 0
+Fails judge After old e new = (text : List ℕ) → length text ≤ 2 ^ 62 → IsBehind judge After text old → (fault_at_failure judge text ≡ Some e) × (new.spent ≡ Some e)

@@ -1,14 +1,12 @@
 //! A reader that is fed a text in pieces, for any line forms.
-ghost use Rattle.std.specs.Prelude.{◌≡◌, ◌+◌, ◌-◌, ◌^◌, ◌<◌, ◌≤◌, ◌++◌, ◌∷◌, [], ℕ, List, length, min, Ok, Err, Some, None, false, IfOk, IfErr};
+ghost use Rattle.std.specs.Prelude.{◌≡◌, ◌+◌, ◌-◌, ◌^◌, ◌<◌, [], ℕ, List, length, min, Ok, Err, Some, IfOk, IfErr};
 ghost use Rattle.sp_text.specs.declared.faults.DimacsError.{DimacsError};
-ghost use Rattle.sp_text.specs.Lines.{ended};
-ghost use Rattle.sp_text.specs.Meaning.{HasNoLf};
-ghost use Rattle.sp_text.specs.First.{Judge, IsSilent, fault_at_failure};
-ghost use Rattle.sp_text.specs.Feeding.{Takes, Ends, IsBehind, Fed, Refused, Closed, Finished};
+ghost use Rattle.sp_text.specs.First.{Judge, IsSilent};
+ghost use Rattle.sp_text.specs.Feeding.{Takes, Ends, IsBehind, Reads, ReadsPart, ReadsRest, ReadsLf, HasReadSome, Refuses, Closes, Finishes, Fails};
 
 use crate::endings::cut_line;
 use crate::faults::{DimacsError, Kind};
-use crate::rooms::{LONGEST_LINE, Room};
+use crate::rooms::{LONGEST_LINE, LineBuffer, extend_line};
 use std::mem;
 
 /// Takes the lines of a text one after another, as long as none has a fault.
@@ -52,7 +50,7 @@ pub trait LineTaker {
 #[derive(Drop)]
 pub struct Feeder<T> {
     taker: T,
-    room: Room,
+    room: LineBuffer,
     ends: u64,
     spent: Option<DimacsError>,
 }
@@ -65,7 +63,7 @@ impl<T: LineTaker> Feeder<T> {
     {
         Feeder {
             taker,
-            room: Room::new(),
+            room: LineBuffer::new(),
             ends: 0,
             spent: None,
         }
@@ -88,9 +86,7 @@ impl<T: LineTaker> Feeder<T> {
     // Ends the line that is being read, which has these bytes.
     #[inline(always)]
     fn end_line(&mut self, line: &[u8]) -> Result<(), DimacsError>
-        ensures { (text : List ℕ) → length text ≤ 2 ^ 62 → T.rules.closed (ended text) ≡ false
-            → IsBehind T.rules T.After text (record self.old { room = line.now })
-            → Fed T.rules T.After (ended text) (text ++ 10 ∷ []) result self.new }
+        ensures { ReadsLf T.rules T.After (record self.old { room = line.now }) result self.new }
     {
         match self.taker.take_line(line) {
             Ok(()) => {
@@ -105,23 +101,18 @@ impl<T: LineTaker> Feeder<T> {
     // Ends the line that is being read.
     #[inline(never)]
     fn end_room(&mut self) -> Result<(), DimacsError>
-        ensures { (text : List ℕ) → length text ≤ 2 ^ 62 → T.rules.closed (ended text) ≡ false
-            → IsBehind T.rules T.After text self.old
-            → Fed T.rules T.After (ended text) (text ++ 10 ∷ []) result self.new }
+        ensures { ReadsLf T.rules T.After self.old result self.new }
     {
-        let room = mem::replace(&mut self.room, Room::new());
-        self.end_line(room.line())
+        let room = mem::replace(&mut self.room, LineBuffer::new());
+        self.end_line(room.bytes())
     }
 
     // Takes bytes without an LF.
     #[inline(never)]
     fn take_open(&mut self, bytes: &[u8]) -> Result<(), DimacsError>
-        ensures { (text : List ℕ) → length (text ++ bytes.now) ≤ 2 ^ 62
-            → T.rules.closed (ended text) ≡ false → HasNoLf bytes.now
-            → IsBehind T.rules T.After text self.old
-            → Fed T.rules T.After (ended text) (text ++ bytes.now) result self.new }
+        ensures { ReadsPart T.rules T.After bytes.now self.old result self.new }
     {
-        match self.room.extend(bytes) {
+        match extend_line(&mut self.room, bytes) {
             Ok(()) => Ok(()),
             Err(kind) => Err(self.refuse(kind)),
         }
@@ -130,10 +121,7 @@ impl<T: LineTaker> Feeder<T> {
     // Takes bytes without an LF, and then an LF.
     #[inline(always)]
     fn take_rest(&mut self, bytes: &[u8]) -> Result<(), DimacsError>
-        ensures { (text : List ℕ) → length (text ++ bytes.now) ≤ 2 ^ 62
-            → T.rules.closed (ended text) ≡ false → HasNoLf bytes.now
-            → IsBehind T.rules T.After text self.old
-            → Fed T.rules T.After (ended text) (text ++ bytes.now ++ 10 ∷ []) result self.new }
+        ensures { ReadsRest T.rules T.After bytes.now self.old result self.new }
     {
         if !self.room.is_empty() {
             self.take_open(bytes)?;
@@ -150,14 +138,9 @@ impl<T: LineTaker> Feeder<T> {
     fn take_run<'a>(&mut self, bytes: &'a [u8]) -> Result<&'a [u8], DimacsError>
         requires { 0 < length bytes.now }
         ensures taken { IfOk result
-            (λ more. (front : List ℕ) × (bytes.now ≡ front ++ more.now) × (0 < length front)
-            × ((text : List ℕ) → length (text ++ bytes.now) ≤ 2 ^ 62
-            → IsBehind T.rules T.After text self.old
-            → IsBehind T.rules T.After (text ++ front) self.new)) }
+            (λ more. HasReadSome T.rules T.After bytes.now more.now self.old self.new) }
         ensures refused { IfErr result
-            (λ e. (text : List ℕ) → length (text ++ bytes.now) ≤ 2 ^ 62
-            → IsBehind T.rules T.After text self.old
-            → (self.new.spent ≡ Some e) × Refused T.rules (ended text) (text ++ bytes.now) e) }
+            (λ e. Refuses T.rules T.After bytes.now self.old e self.new) }
     {
         if self.taker.is_closed() {
             return Err(self.refuse(Kind::TooMany));
@@ -175,9 +158,7 @@ impl<T: LineTaker> Feeder<T> {
     pub fn feed(&mut self, piece: &[u8]) -> Result<(), DimacsError>
         ensures again { (e : DimacsError) → self.old.spent ≡ Some e
             → (result ≡ Err e) × (self.new ≡ self.old) }
-        ensures fed { (text : List ℕ) → length (text ++ piece.now) ≤ 2 ^ 62
-            → IsBehind T.rules T.After text self.old
-            → Fed T.rules T.After (ended text) (text ++ piece.now) result self.new }
+        ensures fed { Reads T.rules T.After piece.now self.old result self.new }
     {
         if let Some(error) = self.spent {
             return Err(error);
@@ -191,8 +172,7 @@ impl<T: LineTaker> Feeder<T> {
 
     // Takes the last line, if it lacks its LF and needs none.
     fn close_line(&mut self) -> Result<(), DimacsError>
-        ensures { (text : List ℕ) → length text ≤ 2 ^ 62 → IsBehind T.rules T.After text self.old
-            → Closed T.rules T.After text result self.new }
+        ensures { Closes T.rules T.After self.old result self.new }
     {
         if self.room.is_empty() {
             return Ok(());
@@ -207,9 +187,7 @@ impl<T: LineTaker> Feeder<T> {
     pub fn finish(&mut self) -> Result<T::Value, DimacsError>
         ensures again { (e : DimacsError) → self.old.spent ≡ Some e
             → (result ≡ Err e) × (self.new ≡ self.old) }
-        ensures finished { (text : List ℕ) → length text ≤ 2 ^ 62
-            → IsBehind T.rules T.After text self.old
-            → Finished T.rules T.After T.Spelled text result self.new }
+        ensures finished { Finishes T.rules T.After T.Spelled self.old result self.new }
     {
         if let Some(error) = self.spent {
             return Err(error);
@@ -228,9 +206,7 @@ impl<T: LineTaker> Feeder<T> {
     pub fn fail(&mut self) -> DimacsError
         ensures again { (e : DimacsError) → self.old.spent ≡ Some e
             → (result ≡ e) × (self.new ≡ self.old) }
-        ensures failed { (text : List ℕ) → length text ≤ 2 ^ 62
-            → IsBehind T.rules T.After text self.old
-            → (fault_at_failure T.rules text ≡ Some result) × (self.new.spent ≡ Some result) }
+        ensures failed { Fails T.rules T.After self.old result self.new }
     {
         match self.spent {
             Some(error) => error,

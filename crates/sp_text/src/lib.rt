@@ -25,6 +25,6 @@ pub use laws::{
     accepted_text_is_in_range, early_fault_is_first, first_fault_is_least, text_is_its_lines,
 };
 pub use numbers::{Numeral, leading_number, number};
-pub use rooms::{LONGEST_LINE, Room, Values};
+pub use rooms::{LONGEST_LINE, LineBuffer, Values, extend_line};
 pub use whole::{PIECE, read_text};
 pub use writing::push_number;

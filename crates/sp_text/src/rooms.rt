@@ -1,93 +1,29 @@
-//! Buffers of fixed size for a line.
-ghost use Rattle.std.specs.Prelude.{◌≡◌, ◌+◌, ◌<◌, ◌≤◌, List, [], ◌∷◌, ◌++◌, ℕ, length, take, slice_index, MatchBool, OnOk, OnErr, IfErr};
+//! Buffers of fixed size for a line and for its numbers.
+ghost use Rattle.std.specs.Prelude.{◌≡◌, ◌+◌, ◌<◌, ◌≤◌, List, [], ◌∷◌, ◌++◌, ℕ, length, take, slice_index, OnOk, OnErr, IfErr};
 
 use crate::faults::Kind;
+use sp_device::Buffer;
 use std::marker::Model;
 
 /// The greatest number of bytes of a line before its LF.
 pub const LONGEST_LINE: usize = 1024;
 
 /// The bytes of a line so far, at most `LONGEST_LINE`.
-#[derive(Drop)]
-pub struct Room {
-    bytes: [u8; LONGEST_LINE],
-    len: usize,
-}
+pub type LineBuffer = Buffer<LONGEST_LINE>;
 
-impl Model for Room {
-    ghost use Rattle.std.specs.Prelude.{◌≤◌, List, ℕ, take};
-    ghost use Rattle.sp_text.specs.declared.rooms.TheConstants.{LONGEST_LINE};
-
-    ghost Value = { List ℕ };
-
-    ghost view = { λ r. take r.len r.bytes };
-
-    ghost invariant = { λ r. r.len ≤ LONGEST_LINE };
-}
-
-impl Room {
-    /// Returns an empty buffer.
-    pub fn new() -> Self
-        ensures { result ≡ [] }
-    {
-        Room {
-            bytes: [0; LONGEST_LINE],
-            len: 0,
-        }
+/// Appends bytes to a line, or reports that the line is too long.
+pub fn extend_line(line: &mut LineBuffer, bytes: &[u8]) -> Result<(), Kind>
+    ensures pushed { OnOk result (line.new ≡ line.old ++ bytes.now) }
+    ensures short { OnOk result (length line.new ≤ LONGEST_LINE) }
+    ensures kind { IfErr result (λ kind. kind ≡ Kind.LongLine) }
+    ensures long { OnErr result (LONGEST_LINE < length (line.old ++ bytes.now)) }
+    ensures kept { OnErr result (line.new ≡ line.old) }
+{
+    if line.room_left() < bytes.len() {
+        return Err(Kind::LongLine);
     }
-
-    // Returns how many more bytes fit.
-    fn room_left(&self) -> usize
-        ensures { result + length self.now ≡ LONGEST_LINE }
-    {
-        LONGEST_LINE - self.len
-    }
-
-    /// Returns whether there are no bytes.
-    pub fn is_empty(&self) -> bool
-        ensures { MatchBool result (self.now ≡ []) (0 < length self.now) }
-    {
-        self.len == 0
-    }
-
-    // Appends bytes, which must fit.
-    fn push(&mut self, bytes: &[u8])
-        requires { length self.old + length bytes.now ≤ LONGEST_LINE }
-        ensures { self.new ≡ self.old ++ bytes.now }
-    {
-        let end = self.len + bytes.len();
-        self.bytes[self.len..end].copy_from_slice(bytes);
-        self.len = end;
-    }
-
-    /// Appends bytes, or reports that the line is too long.
-    pub fn extend(&mut self, bytes: &[u8]) -> Result<(), Kind>
-        ensures pushed { OnOk result (self.new ≡ self.old ++ bytes.now) }
-        ensures short { OnOk result (length self.new ≤ LONGEST_LINE) }
-        ensures kind { IfErr result (λ kind. kind ≡ Kind.LongLine) }
-        ensures long { OnErr result (LONGEST_LINE < length (self.old ++ bytes.now)) }
-        ensures kept { OnErr result (self.new ≡ self.old) }
-    {
-        if self.room_left() < bytes.len() {
-            return Err(Kind::LongLine);
-        }
-        self.push(bytes);
-        Ok(())
-    }
-
-    /// Removes all bytes.
-    pub fn clear(&mut self)
-        ensures { self.new ≡ [] }
-    {
-        self.len = 0;
-    }
-
-    /// Returns the bytes.
-    pub fn line(&self) -> &[u8]
-        ensures { result.now ≡ self.now }
-    {
-        &self.bytes[..self.len]
-    }
+    line.push(bytes);
+    Ok(())
 }
 
 /// The numbers of a line, at most four. Zeros follow the last one.

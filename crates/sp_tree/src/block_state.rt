@@ -1,22 +1,22 @@
-//! Where in a block some bytes end.
+//! How far the bytes so far have come in a block.
 ghost use Rattle.std.specs.Prelude.{◌≡◌, ◌≢◌, ◌≤◌, length, take};
 ghost use Rattle.sp_tree.specs.Block.{after, Runs};
 
-/// Where in a block the bytes so far end.
+/// How far the bytes so far have come in a block.
 #[derive(Clone, Copy, Debug, PartialEq, Eq)]
 pub enum BlockState {
-    /// Before a line.
+    /// They end before a line.
     Fresh,
-    /// In a line that begins with `e`.
+    /// They end in a line that begins with `e`.
     Last,
-    /// In any other line.
+    /// They end in another line.
     Within,
-    /// Behind the line that begins with `e`: the block is over.
+    /// They end after the line that begins with `e`: the block is over.
     Over,
 }
 
 impl BlockState {
-    // Where one byte more ends.
+    // Returns the state after one more byte.
     fn after(self, byte: u8) -> BlockState
         ensures { result ≡ after self byte }
     {
@@ -31,7 +31,7 @@ impl BlockState {
     }
 }
 
-/// How many of the bytes belong to the block, all of them where it goes on behind them.
+/// Returns how many of the bytes belong to the block: all of them, if it goes on after them.
 pub fn run_of(state: &mut BlockState, bytes: &[u8]) -> usize
     ensures within { result ≤ length bytes.now }
     ensures run { Runs state.old (take result bytes.now) state.new }

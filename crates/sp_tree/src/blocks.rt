@@ -16,19 +16,19 @@ use sp_dimacs::Piece;
 use sp_text::DimacsError;
 use std::alloc::Global;
 
-/// Reads the trees of a file of one or more blocks, one after the other, from one device. It keeps no more than the
-/// tree that is being read.
+/// Reads the trees of a file, which has a block for each, from one device, one after another. It keeps the memory of
+/// one tree alone.
 #[derive(Drop)]
 pub struct TreeBlocks<const P: u32> {
     alloc: Global,
     piece: Piece,
-    /// The lines of the trees that were given.
+    /// The number of the lines of the trees that were returned.
     lines: u64,
     spent: Option<DimacsError>,
     ghost layout: { is_layout P ≡ true },
 }
 
-// The number of the lines up to the end of this tree's block.
+// Returns the number of the file's lines up to the end of this tree's block.
 fn lines_behind<const P: u32>(before: u64, tree: &Tree<P>) -> u64
     ensures { result ≡ min (before + lines_in tree.now) (2 ^ 64 - 1) }
 {
@@ -40,7 +40,7 @@ impl<const P: u32> TreeBlocks<P> {
     ghost use Rattle.sp_tree.specs.Stream.{stream, IsShort, BlockRead};
     ghost use Rattle.sp_tree.specs.Giving.{IsFresh, IsGoing, IsSpent, Gives, in_file};
 
-    /// Before the first tree.
+    /// Returns a reader that stands before the first tree.
     pub fn new(alloc: Global) -> Self
         requires { is_layout P ≡ true }
         ensures { IsFresh result }
@@ -53,7 +53,7 @@ impl<const P: u32> TreeBlocks<P> {
         }
     }
 
-    // The tree of the next block.
+    // Reads the next block, and returns its tree.
     fn read_block<R: Read>(&mut self, reader: &mut R) -> Result<Tree<P>, DimacsError>
         ensures read { IsShort R.passed (stream self.old.piece reader.old)
             → BlockRead P R.left R.passed R.has_failed (stream self.old.piece reader.old)
@@ -71,7 +71,7 @@ impl<const P: u32> TreeBlocks<P> {
         tree.finish()
     }
 
-    // The block has this fault.
+    // Refuses the file: the block has this fault.
     fn refuse(&mut self, error: DimacsError) -> DimacsError
         ensures told { result ≡ in_file self.old.lines error }
         ensures spent { self.new.spent ≡ Some result }
@@ -85,7 +85,7 @@ impl<const P: u32> TreeBlocks<P> {
         error
     }
 
-    // The device has failed before a block.
+    // Refuses the file: the device has failed before a block.
     fn fail(&mut self) -> DimacsError
         ensures fault { (fault : DimacsError) × (result ≡ in_file self.old.lines fault)
             × (fault_at_failure (tree_judge P) [] ≡ Some fault) }
@@ -97,8 +97,9 @@ impl<const P: u32> TreeBlocks<P> {
         self.refuse(error)
     }
 
-    /// The next tree; None where the text has ended behind a block. Text behind the last whole block is a block with a
-    /// fault, and so is an empty text. A fault is told at its line of the file, and from then on again.
+    /// Returns the next tree, or None if the file has ended after a block. What follows the last whole block is a block
+    /// with a fault, and so is an empty file. A fault has the number of its line in the file, and every later call
+    /// returns the same fault.
     pub fn next<R: Read>(&mut self, reader: &mut R) -> Result<Option<Tree<P>>, DimacsError>
         ensures again { (e : DimacsError) → IsSpent e self.old
             → (result ≡ Err e) × (self.new ≡ self.old) × (reader.new ≡ reader.old) }

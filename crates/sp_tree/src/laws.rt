@@ -6,14 +6,14 @@ ghost use Rattle.sp_answer.specs.Table.{TreeTable, IsTable};
 ghost use Rattle.sp_tree.specs.TreeText.{tree_text};
 ghost use Rattle.sp_tree.specs.Spelling.{tree_judge};
 
-/// The texts without a fault are exactly the texts of tables.
+/// Proves that the texts without a fault are exactly the texts of tables.
 pub fn tree_texts_are_accepted()
     ensures { (P : ℕ) (text : List ℕ) → is_layout P ≡ true
         → (fault_at_end (tree_judge P) text ≡ None)
         ↔ ((t : TreeTable) × IsTable P t × (text ≡ tree_text t)) }
 {}
 
-/// A text is that of one table.
+/// Proves that no two tables have the same text.
 #[tactic(auto, using(crate::proofs::SpelledTables::one_table))]
 pub fn tree_text_is_exact()
     ensures { (P : ℕ) (t u : TreeTable) → IsTable P t → IsTable P u → tree_text t ≡ tree_text u

@@ -1,5 +1,5 @@
-//! The file of a shortest-path tree: one text for each tree, written and read; and the file of several trees, read block after
-//! block in the memory of one tree.
+//! The file of a shortest-path tree: each tree has one text, which is written and read. A file of several trees is read
+//! block after block, in the memory of one tree.
 #![tactic(auto)]
 
 mod block_state;

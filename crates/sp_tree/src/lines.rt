@@ -1,4 +1,4 @@
-//! The lines of a tree file, each by itself.
+//! Reads a line of a tree file by itself.
 ghost use Rattle.std.specs.Prelude.{◌≡◌, ◌∷◌, [], ℕ, List, Some, None, MatchOption};
 ghost use Rattle.sp_text.specs.Text.{is_word};
 ghost use Rattle.sp_tree.specs.Spelling.{fields, line_in, problem_of, spt_of, row_of, end_of};
@@ -6,7 +6,7 @@ ghost use Rattle.sp_tree.specs.Fields.{capped_line, last_in, HasNoNext, IsNext};
 
 use sp_text::leading_number;
 
-/// A line of a tree file. A number above 2^64 - 1 is told as 2^64 - 1.
+/// A line of a tree file. A number above 2^64 - 1 is kept as 2^64 - 1.
 #[derive(Clone, Copy)]
 pub enum Line {
     Problem { n: u64, source: u64 },
@@ -14,7 +14,7 @@ pub enum Line {
     End { count: u64 },
 }
 
-// The bytes up to the first space, and what stands behind that, if there is one.
+// Returns the bytes before the first space and, if there is a space, those after it.
 fn first_field(text: &[u8]) -> (&[u8], Option<&[u8]>)
     ensures { MatchOption result.1 (fields text.now ≡ result.0.now ∷ [])
         (λ rest. fields text.now ≡ result.0.now ∷ fields rest.now) }
@@ -29,7 +29,7 @@ fn first_field(text: &[u8]) -> (&[u8], Option<&[u8]>)
     (text, None)
 }
 
-// The number of the first field, and what stands behind the space after it.
+// Returns the number of the first field, and the bytes after the space that follows it.
 fn next_number(text: &[u8]) -> Option<(u64, &[u8])>
     ensures { MatchOption result (HasNoNext (fields text.now)) (IsNext (fields text.now)) }
 {
@@ -44,7 +44,7 @@ fn next_number(text: &[u8]) -> Option<(u64, &[u8])>
     Some((number, rest))
 }
 
-// The number of the one field.
+// Returns the number of a line that has one field.
 fn last_number(text: &[u8]) -> Option<u64>
     ensures { result ≡ last_in (fields text.now) }
 {
@@ -55,7 +55,7 @@ fn last_number(text: &[u8]) -> Option<u64>
     Some(number)
 }
 
-// `spt N S`
+// Reads `spt N S`.
 fn read_problem(text: &[u8]) -> Option<Line>
     ensures { result ≡ capped_line (spt_of (fields text.now)) }
 {
@@ -71,7 +71,7 @@ fn read_problem(text: &[u8]) -> Option<Line>
     }
 }
 
-// `V D P`
+// Reads `V D P`.
 fn read_row(text: &[u8]) -> Option<Line>
     ensures { result ≡ capped_line (row_of (fields text.now)) }
 {
@@ -87,7 +87,7 @@ fn read_row(text: &[u8]) -> Option<Line>
     }
 }
 
-// `R`
+// Reads `R`.
 fn read_end(text: &[u8]) -> Option<Line>
     ensures { result ≡ capped_line (end_of (fields text.now)) }
 {
@@ -97,7 +97,7 @@ fn read_end(text: &[u8]) -> Option<Line>
     }
 }
 
-/// The line, if the bytes are one in its one spelling.
+/// Returns the line that the bytes spell, if they spell it in its one form.
 #[tactic(auto, unfolding(crate::specs::Spelling::line_in))]
 pub fn read_line(bytes: &[u8]) -> Option<Line>
     ensures { result ≡ capped_line (line_in bytes.now) }

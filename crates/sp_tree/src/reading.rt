@@ -13,15 +13,15 @@ use sp_device::Read;
 use sp_text::{DimacsError, Feeder, Kind, read_text};
 use std::alloc::Global;
 
-/// A reader of a tree file that comes in pieces, for words of `P` bits of predecessor. It tells the first
-/// fault of the text, as early as the bytes so far show it, and answers the same fault from then on.
+/// A reader of a tree's text that comes in pieces, for words of `P` bits of predecessor. It reports the first fault of
+/// the text, as early as the bytes so far show it, and returns the same fault from then on.
 #[derive(Drop)]
 pub struct TreeReader<const P: u32> {
     feeder: Feeder<TreeLines<P>>,
 }
 
 impl<const P: u32> TreeReader<P> {
-    /// A reader behind no text.
+    /// Returns a reader that has read no text.
     pub fn new(alloc: Global) -> Self
         requires { is_layout P ≡ true }
         ensures { IsBehindTree [] result }
@@ -41,7 +41,8 @@ impl<const P: u32> TreeReader<P> {
         self.feeder.feed(piece)
     }
 
-    /// The text has ended. A reader that gives its tree is a new one then.
+    /// Ends the text. A reader that returns its tree then begins a new text.
+    #[tactic(auto, using(crate::proofs::FileEnds::tree_finished))]
     pub fn finish(&mut self) -> Result<Tree<P>, DimacsError>
         ensures again { (e : DimacsError) → IsSpentTree e self.old
             → (result ≡ Err e) × (self.new ≡ self.old) }
@@ -51,7 +52,7 @@ impl<const P: u32> TreeReader<P> {
         self.feeder.finish()
     }
 
-    /// The device failed: the fault that was met before, or Read at the line being read.
+    /// Reports a failure of the device: returns the fault that was met before, or Read at the line being read.
     pub fn fail(&mut self) -> DimacsError
         ensures again { (e : DimacsError) → IsSpentTree e self.old
             → (result ≡ e) × (self.new ≡ self.old) }
@@ -62,8 +63,8 @@ impl<const P: u32> TreeReader<P> {
     }
 }
 
-/// The tree whose text the bytes of a device are from here on, or their first fault. Where a row finds no room,
-/// Memory is told of its line, if no line up to it has a fault.
+/// Reads the rest of a device's bytes, and returns the tree that they spell, or their first fault. If there is no
+/// memory for a row, the fault is Memory at its line, unless a line up to it has a fault.
 #[tactic(auto, using(crate::proofs::FileEnds::tree_read, crate::proofs::FileEnds::tree_found))]
 pub fn read_tree<const P: u32, R: Read>(
     alloc: Global,

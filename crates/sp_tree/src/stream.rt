@@ -10,7 +10,7 @@ use sp_device::{Failed, Read};
 use sp_dimacs::Piece;
 use sp_text::DimacsError;
 
-/// Feeds the bytes of the next block, or all that are left.
+/// Feeds the reader of a tree the bytes of the next block, or all bytes that are left.
 pub fn feed_block<const P: u32, R: Read>(
     reader: &mut R,
     piece: &mut Piece,
@@ -42,7 +42,7 @@ pub fn feed_block<const P: u32, R: Read>(
     }
 }
 
-/// Whether no byte is left.
+/// Returns whether no bytes are left.
 #[tactic(auto, using(crate::proofs::LeftBytes::one_waits, crate::proofs::LeftBytes::one_came))]
 pub fn is_over<R: Read>(reader: &mut R, piece: &mut Piece) -> Result<bool, Failed>
     ensures looked { IsShort R.passed (stream piece.old reader.old)

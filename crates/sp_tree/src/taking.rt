@@ -1,4 +1,4 @@
-//! The lines of a tree file, as they are taken.
+//! Takes the lines of a tree file, one after another.
 ghost use Rattle.std.specs.Prelude.{◌≡◌, ◌≤◌, ℕ, Option, Some, true, false, IfOk, IfErr};
 ghost use Rattle.sp_word.specs.Word.{is_layout};
 ghost use Rattle.sp_text.specs.declared.faults.Kind.{Kind};
@@ -10,17 +10,17 @@ use sp_text::{Kind, LineTaker};
 use sp_word::Word;
 use std::alloc::Global;
 
-/// The tree that the lines so far spell, while none has a fault.
+/// Takes the lines of a tree file, and keeps the tree that they spell so far.
 #[derive(Drop)]
 pub struct TreeLines<const P: u32> {
     alloc: Global,
     tree: Option<Tree<P>>,
-    /// Whether the last line of the file has come.
+    /// Whether the last line of the block has come.
     whole: bool,
     ghost layout: { is_layout P ≡ true },
 }
 
-// A number out of its range is told by the letter of its field.
+// Tests that a number is in its range, and otherwise reports the letter of its field.
 fn in_range(letter: u8, least: u64, most: u64, n: u64) -> Result<(), Kind>
     ensures within { IfOk result (λ u. (least ≤ n) × (n ≤ most)) }
     ensures told { IfErr result
@@ -38,7 +38,7 @@ impl<const P: u32> TreeLines<P> {
     ghost use Rattle.sp_tree.specs.Spelling.{Spelled, Nothing, is_whole};
     ghost use Rattle.sp_tree.specs.Taking.{IsAt, Answers};
 
-    /// Before the first line.
+    /// Returns a taker that stands before the first line.
     pub fn new(alloc: Global) -> Self
         requires { is_layout P ≡ true }
         ensures { IsAt result Nothing }
@@ -50,7 +50,7 @@ impl<const P: u32> TreeLines<P> {
         }
     }
 
-    // `p spt N S`
+    // Takes the line `p spt N S`.
     fn begin(&mut self, n: u64, source: u64) -> Result<(), Kind>
         ensures { (s : Spelled) → is_whole s ≡ false → IsAt self.old s
             → Answers s (Some (Problem n source)) result self.new }
@@ -64,7 +64,7 @@ impl<const P: u32> TreeLines<P> {
         Ok(())
     }
 
-    // `v V D P`
+    // Takes the line `v V D P`.
     fn add(&mut self, vertex: u64, dist: u64, pred: u64) -> Result<(), Kind>
         ensures { (s : Spelled) → is_whole s ≡ false → IsAt self.old s
             → Answers s (Some (Row vertex dist pred)) result self.new }
@@ -82,7 +82,7 @@ impl<const P: u32> TreeLines<P> {
         Ok(())
     }
 
-    // `e R`
+    // Takes the line `e R`.
     fn close(&mut self, count: u64) -> Result<(), Kind>
         ensures { (s : Spelled) → is_whole s ≡ false → IsAt self.old s
             → Answers s (Some (End count)) result self.new }

@@ -1,4 +1,4 @@
-//! Trees, written to a device.
+//! Trees that are written to a device.
 ghost use Rattle.std.specs.Prelude.{◌++◌, ◌≡◌, ◌≤◌, ◌+◌, length};
 ghost use Rattle.std.specs.List.{flat_map};
 ghost use Rattle.sp_device.specs.Printing.{Sends, Finished as Written, Counted};
@@ -9,7 +9,7 @@ use sp_device::{Block, Printer, Write, WriteFault, finish, make_room};
 use sp_text::push_number;
 use sp_word::Word;
 
-// As many bytes as a line has at most.
+// The greatest number of bytes of a line.
 const LINE_ROOM: usize = 65;
 
 fn push_problem(block: &mut Block, n: u32, source: u32)
@@ -73,9 +73,9 @@ fn send_rows<const P: u32, W: Write>(out: &mut W, printer: &mut Printer, rows: &
     }
 }
 
-/// Writes the block of a tree, and tells its number of bytes.
+/// Writes the block of a tree, and returns its number of bytes.
 ///
-/// It takes no memory. Where the writer fails, a beginning of the block stands.
+/// It allocates no memory. If the writer fails, a prefix of the block was written.
 pub fn write_tree<const P: u32, W: Write>(tree: &Tree<P>, out: &mut W) -> Result<u64, WriteFault>
     ensures written { Written W.written W.has_failed (tree_text tree.now) out.old result out.new }
     ensures passed { Counted W.passed out.old result out.new }
@@ -89,9 +89,9 @@ pub fn write_tree<const P: u32, W: Write>(tree: &Tree<P>, out: &mut W) -> Result
     finish(out, printer)
 }
 
-/// Writes the line `x S V` of a source and a vertex that is too far from it, and tells its number of bytes.
+/// Writes the line `x S V` of a source and a vertex that is too far from it, and returns its number of bytes.
 ///
-/// It takes no memory. Where the writer fails, a beginning of the line stands.
+/// It allocates no memory. If the writer fails, a prefix of the line was written.
 pub fn write_far<W: Write>(source: u32, vertex: u32, out: &mut W) -> Result<u64, WriteFault>
     ensures written { Written W.written W.has_failed
         (far_text source vertex) out.old result out.new }

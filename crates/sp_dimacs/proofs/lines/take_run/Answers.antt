@@ -8,4 +8,4 @@ returns-clause-taken c =
     let more = c.in-Some.field-0-1.now in
     let whole : c.args.piece.now ≡ line ++ 10 ∷ more = sym c.bytes.ensures ∙ c.in-Some.ensures.1 in
     let left : c.skip.new.self ≡ more = c.skip.ensures ∙ (ap (drop (length line + 1)) whole ∙ behind_lf line more) in
-    (line, c.in-Some.ensures.0, whole ∙ ap (λ (t : List ℕ). line ++ 10 ∷ t) (sym left), c.in_ok-extend-2.ensures.pushed)
+    (line, c.in-Some.ensures.0, whole ∙ ap (λ (t : List ℕ). line ++ 10 ∷ t) (sym left), c.in_ok-extend_line-2.ensures.pushed)

@@ -5,10 +5,10 @@ use Rattle.sp_dimacs.proofs.lines.Lines.next.Goals as goal
 pub returns-in-Ok-true : goal.returns-in-Ok-true
 returns-in-Ok-true g c =
     let new = c.advance.new.self in (
-      (refl, λ _. tt, (λ e is. ap (λ r. r.state) (c.in-Ok-true.ensures.again e is).1 ∙ is, λ start given h. lent g.R.Read.left g.R.Read.has_failed start given new.room c.line.result.now c.in-Ok-true.field-0 new c.in-Ok-true.field-0-test c.line.ensures (c.in-Ok-true.ensures.gave start given h))),
+      (refl, λ _. tt, (λ e is. ap (λ r. r.state) (c.in-Ok-true.ensures.again e is).1 ∙ is, λ start given h. lent g.R.Read.left g.R.Read.has_failed start given new.room c.bytes.result.now c.in-Ok-true.field-0 new c.in-Ok-true.field-0-test c.bytes.ensures (c.in-Ok-true.ensures.gave start given h))),
       record {
         again = λ e is. let told = c.in-Ok-true.ensures.again e is in cc;
-        text = λ text given h. next_of g.R.Read.left g.R.Read.has_failed text given c.line.result.now new (lent g.R.Read.left g.R.Read.has_failed (Some text) given new.room c.line.result.now c.in-Ok-true.field-0 new c.in-Ok-true.field-0-test c.line.ensures (c.in-Ok-true.ensures.gave (Some text) given h));
+        text = λ text given h. next_of g.R.Read.left g.R.Read.has_failed text given c.bytes.result.now new (lent g.R.Read.left g.R.Read.has_failed (Some text) given new.room c.bytes.result.now c.in-Ok-true.field-0 new c.in-Ok-true.field-0-test c.bytes.ensures (c.in-Ok-true.ensures.gave (Some text) given h));
         after = tt;
       },
     )

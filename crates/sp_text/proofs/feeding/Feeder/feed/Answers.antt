@@ -14,10 +14,10 @@ loop-rest-preserved g c =
     let before = c.loop-rest.invariant in
     let run = c.in_ok-rest.ensures.taken in
     let front = before.0 in (
-      front ++ run.0,
-      before.1 ∙ (ap (λ t. front ++ t) run.1 ∙ sym (append_assoc front run.0 _)),
+      front ++ run.front,
+      before.1 ∙ (ap (λ t. front ++ t) run.parts ∙ sym (append_assoc front run.front _)),
       λ text small h.
-          rw (← append_assoc text front run.0) (run.3 (text ++ front) (short_piece text c.args.piece.now front c.loop-rest.rest.now before.1 small) (before.2 text small h)),
+          rw (← append_assoc text front run.front) (run.read (text ++ front) (short_piece text c.args.piece.now front c.loop-rest.rest.now before.1 small) (before.2 text small h)),
     )
 
 pub returns-in_err-rest-clause-fed : goal.returns-in_err-rest-clause-fed

@@ -14,4 +14,4 @@ returns-in-Ok g c = λ text small goes none h.
     let room = c.args.self.now.room in
     let bytes = c.args.bytes.now in
     let pushed = c.in-Ok.ensures.pushed in
-    run_ok g.T.LineTaker.rules g.T.LineTaker.After text bytes c.args.self.now c.extend.new.self none goes h (omega (arith, c.in-Ok.ensures.short, ap length pushed, length-append room bytes)) pushed
+    run_ok g.T.LineTaker.rules g.T.LineTaker.After text bytes c.args.self.now c.extend_line.new.line none goes h (omega (arith, c.in-Ok.ensures.short, ap length pushed, length-append room bytes)) pushed

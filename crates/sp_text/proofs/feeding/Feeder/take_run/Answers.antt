@@ -28,10 +28,11 @@ returns-clause-taken g c =
     let bytes = c.args.bytes.now in
     let line = c.in-Some.line.now in
     let more = c.in-Some.more.now in
-    let found = c.in-Some.ensures in (
-      line ++ 10 ∷ [],
-      found.1 ∙ sym (append_assoc line (10 ∷ []) more),
-      omega (arith, length-append line (10 ∷ [])),
-      λ text small h.
-          rw (← append_assoc text line (10 ∷ [])) (c.in_ok-take_rest.ensures text (short_line text bytes line more found.1 small) (sym (c.if-is_closed.ensures (ended text) h.taken)) found.0 h),
-    )
+    let found = c.in-Some.ensures in
+    record {
+      front = line ++ 10 ∷ [];
+      parts = found.1 ∙ sym (append_assoc line (10 ∷ []) more);
+      some = omega (arith, length-append line (10 ∷ []));
+      read = λ text small h.
+          rw (← append_assoc text line (10 ∷ [])) (c.in_ok-take_rest.ensures text (short_line text bytes line more found.1 small) (sym (c.if-is_closed.ensures (ended text) h.taken)) found.0 h);
+    }

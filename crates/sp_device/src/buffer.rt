@@ -1,65 +1,73 @@
-//! A buffer of bytes that wait to be written.
-ghost use Rattle.std.specs.Prelude.{◌≡◌, ◌+◌, ◌-◌, ◌≤◌, [], ◌++◌, length, take, decimal};
+//! Buffers of bytes, of a fixed size.
+ghost use Rattle.std.specs.Prelude.{◌≡◌, ◌+◌, ◌-◌, ◌≤◌, ◌<◌, [], ◌++◌, length, take, decimal, MatchBool};
 
-use itoa::Buffer;
+use itoa::Buffer as Digits;
 use std::marker::Model;
 
-// The capacity of a block in bytes.
-const ROOM: usize = 8192;
-
-/// A buffer of bytes that wait to be written, at most 8,192 of them.
+/// A buffer of at most `ROOM` bytes.
 #[derive(Drop)]
-pub struct Block {
+pub struct Buffer<const ROOM: usize> {
     bytes: [u8; ROOM],
     len: usize,
 }
 
-impl Model for Block {
+/// A buffer of bytes that wait to be written, at most 8,192 of them.
+pub type Block = Buffer<8192>;
+
+impl<const ROOM: usize> Model for Buffer<ROOM> {
     ghost use Rattle.std.specs.Prelude.{ℕ, List, take, ◌≤◌};
 
     ghost Value = { List ℕ };
 
     ghost view = { λ b. take b.len b.bytes };
 
-    ghost invariant = { λ b. b.len ≤ 8192 };
+    ghost invariant = { λ b. b.len ≤ ROOM };
 }
 
-impl Block {
-    /// Returns an empty block.
+impl<const ROOM: usize> Buffer<ROOM> {
+    /// Returns an empty buffer.
     pub fn new() -> Self
         ensures { result ≡ [] }
     {
-        Block {
+        Buffer {
             bytes: [0; ROOM],
             len: 0,
         }
     }
 
+    /// Returns whether there are no bytes.
+    pub fn is_empty(&self) -> bool
+        ensures { MatchBool result (self.now ≡ []) (0 < length self.now) }
+    {
+        self.len == 0
+    }
+
     /// Returns how many more bytes fit.
     pub fn room_left(&self) -> usize
-        ensures { result + length self.now ≡ 8192 }
+        ensures { result + length self.now ≡ ROOM }
     {
         ROOM - self.len
     }
 
     /// Appends bytes, which must fit.
     pub fn push(&mut self, bytes: &[u8])
-        requires { length self.old + length bytes.now ≤ 8192 }
+        requires { length self.old + length bytes.now ≤ ROOM }
         ensures { self.new ≡ self.old ++ bytes.now }
     {
         let end = self.len + bytes.len();
-        self.bytes[self.len..end].copy_from_slice(bytes);
+        let room = &mut self.bytes[..];
+        room[self.len..end].copy_from_slice(bytes);
         self.len = end;
     }
 
     /// Appends a number in decimal, of at most 20 digits.
     pub fn push_number(&mut self, n: u64)
-        requires { length self.old + 20 ≤ 8192 }
+        requires { length self.old + 20 ≤ ROOM }
         ensures text { self.new ≡ self.old ++ decimal n }
         ensures short { length self.new ≤ length self.old + 20 }
     {
-        let mut buffer = Buffer::new();
-        self.push(buffer.format(n).as_bytes());
+        let mut digits = Digits::new();
+        self.push(digits.format(n).as_bytes());
     }
 
     /// Removes all bytes.
@@ -69,7 +77,7 @@ impl Block {
         self.len = 0;
     }
 
-    /// Returns the bytes that wait.
+    /// Returns the bytes.
     pub fn bytes(&self) -> &[u8]
         ensures { result.now ≡ self.now }
     {
