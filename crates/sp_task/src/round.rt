@@ -175,7 +175,8 @@ fn run_shared<
 ) -> Result<RoundOut, RoundRefused>
     requires ready { IsReadyRound L.allows round.now }
     requires slots { 0 < round.now.claims.now.words }
-    requires tokens { AreOf round.now.table.now.id round.now.claims.now tokens.caller tokens.claimer }
+    requires tokens { AreOf round.now.table.now.id round.now.claims.now
+        tokens.caller tokens.claimer }
     requires marks { prepared.marks.items ≡ replicate (length round.now.tasks.now) false }
     requires len { vec_len prepared.marks ≡ length round.now.tasks.now }
     ensures done { IfOk result (λ o. IsRoundDone L.allows round.now tokens.caller o) }

@@ -105,7 +105,8 @@ pub extern "C" fn spt_trees(
 /// fault.
 #[unsafe(no_mangle)]
 pub extern "C" fn spt_gr(alloc: Global, text: &[u8], arcs: &mut [SptArc]) -> SptText
-    ensures { (read : TextAnswer) × (result ≡ text_of read) × IsRead text.now arcs.old arcs.new read }
+    ensures { (read : TextAnswer) × (result ≡ text_of read)
+        × IsRead text.now arcs.old arcs.new read }
 {
     let read = read_graph(alloc, text, arcs);
     read.told()
