@@ -1,5 +1,7 @@
 -- From the two texts to the answers.
 use Rattle.std.proofs.Common.{ℕ, List, Option, Result, Ok, Err}
+use Rattle.std.specs.Prelude.{IfErr}
+use Rattle.sp_device.specs.Failing.{Failing}
 use Rattle.sp_device.specs.declared.devices.Read.{Ghosts as Reader}
 use Rattle.sp_device.specs.declared.devices.Write.{Ghosts as Writer}
 use Rattle.sp_dimacs.specs.declared.graphs.GrFile.{GrFile}
@@ -10,7 +12,7 @@ use Rattle.sp_job.specs.declared.answers.Summary.{Summary}
 use Rattle.sp_job.specs.declared.answers.BatchError.{BatchError}
 use Rattle.sp_job.specs.declared.answers.BatchError.TheVariants.{Gr, Ss, Pairs, NoSuchVertex, Memory, Write}
 use Rattle.sp_job.specs.Places.{part_of}
-use Rattle.sp_batch.specs.Answered.{IsBatch, BatchAnswered, BatchOfSome, GivenAnswered, GivenOfSome}
+use Rattle.sp_batch.specs.Answered.{IsBatch, BatchAnswered, BatchOfSome, GivenAnswered, GivenOfSome, MayFail}
 
 -- What was answered for a graph and a part of some sources is the answer to texts that spell them.
 pub answered : {G S W : Type 0} (P : ℕ) (places : Option (ℕ × ℕ)) (gr_text ss_text : List ℕ) (g : Reader G) (gr : G) (s : Reader S) (ss : S) (w : Writer W) (old new : W) (file : GrFile) (list : SsFile) (result : Result Summary BatchError)
@@ -53,3 +55,13 @@ given_of_some P gr_text sources w old new file (Err Write) graph is = (gr_text, 
 given_of_some P gr_text sources w old new file (Err (Gr e)) graph is = absurd is
 given_of_some P gr_text sources w old new file (Err (Ss e)) graph is = absurd is
 given_of_some P gr_text sources w old new file (Err (Pairs e)) graph is = absurd is
+
+-- What was answered for a graph tells of no device.
+pub may_fail : {W : Type 0} (P : ℕ) (sources : List ℕ) (gr ss : Failing) (w : Writer W) (old new : W) (file : GrFile) (result : Result Summary BatchError) → IsBatch P file sources w old new result → IfErr result (MayFail gr ss)
+may_fail P sources gr ss w old new file (Ok summary) is = tt
+may_fail P sources gr ss w old new file (Err (NoSuchVertex v)) is = tt
+may_fail P sources gr ss w old new file (Err Memory) is = tt
+may_fail P sources gr ss w old new file (Err Write) is = tt
+may_fail P sources gr ss w old new file (Err (Gr e)) is = absurd is
+may_fail P sources gr ss w old new file (Err (Ss e)) is = absurd is
+may_fail P sources gr ss w old new file (Err (Pairs e)) is = absurd is

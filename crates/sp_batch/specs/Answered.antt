@@ -1,12 +1,14 @@
 -- What a batch answers, and what then stands written.
-use Rattle.std.specs.Prelude.{◌≡◌, ◌≤◌, ℕ, true, List, All, Option, Result, Ok, Err}
+use Rattle.std.specs.Prelude.{◌≡◌, ◌≢◌, ◌≤◌, ℕ, true, List, All, Option, Result, Ok, Err}
 use Rattle.std.specs.Io.KnownBytes.{Appends}
+use Rattle.sp_device.specs.Failing.{Failing, Never}
 use Rattle.sp_device.specs.declared.devices.Read.{Ghosts as Reader}
 use Rattle.sp_device.specs.declared.devices.Write.{Ghosts as Writer}
 use Rattle.sp_dimacs.specs.declared.graphs.GrFile.{GrFile}
 use Rattle.sp_dimacs.specs.declared.sources.SsFile.{SsFile}
 use Rattle.sp_dimacs.specs.Graph.{graph_of, SpellsGraph, GraphRead}
 use Rattle.sp_dimacs.specs.Sources.{SpellsSources, SourcesRead}
+use Rattle.sp_text.specs.declared.faults.Kind.TheVariants as kind
 use Rattle.sp_job.specs.declared.answers.Summary.{Summary}
 use Rattle.sp_job.specs.declared.answers.BatchError.{BatchError}
 use Rattle.sp_job.specs.declared.answers.BatchError.TheVariants.{Gr, Ss, Pairs, NoSuchVertex, Memory, Write}
@@ -51,3 +53,9 @@ GivenAnswered P gr_text sources g gr w old new result = (file : GrFile) × Spell
 abbrev pub GivenOfSome : {W : Type 0} → (P : ℕ) → (sources : List ℕ) → Writer W → (old new : W) → Result Summary BatchError → Type 0
 GivenOfSome P sources w old new (Err (Gr e)) = w.written new ≡ w.written old
 GivenOfSome P sources w old new result = (gr_text : List ℕ) × (file : GrFile) × SpellsGraph P gr_text file × IsBatch P file sources w old new result
+
+-- If the device of the graph or that of the sources has failed, then it may fail.
+abbrev pub MayFail : (gr ss : Failing) → BatchError → Type 0
+MayFail gr ss (Gr e) = e.kind ≡ kind.Read → gr ≢ Never
+MayFail gr ss (Ss e) = e.kind ≡ kind.Read → ss ≢ Never
+MayFail gr ss _ = Unit {0}

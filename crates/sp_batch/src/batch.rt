@@ -2,11 +2,12 @@
 ghost use Rattle.std.specs.Prelude.{◌≡◌, ◌≤◌, ℕ, true, List, length, All, Some, None, IfSome, IfNone, IfErr};
 ghost use Rattle.sp_word.specs.Word.{is_layout};
 ghost use Rattle.sp_paths.specs.Paths.{IsVertex, IsGraph};
+ghost use Rattle.sp_device.specs.Failing.{Anytime};
 ghost use Rattle.sp_dimacs.specs.Graph.{IsNetwork};
 ghost use Rattle.sp_batch.specs.Batch.{IsFirstAbove};
 ghost use Rattle.sp_job.specs.Places.{AreNumbered};
 ghost use Rattle.sp_job.specs.Answers.{is_early};
-ghost use Rattle.sp_batch.specs.Answered.{BatchAnswered, BatchOfSome, GivenAnswered, GivenOfSome, IsBatch};
+ghost use Rattle.sp_batch.specs.Answered.{BatchAnswered, BatchOfSome, GivenAnswered, GivenOfSome, IsBatch, MayFail};
 
 use crate::answering::{Batch, answer_batch};
 use crate::watch::{Unwatched, Watch};
@@ -130,6 +131,7 @@ pub fn run_batch_told<
         W.Write out.old out.new result }
     ensures untouched { IfErr result (λ e. is_early e ≡ true → out.new ≡ out.old) }
     ensures found { BatchOfSome P places W.Write out.old out.new result }
+    ensures may_fail { IfErr result (MayFail (G.failing gr.old) (S.failing ss.old)) }
 {
     let file = match read_gr::<P, G>(alloc, gr) {
         Ok(file) => file,
@@ -162,6 +164,7 @@ pub fn run_given_told<const P: u32, R: Threads + Wait + Sync, G: Read, W: Write,
         → GivenAnswered P gr_text sources.now G.Read gr.new W.Write out.old out.new result }
     ensures untouched { IfErr result (λ e. is_early e ≡ true → out.new ≡ out.old) }
     ensures found { GivenOfSome P sources.now W.Write out.old out.new result }
+    ensures may_fail { IfErr result (MayFail (G.failing gr.old) Anytime) }
 {
     let batch = Batch {
         sources,

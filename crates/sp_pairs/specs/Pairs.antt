@@ -1,9 +1,11 @@
 -- What is written for a list of pairs, a source and a target each.
-use Rattle.std.specs.Prelude.{◌≡◌, ◌<◌, ◌≤◌, ◌⊎◌, ℕ, Bool, true, false, List, ◌++◌, length, slice_get, codes, All, Option, Some, Result, Ok, Err}
+use Rattle.std.specs.Prelude.{◌≡◌, ◌≢◌, ◌<◌, ◌≤◌, ◌⊎◌, ℕ, Bool, true, false, List, ◌++◌, length, slice_get, codes, All, Option, Some, Result, Ok, Err}
 use Rattle.std.specs.List.{AllZip, zip, flat_map, count_by}
 use Rattle.std.specs.Io.KnownBytes.{Appends}
 use Rattle.sp_word.specs.Word.{max_dist}
 use Rattle.sp_text.specs.Numeral.{number_text}
+use Rattle.sp_text.specs.declared.faults.Kind.TheVariants as kind
+use Rattle.sp_device.specs.Failing.{Failing, Never}
 use Rattle.sp_device.specs.declared.devices.Read.{Ghosts as Reader}
 use Rattle.sp_device.specs.declared.devices.Write.{Ghosts as Writer}
 use Rattle.sp_device.specs.Devices.{IsBegun}
@@ -104,3 +106,9 @@ abbrev pub PairsOfSome : {W : Type 0} → (P : ℕ) → Writer W → (old new : 
 PairsOfSome P w old new (Err (Gr e)) = w.written new ≡ w.written old
 PairsOfSome P w old new (Err (Pairs e)) = w.written new ≡ w.written old
 PairsOfSome P w old new result = (gr_text list_text : List ℕ) × (file : GrFile) × (list : PairsFile) × SpellsGraph P gr_text file × SpellsPairs P list_text list × ArePairsDone P file list w old new result
+
+-- If the device of the graph or that of the pairs has failed, then it may fail.
+abbrev pub MayFail : (gr pairs : Failing) → BatchError → Type 0
+MayFail gr pairs (Gr e) = e.kind ≡ kind.Read → gr ≢ Never
+MayFail gr pairs (Pairs e) = e.kind ≡ kind.Read → pairs ≢ Never
+MayFail gr pairs _ = Unit {0}

@@ -4,7 +4,7 @@ ghost use Rattle.sp_word.specs.Word.{is_layout};
 ghost use Rattle.sp_dimacs.specs.Graph.{IsNetwork};
 ghost use Rattle.sp_dimacs.specs.Pairs.{ArePairsWithin};
 ghost use Rattle.sp_job.specs.Answers.{is_early};
-ghost use Rattle.sp_pairs.specs.Pairs.{IsPairUpTo, IsFirstPairAbove, ArePairsDone, PairsAnswered, PairsOfSome};
+ghost use Rattle.sp_pairs.specs.Pairs.{IsPairUpTo, IsFirstPairAbove, ArePairsDone, PairsAnswered, PairsOfSome, MayFail};
 
 use crate::asking::find_answers;
 use crate::pair_lines::write_pairs;
@@ -124,6 +124,7 @@ pub fn run_pairs_told<
         W.Write out.old out.new result }
     ensures untouched { IfErr result (λ e. is_early e ≡ true → out.new ≡ out.old) }
     ensures found { PairsOfSome P W.Write out.old out.new result }
+    ensures may_fail { IfErr result (MayFail (G.failing gr.old) (S.failing pairs.old)) }
 {
     let file = match read_gr::<P, G>(alloc, gr) {
         Ok(file) => file,

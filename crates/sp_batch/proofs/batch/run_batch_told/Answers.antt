@@ -1,6 +1,6 @@
 use Rattle.std.proofs.Common.{refl}
 use Rattle.sp_job.proofs.Files.{graph_spelled, sources_spelled}
-use Rattle.sp_batch.proofs.TextsToAnswers.{answered, of_some}
+use Rattle.sp_batch.proofs.TextsToAnswers.{answered, of_some, may_fail}
 use Rattle.sp_batch.proofs.batch.run_batch_told.Goals as goal
 
 pub returns-in-Err-read_ss-clause-exact : goal.returns-in-Err-read_ss-clause-exact
@@ -17,3 +17,12 @@ pub returns-clause-found : goal.returns-clause-found
 returns-clause-found g c =
     of_some g.row.P c.args.places _ _ g.W.Write c.args.out.now c.answer_file.new.out c.in-Ok.file c.in-Ok-read_ss.list c.answer_file.result
     c.in-Ok.ensures.found.1 c.in-Ok-read_ss.ensures.found.1 (rw c.chosen.ensures.part at c.answer_file.ensures.batch)
+
+pub returns-in-Err-clause-may_fail : goal.returns-in-Err-clause-may_fail
+returns-in-Err-clause-may_fail g c = λ read never. c.in-Err.ensures.never never read
+
+pub returns-in-Err-read_ss-clause-may_fail : goal.returns-in-Err-read_ss-clause-may_fail
+returns-in-Err-read_ss-clause-may_fail g c = λ read never. c.in-Err-read_ss.ensures.never never read
+
+pub returns-clause-may_fail : goal.returns-clause-may_fail
+returns-clause-may_fail g c = may_fail g.row.P _ (g.G.Read.failing c.args.gr.now) (g.S.Read.failing c.args.ss.now) g.W.Write c.args.out.now c.answer_file.new.out c.in-Ok.file c.answer_file.result c.answer_file.ensures.batch
