@@ -12,9 +12,11 @@ use std::alloc::{AllocError, Global};
 use std::sync::Wait;
 use std::thread::Threads;
 
-/// Makes the offers of all actors of a programme on a table whose words are all unreached, those of each actor on a
-/// thread of its own, and returns the words that are left, that of vertex 1 first. If a thread can't be started, the
-/// calling thread makes the actor's offers. Items of a programme that read or relax are skipped.
+/// Makes the offers of all actors of a programme on a table whose words are all unreached, and returns the words that
+/// are left, that of vertex 1 first. Items of a programme that read or relax are skipped.
+///
+/// The offers of each actor are made on a thread of its own, or by the calling thread if none can be started. The
+/// contract doesn't speak of threads: the words are the least of the offers, whoever makes them and in whatever order.
 pub fn final_words<const P: u32, R: Threads + Wait + Sync>(
     rt: &R,
     alloc: Global,
