@@ -2,7 +2,7 @@
 ghost use Rattle.std.specs.Prelude.{◌≡◌, ◌≤◌};
 
 use crate::commands::AnyCommand;
-use sp_command::{Inputs, Outputs};
+use sp_command::Outputs;
 use sp_device::Write;
 use sp_order::run_line;
 use std::alloc::Global;
@@ -12,11 +12,11 @@ use std::thread::Threads;
 /// Runs the command that the words order, the program's name first among them, and answers the exit
 /// status. Its output goes to `out`, or to the file that the words name for it, and the text of a fault to `err`; whether `err`
 /// takes that text changes no status.
-pub fn run_command<R: Threads + Wait + Sync, F: Inputs + Outputs, W: Write, E: Write>(
+pub fn run_command<R: Threads + Wait + Sync, F: Outputs, W: Write, E: Write>(
     rt: &R,
     alloc: Global,
     words: &[&str],
-    files: &F,
+    files: &mut F,
     out: &mut W,
     err: &mut E,
 ) -> u8

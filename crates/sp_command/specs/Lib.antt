@@ -2,6 +2,8 @@ pub mod Faults
 pub mod Words
 pub mod Scene
 pub mod Causes
+pub mod Lines
+pub mod Outputs
 pub mod Either
 pub mod Layouts
 pub mod Answers

@@ -1,7 +1,8 @@
-//! The faults that keep a command from being carried out: the line on standard error, and the exit status.
+//! The faults that keep a command from being carried out, and the exit statuses.
 ghost use Rattle.std.specs.Prelude.{◌≡◌, ◌≤◌, ◌⊎◌, false, IfOk, IfErr, codes};
 ghost use Rattle.sp_command.specs.Faults.{code_of, is_done, status_of};
 ghost use Rattle.sp_command.specs.Causes.{StaysClosed};
+ghost use Rattle.sp_command.specs.Lines.{word_of};
 ghost use Rattle.sp_command.specs.Scene.{IsOpened};
 ghost use Rattle.sp_command.specs.declared.faults.Fault.TheVariants.{CannotOpen, Input, InputTwice, Memory, WriteFailed};
 
@@ -10,7 +11,6 @@ use sp_device::WriteFault;
 use sp_text::{DimacsError, Kind};
 use std::alloc::AllocError;
 use std::fmt;
-use thiserror::Error;
 
 /// How a run of the program ended. Its number is the exit status.
 #[derive(Clone, Copy, Debug, PartialEq, Eq)]
@@ -89,6 +89,20 @@ impl FileKind {
         Ok((gr, self.open(files, path)?))
     }
 
+    /// Returns the word for such a file.
+    pub fn word(self) -> &'static str
+        ensures { result.now ≡ word_of self }
+    {
+        match self {
+            FileKind::Graph => "gr",
+            FileKind::Sources => "ss",
+            FileKind::Pairs => "pairs",
+            FileKind::Tree => "tree",
+            FileKind::Replay => "replay",
+            FileKind::Offers => "offers",
+        }
+    }
+
     /// Returns where standard input appears in a command's words if it is this file.
     pub fn place(self) -> &'static str {
         match self {
@@ -108,52 +122,34 @@ impl FileKind {
 
 impl fmt::Display for FileKind {
     fn fmt<W: fmt::Write>(&self, f: &mut fmt::Formatter<W>) -> fmt::Result {
-        f.write_str(match self {
-            FileKind::Graph => "gr",
-            FileKind::Sources => "ss",
-            FileKind::Pairs => "pairs",
-            FileKind::Tree => "tree",
-            FileKind::Replay => "replay",
-            FileKind::Offers => "offers",
-        })
+        f.write_str(self.word())
     }
 }
 
-/// Why a command wasn't carried out. It displays as the text on standard error, with line ends.
-#[derive(Debug, Drop, Error)]
+/// Why a command wasn't carried out.
+#[derive(Debug, Drop)]
 pub enum Fault {
     /// The words name no valid command.
-    #[error(transparent)]
     Usage(clap::Error),
     /// The delta is greater than the greatest distance of the words.
-    #[error("spt: delta out of range\n")]
     DeltaOutOfRange,
     /// Standard input was named for both files.
-    #[error("spt: standard input twice\n")]
     InputTwice,
     /// The places of sources aren't spelled as two numbers.
-    #[error("spt: sources are not A-B\n")]
     NoPlaces,
     /// A file couldn't be opened.
-    #[error("spt: {0}: cannot open\n")]
     CannotOpen(FileKind),
     /// A file's text has a fault, its device failed, or there was no memory for its values.
-    #[error("spt: {file}: {error}\n")]
     Input { file: FileKind, error: DimacsError },
     /// A source, or a target, is no vertex of the graph.
-    #[error("spt: source {0}: no such vertex\n")]
     NoSuchVertex(u32),
     /// A run has more steps than a picture shows.
-    #[error("spt: replay: more than 60 steps\n")]
     TooManySteps,
     /// An allocation failed.
-    #[error("spt: memory\n")]
     Memory,
     /// The output failed.
-    #[error("spt: write failed\n")]
     WriteFailed,
     /// The file of the output can't be created, or can't be given its name.
-    #[error("spt: output: cannot write\n")]
     CannotWrite,
 }
 

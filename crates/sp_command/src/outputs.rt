@@ -1,5 +1,9 @@
 //! A file to which the output of a command goes, in place of standard output.
+ghost use Rattle.std.specs.Prelude.{◌≡◌, ℕ, false, List, IfNone, IfOk, IfSome, OnErr, OnOk};
+ghost use Rattle.sp_command.specs.Outputs.{IsBlank, OutputFiles, unknown_outputs, with_kept};
+
 use crate::arguments::valued;
+use crate::inputs::Inputs;
 use clap::Arg;
 use sp_device::{Write, WriteFault};
 use std::alloc::{AllocError, Global};
@@ -16,18 +20,46 @@ OUT held stays. What is no regular file, as a device or a pipe, is
 written to straight";
 
 /// Where files of output are created.
-pub trait Outputs {
-    /// A file that is being written.
+pub trait Outputs: Inputs {
+    /// The device to which the text of a file is written.
     type Output: Write + Drop;
 
+    /// The name of a file that is being written, until the file is kept or removed.
+    type Name: Drop;
+
+    /// What is known of the files that are made: no contract can say what the system keeps.
+    ghost outputs: { Self → OutputFiles } = { λ _. unknown_outputs };
+
+    /// Whether a name is to become this path.
+    ghost is_for: { Self.Name → List ℕ → Type 0 } = { λ _ _. Unit {0} };
+
     /// Begins a file that is to get this path, or returns `None` if it can't be created. What the path held stays.
-    fn create(&self, alloc: Global, path: &str) -> Result<Option<Self::Output>, AllocError>;
+    fn create(
+        &mut self,
+        alloc: Global,
+        path: &str,
+    ) -> Result<Option<(Self::Name, Self::Output)>, AllocError>
+        ensures named { IfOk result (λ made. IfSome made (λ file. is_for file.0 path.now)) }
+        ensures blank { IfOk result (λ made. IfSome made
+            (λ file. IsBlank (Self.Output.written file.1))) }
+        ensures refused { IfOk result (λ made. IfNone made
+            ((outputs self.old).takes path.now ≡ false)) }
+        ensures kept { outputs self.new ≡ outputs self.old }
+        ensures inputs { Self.files self.new ≡ Self.files self.old };
 
     /// Gives a file its path. If that fails, the file is removed, and what the path held stays.
-    fn keep(&self, output: Self::Output) -> Result<(), WriteFault>;
+    fn keep(&mut self, name: Self::Name, output: Self::Output) -> Result<(), WriteFault>
+        ensures kept { OnOk result ((path : List ℕ) → is_for name path → outputs self.new
+            ≡ with_kept (outputs self.old) path (Self.Output.written output)) }
+        ensures unkept { OnErr result (outputs self.new ≡ outputs self.old) }
+        ensures refused { OnErr result ((path : List ℕ) → is_for name path
+            → (outputs self.old).takes path ≡ false) }
+        ensures inputs { Self.files self.new ≡ Self.files self.old };
 
     /// Removes a file. What its path held stays.
-    fn discard(&self, output: Self::Output);
+    fn discard(&mut self, name: Self::Name, output: Self::Output)
+        ensures kept { outputs self.new ≡ outputs self.old }
+        ensures inputs { Self.files self.new ≡ Self.files self.old };
 }
 
 /// Returns the option that names the file.

@@ -46,8 +46,6 @@ type Device<'a, F> = OfWrite<Noted<'a, Either<Lasting<F>, Stdout>>>;
 /// A file of output that is being written, or standard output. Both are of one type, so that the commands are compiled once.
 pub struct Output<'a, R: Files> {
     device: Device<'a, R::File>,
-    // None: it is written to straight.
-    part: Option<Part>,
     screen: Screen<'a, R>,
 }
 
@@ -55,7 +53,6 @@ impl<R: Files> Drop for Output<'_, R> {
     fn drop(self) {
         let Output {
             device: _,
-            part: _,
             screen: _,
         } = self;
     }
@@ -78,12 +75,19 @@ impl<'a, R: Files + Eprint + Clock + Wait> Write for Output<'a, R> {
 impl<'a, R: Files + AllocGlobal + RandomSource + Clock + Eprint + Wait> Outputs for Disk<'a, R> {
     type Output = Output<'a, R>;
 
-    fn create(&self, alloc: Global, path: &str) -> Result<Option<Self::Output>, AllocError> {
+    // None: the file is written to straight.
+    type Name = Option<Part>;
+
+    fn create(
+        &mut self,
+        alloc: Global,
+        path: &str,
+    ) -> Result<Option<(Self::Name, Self::Output)>, AllocError> {
         let Some(place) = Place::of(self.rt, alloc, path)? else {
-            return Ok(self.straight(path));
+            return Ok(self.straight(path).map(|output| (None, output)));
         };
         match place.begin(self.rt, alloc, self.process) {
-            Ok((file, part)) => Ok(Some(self.output(Either::Left(Lasting(file)), Some(part)))),
+            Ok((file, part)) => Ok(Some((Some(part), self.output(Either::Left(Lasting(file)))))),
             Err(error) if error.kind() == ErrorKind::OutOfMemory => Err(AllocError),
             Err(error) => {
                 self.notes.failed(error);
@@ -92,11 +96,11 @@ impl<'a, R: Files + AllocGlobal + RandomSource + Clock + Eprint + Wait> Outputs 
         }
     }
 
-    fn keep(&self, output: Self::Output) -> Result<(), WriteFault> {
-        let mut output = output;
-        let Some(part) = output.part.take() else {
+    fn keep(&mut self, name: Self::Name, output: Self::Output) -> Result<(), WriteFault> {
+        let Some(part) = name else {
             return Ok(());
         };
+        let mut output = output;
         // Else a crash of the system could leave a file of this name that lacks some of its text.
         let is_whole = output.device.flush().is_ok();
         if is_whole && self.notes.checked(part.keep(self.rt)).is_some() {
@@ -106,9 +110,8 @@ impl<'a, R: Files + AllocGlobal + RandomSource + Clock + Eprint + Wait> Outputs 
         Err(WriteFault)
     }
 
-    fn discard(&self, output: Self::Output) {
-        let mut output = output;
-        if let Some(part) = output.part.take() {
+    fn discard(&mut self, name: Self::Name, _output: Self::Output) {
+        if let Some(part) = name {
             part.remove(self.rt);
         }
     }
@@ -117,7 +120,7 @@ impl<'a, R: Files + AllocGlobal + RandomSource + Clock + Eprint + Wait> Outputs 
 impl<'a, R: Files + Eprint + Clock + Wait> Disk<'a, R> {
     /// Standard output, before its first byte.
     pub fn standard_output(&self, stdout: Stdout) -> Output<'a, R> {
-        self.output(Either::Right(stdout), None)
+        self.output(Either::Right(stdout))
     }
 
     // What can have no other file in its stead, as a device or a pipe.
@@ -125,17 +128,12 @@ impl<'a, R: Files + Eprint + Clock + Wait> Disk<'a, R> {
         let mut options = OpenOptions::new();
         options.write(true).truncate(true);
         let file = self.notes.checked(options.open(self.rt, path))?;
-        Some(self.output(Either::Left(Lasting(file)), None))
+        Some(self.output(Either::Left(Lasting(file))))
     }
 
-    fn output(
-        &self,
-        device: Either<Lasting<R::File>, Stdout>,
-        part: Option<Part>,
-    ) -> Output<'a, R> {
+    fn output(&self, device: Either<Lasting<R::File>, Stdout>) -> Output<'a, R> {
         Output {
             device: OfWrite::new(Noted::new(device, self.notes, None)),
-            part,
             screen: self.screen(),
         }
     }

@@ -1,12 +1,17 @@
 //! The report of a fault, and the layout that a graph needs.
-ghost use Rattle.std.specs.Prelude.{◌≡◌};
+ghost use Rattle.std.specs.Prelude.{◌≡◌, ◌≢◌, true};
+ghost use Rattle.sp_command.specs.declared.faults.Fault.TheVariants.{WriteFailed};
+ghost use Rattle.sp_order.specs.declared.hints.Telling.TheVariants.{Nothing};
+ghost use Rattle.sp_order.specs.Told.{Tells};
 
 use crate::fields::Fields;
 use crate::line_hints::{Refused, advice_in, advice_without};
 use crate::usage_hints::{places_hint, usage_hint};
 use crate::vertex_hints::{vertex_hint, vertices_in};
 use crate::words::Order;
-use sp_command::{Commands, Fault, FileKind, Hint, Inputs, PredBits, hint_of, output_hint, print};
+use sp_command::{
+    Commands, Fault, FileKind, Hint, Inputs, PredBits, hint_of, output_hint, print_short,
+};
 use sp_device::{Read, Write};
 use sp_dimacs::Lines;
 use sp_text::{DimacsError, Kind};
@@ -30,7 +35,8 @@ pub struct Refusal<'a> {
 impl<'a> Refusal<'a> {
     /// Makes the refusal of an order. If standard output has lost its reader, the refusal has no text.
     pub fn new<C: Commands<'a>, F: Inputs>(fault: Fault, order: &Order<'a, C>, files: &F) -> Self
-        ensures { result.fault ≡ fault }
+        ensures fault { result.fault ≡ fault }
+        ensures unread { result.telling ≡ Nothing → fault ≡ WriteFailed }
     {
         let telling = match second_line(&fault, order, files) {
             None => Telling::Line,
@@ -41,19 +47,25 @@ impl<'a> Refusal<'a> {
     }
 
     /// Writes the lines. It makes no difference whether the device takes them.
-    pub fn tell<E: Write>(&self, err: &mut E) {
-        if let Telling::Nothing = self.telling {
-            return;
-        }
-        let _ = print(err, &self.fault);
-        if let Telling::Lines(hint) = &self.telling {
-            let _ = print(err, hint);
+    pub fn tell<E: Write>(&self, err: &mut E)
+        ensures { Tells E.Write self.now.telling self.now.fault err.old err.new }
+    {
+        match &self.telling {
+            Telling::Nothing => {}
+            Telling::Line => {
+                let _ = self.fault.write_line(err);
+            }
+            Telling::Lines(hint) => {
+                if self.fault.write_line(err).is_ok() {
+                    print_short(err, hint);
+                }
+            }
         }
     }
 }
 
 impl From<Fault> for Refusal<'_> {
-    ghost from_gives = { λ fault refusal. refusal.fault ≡ fault };
+    ghost from_gives = { λ fault refusal. (refusal.fault ≡ fault) × (refusal.telling ≢ Nothing) };
 
     fn from(fault: Fault) -> Self {
         let hint = told_of_words(&fault);
@@ -68,7 +80,9 @@ impl From<Fault> for Refusal<'_> {
 }
 
 // Returns whether the reader of standard output has closed it.
-fn is_unread<C>(fault: &Fault, order: &Order<'_, C>, hint: &Hint<'_>) -> bool {
+fn is_unread<C>(fault: &Fault, order: &Order<'_, C>, hint: &Hint<'_>) -> bool
+    ensures { result ≡ true → fault.now ≡ WriteFailed }
+{
     let (Fault::WriteFailed, Hint::Reason { reason, .. }) = (fault, hint) else {
         return false;
     };

@@ -1,13 +1,17 @@
 //! A whole run of the program.
-ghost use Rattle.std.specs.Prelude.{◌≡◌, ◌≤◌, true, IfOk, IfErr};
+ghost use Rattle.std.specs.Prelude.{◌≡◌, ◌≤◌, true, IfOk, IfErr, MatchResult};
 ghost use Rattle.sp_command.specs.Faults.{code_of, is_done, status_of};
+ghost use Rattle.sp_command.specs.Layouts.{IsRunIn};
 ghost use Rattle.sp_command.specs.Scene.{scene};
-ghost use Rattle.sp_order.specs.Orders.{Obeys};
+ghost use Rattle.sp_command.specs.declared.faults.Fault.TheVariants.{WriteFailed};
+ghost use Rattle.sp_order.specs.declared.hints.Telling.TheVariants.{Nothing};
+ghost use Rattle.sp_order.specs.Orders.{IsCarriedOut, IsObeyed, RunsInto};
+ghost use Rattle.sp_order.specs.Told.{EndsWith, IsAnswered};
 ghost use Rattle.sp_order.specs.Words.{names_output};
 
 use crate::hints::Refusal;
 use crate::words::{Order, read_order};
-use sp_command::{Commands, Fault, Inputs, Outputs, PredBits, Run, Status, print, run_in};
+use sp_command::{Commands, Fault, Outputs, PredBits, Run, Status, print, run_in};
 use sp_device::Write;
 use std::alloc::Global;
 use std::sync::Wait;
@@ -16,11 +20,11 @@ use std::thread::Threads;
 /// Runs the command that the words name, where the first word is the program's name, and returns the exit status. The
 /// command's output goes to `out`, or to the file that the words name for it, and the text of a fault to `err`; whether
 /// `err` takes that text changes no status.
-pub fn run_line<'a, C, R: Threads + Wait + Sync, F: Inputs + Outputs, W: Write, E: Write>(
+pub fn run_line<'a, C, R: Threads + Wait + Sync, F: Outputs, W: Write, E: Write>(
     rt: &R,
     alloc: Global,
     words: &'a [&'a str],
-    files: &F,
+    files: &mut F,
     out: &mut W,
     err: &mut E,
 ) -> u8
@@ -31,22 +35,36 @@ where
     ensures silent_no { result ≡ 3 → err.new ≡ err.old }
     ensures silent_far { result ≡ 4 → err.new ≡ err.old }
     ensures unwritten { 1 ≤ result → result ≤ 2 → out.new ≡ out.old }
+    ensures obeyed { IsAnswered (IsRunIn
+        ⟦<C as Run<20>>⟧ ⟦<C as Run<24>>⟧ ⟦<C as Run<28>>⟧ ⟦<C as Run<32>>⟧)
+        (scene (F.files files.old)
+        (W.written out.old) (W.written out.new) (W.has_failed out.new))
+        (F.outputs files.old) (F.outputs files.new)
+        E.Write err.old err.new result }
 {
-    let status = match obey::<C, R, F, W>(rt, alloc, words, files, out) {
-        Ok(status) => status,
+    let answer = obey::<C, R, F, W>(rt, alloc, words, files, out);
+    tell_end(&answer, err).code()
+}
+
+// Tells the fault of an answer, if it has one, and returns the exit status.
+fn tell_end<E: Write>(answer: &Result<Status, Refusal<'_>>, err: &mut E) -> Status
+    ensures silent { is_done result ≡ true → err.new ≡ err.old }
+    ensures told { EndsWith E.Write answer.now err.old err.new result }
+{
+    match answer {
+        Ok(status) => *status,
         Err(refusal) => {
             refusal.tell(err);
             refusal.fault.status()
         }
-    };
-    status.code()
+    }
 }
 
-fn obey<'a, C, R: Threads + Wait + Sync, F: Inputs + Outputs, W: Write>(
+fn obey<'a, C, R: Threads + Wait + Sync, F: Outputs, W: Write>(
     rt: &R,
     alloc: Global,
     words: &'a [&'a str],
-    files: &F,
+    files: &mut F,
     out: &mut W,
 ) -> Result<Status, Refusal<'a>>
 where
@@ -54,6 +72,14 @@ where
     ensures done { IfOk result (λ status. is_done status ≡ true) }
     ensures unwritten { IfErr result
         (λ refusal. code_of (status_of refusal.fault) ≤ 2 → out.new ≡ out.old) }
+    ensures unread { IfErr result
+        (λ refusal. refusal.telling ≡ Nothing → refusal.fault ≡ WriteFailed) }
+    ensures obeyed { let obeyed = IsObeyed (IsRunIn
+        ⟦<C as Run<20>>⟧ ⟦<C as Run<24>>⟧ ⟦<C as Run<28>>⟧ ⟦<C as Run<32>>⟧)
+        (scene (F.files files.old)
+        (W.written out.old) (W.written out.new) (W.has_failed out.new))
+        (F.outputs files.old) (F.outputs files.new)
+        in MatchResult result (λ status. obeyed (Ok status)) (λ refusal. obeyed (Err refusal.fault)) }
 {
     let order: Order<'a, C> = read_order(alloc, words)?;
     match carry_out(rt, alloc, &order, files, out) {
@@ -63,11 +89,11 @@ where
 }
 
 // Carries out the order. If it names a file for the output, nothing is written to `out`.
-fn carry_out<C, R: Threads + Wait + Sync, F: Inputs + Outputs, W: Write>(
+fn carry_out<C, R: Threads + Wait + Sync, F: Outputs, W: Write>(
     rt: &R,
     alloc: Global,
     order: &Order<'_, C>,
-    files: &F,
+    files: &mut F,
     out: &mut W,
 ) -> Result<Status, Fault>
 where
@@ -75,9 +101,11 @@ where
     ensures done { IfOk result (λ status. is_done status ≡ true) }
     ensures unwritten { IfErr result (λ fault. code_of (status_of fault) ≤ 2 → out.new ≡ out.old) }
     ensures elsewhere { names_output order.now ≡ true → out.new ≡ out.old }
-    ensures answered { Obeys ⟦<C as Run<20>>⟧.answers ⟦<C as Run<24>>⟧.answers
-        ⟦<C as Run<28>>⟧.answers ⟦<C as Run<32>>⟧.answers
-        order.now (scene (F.text files.now) (W.written out.old) (W.written out.new)) result }
+    ensures carried { IsCarriedOut (IsRunIn
+        ⟦<C as Run<20>>⟧ ⟦<C as Run<24>>⟧ ⟦<C as Run<28>>⟧ ⟦<C as Run<32>>⟧)
+        order.now (scene (F.files files.old)
+        (W.written out.old) (W.written out.new) (W.has_failed out.new))
+        (F.outputs files.old) (F.outputs files.new) result }
 {
     match order {
         Order::Show(text) => {
@@ -100,28 +128,33 @@ where
 }
 
 // Runs a command into a file, which gets its name once the command is done.
-fn run_into<C, R: Threads + Wait + Sync, F: Inputs + Outputs>(
+fn run_into<C, R: Threads + Wait + Sync, F: Outputs>(
     rt: &R,
     alloc: Global,
     command: &C,
     pred_bits: PredBits,
-    files: &F,
+    files: &mut F,
     path: &str,
 ) -> Result<Status, Fault>
 where
     C: Run<20> + Run<24> + Run<28> + Run<32>,
     ensures done { IfOk result (λ status. is_done status ≡ true) }
+    ensures into { RunsInto (IsRunIn
+        ⟦<C as Run<20>>⟧ ⟦<C as Run<24>>⟧ ⟦<C as Run<28>>⟧ ⟦<C as Run<32>>⟧)
+        pred_bits command.now path.now (F.files files.old)
+        (F.outputs files.old) (F.outputs files.new) result }
+    ensures inputs { F.files files.new ≡ F.files files.old }
 {
-    let Some(mut output) = files.create(alloc, path)? else {
+    let Some((name, mut output)) = files.create(alloc, path)? else {
         return Err(Fault::CannotWrite);
     };
     match run_in(command, pred_bits, rt, alloc, files, &mut output) {
-        Ok(status) => match files.keep(output) {
+        Ok(status) => match files.keep(name, output) {
             Ok(()) => Ok(status),
             Err(_) => Err(Fault::CannotWrite),
         },
         Err(fault) => {
-            files.discard(output);
+            files.discard(name, output);
             Err(fault)
         }
     }

@@ -1,6 +1,7 @@
 //! The words of a command line, and the order that they give.
-ghost use Rattle.std.specs.Prelude.{◌≡◌, ◌≢◌, ◌↔◌, true, false, IsSome};
+ghost use Rattle.std.specs.Prelude.{◌≡◌, ◌≢◌, ◌↔◌, true, false, IfErr, IsSome};
 ghost use Rattle.clap.specs.Words.{kind_of};
+ghost use Rattle.sp_order.specs.Orders.{IsOfWords};
 ghost use Rattle.sp_order.specs.Words.{is_text, names_output};
 ghost use Rattle.sp_command.specs.declared.faults.Fault.TheVariants.{Memory, Usage};
 ghost use Rattle.sp_order.specs.declared.words.Order.TheVariants.{Show};
@@ -43,7 +44,9 @@ impl<'a, C> Order<'a, C> {
 pub fn read_order<'a, C: Commands<'a>>(
     alloc: Global,
     words: &'a [&'a str],
-) -> Result<Order<'a, C>, Fault> {
+) -> Result<Order<'a, C>, Fault>
+    ensures { IfErr result IsOfWords }
+{
     match match_words(alloc, words) {
         Ok(order) => Ok(order),
         Err(error) => answer_to(error),
@@ -56,6 +59,7 @@ pub fn answer_to<'a, C: Drop>(error: Error) -> Result<Order<'a, C>, Fault>
     ensures text { is_text (kind_of error) ≡ true → result ≡ Ok (Show error) }
     ensures usage { kind_of error ≢ ErrorKind.OutOfMemory
         → is_text (kind_of error) ≡ false → result ≡ Err (Usage error) }
+    ensures words { IfErr result IsOfWords }
 {
     match error.kind() {
         ErrorKind::OutOfMemory => Err(Fault::Memory),

@@ -35,12 +35,13 @@ where
     if !take_stack(arguments.len(), words.len()) {
         return Err(io::ErrorKind::OutOfMemory.into());
     }
+    let mut files = *disk;
     if !words.contains(&"--progress") {
-        return Ok(run_command(rt, alloc, &words, disk, out, err));
+        return Ok(run_command(rt, alloc, &words, &mut files, out, err));
     }
     let screen = disk.screen();
     let command = || {
-        let status = run_command(rt, alloc, &words, disk, out, err);
+        let status = run_command(rt, alloc, &words, &mut files, out, err);
         screen.end_watch();
         status
     };

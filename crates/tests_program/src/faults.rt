@@ -1,6 +1,6 @@
 //! The lines of faults that no file brings about, and their statuses.
 use crate::shelf::AMPLE;
-use sp_command::{Fault, FileKind, print};
+use sp_command::{Fault, FileKind};
 use sp_device::{UpToWriter, WriteFault};
 use sp_text::{DimacsError, Kind};
 use std::alloc::AllocError;
@@ -19,7 +19,7 @@ fn faults_of_memory_and_of_writing(rt: HostRuntime) {
         (Fault::from(WriteFault), 6, "spt: write failed\n"),
     ] {
         let mut err = UpToWriter::new(rt.alloc(), AMPLE, AMPLE);
-        let _ = print(&mut err, &fault);
+        let _ = fault.write_line(&mut err);
         assert_eq!(rt; from_utf8(err.taken()), Ok(line));
         assert_eq!(rt; fault.status().code(), status);
     }

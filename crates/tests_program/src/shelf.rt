@@ -34,15 +34,21 @@ struct Shelf<'a> {
 impl Outputs for Shelf<'_> {
     type Output = UpToWriter;
 
-    fn create(&self, _alloc: Global, _path: &str) -> Result<Option<UpToWriter>, AllocError> {
+    type Name = ();
+
+    fn create(
+        &mut self,
+        _alloc: Global,
+        _path: &str,
+    ) -> Result<Option<((), UpToWriter)>, AllocError> {
         Ok(None)
     }
 
-    fn keep(&self, _output: UpToWriter) -> Result<(), WriteFault> {
+    fn keep(&mut self, _name: (), _output: UpToWriter) -> Result<(), WriteFault> {
         Err(WriteFault)
     }
 
-    fn discard(&self, _output: UpToWriter) {}
+    fn discard(&mut self, _name: (), _output: UpToWriter) {}
 }
 
 impl<'a> Inputs for Shelf<'a> {
@@ -85,7 +91,8 @@ pub fn run_into<R: Threads + Wait + Sync>(
     let mut out = UpToWriter::new(alloc, rooms.0.min(AMPLE), AMPLE);
     let mut err = UpToWriter::new(alloc, rooms.1.min(AMPLE), AMPLE);
     let words: Vec<&str> = line.split(' ').collect(alloc)?;
-    let status = run_command(rt, alloc, &words, &Shelf { files }, &mut out, &mut err);
+    let mut shelf = Shelf { files };
+    let status = run_command(rt, alloc, &words, &mut shelf, &mut out, &mut err);
     Ok(Ended { status, out, err })
 }
 

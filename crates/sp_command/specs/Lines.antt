@@ -1,0 +1,89 @@
+-- The lines that tell faults on standard error.
+use Rattle.std.specs.Prelude.{◌≡◌, ℕ, Bool, true, ◌==◌, ◌&&◌, ◌||◌, nat_le, List, [], ◌∷◌, ◌++◌, Option, Some, None, Result, Ok, Err, codes, decimal}
+use Rattle.std.specs.Borrow.{Bor}
+use Rattle.std.specs.List.{concat, flat_map, list_all}
+use Rattle.std.specs.Io.KnownBytes.{Appends}
+use Rattle.sp_device.specs.declared.devices.Write.{Ghosts as Writer}
+use Rattle.sp_device.specs.Devices.{IsBegun}
+use Rattle.sp_text.specs.declared.faults.DimacsError.{DimacsError}
+use Rattle.sp_text.specs.declared.faults.Kind.{Kind}
+use Rattle.sp_text.specs.declared.faults.Kind.TheVariants as kind
+use Rattle.sp_command.specs.declared.faults.FileKind.{FileKind}
+use Rattle.sp_command.specs.declared.faults.FileKind.TheVariants as file
+use Rattle.sp_command.specs.declared.faults.Fault.{Fault}
+use Rattle.sp_command.specs.declared.faults.Fault.TheVariants as fault
+
+-- ## The text of a line
+
+abbrev pub newline : List ℕ
+newline = 10 ∷ []
+
+-- This is the word for a file of a kind.
+abbrev pub word_of : FileKind → List ℕ
+word_of file.Graph = codes "gr"
+word_of file.Sources = codes "ss"
+word_of file.Pairs = codes "pairs"
+word_of file.Tree = codes "tree"
+word_of file.Replay = codes "replay"
+word_of file.Offers = codes "offers"
+
+-- These are the number and the name of a fault of a text.
+abbrev pub name_of : Kind → List ℕ
+name_of kind.LongLine = codes "1 LongLine"
+name_of kind.BadLine = codes "2 BadLine"
+name_of kind.NoProblem = codes "3 NoProblem"
+name_of kind.SecondProblem = codes "4 SecondProblem"
+name_of (kind.OutOfRange letter) = codes "5 OutOfRange "
+name_of kind.TooMany = codes "6 TooMany"
+name_of kind.TooFew = codes "7 TooFew"
+name_of kind.Memory = codes "8 Memory"
+name_of kind.Read = codes "9 Read"
+
+-- This is the letter of the field that is out of range, for a fault that has one.
+abbrev pub letter_of : Kind → List ℕ
+letter_of (kind.OutOfRange letter) = letter ∷ []
+letter_of _ = []
+
+-- The line of a fault in a file's text names the file, the line, and what is wrong there.
+abbrev pub input_line : FileKind → DimacsError → List ℕ
+input_line file error = concat (codes "spt: " ∷ word_of file ∷ codes ": line " ∷ decimal error.line ∷ codes ": " ∷ name_of error.kind ∷ letter_of error.kind ∷ newline ∷ [])
+
+-- This is the line of a fault, if its text is known: that of a fault of the words comes from `clap`.
+abbrev pub line_of : Fault → Option (List ℕ)
+line_of (fault.Usage error) = None
+line_of fault.DeltaOutOfRange = Some (codes "spt: delta out of range" ++ newline)
+line_of fault.InputTwice = Some (codes "spt: standard input twice" ++ newline)
+line_of fault.NoPlaces = Some (codes "spt: sources are not A-B" ++ newline)
+line_of (fault.CannotOpen file) = Some (concat (codes "spt: " ∷ word_of file ∷ codes ": cannot open" ∷ newline ∷ []))
+line_of (fault.Input file error) = Some (input_line file error)
+line_of (fault.NoSuchVertex vertex) = Some (concat (codes "spt: source " ∷ decimal vertex ∷ codes ": no such vertex" ∷ newline ∷ []))
+line_of fault.TooManySteps = Some (codes "spt: replay: more than 60 steps" ++ newline)
+line_of fault.Memory = Some (codes "spt: memory" ++ newline)
+line_of fault.WriteFailed = Some (codes "spt: write failed" ++ newline)
+line_of fault.CannotWrite = Some (codes "spt: output: cannot write" ++ newline)
+
+-- ## What is written
+
+-- These texts follow one another.
+abbrev pub joined : List (Bor (List ℕ)) → List ℕ
+joined texts = flat_map (λ text. text.now) texts
+
+-- Exactly the text was written; or the writer has failed, and a beginning of the text was written.
+abbrev pub IsWritten : {W T E : Type 0} → Writer W → List ℕ → (old : W) → Result T E → (new : W) → Type 0
+IsWritten w text old (Ok done) new = Appends (w.written old) (w.written new) text
+IsWritten w text old (Err e) new = IsBegun text (w.written old) (w.written new) × (w.has_failed new ≡ true)
+
+-- The same of the fault's line, if its text is known.
+abbrev pub IsLineWritten : {W T E : Type 0} → Writer W → Fault → (old : W) → Result T E → (new : W) → Type 0
+IsLineWritten w why old result new = (line : List ℕ) → line_of why ≡ Some line → IsWritten w line old result new
+
+-- Something was perhaps written.
+abbrev pub MayAppend : {W : Type 0} → Writer W → (old new : W) → Type 0
+MayAppend w old new = (more : List ℕ) × Appends (w.written old) (w.written new) more
+
+-- The byte is a line's end, or a character that a terminal shows.
+abbrev pub is_plain : ℕ → Bool
+is_plain byte = byte == 10 || nat_le 32 byte && nat_le byte 126
+
+abbrev pub IsPlain : List ℕ → Type 0
+IsPlain text = list_all is_plain text ≡ true

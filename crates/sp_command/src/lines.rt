@@ -1,0 +1,101 @@
+//! The lines that tell faults on standard error.
+ghost use Rattle.std.specs.Prelude.{◌≡◌};
+ghost use Rattle.sp_command.specs.Lines.{IsLineWritten, IsWritten, input_line, joined, letter_of, name_of, word_of};
+
+use crate::faults::{Fault, FileKind};
+use crate::text::print;
+use itoa::Buffer;
+use sp_device::{Write, WriteFault, write_all};
+use sp_text::{DimacsError, Kind};
+use std::slice;
+
+impl Fault {
+    /// Writes the fault's line, with its end. It allocates no memory.
+    pub fn write_line<W: Write>(&self, out: &mut W) -> Result<(), WriteFault>
+        ensures { IsLineWritten W.Write self.now out.old result out.new }
+    {
+        match self {
+            Fault::Usage(error) => print(out, error),
+            Fault::DeltaOutOfRange => write_all(out, b"spt: delta out of range\n"),
+            Fault::InputTwice => write_all(out, b"spt: standard input twice\n"),
+            Fault::NoPlaces => write_all(out, b"spt: sources are not A-B\n"),
+            Fault::CannotOpen(file) => {
+                write_texts(
+                    out,
+                    &[b"spt: ", file.word().as_bytes(), b": cannot open", b"\n"],
+                )
+            }
+            Fault::Input { file, error } => write_input_line(out, *file, *error),
+            Fault::NoSuchVertex(vertex) => {
+                let mut digits = Buffer::new();
+                let number = digits.format(*vertex).as_bytes();
+                write_texts(out, &[b"spt: source ", number, b": no such vertex", b"\n"])
+            }
+            Fault::TooManySteps => write_all(out, b"spt: replay: more than 60 steps\n"),
+            Fault::Memory => write_all(out, b"spt: memory\n"),
+            Fault::WriteFailed => write_all(out, b"spt: write failed\n"),
+            Fault::CannotWrite => write_all(out, b"spt: output: cannot write\n"),
+        }
+    }
+}
+
+// Writes the line of a fault in a file's text.
+fn write_input_line<W: Write>(
+    out: &mut W,
+    file: FileKind,
+    error: DimacsError,
+) -> Result<(), WriteFault>
+    ensures { IsWritten W.Write (input_line file error) out.old result out.new }
+{
+    let mut digits = Buffer::new();
+    let number = digits.format(error.line).as_bytes();
+    let name = name_of(&error.kind).as_bytes();
+    let texts = [
+        b"spt: ",
+        file.word().as_bytes(),
+        b": line ",
+        number,
+        b": ",
+        name,
+        letter_of(&error.kind),
+        b"\n",
+    ];
+    write_texts(out, &texts)
+}
+
+// Returns the number and the name of a fault of a text.
+fn name_of(kind: &Kind) -> &'static str
+    ensures { result.now ≡ name_of kind.now }
+{
+    match kind {
+        Kind::LongLine => "1 LongLine",
+        Kind::BadLine => "2 BadLine",
+        Kind::NoProblem => "3 NoProblem",
+        Kind::SecondProblem => "4 SecondProblem",
+        Kind::OutOfRange(_) => "5 OutOfRange ",
+        Kind::TooMany => "6 TooMany",
+        Kind::TooFew => "7 TooFew",
+        Kind::Memory => "8 Memory",
+        Kind::Read => "9 Read",
+    }
+}
+
+// Returns the letter of the field that is out of range, if the fault has one.
+fn letter_of(kind: &Kind) -> &[u8]
+    ensures { result.now ≡ letter_of kind.now }
+{
+    match kind {
+        Kind::OutOfRange(letter) => slice::from_ref(letter),
+        _ => &[],
+    }
+}
+
+// Writes the texts one after the other.
+fn write_texts<W: Write>(out: &mut W, texts: &[&[u8]]) -> Result<(), WriteFault>
+    ensures { IsWritten W.Write (joined texts.now) out.old result out.new }
+{
+    for text in texts {
+        write_all(out, text)?;
+    }
+    Ok(())
+}
