@@ -28,7 +28,7 @@ const STDIN: &str = "/dev/stdin";
 impl<'a, R: Files + Eprint + Clock + Wait> Disk<'a, R> {
     /// Standard error, where it is told how far a run is.
     pub fn screen(&self) -> Screen<'a, R> {
-        Screen::new(self.rt, self.stderr, self.notes.told())
+        Screen::new(self.rt, self.stderr, self.notes.watch())
     }
 
     /// Standard error for what else is told.
@@ -76,6 +76,6 @@ impl<'a, R: Files + Eprint + Clock + Wait> Inputs for Disk<'a, R> {
     }
 
     fn meter(&self) -> Option<&Meter> {
-        Some(self.notes.told().meter())
+        Some(self.notes.watch().meter())
     }
 }

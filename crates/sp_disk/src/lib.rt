@@ -14,4 +14,4 @@ mod stand;
 pub use disk::Disk;
 pub use noted::{Noted, Notes};
 pub use output::Output;
-pub use screen::{Errors, Screen, Told};
+pub use screen::{Errors, Screen, Watch};

@@ -1,5 +1,5 @@
 //! What is noted of files and streams of the system while they are read and written.
-use crate::screen::Told;
+use crate::screen::Watch;
 use sp_command::Form;
 use std::cell::Cell;
 use std::io;
@@ -10,7 +10,7 @@ pub struct Notes {
     reason: Cell<Option<io::Error>>,
     form: Cell<Option<Form>>,
     size: Cell<Option<u64>>,
-    told: Told,
+    watch: Watch,
 }
 
 impl Notes {
@@ -20,7 +20,7 @@ impl Notes {
             reason: Cell::new(None),
             form: Cell::new(None),
             size: Cell::new(None),
-            told: Told::new(),
+            watch: Watch::new(),
         }
     }
 
@@ -56,8 +56,8 @@ impl Notes {
     }
 
     /// What was told of the run.
-    pub fn told(&self) -> &Told {
-        &self.told
+    pub fn watch(&self) -> &Watch {
+        &self.watch
     }
 }
 

@@ -1,7 +1,7 @@
 //! Files of output.
 use crate::disk::Disk;
 use crate::noted::Noted;
-use crate::place::{Part, Place};
+use crate::place::{Destination, Part};
 use crate::screen::Screen;
 use either::Either;
 use sp_command::Outputs;
@@ -83,10 +83,10 @@ impl<'a, R: Files + AllocGlobal + RandomSource + Clock + Eprint + Wait> Outputs 
         alloc: Global,
         path: &str,
     ) -> Result<Option<(Self::Name, Self::Output)>, AllocError> {
-        let Some(place) = Place::of(self.rt, alloc, path)? else {
+        let Some(destination) = Destination::of(self.rt, alloc, path)? else {
             return Ok(self.straight(path).map(|output| (None, output)));
         };
-        match place.begin(self.rt, alloc, self.process) {
+        match destination.begin(self.rt, alloc, self.process) {
             Ok((file, part)) => Ok(Some((Some(part), self.output(Either::Left(Lasting(file)))))),
             Err(error) if error.kind() == ErrorKind::OutOfMemory => Err(AllocError),
             Err(error) => {

@@ -25,7 +25,7 @@ const OWN_RIGHTS: u32 = 0o700;
 
 /// Where a file is to stand, and what stands there.
 #[derive(Drop)]
-pub struct Place {
+pub struct Destination {
     path: String,
     replaced: Option<Metadata>,
 }
@@ -37,7 +37,7 @@ pub struct Part {
     place: String,
 }
 
-impl Place {
+impl Destination {
     /// The place that a path leads to. None: what is there is no regular file, or nothing can stand there.
     pub fn of<R: Files + AllocGlobal>(
         rt: &R,
@@ -65,7 +65,7 @@ impl Place {
             Err(_) => String::from_str(alloc, path)?,
         };
         let replaced = Some(found);
-        Ok(Some(Place { path, replaced }))
+        Ok(Some(Destination { path, replaced }))
     }
 
     // The place of a file that is missing: where links lead that end there, so that they stay.
@@ -90,7 +90,7 @@ impl Place {
             return Ok(None);
         }
         let replaced = None;
-        Ok(Some(Place { path, replaced }))
+        Ok(Some(Destination { path, replaced }))
     }
 
     /// Makes a file in the folder of the place, by a name that nothing has there. Nobody may read it who may not read the file that

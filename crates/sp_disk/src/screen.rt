@@ -22,17 +22,17 @@ const NAP: u64 = 200;
 
 /// What was told of a run, and what more there is to tell.
 #[derive(Drop)]
-pub struct Told {
+pub struct Watch {
     meter: Meter,
     // Held while a line is written, so that lines of two threads don't mix.
-    shown: Mutex<Shown>,
+    shown: Mutex<Screenful>,
     // 1 once the run has ended, 0 before.
     over: AtomicU64,
 }
 
 // What the user sees.
 #[derive(Drop)]
-struct Shown {
+struct Screenful {
     // How far the run is, once there was a report.
     stand: Option<Stand>,
     // When a line was told last, or the first report came.
@@ -43,12 +43,12 @@ struct Shown {
     is_last: bool,
 }
 
-impl Told {
+impl Watch {
     /// Nothing was told.
     pub fn new() -> Self {
-        Told {
+        Watch {
             meter: Meter::new(),
-            shown: Mutex::new(Shown {
+            shown: Mutex::new(Screenful {
                 stand: None,
                 at: None,
                 is_open: false,
@@ -64,7 +64,7 @@ impl Told {
     }
 }
 
-impl Shown {
+impl Screenful {
     // Notes how far the run is, which no line told yet.
     fn put(&mut self, stand: Stand) {
         self.stand = Some(stand);
@@ -84,7 +84,7 @@ impl Shown {
 pub struct Screen<'a, R> {
     rt: &'a R,
     stderr: Stderr,
-    told: &'a Told,
+    watch: &'a Watch,
 }
 
 impl<R> Drop for Screen<'_, R> {
@@ -92,15 +92,15 @@ impl<R> Drop for Screen<'_, R> {
         let Screen {
             rt: _,
             stderr: _,
-            told: _,
+            watch: _,
         } = self;
     }
 }
 
 impl<'a, R: Eprint + Clock + Wait> Screen<'a, R> {
     /// Tells by the runtime, and notes what was told.
-    pub fn new(rt: &'a R, stderr: Stderr, told: &'a Told) -> Self {
-        Screen { rt, stderr, told }
+    pub fn new(rt: &'a R, stderr: Stderr, watch: &'a Watch) -> Self {
+        Screen { rt, stderr, watch }
     }
 
     /// Notes a report, and tells it where the time has come. The file that is read has the size, where that is known.
@@ -108,8 +108,8 @@ impl<'a, R: Eprint + Clock + Wait> Screen<'a, R> {
         let Ok(now) = Instant::now(self.rt) else {
             return;
         };
-        let counted = self.told.meter.count();
-        let mut guard = self.told.shown.lock(self.rt);
+        let counted = self.watch.meter.count();
+        let mut guard = self.watch.shown.lock(self.rt);
         let shown = &mut *guard;
         match shown.stand {
             Some(stand) => shown.put(stand.after(report, size, counted, now)),
@@ -125,7 +125,7 @@ impl<'a, R: Eprint + Clock + Wait> Screen<'a, R> {
 
     /// Notes what was written of the output, and tells it where the time has come.
     pub fn see_written(&self, bytes: &[u8]) {
-        let mut guard = self.told.shown.lock(self.rt);
+        let mut guard = self.watch.shown.lock(self.rt);
         let shown = &mut *guard;
         let Some(stand) = shown.stand else {
             return;
@@ -140,12 +140,12 @@ impl<'a, R: Eprint + Clock + Wait> Screen<'a, R> {
     pub fn watch(&self) {
         let nap = Duration::from_millis(NAP);
         for _ in self.rt.forever() {
-            self.told.over.park_timeout(self.rt, 0, nap);
-            if self.told.over.load(Ordering::SeqCst) != 0 {
+            self.watch.over.park_timeout(self.rt, 0, nap);
+            if self.watch.over.load(Ordering::SeqCst) != 0 {
                 return;
             }
             if let Ok(now) = Instant::now(self.rt) {
-                let mut guard = self.told.shown.lock(self.rt);
+                let mut guard = self.watch.shown.lock(self.rt);
                 self.tell_if_due(&mut *guard, now);
             }
         }
@@ -153,12 +153,12 @@ impl<'a, R: Eprint + Clock + Wait> Screen<'a, R> {
 
     /// Ends the watch, without delay.
     pub fn end_watch(&self) {
-        self.told.over.store(1, Ordering::SeqCst);
-        self.told.over.wake_all();
+        self.watch.over.store(1, Ordering::SeqCst);
+        self.watch.over.wake_all();
     }
 
     // Tells how far the run is where the last line was told long enough ago.
-    fn tell_if_due(&self, shown: &mut Shown, now: Instant) {
+    fn tell_if_due(&self, shown: &mut Screenful, now: Instant) {
         let pause = if self.stderr.is_terminal() {
             PAUSE_ON_TERMINAL
         } else {
@@ -170,11 +170,11 @@ impl<'a, R: Eprint + Clock + Wait> Screen<'a, R> {
     }
 
     // Tells how far the run is.
-    fn tell(&self, shown: &mut Shown, now: Instant) {
+    fn tell(&self, shown: &mut Screenful, now: Instant) {
         let Some(stand) = shown.stand else {
             return;
         };
-        let stand = stand.with_counted(self.told.meter.count());
+        let stand = stand.with_counted(self.watch.meter.count());
         let line = stand.line(now);
         // Where it can't be told, the run goes on all the same.
         if self.stderr.is_terminal() {
@@ -190,7 +190,7 @@ impl<'a, R: Eprint + Clock + Wait> Screen<'a, R> {
 
     /// Tells how far the run has come, where the last line didn't, and that is all.
     pub fn end(&self) {
-        let mut guard = self.told.shown.lock(self.rt);
+        let mut guard = self.watch.shown.lock(self.rt);
         let shown = &mut *guard;
         if !shown.is_last
             && let Ok(now) = Instant::now(self.rt)
@@ -202,12 +202,12 @@ impl<'a, R: Eprint + Clock + Wait> Screen<'a, R> {
 
     /// Ends a line on a terminal, since other text follows, and tells no more of the run.
     pub fn give_way(&self) {
-        let mut guard = self.told.shown.lock(self.rt);
+        let mut guard = self.watch.shown.lock(self.rt);
         self.close(&mut *guard);
     }
 
     // Ends a line on a terminal, and tells no more of the run.
-    fn close(&self, shown: &mut Shown) {
+    fn close(&self, shown: &mut Screenful) {
         if shown.is_open {
             let _ = eprintln!(self.rt; "");
         }

@@ -79,7 +79,8 @@ where
         (scene (F.files files.old)
         (W.written out.old) (W.written out.new) (W.has_failed out.new))
         (F.outputs files.old) (F.outputs files.new)
-        in MatchResult result (λ status. obeyed (Ok status)) (λ refusal. obeyed (Err refusal.fault)) }
+        in MatchResult result
+        (λ status. obeyed (Ok status)) (λ refusal. obeyed (Err refusal.fault)) }
 {
     let order: Order<'a, C> = read_order(alloc, words)?;
     match carry_out(rt, alloc, &order, files, out) {
