@@ -27,13 +27,11 @@ from document_definitions import exported  # noqa: E402
 from harness import HOME, Count, read  # noqa: E402
 
 NONE_YET = "none yet"
+OF_A_FIELD = "it lends out a field, and nothing else of that type lives as long"
 OF_TESTS = "it makes what tests run on, which tell whether it is right"
 # by the path of a function, with its crate
 EXCEPTIONS = {
-    "sp_actors::words::final_words": NONE_YET,
     "sp_answer::tree::Tree::of_words": NONE_YET,
-    "sp_cert::checking::CheckError::from": NONE_YET,
-    "sp_cert::rule::Rule::fmt": NONE_YET,
     "sp_command::faults::Fault::from": NONE_YET,
     "sp_command::faults::FileKind::fault": NONE_YET,
     "sp_dimacs::lines::Lines::next": NONE_YET,
@@ -51,11 +49,7 @@ EXCEPTIONS = {
     "sp_graph::words::left_out": NONE_YET,
     "sp_graph::words::look_up": NONE_YET,
     "sp_job::answers::BatchError::from": NONE_YET,
-    "sp_kept::shared::HeldGraph::graph": NONE_YET,
-    "sp_offer::table::OfferTable::copy_words": NONE_YET,
-    "sp_offer::table::OfferTable::join": NONE_YET,
-    "sp_offer::table::OfferTable::offer_by": NONE_YET,
-    "sp_offer::table::OfferTable::read": NONE_YET,
+    "sp_kept::shared::HeldGraph::graph": OF_A_FIELD,
     "sp_options::given::Given::read": NONE_YET,
     "sp_options::reading::Watched::new": NONE_YET,
     "sp_picture::faults::NoPicture::from": NONE_YET,
@@ -64,9 +58,8 @@ EXCEPTIONS = {
     "sp_replay::words::write_words": NONE_YET,
     "sp_solve::reach::Reach::source": NONE_YET,
     "sp_solve::reach::Reach::targets": NONE_YET,
-    "sp_store::marks::LeaderMarks::new": NONE_YET,
-    "sp_store::store::Store::graph": NONE_YET,
-    "sp_store::store::Store::table": NONE_YET,
+    "sp_store::store::Store::graph": OF_A_FIELD,
+    "sp_store::store::Store::table": OF_A_FIELD,
     "sp_team::team::relax_all": NONE_YET,
     "sp_text::collecting::Collector::is_closed": NONE_YET,
     "sp_text::collecting::Collector::needs_lf": NONE_YET,
