@@ -13,7 +13,7 @@ const MOST_OFFERS: u32 = 1_000_000_000;
 
 /// How many threads make offers.
 #[derive(Clone, Copy)]
-enum Crew {
+enum ThreadCount {
     One,
     Two,
     Four,
@@ -22,7 +22,7 @@ enum Crew {
 /// How many threads make how many offers each, to how many words.
 #[derive(Clone, Copy)]
 pub struct Crowd {
-    threads: Crew,
+    threads: ThreadCount,
     words: u32,
     offers: u32,
     ghost some: { 0 < words },
@@ -33,9 +33,9 @@ impl Crowd {
     /// A crowd of 1, 2 or 4 threads, if these numbers are in range.
     pub fn new(threads: u32, words: u32, offers: u32) -> Option<Crowd> {
         let threads = match threads {
-            1 => Crew::One,
-            2 => Crew::Two,
-            4 => Crew::Four,
+            1 => ThreadCount::One,
+            2 => ThreadCount::Two,
+            4 => ThreadCount::Four,
             _ => return None,
         };
         if words < 1 || offers > MOST_OFFERS {
@@ -51,9 +51,9 @@ impl Crowd {
     // How many offers all threads make.
     fn made(&self) -> u64 {
         let threads = match self.threads {
-            Crew::One => 1,
-            Crew::Two => 2,
-            Crew::Four => 4,
+            ThreadCount::One => 1,
+            ThreadCount::Two => 2,
+            ThreadCount::Four => 4,
         };
         threads * self.offers as u64
     }
@@ -180,9 +180,9 @@ fn offer_all<R: Threads + Sync>(
     ensures { IfSome result (λ r. r.0.table ≡ table.now.id) }
 {
     match crowd.threads {
-        Crew::One => Some(offer_alone(table, me, crowd, 1)),
-        Crew::Two => offer_by_two(rt, table, me, crowd, 1),
-        Crew::Four => offer_by_four(rt, table, me, crowd),
+        ThreadCount::One => Some(offer_alone(table, me, crowd, 1)),
+        ThreadCount::Two => offer_by_two(rt, table, me, crowd, 1),
+        ThreadCount::Four => offer_by_four(rt, table, me, crowd),
     }
 }
 

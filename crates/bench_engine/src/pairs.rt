@@ -104,7 +104,7 @@ fn target_of(graph: &Graph, pair: (u32, u32), source: u32) -> Option<u32>
     ensures { IfSome result (IsVertex graph.now.n) }
 {
     let (from, to) = pair;
-    if from == source && 1 <= to && to <= graph.n() {
+    if from == source && graph.has_vertex(to) {
         Some(to)
     } else {
         None
