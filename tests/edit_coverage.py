@@ -50,8 +50,6 @@ EXCEPTIONS = {
     "sp_graph::words::look_up": NONE_YET,
     "sp_job::answers::BatchError::from": NONE_YET,
     "sp_kept::shared::HeldGraph::graph": OF_A_FIELD,
-    "sp_options::given::Given::read": NONE_YET,
-    "sp_options::reading::Watched::new": NONE_YET,
     "sp_picture::faults::NoPicture::from": NONE_YET,
     "sp_solve::reach::Reach::source": NONE_YET,
     "sp_solve::reach::Reach::targets": NONE_YET,

@@ -1,5 +1,5 @@
 -- What the answers of `tree` and `pairs` say of the texts of their files and of what is written then.
-use Rattle.std.specs.Prelude.{◌≡◌, ◌≤◌, ℕ, Bool, List, All, Option, Some, None, Result, Ok, Err, IsErr}
+use Rattle.std.specs.Prelude.{◌≡◌, ◌≤◌, ℕ, Bool, true, List, All, Option, Some, None, Result, Ok, Err, IfOk}
 use Rattle.std.specs.Io.KnownBytes.{Appends}
 use Rattle.sp_text.specs.declared.faults.DimacsError.{DimacsError}
 use Rattle.sp_paths.specs.Paths.{PairAnswer}
@@ -14,15 +14,18 @@ use Rattle.sp_batch.specs.Batch.{Answer, AreAnswers, batch_text, IsSummary, HasB
 use Rattle.sp_job.specs.Places.{part_of}
 use Rattle.sp_pairs.specs.Pairs.{ArePairAnswers, pairs_text, IsPairsSummary, HasBegunPairs, IsPairUpTo, IsFirstPairAbove}
 use Rattle.sp_command.specs.declared.faults.FileKind.TheVariants as file
+use Rattle.sp_command.specs.Causes.{Paths}
 use Rattle.sp_command.specs.declared.faults.Fault.{Fault}
 use Rattle.sp_command.specs.declared.faults.Fault.TheVariants as fault
 use Rattle.sp_command.specs.declared.faults.Status.{Status}
 use Rattle.sp_command.specs.Scene.{Scene, Meaning, HasText, IsUnwritten}
 use Rattle.sp_tools.specs.Reading.{GraphIn}
-use Rattle.sp_cli.specs.declared.tree.Tree.{Tree}
-use Rattle.sp_cli.specs.declared.pairs.Pairs.{Pairs}
+use Rattle.sp_cli.specs.declared.tree.TreeCommand.{TreeCommand}
+use Rattle.sp_cli.specs.declared.pairs.PairsCommand.{PairsCommand}
 use Rattle.sp_options.specs.declared.sources.Sources.{Sources}
 use Rattle.sp_options.specs.declared.sources.Sources.TheVariants.{File, Part, Given}
+use Rattle.sp_options.specs.Sources.{path_of}
+use Rattle.sp_options.specs.Width.{IsBucket}
 use Rattle.sp_options.specs.Ends.{end_of}
 
 -- ## Texts
@@ -93,19 +96,18 @@ TreesTold P far_ok gr asked s (Err (fault.Input file.Graph e)) = GraphIn P gr (E
 TreesTold P far_ok gr asked s (Err (fault.Input file.Sources e)) = HoldsGraph P gr × AreRefused P asked e × IsUnwritten s
 TreesTold P far_ok gr asked s (Err (fault.NoSuchVertex v)) = (read : HasGraphAndSources P gr asked) × IsFirstAbove read.graph.n read.sources v × IsUnwritten s
 TreesTold P far_ok gr asked s (Err fault.Memory) = AreTreesBegun P gr asked s
-TreesTold P far_ok gr asked s (Err fault.WriteFailed) = AreTreesBegun P gr asked s
+TreesTold P far_ok gr asked s (Err fault.WriteFailed) = (s.failed ≡ true) × AreTreesBegun P gr asked s
 TreesTold P far_ok gr asked s (Err (fault.CannotOpen kind)) = IsUnwritten s
 TreesTold P far_ok gr asked s (Err fault.InputTwice) = IsUnwritten s
-TreesTold P far_ok gr asked s (Err fault.DeltaOutOfRange) = IsUnwritten s
 TreesTold P far_ok gr asked s (Err _) = ⊥
 
 -- the trees of the sources in the file of this path, or of those at some places of it
 abbrev pub TreesOfFile : (P : ℕ) → (far_ok : Bool) → (graph path : List ℕ) → (places : Option (ℕ × ℕ)) → Scene → Result Status Fault → Type 0
 TreesOfFile P far_ok graph path places s result = (gr ss : List ℕ) → HasText s graph gr → HasText s path ss → TreesTold P far_ok gr (InText places ss) s result
 
--- the same where a word for the places may spell none, which is told, with nothing written
+-- The same where a word for the places may spell none: exactly that is told then, with nothing written.
 abbrev pub TreesOfPart : (P : ℕ) → (far_ok : Bool) → (graph path : List ℕ) → Option (ℕ × ℕ) → Scene → Result Status Fault → Type 0
-TreesOfPart P far_ok graph path None s result = IsErr result × IsUnwritten s
+TreesOfPart P far_ok graph path None s result = (result ≡ Err fault.NoPlaces) × IsUnwritten s
 TreesOfPart P far_ok graph path (Some places) s result = TreesOfFile P far_ok graph path (Some places) s result
 
 -- the trees of these sources
@@ -118,9 +120,45 @@ TreesOf P far_ok graph (File path) s result = TreesOfFile P far_ok graph path.no
 TreesOf P far_ok graph (Part path places) s result = TreesOfPart P far_ok graph path.now places s result
 TreesOf P far_ok graph (Given given) s result = TreesOfGiven P far_ok graph given.list.items s result
 
--- what `tree` answers
-abbrev pub TreeAnswers : (P : ℕ) → Meaning Tree
-TreeAnswers P tree s result = TreesOf P tree.running.far_ok tree.graph.now tree.sources s result
+-- Some texts spell a graph and the sources, and exactly the text of their answers was written.
+abbrev pub InSome : (P : ℕ) → (far_ok : Bool) → (List ℕ → Asked) → Scene → Status → Type 0
+InSome P far_ok asked_in s status = (gr ss : List ℕ) × ((read : HasGraphAndSources P gr (asked_in ss)) × AreTreesWritten P far_ok read.graph read.sources s status)
+
+abbrev pub TreesOfSome : (P : ℕ) → (far_ok : Bool) → Sources → Scene → Status → Type 0
+TreesOfSome P far_ok (File path) s status = InSome P far_ok (InText None) s status
+TreesOfSome P far_ok (Part path None) s status = ⊥
+TreesOfSome P far_ok (Part path (Some places)) s status = InSome P far_ok (InText (Some places)) s status
+TreesOfSome P far_ok (Given given) s status = InSome P far_ok (λ ss. These given.list.items) s status
+
+-- What `tree` answers: where the layout has no such width, exactly that, with nothing written; else what belongs to the
+-- texts of its files, where they are known; and if it succeeds, whatever is known of them, what belongs to some texts.
+pub record IsTreeAnswer (P : ℕ) (tree : TreeCommand) (s : Scene) (result : Result Status Fault) : Type 0 where
+  pub no_width : ¬ (IsBucket P tree.running.width) → (result ≡ Err fault.DeltaOutOfRange) × IsUnwritten s
+  pub told : IsBucket P tree.running.width → TreesOf P tree.running.far_ok tree.graph.now tree.sources s result
+  pub of_some : IfOk result (TreesOfSome P tree.running.far_ok tree.sources s)
+
+abbrev pub TreeAnswers : (P : ℕ) → Meaning TreeCommand
+TreeAnswers P tree s result = IsTreeAnswer P tree s result
+
+-- These are the paths of the files of `tree`.
+abbrev pub tree_paths : TreeCommand → Paths
+tree_paths tree file.Graph = Some tree.graph.now
+tree_paths tree file.Sources = path_of tree.sources
+tree_paths tree _ = None
+
+-- The word for the places spells none.
+abbrev pub LackPlaces : Sources → Type 0
+LackPlaces (File path) = ⊥
+LackPlaces (Part path places) = places ≡ None
+LackPlaces (Given given) = ⊥
+
+-- These faults the words of `tree` or its texts may bring about: the layout has no such width, a word spells no places,
+-- or a source is no vertex.
+abbrev pub tree_faults : (P : ℕ) → TreeCommand → Fault → Type 0
+tree_faults P tree fault.DeltaOutOfRange = ¬ (IsBucket P tree.running.width)
+tree_faults P tree fault.NoPlaces = LackPlaces tree.sources
+tree_faults P tree (fault.NoSuchVertex source) = Unit {0}
+tree_faults P tree _ = ⊥
 
 -- ## Pairs
 
@@ -141,12 +179,37 @@ PairsTold P far_ok gr pairs s (Err (fault.Input file.Graph e)) = GraphIn P gr (E
 PairsTold P far_ok gr pairs s (Err (fault.Input file.Pairs e)) = HoldsGraph P gr × PairsIn P pairs (Err e) × IsUnwritten s
 PairsTold P far_ok gr pairs s (Err (fault.NoSuchVertex v)) = (read : HoldGraphAndPairs P gr pairs) × IsFirstPairAbove read.graph.n read.list.pairs.items v × IsUnwritten s
 PairsTold P far_ok gr pairs s (Err fault.Memory) = (read : HoldGraphAndPairs P gr pairs) × All (IsPairUpTo read.graph.n) read.list.pairs.items × IsUnwritten s
-PairsTold P far_ok gr pairs s (Err fault.WriteFailed) = (read : HoldGraphAndPairs P gr pairs) × All (IsPairUpTo read.graph.n) read.list.pairs.items × HasBegunPairs P (graph_of read.graph) read.list.pairs.items s.before s.after
+PairsTold P far_ok gr pairs s (Err fault.WriteFailed) = (s.failed ≡ true) × ((read : HoldGraphAndPairs P gr pairs) × All (IsPairUpTo read.graph.n) read.list.pairs.items × HasBegunPairs P (graph_of read.graph) read.list.pairs.items s.before s.after)
 PairsTold P far_ok gr pairs s (Err (fault.CannotOpen kind)) = IsUnwritten s
 PairsTold P far_ok gr pairs s (Err fault.InputTwice) = IsUnwritten s
-PairsTold P far_ok gr pairs s (Err fault.DeltaOutOfRange) = IsUnwritten s
 PairsTold P far_ok gr pairs s (Err _) = ⊥
 
--- what `pairs` answers
-abbrev pub PairsAnswers : (P : ℕ) → Meaning Pairs
-PairsAnswers P given s result = (gr pairs : List ℕ) → HasText s given.graph.now gr → HasText s given.pairs.now pairs → PairsTold P given.running.far_ok gr pairs s result
+-- what belongs to the texts of the files of `pairs`, where they are known
+abbrev pub PairsOf : (P : ℕ) → PairsCommand → Scene → Result Status Fault → Type 0
+PairsOf P given s result = (gr pairs : List ℕ) → HasText s given.graph.now gr → HasText s given.pairs.now pairs → PairsTold P given.running.far_ok gr pairs s result
+
+-- Some texts spell a graph and pairs, and exactly the text of their answers was written.
+abbrev pub PairsOfSome : (P : ℕ) → (far_ok : Bool) → Scene → Status → Type 0
+PairsOfSome P far_ok s status = (gr pairs : List ℕ) × ((read : HoldGraphAndPairs P gr pairs) × ArePairsWritten P far_ok read.graph read.list s status)
+
+-- What `pairs` answers: where the layout has no such width, exactly that, with nothing written; else what belongs to the
+-- texts of its files, where they are known; and if it succeeds, whatever is known of them, what belongs to some texts.
+pub record IsPairsAnswer (P : ℕ) (given : PairsCommand) (s : Scene) (result : Result Status Fault) : Type 0 where
+  pub no_width : ¬ (IsBucket P given.running.width) → (result ≡ Err fault.DeltaOutOfRange) × IsUnwritten s
+  pub told : IsBucket P given.running.width → PairsOf P given s result
+  pub of_some : IfOk result (PairsOfSome P given.running.far_ok s)
+
+abbrev pub PairsAnswers : (P : ℕ) → Meaning PairsCommand
+PairsAnswers P given s result = IsPairsAnswer P given s result
+
+-- These are the paths of the files of `pairs`.
+abbrev pub pairs_paths : PairsCommand → Paths
+pairs_paths given file.Graph = Some given.graph.now
+pairs_paths given file.Pairs = Some given.pairs.now
+pairs_paths given _ = None
+
+-- These faults the words of `pairs` or its texts may bring about: the layout has no such width, or a number is no vertex.
+abbrev pub pairs_faults : (P : ℕ) → PairsCommand → Fault → Type 0
+pairs_faults P given fault.DeltaOutOfRange = ¬ (IsBucket P given.running.width)
+pairs_faults P given (fault.NoSuchVertex number) = Unit {0}
+pairs_faults P given _ = ⊥

@@ -2,13 +2,13 @@
 //!
 //! A command is a type in a file of its own, here or in a crate below, with its words, its help and what it does. A new one is such
 //! a file, and its name in `AnyCommand`.
-use crate::pairs::Pairs;
-use crate::tree::Tree;
+use crate::pairs::PairsCommand;
+use crate::tree::TreeCommand;
 use sp_command::OneOf;
-use sp_tools::{Check, Offers, Replay};
+use sp_tools::{CheckCommand, OffersCommand, ReplayCommand};
 
 /// A command, with what it was given. They stand in the order of the help.
 pub type AnyCommand<'a> = OneOf<
-    Tree<'a>,
-    OneOf<Pairs<'a>, OneOf<Check<'a>, OneOf<Replay<'a>, Offers<'a>>>>,
+    TreeCommand<'a>,
+    OneOf<PairsCommand<'a>, OneOf<CheckCommand<'a>, OneOf<ReplayCommand<'a>, OffersCommand<'a>>>>,
 >;

@@ -3,8 +3,9 @@ ghost use denote.Param.Send.{IsSync};
 ghost use Rattle.std.specs.Prelude.{◌≡◌, ◌≤◌, ℕ, true, List, Option, Some, Ok, Err, IfOk, IfErr, MatchResult};
 ghost use Rattle.sp_word.specs.Word.{is_layout};
 ghost use Rattle.sp_command.specs.Faults.{code_of, is_done, status_of};
-ghost use Rattle.sp_command.specs.Scene.{scene};
-ghost use Rattle.sp_cli.specs.Answers.{PairsAnswers, PairsTold};
+ghost use Rattle.sp_command.specs.Causes.{IsBorneOut};
+ghost use Rattle.sp_command.specs.Scene.{Files, scene};
+ghost use Rattle.sp_cli.specs.Answers.{PairsAnswers, PairsTold, PairsOf, PairsOfSome, pairs_paths, pairs_faults};
 ghost use Rattle.sp_options.specs.Ends.{end_of, fault_of};
 
 use clap::{ArgMatches, Error};
@@ -27,13 +28,13 @@ small graph. Any number gives the same bytes";
 
 /// What `pairs` is given, with the names of its files.
 #[derive(Drop)]
-pub struct Pairs<'a> {
+pub struct PairsCommand<'a> {
     pub graph: &'a str,
     pub pairs: &'a str,
     pub running: Running,
 }
 
-impl<'a> Command<'a> for Pairs<'a> {
+impl<'a> Command<'a> for PairsCommand<'a> {
     const NAME: &'static str = "pairs";
 
     const ABOUT: &'static str = "Write the distance of each pair of a source and a target";
@@ -120,7 +121,7 @@ Others are
         let Some(running) = Running::read(alloc, given)? else {
             return Ok(None);
         };
-        Ok(Some(Pairs {
+        Ok(Some(PairsCommand {
             graph,
             pairs,
             running,
@@ -136,7 +137,7 @@ Others are
     }
 }
 
-impl Pairs<'_> {
+impl PairsCommand<'_> {
     // Tells that all is written, where it is, and how the run ends.
     fn end<F: Inputs>(
         &self,
@@ -168,10 +169,21 @@ impl Pairs<'_> {
         out: &mut W,
     ) -> Result<Status, Fault>
         requires { (is_layout P ≡ true) × IsSync R.row }
-        ensures answered { (gr_text list_text : List ℕ) (texts : List ℕ → Option (List ℕ))
+        ensures answered { (gr_text list_text : List ℕ) (files : Files)
             → G.left gr.old ≡ Some gr_text → S.left pairs.old ≡ Some list_text
             → PairsTold P self.now.running.far_ok gr_text list_text
-            (scene texts (W.written out.old) (W.written out.new)) result }
+            (scene files
+            (W.written out.old) (W.written out.new) (W.has_failed out.new)) result }
+        ensures of_some { (files : Files)
+            → IfOk result (PairsOfSome P self.now.running.far_ok
+            (scene files
+            (W.written out.old) (W.written out.new) (W.has_failed out.new))) }
+        ensures borne_out { (files : Files)
+            → G.failing gr.old ≡ files.failing self.now.graph.now
+            → S.failing pairs.old ≡ files.failing self.now.pairs.now
+            → IfErr result (IsBorneOut (pairs_paths self.now) (pairs_faults P self.now)
+            (scene files
+            (W.written out.old) (W.written out.new) (W.has_failed out.new))) }
         ensures done { IfOk result (λ status. is_done status ≡ true) }
         ensures unwritten { IfErr result
             (λ fault. code_of (status_of fault) ≤ 2 → out.new ≡ out.old) }
@@ -179,11 +191,44 @@ impl Pairs<'_> {
         let answer = run_pairs_told::<P, R, G, S, W, _>(rt, alloc, gr, pairs, out, settings);
         self.end(answer, settings.listener)
     }
+
+    // Runs for the pairs of the file.
+    fn run_file<const P: u32, R: Threads + Wait + Sync, F: Inputs, W: Write>(
+        &self,
+        rt: &R,
+        alloc: Global,
+        files: &F,
+        settings: &Settings<P, Teller<'_, F>>,
+        out: &mut W,
+    ) -> Result<Status, Fault>
+        requires { (is_layout P ≡ true) × IsSync R.row }
+        ensures answered { PairsOf P self.now
+            (scene (F.files files.now)
+            (W.written out.old) (W.written out.new) (W.has_failed out.new)) result }
+        ensures of_some { IfOk result (PairsOfSome P self.now.running.far_ok
+            (scene (F.files files.now)
+            (W.written out.old) (W.written out.new) (W.has_failed out.new))) }
+        ensures borne_out { IfErr result (IsBorneOut (pairs_paths self.now) (pairs_faults P self.now)
+            (scene (F.files files.now)
+            (W.written out.old) (W.written out.new) (W.has_failed out.new))) }
+        ensures done { IfOk result (λ status. is_done status ≡ true) }
+        ensures unwritten { IfErr result
+            (λ fault. code_of (status_of fault) ≤ 2 → out.new ≡ out.old) }
+    {
+        let (gr, pairs) = FileKind::Pairs.open_with_graph(files, self.graph, self.pairs)?;
+        let mut gr = Watched::new(gr, FileKind::Graph, settings.listener);
+        let mut pairs = Watched::new(pairs, FileKind::Pairs, settings.listener);
+        self.run_on::<P, R, _, _, F, W>(rt, alloc, &mut gr, &mut pairs, settings, out)
+    }
 }
 
 // Writes the line of each pair of the list.
-impl<const P: u32> Run<P> for Pairs<'_> {
+impl<const P: u32> Run<P> for PairsCommand<'_> {
     ghost answers = { PairsAnswers P };
+
+    ghost paths = { pairs_paths };
+
+    ghost own_faults = { pairs_faults P };
 
     fn run<R: Threads + Wait + Sync, F: Inputs, W: Write>(
         &self,
@@ -199,9 +244,6 @@ impl<const P: u32> Run<P> for Pairs<'_> {
             workers,
             listener: &teller,
         };
-        let (gr, pairs) = FileKind::Pairs.open_with_graph(files, self.graph, self.pairs)?;
-        let mut gr = Watched::new(gr, FileKind::Graph, &teller);
-        let mut pairs = Watched::new(pairs, FileKind::Pairs, &teller);
-        self.run_on::<P, R, _, _, F, W>(rt, alloc, &mut gr, &mut pairs, &settings, out)
+        self.run_file::<P, R, F, W>(rt, alloc, files, &settings, out)
     }
 }

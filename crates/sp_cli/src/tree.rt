@@ -3,8 +3,10 @@ ghost use denote.Param.Send.{IsSync};
 ghost use Rattle.std.specs.Prelude.{◌≡◌, ◌≤◌, ℕ, true, List, Option, Some, Ok, Err, IfOk, IfErr, MatchResult};
 ghost use Rattle.sp_word.specs.Word.{is_layout};
 ghost use Rattle.sp_command.specs.Faults.{code_of, is_done, status_of};
-ghost use Rattle.sp_command.specs.Scene.{scene};
-ghost use Rattle.sp_cli.specs.Answers.{TreeAnswers, TreesTold, InText, These, TreesOfFile, TreesOfPart, TreesOfGiven};
+ghost use Rattle.sp_command.specs.Causes.{IsBorneOut};
+ghost use Rattle.sp_command.specs.Scene.{Files, scene};
+ghost use Rattle.sp_cli.specs.Answers.{TreeAnswers, TreesTold, InText, These, TreesOf, TreesOfFile, TreesOfGiven, TreesOfSome, InSome, tree_paths, tree_faults};
+ghost use Rattle.sp_options.specs.Sources.{path_of};
 ghost use Rattle.sp_options.specs.Ends.{end_of, fault_of};
 
 use clap::{ArgMatches, Error};
@@ -28,13 +30,13 @@ processors, nor any for a small graph. Any number gives the same bytes";
 
 /// What `tree` is given, with the names of its files.
 #[derive(Drop)]
-pub struct Tree<'a> {
+pub struct TreeCommand<'a> {
     pub graph: &'a str,
     pub sources: Sources<'a>,
     pub running: Running,
 }
 
-impl<'a> Command<'a> for Tree<'a> {
+impl<'a> Command<'a> for TreeCommand<'a> {
     const NAME: &'static str = "tree";
 
     const ABOUT: &'static str = "Write the shortest-path tree of each source";
@@ -138,7 +140,7 @@ Others are
         let Some(sources) = Sources::read(alloc, given)? else {
             return Ok(None);
         };
-        Ok(Some(Tree {
+        Ok(Some(TreeCommand {
             graph,
             sources,
             running,
@@ -154,7 +156,7 @@ Others are
     }
 }
 
-impl Tree<'_> {
+impl TreeCommand<'_> {
     // Tells that all is written, where it is, and how the run ends.
     fn end<F: Inputs>(
         &self,
@@ -186,10 +188,19 @@ impl Tree<'_> {
         out: &mut W,
     ) -> Result<Status, Fault>
         requires { (is_layout P ≡ true) × IsSync R.row }
-        ensures answered { (gr_text ss_text : List ℕ) (texts : List ℕ → Option (List ℕ))
+        ensures answered { (gr_text ss_text : List ℕ) (files : Files)
             → G.left gr.old ≡ Some gr_text → S.left ss.old ≡ Some ss_text
             → TreesTold P self.now.running.far_ok gr_text (InText places ss_text)
-            (scene texts (W.written out.old) (W.written out.new)) result }
+            (scene files
+            (W.written out.old) (W.written out.new) (W.has_failed out.new)) result }
+        ensures of_some { (files : Files)
+            → IfOk result (InSome P self.now.running.far_ok (InText places) (scene files
+            (W.written out.old) (W.written out.new) (W.has_failed out.new))) }
+        ensures borne_out { (files : Files) (path : List ℕ) → path_of self.now.sources ≡ Some path
+            → G.failing gr.old ≡ files.failing self.now.graph.now
+            → S.failing ss.old ≡ files.failing path
+            → IfErr result (IsBorneOut (tree_paths self.now) (tree_faults P self.now) (scene files
+            (W.written out.old) (W.written out.new) (W.has_failed out.new))) }
         ensures done { IfOk result (λ status. is_done status ≡ true) }
         ensures unwritten { IfErr result
             (λ fault. code_of (status_of fault) ≤ 2 → out.new ≡ out.old) }
@@ -198,7 +209,7 @@ impl Tree<'_> {
         self.end(answer, settings.listener)
     }
 
-    // Runs from the sources of a file, or from those at some places of it.
+    // Runs from the sources of the file of this path, or from those at some places of it.
     fn run_file<const P: u32, R: Threads + Wait + Sync, F: Inputs, W: Write>(
         &self,
         rt: &R,
@@ -209,9 +220,17 @@ impl Tree<'_> {
         settings: &Settings<P, Teller<'_, F>>,
         out: &mut W,
     ) -> Result<Status, Fault>
-        requires { (is_layout P ≡ true) × IsSync R.row }
+        requires run { (is_layout P ≡ true) × IsSync R.row }
+        requires path { path_of self.now.sources ≡ Some path.now }
         ensures answered { TreesOfFile P self.now.running.far_ok self.now.graph.now path.now places
-            (scene (F.text files.now) (W.written out.old) (W.written out.new)) result }
+            (scene (F.files files.now)
+            (W.written out.old) (W.written out.new) (W.has_failed out.new)) result }
+        ensures of_some { IfOk result (InSome P self.now.running.far_ok (InText places)
+            (scene (F.files files.now)
+            (W.written out.old) (W.written out.new) (W.has_failed out.new))) }
+        ensures borne_out { IfErr result (IsBorneOut (tree_paths self.now) (tree_faults P self.now)
+            (scene (F.files files.now)
+            (W.written out.old) (W.written out.new) (W.has_failed out.new))) }
         ensures done { IfOk result (λ status. is_done status ≡ true) }
         ensures unwritten { IfErr result
             (λ fault. code_of (status_of fault) ≤ 2 → out.new ≡ out.old) }
@@ -220,30 +239,6 @@ impl Tree<'_> {
         let mut gr = Watched::new(gr, FileKind::Graph, settings.listener);
         let mut ss = Watched::new(ss, FileKind::Sources, settings.listener);
         self.run_on::<P, R, _, _, F, W>(rt, alloc, &mut gr, &mut ss, places, settings, out)
-    }
-
-    // Runs from the sources at some places of a file, where the word for the places spells some.
-    fn run_part<const P: u32, R: Threads + Wait + Sync, F: Inputs, W: Write>(
-        &self,
-        rt: &R,
-        alloc: Global,
-        files: &F,
-        path: &str,
-        places: &Option<Places>,
-        settings: &Settings<P, Teller<'_, F>>,
-        out: &mut W,
-    ) -> Result<Status, Fault>
-        requires { (is_layout P ≡ true) × IsSync R.row }
-        ensures answered { TreesOfPart P self.now.running.far_ok self.now.graph.now path.now
-            places.now (scene (F.text files.now) (W.written out.old) (W.written out.new)) result }
-        ensures done { IfOk result (λ status. is_done status ≡ true) }
-        ensures unwritten { IfErr result
-            (λ fault. code_of (status_of fault) ≤ 2 → out.new ≡ out.old) }
-    {
-        if places.is_none() {
-            return Err(Fault::NoPlaces);
-        }
-        self.run_file::<P, R, F, W>(rt, alloc, files, path, *places, settings, out)
     }
 
     // Runs from the sources that were given, in the graph of a text.
@@ -257,10 +252,17 @@ impl Tree<'_> {
         out: &mut W,
     ) -> Result<Status, Fault>
         requires { (is_layout P ≡ true) × IsSync R.row }
-        ensures answered { (gr_text : List ℕ) (texts : List ℕ → Option (List ℕ))
-            → G.left gr.old ≡ Some gr_text
+        ensures answered { (gr_text : List ℕ) (files : Files) → G.left gr.old ≡ Some gr_text
             → TreesTold P self.now.running.far_ok gr_text (These given.now.list.items)
-            (scene texts (W.written out.old) (W.written out.new)) result }
+            (scene files
+            (W.written out.old) (W.written out.new) (W.has_failed out.new)) result }
+        ensures of_some { (files : Files)
+            → IfOk result (InSome P self.now.running.far_ok (λ _. These given.now.list.items)
+            (scene files
+            (W.written out.old) (W.written out.new) (W.has_failed out.new))) }
+        ensures borne_out { (files : Files) → G.failing gr.old ≡ files.failing self.now.graph.now
+            → IfErr result (IsBorneOut (tree_paths self.now) (tree_faults P self.now) (scene files
+            (W.written out.old) (W.written out.new) (W.has_failed out.new))) }
         ensures done { IfOk result (λ status. is_done status ≡ true) }
         ensures unwritten { IfErr result
             (λ fault. code_of (status_of fault) ≤ 2 → out.new ≡ out.old) }
@@ -282,7 +284,15 @@ impl Tree<'_> {
         requires { (is_layout P ≡ true) × IsSync R.row }
         ensures answered { TreesOfGiven P self.now.running.far_ok self.now.graph.now
             given.now.list.items
-            (scene (F.text files.now) (W.written out.old) (W.written out.new)) result }
+            (scene (F.files files.now)
+            (W.written out.old) (W.written out.new) (W.has_failed out.new)) result }
+        ensures of_some { IfOk result
+            (InSome P self.now.running.far_ok (λ _. These given.now.list.items)
+            (scene (F.files files.now)
+            (W.written out.old) (W.written out.new) (W.has_failed out.new))) }
+        ensures borne_out { IfErr result (IsBorneOut (tree_paths self.now) (tree_faults P self.now)
+            (scene (F.files files.now)
+            (W.written out.old) (W.written out.new) (W.has_failed out.new))) }
         ensures done { IfOk result (λ status. is_done status ≡ true) }
         ensures unwritten { IfErr result
             (λ fault. code_of (status_of fault) ≤ 2 → out.new ≡ out.old) }
@@ -291,11 +301,54 @@ impl Tree<'_> {
         let mut gr = Watched::new(gr, FileKind::Graph, settings.listener);
         self.run_given_on::<P, R, _, F, W>(rt, alloc, &mut gr, given, settings, out)
     }
+
+    // Runs from the sources, whichever they are.
+    fn run_all<const P: u32, R: Threads + Wait + Sync, F: Inputs, W: Write>(
+        &self,
+        rt: &R,
+        alloc: Global,
+        files: &F,
+        settings: &Settings<P, Teller<'_, F>>,
+        out: &mut W,
+    ) -> Result<Status, Fault>
+        requires { (is_layout P ≡ true) × IsSync R.row }
+        ensures answered { TreesOf P self.now.running.far_ok self.now.graph.now self.now.sources
+            (scene (F.files files.now)
+            (W.written out.old) (W.written out.new) (W.has_failed out.new)) result }
+        ensures of_some { IfOk result (TreesOfSome P self.now.running.far_ok self.now.sources
+            (scene (F.files files.now)
+            (W.written out.old) (W.written out.new) (W.has_failed out.new))) }
+        ensures borne_out { IfErr result (IsBorneOut (tree_paths self.now) (tree_faults P self.now)
+            (scene (F.files files.now)
+            (W.written out.old) (W.written out.new) (W.has_failed out.new))) }
+        ensures done { IfOk result (λ status. is_done status ≡ true) }
+        ensures unwritten { IfErr result
+            (λ fault. code_of (status_of fault) ≤ 2 → out.new ≡ out.old) }
+    {
+        match &self.sources {
+            Sources::File(path) => {
+                self.run_file::<P, R, F, W>(rt, alloc, files, path, None, settings, out)
+            }
+            Sources::Part(path, places) => {
+                if places.is_none() {
+                    return Err(Fault::NoPlaces);
+                }
+                self.run_file::<P, R, F, W>(rt, alloc, files, path, *places, settings, out)
+            }
+            Sources::Given(given) => {
+                self.run_given::<P, R, F, W>(rt, alloc, files, given, settings, out)
+            }
+        }
+    }
 }
 
 // Writes the tree of each source of the list, or the line of the vertex that is too far.
-impl<const P: u32> Run<P> for Tree<'_> {
+impl<const P: u32> Run<P> for TreeCommand<'_> {
     ghost answers = { TreeAnswers P };
+
+    ghost paths = { tree_paths };
+
+    ghost own_faults = { tree_faults P };
 
     fn run<R: Threads + Wait + Sync, F: Inputs, W: Write>(
         &self,
@@ -311,16 +364,6 @@ impl<const P: u32> Run<P> for Tree<'_> {
             workers,
             listener: &teller,
         };
-        match &self.sources {
-            Sources::File(path) => {
-                self.run_file::<P, R, F, W>(rt, alloc, files, path, None, &settings, out)
-            }
-            Sources::Part(path, places) => {
-                self.run_part::<P, R, F, W>(rt, alloc, files, path, places, &settings, out)
-            }
-            Sources::Given(given) => {
-                self.run_given::<P, R, F, W>(rt, alloc, files, given, &settings, out)
-            }
-        }
+        self.run_all::<P, R, F, W>(rt, alloc, files, &settings, out)
     }
 }

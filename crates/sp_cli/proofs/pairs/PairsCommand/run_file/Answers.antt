@@ -1,0 +1,13 @@
+use Rattle.std.proofs.Common.{◌∙◌}
+use Rattle.sp_cli.proofs.pairs.PairsCommand.run_file.Goals as goal
+
+pub returns-clause-answered : goal.returns-clause-answered
+returns-clause-answered g c = λ gr pairs gr_is pairs_is.
+    c.run_on.ensures.answered gr pairs (g.F.Inputs.files c.args.files.now) (c.new-gr.ensures.left ∙ c.in_ok-gr.ensures.graph.gives gr gr_is) (c.new-pairs.ensures.left ∙ c.in_ok-gr.ensures.file.gives pairs pairs_is)
+
+pub returns-clause-of_some : goal.returns-clause-of_some
+returns-clause-of_some g c = c.run_on.ensures.of_some (g.F.Inputs.files c.args.files.now)
+
+pub returns-clause-borne_out : goal.returns-clause-borne_out
+returns-clause-borne_out g c =
+    c.run_on.ensures.borne_out (g.F.Inputs.files c.args.files.now) (c.new-gr.ensures.failing ∙ c.in_ok-gr.ensures.graph.failing) (c.new-pairs.ensures.failing ∙ c.in_ok-gr.ensures.file.failing)
