@@ -31,12 +31,9 @@ OF_A_FIELD = "it lends out a field, and nothing else of that type lives as long"
 OF_TESTS = "it makes what tests run on, which tell whether it is right"
 # by the path of a function, with its crate
 EXCEPTIONS = {
-    "sp_answer::tree::Tree::of_words": NONE_YET,
     "sp_command::faults::Fault::from": NONE_YET,
     "sp_command::faults::FileKind::fault": NONE_YET,
     "sp_command::text::print_short": NONE_YET,
-    "sp_dimacs::piece::Piece::bytes": NONE_YET,
-    "sp_dimacs::piece::Piece::new": NONE_YET,
     "sp_disk::disk::Disk::open_input": NONE_YET,
     "sp_disk::noted::Noted::read": NONE_YET,
     "sp_disk::noted::Noted::write": NONE_YET,
@@ -56,9 +53,6 @@ EXCEPTIONS = {
     "sp_store::store::Store::graph": OF_A_FIELD,
     "sp_store::store::Store::table": OF_A_FIELD,
     "sp_team::team::relax_all": NONE_YET,
-    "sp_text::collecting::Collector::is_closed": NONE_YET,
-    "sp_text::collecting::Collector::needs_lf": NONE_YET,
-    "sp_text::collecting::Collector::take_line": NONE_YET,
     "tests_round_samples::any_tasks": OF_TESTS,
     "tests_samples::arcs_of": OF_TESTS,
     "tests_samples::graph_of": OF_TESTS,
