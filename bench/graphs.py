@@ -10,6 +10,13 @@ KIND is one of
   parts     several grids without an arc between them, so that most vertices are unreachable
   parallel  a grid in which arcs stand several times with other lengths, and vertices have loops
   far       a line of arcs of the greatest length, whose end is too far for a word with 28 bits of predecessor
+  path      a line of arcs of length 1
+  star      arcs from one vertex to all others, and back
+and of those whose lengths differ much, which are hostile to a schedule that goes by one width:
+  ladder    two lines of short streets with rungs between them, of which one in fifty is closed: its length is 1,000,000,000
+  closed    the roads, of which one in fifty is closed
+  lognormal a grid of lengths that are log-normal, from 1 to 100,000,000, most of them near 1,000
+  late      a chain of gadgets in which whoever takes the newest entry first corrects each distance many times over
 
 The same arguments make the same files.
 """
@@ -70,7 +77,55 @@ def far(n, _draw):
         yield vertex, vertex + 1, LONGEST
 
 
+CLOSED = 1_000_000_000
+
+
+def path(n, _draw):
+    for vertex in range(1, n):
+        yield vertex, vertex + 1, 1
+
+
+def star(n, draw):
+    for vertex in range(2, n + 1):
+        length = draw.randint(1, 1000)
+        yield 1, vertex, length
+        yield vertex, 1, length
+
+
+def ladder(n, draw):
+    half = n // 2
+    for vertex in range(1, n + 1):
+        for other in (vertex + 1, vertex + half):
+            if other > n or vertex == half:
+                continue
+            length = CLOSED if draw.random() < 0.02 else draw.randint(1, 100)
+            yield vertex, other, length
+            yield other, vertex, length
+
+
+def closed(n, draw):
+    for tail, head, length in roads(n, draw):
+        yield tail, head, CLOSED if draw.random() < 0.02 else length
+
+
+def lognormal(n, draw):
+    yield from grid(n, draw, lambda: min(100_000_000, max(1, int(draw.lognormvariate(7, 3)))))
+
+
+# The arcs of a gadget of 2k + 1 vertices: over its step i one may go at once, at a cost of 2^(k-i), or by a vertex beside, for 2.
+# The dear way is tried first, so each later one is found shorter when the steps behind it were done already.
+def late(n, _draw):
+    steps = 20
+    for first in range(1, n - 2 * steps, 2 * steps):
+        for step in range(steps):
+            vertex = first + 2 * step
+            yield vertex, vertex + 2, 2 + 2 ** (steps - step)
+            yield vertex, vertex + 1, 1
+            yield vertex + 1, vertex + 2, 1
+
+
 KINDS = {"roads": roads, "random": at_random, "ties": ties, "parts": parts, "parallel": parallel, "far": far}
+KINDS.update(path=path, star=star, ladder=ladder, closed=closed, lognormal=lognormal, late=late)
 
 
 def write_graph(path, kind, n, seed, shuffled=False):

@@ -10,6 +10,11 @@ const SLOTS: usize = 256;
 
 const WHEELS: usize = 8;
 
+// The number of slots that one word of the marks is about, and the number of these words.
+const MARKED: usize = 64;
+
+const MARKS: usize = SLOTS * WHEELS / MARKED;
+
 /// Entries by bucket, in hierarchical wheels like those in which G. Varghese and T. Lauck keep timers ("Hashed and
 /// hierarchical timing wheels", 1987).
 ///
@@ -26,8 +31,13 @@ pub struct Bins {
     lowest: u64,
     // The slots of all wheels, with the first wheel's first.
     slots: Vec<Vec<Entry>>,
+    // A bit for each slot, which is set where the slot has an entry.
+    marks: Vec<u64>,
+    // The least distance of the entries that were put since entries were taken last.
+    latest: u64,
     ghost narrow: { shift < 64 },
     ghost size: { vec_len slots ≡ 2048 },
+    ghost marked: { vec_len marks ≡ 32 },
 }
 
 fn empty_slots(alloc: Global) -> Result<Vec<Vec<Entry>>, AllocError>
@@ -41,6 +51,11 @@ fn empty_slots(alloc: Global) -> Result<Vec<Vec<Entry>>, AllocError>
     Ok(slots)
 }
 
+// Returns the bit of a slot in its word of the marks.
+fn bit_of(place: usize) -> u64 {
+    1 << (place % MARKED)
+}
+
 impl Bins {
     /// Makes bins whose buckets are 2 to the power of `shift` wide.
     pub fn new(alloc: Global, shift: u32) -> Result<Bins, AllocError> {
@@ -49,6 +64,8 @@ impl Bins {
             shift: shift.min(63),
             lowest: 0,
             slots: empty_slots(alloc)?,
+            marks: vec![in alloc; 0; MARKS]?,
+            latest: u64::MAX,
         })
     }
 
@@ -76,18 +93,47 @@ impl Bins {
     pub fn put(&mut self, entry: Entry) -> Result<(), AllocError> {
         let place = self.place_of(self.bucket_of(entry.dist));
         self.slots[place].push(entry)?;
+        self.marks[place / MARKED] |= bit_of(place);
+        self.latest = self.latest.min(entry.dist);
         Ok(())
     }
 
-    /// Replaces a list that was worked off by the entries of the bucket that is being emptied. Returns whether there
-    /// are any.
-    pub fn refill(&mut self, list: &mut Vec<Entry>) -> bool {
-        let place = self.place_of(self.lowest);
-        if self.slots[place].is_empty() {
-            return false;
+    /// Returns the least distance of the entries that were put since entries were taken last, if there are any.
+    pub fn latest(&self) -> u64 {
+        self.latest
+    }
+
+    // Moves the entries of a slot to the end of a list.
+    fn empty(&mut self, place: usize, list: &mut Vec<Entry>) -> Result<(), AllocError>
+        requires { place < 2048 }
+    {
+        if list.is_empty() {
+            mem::swap(list, &mut self.slots[place]);
+        } else {
+            list.extend_from_slice(&self.slots[place])?;
+            self.slots[place].clear();
         }
-        *list = mem::replace(&mut self.slots[place], Vec::new(self.alloc));
-        true
+        self.marks[place / MARKED] &= !bit_of(place);
+        Ok(())
+    }
+
+    /// Replaces a list that was worked off by the entries of the bucket that is being emptied, and of the next buckets in the first
+    /// wheel, bucket after bucket, until it has as many as wanted. Where it stays empty, `advance` goes on to the next bucket.
+    pub fn refill(&mut self, list: &mut Vec<Entry>, wanted: usize) -> Result<(), AllocError> {
+        list.clear();
+        self.latest = u64::MAX;
+        let lowest = self.place_of(self.lowest);
+        self.empty(lowest, list)?;
+        for _ in 0..SLOTS {
+            if list.is_empty() || list.len() >= wanted {
+                break;
+            }
+            match self.first_place() {
+                Some(place) if place < SLOTS => self.empty(place, list)?,
+                _ => break,
+            }
+        }
+        Ok(())
     }
 
     /// Makes this the bucket that is emptied, if there is no entry at all.
@@ -99,10 +145,11 @@ impl Bins {
     fn first_place(&self) -> Option<usize>
         ensures { IfSome result (λ place. place < 2048) }
     {
-        let first = (self.lowest % SLOTS as u64) as usize;
-        for place in first..SLOTS * WHEELS {
-            if !self.slots[place].is_empty() {
-                return Some(place);
+        let first = (self.lowest % SLOTS as u64) as usize / MARKED;
+        for word in first..MARKS {
+            let marks = self.marks[word];
+            if marks != 0 {
+                return Some(word * MARKED + marks.trailing_zeros() as usize);
             }
         }
         None
@@ -126,6 +173,7 @@ impl Bins {
         requires { place < 2048 }
     {
         let entries = mem::replace(&mut self.slots[place], Vec::new(self.alloc));
+        self.marks[place / MARKED] &= !bit_of(place);
         if let Some(bucket) = self.lowest_of(&entries) {
             self.lowest = bucket;
         }

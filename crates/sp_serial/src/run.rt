@@ -12,13 +12,13 @@ use std::alloc::{AllocError, Global};
 
 /// Returns the shortest-path tree from `source`, or the smallest vertex that is too far.
 ///
-/// `delta` is the width of a bucket, rounded down to a power of two; the answer is the same for every width. The run
-/// takes 8 bytes for the word of each vertex, and 16 for each vertex that waits in a bucket. It fails only if there is
-/// no memory for them.
+/// The answer is the same for every `delta`, and so is the way to it: one thread takes its entries by rising distance,
+/// so that a width of buckets has no bearing on what it does. The run takes 8 bytes for the word of each vertex, and 16
+/// for each entry that waits. It fails only if there is no memory for them.
 pub fn solve_alone<const P: u32>(
     alloc: Global,
     graph: &Graph,
-    delta: Delta<P>,
+    _delta: Delta<P>,
     source: u32,
 ) -> Result<Answer<P>, AllocError>
     requires layout { is_layout P ≡ true }
@@ -27,7 +27,7 @@ pub fn solve_alone<const P: u32>(
     ensures answer { IfOk result (IsAnswer graph.now source (max_dist P)) }
     ensures predecessors { IfOk result (ArePredsWithin graph.now.n) }
 {
-    let mut words = open_table(alloc, graph, source)?;
-    search(alloc, graph, delta, source, None, &mut words)?;
+    let mut words = open_table::<P>(alloc, graph, source)?;
+    search(alloc, graph, source, None, &mut words)?;
     Ok(finish_table(graph, source, words))
 }

@@ -7,7 +7,7 @@ ghost use Rattle.sp_plain.specs.Passing.{IsTableOfWalks};
 use sp_bins::{Bins, Entry};
 use sp_graph::{Graph, look_up};
 use sp_plain::relax;
-use sp_word::{Delta, Word};
+use sp_word::Word;
 use std::alloc::{AllocError, Global};
 
 // Relaxes the arcs of an entry's vertex, if the vertex still has the entry's distance. Heads that came nearer are put
@@ -80,7 +80,6 @@ fn is_before<const P: u32>(words: &[Word<P>], target: Option<u32>, bins: &Bins, 
 pub(crate) fn search<const P: u32>(
     alloc: Global,
     graph: &Graph,
-    delta: Delta<P>,
     source: u32,
     target: Option<u32>,
     words: &mut Vec<Word<P>>,
@@ -92,7 +91,8 @@ pub(crate) fn search<const P: u32>(
     requires walks { IsTableOfWalks graph.now source (max_dist P) words.old.items }
     ensures walks { IsTableOfWalks graph.now source (max_dist P) words.new.items }
 {
-    let mut bins = Bins::new(alloc, delta.get().ilog2())?;
+    // A bucket for each distance: a wider one would be relaxed in any order, many times over where lengths differ much.
+    let mut bins = Bins::new(alloc, 0)?;
     bins.put(Entry {
         vertex: source,
         dist: 0,
@@ -100,7 +100,8 @@ pub(crate) fn search<const P: u32>(
     let mut entries = Vec::new(alloc);
     // If entries were left after so many buckets, the passes would still find what they lead to.
     for _ in 0..u64::MAX {
-        if bins.refill(&mut entries) {
+        bins.refill(&mut entries, 1)?;
+        if !entries.is_empty() {
             relax_rows(graph, source, &entries, words, &mut bins)?;
             continue;
         }

@@ -82,7 +82,7 @@ fn whole_answer<const P: u32>(
 pub fn solve_target<const P: u32>(
     alloc: Global,
     graph: &Graph,
-    delta: Delta<P>,
+    _delta: Delta<P>,
     source: u32,
     target: u32,
 ) -> Result<TargetAnswer, AllocError>
@@ -92,8 +92,8 @@ pub fn solve_target<const P: u32>(
     requires room { graph.now.n ≤ max_pred P }
     ensures { IfOk result (IsAnswerFor graph.now source target (max_dist P)) }
 {
-    let mut words = open_table(alloc, graph, source)?;
-    search(alloc, graph, delta, source, Some(target), &mut words)?;
+    let mut words = open_table::<P>(alloc, graph, source)?;
+    search(alloc, graph, source, Some(target), &mut words)?;
     if let Some(answer) = near_answer(graph, source, target, &words) {
         return Ok(answer);
     }

@@ -24,7 +24,7 @@ pub struct Common {
     pub queue: Vec<u32>,
     /// The vertices whose words are looked for; all vertices, where none is named.
     pub targets: Vec<u32>,
-    /// The width of a bucket is 2 to this power.
+    /// The width of a bucket is 2 to this power. A worker that is alone has a bucket for each distance.
     pub shift: u32,
     /// How many buckets a worker may be ahead of the others without waiting for them.
     pub ahead: u64,
@@ -46,7 +46,11 @@ impl Common {
             stealers,
             queue: Vec::from_slice(alloc, queue)?,
             targets: Vec::from_slice(alloc, targets)?,
-            shift: team.delta.get().ilog2().saturating_sub(FINER),
+            shift: if workers == 1 {
+                0
+            } else {
+                team.delta.get().ilog2().saturating_sub(FINER)
+            },
             ahead: 1 << FINER,
         };
         Ok((common, owners))

@@ -8,11 +8,15 @@ use sp_bins::{Bins, Entry};
 use sp_word::Meter;
 use std::alloc::{AllocError, Global};
 use std::hint::spin_loop;
+use std::mem;
 use std::sync::Wait;
 use std::thread::yield_now;
 
 /// The fewest entries that are worth a chunk.
 const LEAST_PIECE: usize = 16;
+
+/// As many entries of several distances are taken from the bins at once, at the most.
+const MOST_TAKEN: usize = 16;
 
 /// How often a worker that is ahead looks for the others before it goes on all the same.
 const PATIENCE: u32 = 1000;
@@ -38,6 +42,10 @@ pub struct Hands<'m> {
     // what is worked off, and how much of it is done
     list: Vec<Entry>,
     next: usize,
+    // whether entries are to be taken by rising distance, as a bucket has those of one distance alone
+    is_exact: bool,
+    // how many entries are to be taken from the bins next
+    wanted: usize,
     tally: Tally<'m>,
 }
 
@@ -70,6 +78,8 @@ impl<'m> Hands<'m> {
             bins: Bins::new(common.alloc, common.shift)?,
             list: Vec::new(common.alloc),
             next: 0,
+            is_exact: common.shift == 0,
+            wanted: 1,
             tally: Tally::new(meter),
         })
     }
@@ -91,15 +101,40 @@ impl<'m> Hands<'m> {
         front
     }
 
-    /// Takes the next entry of the list.
+    /// Takes the next entry of the list, unless a nearer one has been put meanwhile.
     pub fn take(&mut self) -> Option<Entry> {
-        if self.next < self.list.len() {
-            let entry = self.list[self.next];
-            self.next += 1;
-            Some(entry)
-        } else {
-            None
+        let entry = *self.list.get(self.next)?;
+        if self.is_exact && self.bins.latest() < entry.dist {
+            return None;
         }
+        self.next = self.next.saturating_add(1);
+        Some(entry)
+    }
+
+    // Puts the rest of the list back, where a nearer entry has been put meanwhile: fewer are taken at once then, and more again where
+    // there was none. Returns whether the list has a next entry.
+    fn keeps_next(&mut self) -> Result<bool, AllocError> {
+        let Some(entry) = self.list.get(self.next) else {
+            self.wanted = self.wanted.saturating_mul(2).min(MOST_TAKEN);
+            return Ok(false);
+        };
+        if !self.is_exact || entry.dist <= self.bins.latest() {
+            return Ok(true);
+        }
+        self.wanted = (self.wanted / 2).max(1);
+        let list = mem::replace(&mut self.list, Vec::new(self.alloc));
+        for entry in list.get(self.next..).unwrap_or(&[]) {
+            self.bins.put(*entry)?;
+        }
+        Ok(false)
+    }
+
+    // Replaces the list that was worked off by the next entries. Returns whether there are any in the bucket that is being emptied.
+    fn refill(&mut self) -> Result<bool, AllocError> {
+        self.next = 0;
+        let wanted = if self.is_exact { self.wanted } else { 1 };
+        self.bins.refill(&mut self.list, wanted)?;
+        Ok(!self.list.is_empty())
     }
 
     /// Counts one vertex more that was relaxed.
@@ -249,17 +284,15 @@ impl<'m> Hands<'m> {
     /// Sees to it that the list has an entry. False says that all work is done.
     pub fn find<R: Wait>(&mut self, rt: &R, common: &Common) -> Result<bool, AllocError> {
         for _ in rt.forever() {
-            if self.left() > 0 {
+            if self.keeps_next()? {
                 if common.signals.hungry() > 0 {
                     self.share(common)?;
                 }
                 return Ok(true);
             }
-            self.next = 0;
-            if self.bins.refill(&mut self.list) {
+            if self.refill()? {
                 continue;
             }
-            self.list.clear();
             if let Some(chunk) = self.own.pop() {
                 common.signals.taken();
                 self.hold(chunk);

@@ -14,14 +14,14 @@ fn take_bucket(
     counts: &mut [u32],
 ) -> Result<usize, Fail> {
     let mut list = Vec::new(alloc);
-    assert!(rt; bins.refill(&mut list));
+    bins.refill(&mut list, 1)?;
+    assert!(rt; !list.is_empty());
     for entry in &list {
         assert_eq!(rt; bins.bucket_of(entry.dist), bucket);
         if let Some(count) = counts.get_mut(entry.vertex as usize) {
             *count = count.saturating_add(1);
         }
     }
-    assert!(rt; !bins.refill(&mut list));
     Ok(list.len())
 }
 
@@ -96,8 +96,31 @@ fn entries_below_the_lowest_come_at_once(rt: HostRuntime) -> Result<(), Fail> {
     })?;
     assert_eq!(rt; bins.advance()?, Some(1000));
     let mut list = Vec::new(rt.alloc());
-    assert!(rt; bins.refill(&mut list));
+    bins.refill(&mut list, 1)?;
     assert!(rt; list.iter().all(|entry| entry.vertex == 1) && list.len() == 1);
     assert_eq!(rt; bins.advance()?, Some(1001));
+    Ok(())
+}
+
+// Several buckets are taken at once, in their order, and the least distance that was put since is told.
+#[test]
+fn as_many_as_wanted_are_taken(rt: HostRuntime) -> Result<(), Fail> {
+    let mut bins = Bins::new(rt.alloc(), 0)?;
+    for dist in [9, 5, 5, 200, 300] {
+        bins.put(Entry { vertex: 1, dist })?;
+    }
+    assert_eq!(rt; bins.latest(), 5);
+    assert_eq!(rt; bins.advance()?, Some(5));
+    let mut list = Vec::new(rt.alloc());
+    bins.refill(&mut list, 3)?;
+    let dists: Vec<u64> = list.iter().map(|entry| entry.dist).collect(rt.alloc())?;
+    assert_eq!(rt; dists.as_slice(), [5, 5, 9]);
+    assert_eq!(rt; bins.latest(), u64::MAX);
+    bins.put(Entry { vertex: 1, dist: 7 })?;
+    assert_eq!(rt; bins.latest(), 7);
+    assert_eq!(rt; bins.advance()?, Some(7));
+    bins.refill(&mut list, 3)?;
+    assert_eq!(rt; list.len(), 2);
+    assert_eq!(rt; bins.advance()?, Some(300));
     Ok(())
 }
