@@ -157,7 +157,8 @@ fn answer_group<const P: u32, R: Threads + Wait + Sync + Watch, W: Write, L: Lis
     requires some { 0 < length sources.now }
     requires few { length sources.now ≤ MOST_WORKERS }
     requires vertices { All (IsVertex job.now.graph.now.n) sources.now }
-    ensures { MovesOn job.now.graph.now waiting.entry.items sources.now W.Write out.old result out.new }
+    ensures { MovesOn job.now.graph.now
+        waiting.entry.items sources.now W.Write out.old result out.new }
 {
     let (found, written) = find_and_write::<P, R, W, L>(rt, alloc, job, sources, &waiting, out);
     let summary = written?;

@@ -208,8 +208,8 @@ impl PairsCommand<'_> {
         ensures of_some { IfOk result (PairsOfSome P self.now.running.far_ok
             (scene (F.files files.now)
             (W.written out.old) (W.written out.new) (W.has_failed out.new))) }
-        ensures borne_out { IfErr result (IsBorneOut (pairs_paths self.now) (pairs_faults P self.now)
-            (scene (F.files files.now)
+        ensures borne_out { IfErr result (IsBorneOut
+            (pairs_paths self.now) (pairs_faults P self.now) (scene (F.files files.now)
             (W.written out.old) (W.written out.new) (W.has_failed out.new))) }
         ensures done { IfOk result (λ status. is_done status ≡ true) }
         ensures unwritten { IfErr result

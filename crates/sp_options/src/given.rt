@@ -70,7 +70,8 @@ impl Given {
 // The numbers that values spell, if each does.
 fn numbers_of(alloc: Global, values: ValuesRef<'_, '_, u32>) -> Result<Option<Vec<u32>>, AllocError>
     ensures { IfOk result (λ found. MatchOption found
-        ((list : List ℕ) → SpellNumbers (values_left values.entry) list → All (λ v. v < 2 ^ 32) list → ⊥)
+        ((list : List ℕ) → SpellNumbers (values_left values.entry) list
+        → All (λ v. v < 2 ^ 32) list → ⊥)
         (λ list. SpellNumbers (values_left values.entry) list.items)) }
 {
     let mut list = Vec::new(alloc);

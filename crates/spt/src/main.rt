@@ -35,7 +35,13 @@ where
     if !take_stack(arguments.len(), words.len()) {
         return Err(io::ErrorKind::OutOfMemory.into());
     }
-    let mut files = *disk;
+    let mut files = Disk {
+        rt,
+        stdin: disk.stdin,
+        stderr: disk.stderr,
+        process: disk.process,
+        notes: disk.notes,
+    };
     if !words.contains(&"--progress") {
         return Ok(run_command(rt, alloc, &words, &mut files, out, err));
     }
