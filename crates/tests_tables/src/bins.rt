@@ -114,7 +114,7 @@ fn as_many_as_wanted_are_taken(rt: HostRuntime) -> Result<(), Fail> {
     let mut list = Vec::new(rt.alloc());
     bins.refill(&mut list, 3)?;
     let dists: Vec<u64> = list.iter().map(|entry| entry.dist).collect(rt.alloc())?;
-    assert_eq!(rt; dists.as_slice(), [5, 5, 9]);
+    assert_eq!(rt; dists.as_slice(), [5u64, 5, 9].as_slice());
     assert_eq!(rt; bins.latest(), u64::MAX);
     bins.put(Entry { vertex: 1, dist: 7 })?;
     assert_eq!(rt; bins.latest(), 7);
