@@ -1,6 +1,8 @@
 //! Runs of the program over memory whose devices may fail.
+ghost use Rattle.std.specs.Prelude.{◌≡◌, false, IfSome};
+
 use sp_cli::{Inputs, Outputs, run_command};
-use sp_device::{UpTo, UpToWriter, WriteFault};
+use sp_device::{Failed, Read, UpTo, UpToWriter, WriteFault};
 use std::alloc::{AllocError, Global};
 use std::process::Abort;
 use std::str::from_utf8;
@@ -23,6 +25,24 @@ pub enum Stored<'a> {
 /// A file with this text.
 pub fn whole(text: &str) -> Stored<'_> {
     Stored::Whole(text.as_bytes())
+}
+
+// A device of which nothing is said of when it may fail.
+#[derive(Drop)]
+pub struct Device<R> {
+    inner: R,
+}
+
+impl<R: Read> Read for Device<R> {
+    ghost left = { λ d. R.left d.inner };
+
+    ghost passed = { λ d. R.passed d.inner };
+
+    ghost has_failed = { λ d. R.has_failed d.inner };
+
+    fn read(&mut self, buf: &mut [u8]) -> Result<usize, Failed> {
+        self.inner.read(buf)
+    }
 }
 
 // Files over memory, by name. None can be made.
@@ -52,9 +72,9 @@ impl Outputs for Shelf<'_> {
 }
 
 impl<'a> Inputs for Shelf<'a> {
-    type File = UpTo<'a>;
+    type File = Device<UpTo<'a>>;
 
-    fn open_input(&self, path: &str) -> Option<UpTo<'a>> {
+    fn open_input(&self, path: &str) -> Option<Device<UpTo<'a>>> {
         for (name, stored) in self.files {
             if *name == path {
                 return reader(*stored);
@@ -64,12 +84,15 @@ impl<'a> Inputs for Shelf<'a> {
     }
 }
 
-fn reader<'a>(stored: Stored<'a>) -> Option<UpTo<'a>> {
-    match stored {
-        Stored::Whole(bytes) if bytes.len() <= AMPLE => Some(UpTo::whole(bytes)),
-        Stored::Failing(bytes) if bytes.len() <= AMPLE => Some(UpTo::failing(bytes)),
-        _ => None,
-    }
+fn reader<'a>(stored: Stored<'a>) -> Option<Device<UpTo<'a>>>
+    ensures { IfSome result (λ file. ⟦<Device<UpTo<'a>> as Read>⟧.has_failed file ≡ false) }
+{
+    let inner = match stored {
+        Stored::Whole(bytes) if bytes.len() <= AMPLE => UpTo::whole(bytes),
+        Stored::Failing(bytes) if bytes.len() <= AMPLE => UpTo::failing(bytes),
+        _ => return None,
+    };
+    Some(Device { inner })
 }
 
 /// What a run of the program gave.
