@@ -1,17 +1,20 @@
 //! A whole run of the program.
 ghost use Rattle.std.specs.Prelude.{◌≡◌, ◌≤◌};
+ghost use Rattle.sp_command.specs.Layouts.{IsRunIn};
+ghost use Rattle.sp_command.specs.Scene.{scene};
+ghost use Rattle.sp_order.specs.Told.{IsAnswered};
 
 use crate::commands::AnyCommand;
-use sp_command::Outputs;
+use sp_command::{Outputs, Run};
 use sp_device::Write;
 use sp_order::run_line;
 use std::alloc::Global;
 use std::sync::Wait;
 use std::thread::Threads;
 
-/// Runs the command that the words order, the program's name first among them, and answers the exit
-/// status. Its output goes to `out`, or to the file that the words name for it, and the text of a fault to `err`; whether `err`
-/// takes that text changes no status.
+/// Runs the command that the words name, where the first word is the program's name, and returns the exit status. The
+/// command's output goes to `out`, or to the file that the words name for it, and the text of a fault to `err`; whether
+/// `err` takes that text changes no status.
 pub fn run_command<R: Threads + Wait + Sync, F: Outputs, W: Write, E: Write>(
     rt: &R,
     alloc: Global,
@@ -25,6 +28,13 @@ pub fn run_command<R: Threads + Wait + Sync, F: Outputs, W: Write, E: Write>(
     ensures silent_no { result ≡ 3 → err.new ≡ err.old }
     ensures silent_far { result ≡ 4 → err.new ≡ err.old }
     ensures unwritten { 1 ≤ result → result ≤ 2 → out.new ≡ out.old }
+    ensures obeyed { IsAnswered (IsRunIn
+        ⟦<AnyCommand<'static> as Run<20>>⟧ ⟦<AnyCommand<'static> as Run<24>>⟧
+        ⟦<AnyCommand<'static> as Run<28>>⟧ ⟦<AnyCommand<'static> as Run<32>>⟧)
+        (scene (F.files files.old)
+        (W.written out.old) (W.written out.new) (W.has_failed out.new))
+        (F.outputs files.old) (F.outputs files.new)
+        E.Write err.old err.new result }
 {
     run_line::<AnyCommand<'_>, R, F, W, E>(rt, alloc, words, files, out, err)
 }
