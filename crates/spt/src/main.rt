@@ -24,7 +24,7 @@ fn take_stack(one: usize, other: usize) -> bool {
 }
 
 /// Runs the command that the program's arguments order, and answers the exit status.
-fn run<R, W: Write, E: Write>(disk: &Disk<'_, R>, out: &mut W, err: &mut E) -> io::Result<u8>
+fn run<R, W: Write, E: Write>(disk: &mut Disk<'_, R>, out: &mut W, err: &mut E) -> io::Result<u8>
 where
     R: AllocGlobal + Clock + Env + Eprint + Files + RandomSource + Threads + Wait + Sync,
 {
@@ -35,19 +35,12 @@ where
     if !take_stack(arguments.len(), words.len()) {
         return Err(io::ErrorKind::OutOfMemory.into());
     }
-    let mut files = Disk {
-        rt,
-        stdin: disk.stdin,
-        stderr: disk.stderr,
-        process: disk.process,
-        notes: disk.notes,
-    };
     if !words.contains(&"--progress") {
-        return Ok(run_command(rt, alloc, &words, &mut files, out, err));
+        return Ok(run_command(rt, alloc, &words, disk, out, err));
     }
     let screen = disk.screen();
     let command = || {
-        let status = run_command(rt, alloc, &words, &mut files, out, err);
+        let status = run_command(rt, alloc, &words, disk, out, err);
         screen.end_watch();
         status
     };
@@ -58,7 +51,7 @@ where
 
 fn main(rt: HostRuntime) -> ExitCode {
     let notes = Notes::new();
-    let disk = Disk {
+    let mut disk = Disk {
         rt: &rt,
         stdin: rt.stdin(),
         stderr: rt.stderr(),
@@ -67,7 +60,7 @@ fn main(rt: HostRuntime) -> ExitCode {
     };
     let mut out = disk.standard_output(rt.stdout());
     let mut err = OfWrite::new(disk.standard_error());
-    let ended = run(&disk, &mut out, &mut err);
+    let ended = run(&mut disk, &mut out, &mut err);
     disk.screen().end();
     match ended {
         Ok(status) => ExitCode::from(status),
