@@ -108,7 +108,7 @@ impl Bins {
         requires { place < 2048 }
     {
         if list.is_empty() {
-            mem::swap(list, &mut self.slots[place]);
+            *list = mem::replace(&mut self.slots[place], Vec::new(self.alloc));
         } else {
             list.extend_from_slice(&self.slots[place])?;
             self.slots[place].clear();
