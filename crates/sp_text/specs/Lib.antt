@@ -7,6 +7,7 @@ pub mod Feeding
 pub mod Matching
 pub mod Keeping
 pub mod Collecting
+pub mod Collectors
 pub mod Whole
 pub mod Meaning
 pub mod Accepted

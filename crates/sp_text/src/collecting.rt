@@ -1,12 +1,10 @@
 //! The lines of a file, taken one after another.
-ghost use Rattle.std.specs.Prelude.{◌≡◌, ℕ, ◌<◌, List, [], ◌∷◌, ◌++◌, length, slice_get, OnOk, IfSome, Option, Some, None, true, false};
+ghost use Rattle.std.specs.Prelude.{◌≡◌, ℕ, ◌<◌, List, [], ◌∷◌, ◌++◌, length, OnOk, IfSome, Some, None, true};
 ghost use Rattle.sp_text.specs.declared.formats.Ranges.{Ranges};
 ghost use Rattle.sp_text.specs.Formats.{Format, format_of, IsSmall, IsSmallForm, IsFreshPlace, form_of};
-ghost use Rattle.sp_text.specs.Text.{Item, judge, reading, first_out, first_letter, is_named, named_at, problem_fault, placed_fault};
+ghost use Rattle.sp_text.specs.Text.{Item, judge, first_out, first_letter, is_named, named_at};
 ghost use Rattle.sp_text.specs.Keeping.{CanKeep};
-ghost use Rattle.sp_text.specs.Feeding.{Takes};
-ghost use Rattle.sp_text.specs.Collecting.{IsAfter, SpelledBy, Holds, Answers, ItemIs};
-ghost use Rattle.sp_text.specs.Matching.{Are, IsUsualItem};
+ghost use Rattle.sp_text.specs.Collecting.{SpelledBy};
 ghost use Rattle.sp_text.specs.Silence.{judge_silent};
 
 use crate::faults::Kind;
@@ -94,10 +92,13 @@ fn named_letter<K: Keep>(keep: &K, place: usize, form: &Form, first: u64) -> Opt
 }
 
 impl<K: Keep> Collector<K> {
+    ghost use Rattle.sp_text.specs.Matching.{Are};
+    ghost use Rattle.sp_text.specs.Collectors.{HasTakenLines, FindsItem, IsOfItem, TakesProblem, TakesItem, TakesLine};
+
     /// Returns a collector that takes the lines of a text from the first on.
     pub fn new(keep: K) -> Self
         requires { K.Kept keep [] }
-        ensures { ⟦<Collector<K> as LineTaker>⟧.After result [] }
+        ensures { HasTakenLines result [] }
     {
         Collector {
             keep,
@@ -110,9 +111,7 @@ impl<K: Keep> Collector<K> {
     // spelling.
     #[inline(always)]
     fn usual_item(&self, line: &[u8]) -> Option<(usize, &'static Form, Values)>
-        ensures { IfSome result
-            (λ x. (ps : List ℕ) × (self.now.problem ≡ Some ps)
-            × IsUsualItem K.format K.ranges ps (reading K.format line.now) x) }
+        ensures { IfSome result (FindsItem self.now line.now) }
     {
         let problem = self.problem.as_ref()?;
         usual_item(&self.keep.format(), &self.keep.ranges(), problem, line)
@@ -120,11 +119,7 @@ impl<K: Keep> Collector<K> {
 
     fn take_problem(&mut self, numbers: Numbers) -> Result<(), Kind>
         requires { (ns : List ℕ) × Are K.ranges [] K.format.problem.fields ns numbers }
-        ensures { (problem : Option (List ℕ)) (items : List Item) (ns : List ℕ)
-            → Holds K.Kept problem items self.old.keep self.old.problem self.old.counts
-            → Are K.ranges [] K.format.problem.fields ns numbers
-            → Answers K.Kept false (problem_fault K.format K.ranges problem ns) (Some ns)
-            items result self.new.keep self.new.problem self.new.counts }
+        ensures { TakesProblem numbers self.old result self.new }
     {
         if self.problem.is_some() {
             return Err(Kind::SecondProblem);
@@ -141,14 +136,8 @@ impl<K: Keep> Collector<K> {
     #[inline(always)]
     fn take_item(&mut self, place: usize, form: &Form, numbers: Numbers) -> Result<(), Kind>
         requires small { IsSmallForm form.now }
-        requires item { (item : Item) × (slice_get K.format.items place ≡ Some item.form)
-            × (item.form ≡ form_of form.now) × ItemIs K.ranges self.old.problem item numbers }
-        ensures { (problem : Option (List ℕ)) (items : List Item) (item : Item)
-            → Holds K.Kept problem items self.old.keep self.old.problem self.old.counts
-            → item.kind ≡ place → slice_get K.format.items place ≡ Some item.form
-            → item.form ≡ form_of form.now → ItemIs K.ranges problem item numbers
-            → Answers K.Kept true (placed_fault K.ranges problem items item) problem
-            (items ++ item ∷ []) result self.new.keep self.new.problem self.new.counts }
+        requires item { IsOfItem self.old place form.now numbers }
+        ensures { TakesItem place form.now numbers self.old result self.new }
     {
         let Some(problem) = &self.problem else {
             return Err(Kind::NoProblem);
@@ -175,9 +164,7 @@ impl<K: Keep> Collector<K> {
     // Takes the next line, whatever it is.
     #[inline(never)]
     fn take_any(&mut self, line: &[u8]) -> Result<(), Kind>
-        ensures { (before : List (List ℕ)) → ⟦<Collector<K> as LineTaker>⟧.After self.old before
-            → Takes (judge K.format K.ranges) ⟦<Collector<K> as LineTaker>⟧.After
-            before line.now result self.new }
+        ensures { TakesLine line.now self.old result self.new }
     {
         let none = Values::new();
         let problem = self.problem.as_ref().unwrap_or(&none);
@@ -191,11 +178,13 @@ impl<K: Keep> Collector<K> {
 }
 
 impl<K: Keep> LineTaker for Collector<K> {
+    ghost use Rattle.sp_text.specs.Collectors.{HasTakenLines};
+
     type Value = K::Value;
 
     ghost rules = { judge K.format K.ranges };
 
-    ghost After = { λ c lines. IsAfter K.format K.Kept lines c.keep c.problem c.counts };
+    ghost After = { HasTakenLines };
 
     ghost Spelled = { λ lines value. SpelledBy K.format K.Spelled lines value };
 

@@ -2,6 +2,9 @@
 use thiserror::Error;
 
 /// The fault of a line. Of several faults of one line, the one with the lowest number is reported.
+///
+/// Its `Display` is for users of this library, and no contract says what it writes. The program `spt` doesn't use it: the
+/// line that tells a fault is written by `sp_command`, whose contracts give its bytes.
 #[derive(Clone, Copy, Debug, PartialEq, Eq, Error)]
 pub enum Kind {
     /// The line has more bytes than a line may have.
@@ -33,7 +36,7 @@ pub enum Kind {
     Read,
 }
 
-/// The first fault of a text.
+/// The first fault of a text. Its `Display` is for users of this library, as that of `Kind` is.
 #[derive(Clone, Copy, Debug, PartialEq, Eq, Error)]
 #[error("line {line}: {kind}")]
 pub struct DimacsError {
