@@ -37,3 +37,19 @@ pub fn print_rate<R: Print>(
     let rate = count.saturating_mul(1_000_000) / microseconds.max(1);
     println!(rt; "{name} {rate} {unit}")
 }
+
+/// Prints a number as a share of another, to three places.
+pub fn print_share<R: Print>(
+    rt: &R,
+    name: &str,
+    number: u64,
+    of: u64,
+    unit: &str,
+) -> io::Result<()> {
+    let thousandths = number.saturating_mul(1000) / of.max(1);
+    println!(rt;
+        "{name} {}.{:03} {unit}",
+        thousandths / 1000,
+        thousandths % 1000
+    )
+}

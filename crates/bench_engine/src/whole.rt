@@ -3,12 +3,12 @@ ghost use Rattle.std.specs.Prelude.{◌≤◌, All};
 ghost use Rattle.sp_word.specs.Word.{max_pred};
 ghost use Rattle.sp_dimacs.specs.Graph.{IsNetwork};
 
-use crate::report::print_each;
+use crate::report::{print_each, print_share};
 use sp_dimacs::{GrFile, OfRead, OfWrite, SsFile, Write, read_gr, read_ss};
 use sp_graph::Graph;
-use sp_solve::run_source;
+use sp_solve::{run_by_team, useful_team};
 use sp_tree::{Tree, write_tree};
-use sp_word::{Delta, Workers};
+use sp_word::{Delta, Meter, Team, Workers};
 use std::rt::Files;
 use std::sync::Wait;
 use std::thread::Threads;
@@ -40,14 +40,16 @@ pub struct Paths<'a> {
     pub trees: &'a str,
 }
 
-// What the parts of all sources took.
+// What the parts of all sources took, and how many vertices were relaxed and reached.
 #[derive(Clone, Copy)]
 struct Taken {
     solving: Duration,
     writing: Duration,
+    relaxed: u64,
+    reached: u64,
 }
 
-/// Prints what each part of a whole job takes, in milliseconds.
+/// Prints what each part of a whole job takes, in milliseconds, and how often a reached vertex was relaxed.
 pub fn time_whole<R: AllocGlobal + Clock + Files + Print + Threads + Wait + Sync>(
     rt: &R,
     paths: &Paths,
@@ -82,7 +84,8 @@ fn time_trees<R: AllocGlobal + Clock + Files + Print + Threads + Wait + Sync>(
     let mut out = OfWrite::new(fs::create(rt, trees)?);
     let taken = answer_all(rt, &graph, &sources.sources, plan, &mut out)?;
     print_each(rt, "solve", taken.solving, 1_000_000, "ms")?;
-    print_each(rt, "write", taken.writing, 1_000_000, "ms")
+    print_each(rt, "write", taken.writing, 1_000_000, "ms")?;
+    print_share(rt, "relaxed", taken.relaxed, taken.reached, "a vertex")
 }
 
 // Finds and writes the tree of each source.
@@ -98,17 +101,22 @@ fn answer_all<R: AllocGlobal + Clock + Threads + Wait + Sync, W: Write>(
     let mut taken = Taken {
         solving: Duration::ZERO,
         writing: Duration::ZERO,
+        relaxed: 0,
+        reached: 0,
     };
+    let meter = Meter::new();
     for source in sources {
         let start = Instant::now(rt)?;
-        let tree = solve(rt, graph, *source, plan)?;
+        let tree = solve(rt, graph, *source, plan, &meter)?;
         taken.solving = taken.solving.saturating_add(start.elapsed(rt)?);
+        taken.reached = taken.reached.saturating_add(tree.rows().len() as u64);
         let start = Instant::now(rt)?;
         if write_tree(&tree, out).is_err() {
             return Err(io::Error::other("the trees can't be written"));
         }
         taken.writing = taken.writing.saturating_add(start.elapsed(rt)?);
     }
+    taken.relaxed = meter.count();
     Ok(taken)
 }
 
@@ -118,10 +126,16 @@ fn solve<R: AllocGlobal + Threads + Wait + Sync>(
     graph: &Graph,
     source: u32,
     plan: Plan,
+    meter: &Meter,
 ) -> io::Result<Tree<28>>
     requires { graph.now.n ≤ max_pred 28 }
 {
-    match run_source::<28, R>(rt, rt.alloc(), graph, plan.delta, plan.workers, source) {
+    let asked = Team {
+        delta: plan.delta,
+        workers: plan.workers,
+    };
+    let team = useful_team(rt, graph.n(), &asked);
+    match run_by_team::<28, R>(rt, rt.alloc(), graph, team, meter, source) {
         Ok(tree) => Ok(tree),
         Err(_) => Err(io::Error::other("a source has no tree")),
     }

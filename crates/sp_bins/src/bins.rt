@@ -15,6 +15,12 @@ const MARKED: usize = 64;
 
 const MARKS: usize = SLOTS * WHEELS / MARKED;
 
+// The width of the buckets is looked at anew when so many entries were put.
+const LOT: u64 = 256;
+
+// The widest buckets are 2 to this power wide.
+const WIDEST: u32 = 40;
+
 /// Entries by bucket, in hierarchical wheels like those in which G. Varghese and T. Lauck keep timers ("Hashed and
 /// hierarchical timing wheels", 1987).
 ///
@@ -22,10 +28,14 @@ const MARKS: usize = SLOTS * WHEELS / MARKED;
 /// buckets as the wheel below has slots for. An entry lies in the lowest wheel that distinguishes its bucket from the
 /// lowest one; when a wheel is used up, the next slot of the wheel above is dealt to those below. An entry is therefore
 /// moved at most once for each wheel, however far away its bucket is.
+///
+/// The buckets find their width as they are worked off. Where many of the entries that are put fall into the bucket that
+/// is being emptied, its vertices are relaxed in too free an order, and many of them several times: then all buckets
+/// become narrower. Where hardly any do, they become wider.
 #[derive(Drop)]
 pub struct Bins {
     alloc: Global,
-    // Buckets are two to this power wide.
+    // Buckets are 2 to this power wide.
     shift: u32,
     // The bucket that is being emptied.
     lowest: u64,
@@ -33,8 +43,12 @@ pub struct Bins {
     slots: Vec<Vec<Entry>>,
     // A bit for each slot, which is set where the slot has an entry.
     marks: Vec<u64>,
-    // The least distance of the entries that were put since entries were taken last.
-    latest: u64,
+    // How many entries were put since the width was last looked at, and how many of them into the bucket that is being
+    // emptied.
+    put: u64,
+    near: u64,
+    // How many entries were moved when the width was last changed.
+    moved: u64,
     ghost narrow: { shift < 64 },
     ghost size: { vec_len slots ≡ 2048 },
     ghost marked: { vec_len marks ≡ 32 },
@@ -57,15 +71,17 @@ fn bit_of(place: usize) -> u64 {
 }
 
 impl Bins {
-    /// Makes bins whose buckets are 2 to the power of `shift` wide.
+    /// Makes bins whose buckets are 2 to the power of `shift` wide at first.
     pub fn new(alloc: Global, shift: u32) -> Result<Bins, AllocError> {
         Ok(Bins {
             alloc,
-            shift: shift.min(63),
+            shift: shift.min(WIDEST),
             lowest: 0,
             slots: empty_slots(alloc)?,
             marks: vec![in alloc; 0; MARKS]?,
-            latest: u64::MAX,
+            put: 0,
+            near: 0,
+            moved: 0,
         })
     }
 
@@ -74,9 +90,14 @@ impl Bins {
         dist >> self.shift
     }
 
-    /// Returns the bucket that is being emptied.
-    pub fn lowest(&self) -> u64 {
-        self.lowest
+    /// Returns the least distance of the bucket that is being emptied.
+    pub fn start(&self) -> u64 {
+        self.lowest << self.shift
+    }
+
+    /// Returns the power of 2 that the buckets are wide.
+    pub fn shift(&self) -> u32 {
+        self.shift
     }
 
     // Returns the slot where the entries of a bucket lie. A bucket below the lowest shares the slot of the lowest.
@@ -89,18 +110,21 @@ impl Bins {
         wheel as usize * SLOTS + slot as usize
     }
 
-    /// Puts an entry into its bucket.
-    pub fn put(&mut self, entry: Entry) -> Result<(), AllocError> {
+    // Lays an entry into the slot of its bucket.
+    fn lay(&mut self, entry: Entry) -> Result<(), AllocError> {
         let place = self.place_of(self.bucket_of(entry.dist));
         self.slots[place].push(entry)?;
         self.marks[place / MARKED] |= bit_of(place);
-        self.latest = self.latest.min(entry.dist);
         Ok(())
     }
 
-    /// Returns the least distance of the entries that were put since entries were taken last, if there are any.
-    pub fn latest(&self) -> u64 {
-        self.latest
+    /// Puts an entry into its bucket.
+    pub fn put(&mut self, entry: Entry) -> Result<(), AllocError> {
+        self.put = self.put.saturating_add(1);
+        if self.bucket_of(entry.dist) <= self.lowest {
+            self.near = self.near.saturating_add(1);
+        }
+        self.lay(entry)
     }
 
     // Moves the entries of a slot to the end of a list.
@@ -117,28 +141,19 @@ impl Bins {
         Ok(())
     }
 
-    /// Replaces a list that was worked off by the entries of the bucket that is being emptied, and of the next buckets in the first
-    /// wheel, bucket after bucket, until it has as many as wanted. Where it stays empty, `advance` goes on to the next bucket.
-    pub fn refill(&mut self, list: &mut Vec<Entry>, wanted: usize) -> Result<(), AllocError> {
+    /// Replaces a list that was worked off by the entries of the bucket that is being emptied. Where it stays empty,
+    /// `advance` goes on to the next bucket.
+    pub fn refill(&mut self, list: &mut Vec<Entry>) -> Result<(), AllocError> {
         list.clear();
-        self.latest = u64::MAX;
         let lowest = self.place_of(self.lowest);
-        self.empty(lowest, list)?;
-        for _ in 0..SLOTS {
-            if list.is_empty() || list.len() >= wanted {
-                break;
-            }
-            match self.first_place() {
-                Some(place) if place < SLOTS => self.empty(place, list)?,
-                _ => break,
-            }
-        }
-        Ok(())
+        self.empty(lowest, list)
     }
 
-    /// Makes this the bucket that is emptied, if there is no entry at all.
-    pub fn open(&mut self, bucket: u64) {
-        self.lowest = bucket;
+    /// Makes the buckets 2 to the power of `shift` wide, and the one with this distance the one that is emptied, if
+    /// there is no entry at all.
+    pub fn open(&mut self, dist: u64, shift: u32) {
+        self.shift = shift.min(WIDEST);
+        self.lowest = self.bucket_of(dist);
     }
 
     // Returns the first slot that has an entry.
@@ -177,10 +192,78 @@ impl Bins {
         if let Some(bucket) = self.lowest_of(&entries) {
             self.lowest = bucket;
         }
-        for entry in &entries {
-            self.put(*entry)?;
+        self.lay_all(&entries)
+    }
+
+    // Lays entries into the slots of their buckets.
+    fn lay_all(&mut self, entries: &[Entry]) -> Result<(), AllocError> {
+        for entry in entries {
+            self.lay(*entry)?;
         }
         Ok(())
+    }
+
+    // Takes the entries out of all slots.
+    fn take_all(&mut self) -> Result<Vec<Entry>, AllocError> {
+        let mut entries = Vec::new(self.alloc);
+        for _ in 0..SLOTS * WHEELS {
+            let Some(place) = self.first_place() else {
+                break;
+            };
+            self.empty(place, &mut entries)?;
+        }
+        Ok(entries)
+    }
+
+    // Returns the width that suits the entries that were put of late.
+    fn fitting_shift(&self) -> u32
+        ensures { result < 64 }
+    {
+        if self.near > self.put / 2 {
+            self.shift.saturating_sub(4)
+        } else if self.near > self.put / 4 {
+            self.shift.saturating_sub(2)
+        } else if self.near < self.put / 64 {
+            (self.shift + 1).min(WIDEST)
+        } else {
+            self.shift
+        }
+    }
+
+    // Gives the buckets another width.
+    fn set_shift(&mut self, shift: u32) -> Result<(), AllocError>
+        requires { shift < 64 }
+    {
+        let entries = self.take_all()?;
+        let mut start = self.start();
+        for entry in &entries {
+            start = start.min(entry.dist);
+        }
+        self.shift = shift;
+        self.lowest = self.bucket_of(start);
+        self.moved = entries.len() as u64;
+        self.lay_all(&entries)
+    }
+
+    /// Fits the width of the buckets to the entries that were put of late, where no entry of the bucket that is being
+    /// emptied is in hand.
+    ///
+    /// All entries are moved for a new width. Buckets become wider only where as many entries were put as the last
+    /// change has moved, so that the moves take no more time than the entries.
+    pub fn adjust(&mut self) -> Result<(), AllocError> {
+        if self.put < LOT {
+            return Ok(());
+        }
+        let shift = self.fitting_shift();
+        if shift > self.shift && self.put < self.moved {
+            return Ok(());
+        }
+        self.put = 0;
+        self.near = 0;
+        if shift == self.shift {
+            return Ok(());
+        }
+        self.set_shift(shift)
     }
 
     /// Advances to the lowest bucket that has an entry, and returns that bucket.

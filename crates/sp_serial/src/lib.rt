@@ -1,8 +1,8 @@
 //! Runs from one source on the calling thread. They start no other thread and never wait. They return the words, the
 //! tree, or the answer for one target.
 //!
-//! A run lowers the words by rising distance, as delta-stepping does with buckets of width 1 (Meyer and Sanders,
-//! "Delta-stepping: a parallelizable shortest path algorithm", Journal of Algorithms 49 (2003)). Then the plain program passes over all arcs until no
+//! A run lowers the words bucket after bucket, as delta-stepping does (Meyer and Sanders, "Delta-stepping: a parallelizable
+//! shortest path algorithm", Journal of Algorithms 49 (2003)), by buckets that find their width themselves. Then the plain program passes over all arcs until no
 //! word changes, which takes one pass if nothing was missed. So the answer rests on these passes alone, whatever the
 //! buckets held. For one target, the run lowers the words up to the target's bucket, and then shows that the target's word is
 //! final by a look at the arcs within its distance.

@@ -12,8 +12,8 @@ use std::alloc::{AllocError, Global};
 
 /// Returns the shortest-path tree from `source`, or the smallest vertex that is too far.
 ///
-/// The answer is the same for every `delta`, and so is the way to it: one thread takes its entries by rising distance,
-/// so that a width of buckets has no bearing on what it does. The run takes 8 bytes for the word of each vertex, and 16
+/// The answer is the same for every `delta`, and so is the way to it: the buckets find their width as they are worked
+/// off, whatever was asked for. The run takes 8 bytes for the word of each vertex, and 16
 /// for each entry that waits. It fails only if there is no memory for them.
 pub fn solve_alone<const P: u32>(
     alloc: Global,

@@ -91,7 +91,7 @@ pub(crate) fn search<const P: u32>(
     requires walks { IsTableOfWalks graph.now source (max_dist P) words.old.items }
     ensures walks { IsTableOfWalks graph.now source (max_dist P) words.new.items }
 {
-    // A bucket for each distance: a wider one would be relaxed in any order, many times over where lengths differ much.
+    // The buckets find their width as they are worked off.
     let mut bins = Bins::new(alloc, 0)?;
     bins.put(Entry {
         vertex: source,
@@ -100,7 +100,8 @@ pub(crate) fn search<const P: u32>(
     let mut entries = Vec::new(alloc);
     // If entries were left after so many buckets, the passes would still find what they lead to.
     for _ in 0..u64::MAX {
-        bins.refill(&mut entries, 1)?;
+        bins.adjust()?;
+        bins.refill(&mut entries)?;
         if !entries.is_empty() {
             relax_rows(graph, source, &entries, words, &mut bins)?;
             continue;

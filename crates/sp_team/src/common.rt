@@ -6,8 +6,7 @@ use crossbeam_deque::{Stealer, Worker};
 use sp_word::Team;
 use std::alloc::{AllocError, Global};
 
-/// A worker orders its entries by buckets that are delta wide, divided by 2 to this power, and may be delta ahead of the
-/// others.
+/// A worker begins with buckets that are delta wide, divided by 2 to this power.
 const FINER: u32 = 3;
 
 /// What all workers of a team have in common.
@@ -24,10 +23,8 @@ pub struct Common {
     pub queue: Vec<u32>,
     /// The vertices whose words are looked for; all vertices, where none is named.
     pub targets: Vec<u32>,
-    /// The width of a bucket is 2 to this power. A worker that is alone has a bucket for each distance.
+    /// A bucket is 2 to this power wide at first.
     pub shift: u32,
-    /// How many buckets a worker may be ahead of the others without waiting for them.
-    pub ahead: u64,
 }
 
 impl Common {
@@ -46,12 +43,7 @@ impl Common {
             stealers,
             queue: Vec::from_slice(alloc, queue)?,
             targets: Vec::from_slice(alloc, targets)?,
-            shift: if workers == 1 {
-                0
-            } else {
-                team.delta.get().ilog2().saturating_sub(FINER)
-            },
-            ahead: 1 << FINER,
+            shift: team.delta.get().ilog2().saturating_sub(FINER),
         };
         Ok((common, owners))
     }

@@ -8,15 +8,14 @@ use sp_bins::{Bins, Entry};
 use sp_word::Meter;
 use std::alloc::{AllocError, Global};
 use std::hint::spin_loop;
-use std::mem;
 use std::sync::Wait;
 use std::thread::yield_now;
 
 /// The fewest entries that are worth a chunk.
 const LEAST_PIECE: usize = 16;
 
-/// As many entries of several distances are taken from the bins at once, at the most.
-const MOST_TAKEN: usize = 16;
+/// How many buckets a worker may be ahead of the others without waiting for them.
+const AHEAD: u64 = 8;
 
 /// How often a worker that is ahead looks for the others before it goes on all the same.
 const PATIENCE: u32 = 1000;
@@ -42,10 +41,6 @@ pub struct Hands<'m> {
     // what is worked off, and how much of it is done
     list: Vec<Entry>,
     next: usize,
-    // whether entries are to be taken by rising distance, as a bucket has those of one distance alone
-    is_exact: bool,
-    // how many entries are to be taken from the bins next
-    wanted: usize,
     tally: Tally<'m>,
 }
 
@@ -78,8 +73,6 @@ impl<'m> Hands<'m> {
             bins: Bins::new(common.alloc, common.shift)?,
             list: Vec::new(common.alloc),
             next: 0,
-            is_exact: common.shift == 0,
-            wanted: 1,
             tally: Tally::new(meter),
         })
     }
@@ -101,39 +94,18 @@ impl<'m> Hands<'m> {
         front
     }
 
-    /// Takes the next entry of the list, unless a nearer one has been put meanwhile.
+    /// Takes the next entry of the list.
     pub fn take(&mut self) -> Option<Entry> {
         let entry = *self.list.get(self.next)?;
-        if self.is_exact && self.bins.latest() < entry.dist {
-            return None;
-        }
         self.next = self.next.saturating_add(1);
         Some(entry)
     }
 
-    // Puts the rest of the list back, where a nearer entry has been put meanwhile: fewer are taken at once then, and more again where
-    // there was none. Returns whether the list has a next entry.
-    fn keeps_next(&mut self) -> Result<bool, AllocError> {
-        let Some(entry) = self.list.get(self.next) else {
-            self.wanted = self.wanted.saturating_mul(2).min(MOST_TAKEN);
-            return Ok(false);
-        };
-        if !self.is_exact || entry.dist <= self.bins.latest() {
-            return Ok(true);
-        }
-        self.wanted = (self.wanted / 2).max(1);
-        let list = mem::replace(&mut self.list, Vec::new(self.alloc));
-        for entry in list.get(self.next..).unwrap_or(&[]) {
-            self.bins.put(*entry)?;
-        }
-        Ok(false)
-    }
-
-    // Replaces the list that was worked off by the next entries. Returns whether there are any in the bucket that is being emptied.
+    // Replaces the list that was worked off by the entries of the bucket that is being emptied. Returns whether there are any.
     fn refill(&mut self) -> Result<bool, AllocError> {
         self.next = 0;
-        let wanted = if self.is_exact { self.wanted } else { 1 };
-        self.bins.refill(&mut self.list, wanted)?;
+        self.bins.adjust()?;
+        self.bins.refill(&mut self.list)?;
         Ok(!self.list.is_empty())
     }
 
@@ -153,7 +125,8 @@ impl<'m> Hands<'m> {
         let entries = Vec::from_slice(self.alloc, &self.list[at..])?;
         self.list.truncate(at);
         Ok(Chunk {
-            bucket: self.bins.lowest(),
+            start: self.bins.start(),
+            shift: self.bins.shift(),
             entries,
         })
     }
@@ -177,7 +150,11 @@ impl<'m> Hands<'m> {
 
     // Takes a chunk for the list.
     fn hold(&mut self, chunk: Chunk) {
-        let Chunk { bucket: _, entries } = chunk;
+        let Chunk {
+            start: _,
+            shift: _,
+            entries,
+        } = chunk;
         self.list = entries;
         self.next = 0;
     }
@@ -186,24 +163,25 @@ impl<'m> Hands<'m> {
     fn steal(&mut self, common: &Common) -> Option<Chunk> {
         let chunk = steal(&common.stealers)?;
         common.signals.taken();
-        common.signals.set_level(self.worker, chunk.bucket);
+        common.signals.set_level(self.worker, chunk.start);
         Some(chunk)
     }
 
-    // Whether the others are so far behind a bucket that the worker waits for them.
-    fn is_ahead(&self, common: &Common, bucket: u64) -> bool {
-        common.signals.lowest().saturating_add(common.ahead) < bucket
+    // Returns whether the others are so far behind that the worker waits for them.
+    fn is_ahead(&self, common: &Common) -> bool {
+        let pace = AHEAD << self.bins.shift().min(60);
+        common.signals.lowest().saturating_add(pace) < self.bins.start()
     }
 
-    // Waits for some time for the others to come to a bucket, and returns a chunk that comes in the meantime.
-    fn wait_for(&mut self, common: &Common, bucket: u64) -> Option<Chunk> {
-        if !self.is_ahead(common, bucket) {
+    // Waits for some time for the others to come near, and returns a chunk that comes in the meantime.
+    fn wait(&mut self, common: &Common) -> Option<Chunk> {
+        if !self.is_ahead(common) {
             return None;
         }
         common.signals.begin_hunger();
         let mut chunk = None;
         for _ in 0..PATIENCE {
-            if !self.is_ahead(common, bucket) {
+            if !self.is_ahead(common) {
                 break;
             }
             if common.signals.shared() > 0 {
@@ -253,7 +231,7 @@ impl<'m> Hands<'m> {
     pub fn begin<R: Wait>(&mut self, rt: &R, common: &Common) -> bool {
         match self.rest(rt, common) {
             Some(chunk) => {
-                self.bins.open(chunk.bucket);
+                self.bins.open(chunk.start, chunk.shift);
                 self.hold(chunk);
                 true
             }
@@ -264,17 +242,17 @@ impl<'m> Hands<'m> {
     // Goes on to the next bucket, where the list was worked off and so was its bucket. False says that all work is done.
     fn advance<R: Wait>(&mut self, rt: &R, common: &Common) -> Result<bool, AllocError> {
         let signals = &common.signals;
-        let Some(bucket) = self.bins.advance()? else {
+        if self.bins.advance()?.is_none() {
             self.tally.tell();
             if signals.is_alone() {
                 return Ok(false);
             }
             signals.leave(self.worker);
             return Ok(self.begin(rt, common));
-        };
+        }
         if !signals.is_alone() {
-            signals.set_level(self.worker, bucket);
-            if let Some(chunk) = self.wait_for(common, bucket) {
+            signals.set_level(self.worker, self.bins.start());
+            if let Some(chunk) = self.wait(common) {
                 self.hold(chunk);
             }
         }
@@ -284,7 +262,7 @@ impl<'m> Hands<'m> {
     /// Sees to it that the list has an entry. False says that all work is done.
     pub fn find<R: Wait>(&mut self, rt: &R, common: &Common) -> Result<bool, AllocError> {
         for _ in rt.forever() {
-            if self.keeps_next()? {
+            if self.left() > 0 {
                 if common.signals.hungry() > 0 {
                     self.share(common)?;
                 }

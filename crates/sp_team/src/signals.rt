@@ -53,7 +53,7 @@ pub struct Signals {
     asleep: Line,
     // Changes when those who sleep are to look again.
     bell: Line,
-    // The lowest bucket of each worker.
+    // The least distance of the bucket that each worker empties.
     levels: Vec<Line>,
 }
 
@@ -120,14 +120,14 @@ impl Signals {
         self.hungry.lower();
     }
 
-    /// Tells which bucket is the worker's lowest.
+    /// Tells the least distance of the bucket that the worker empties.
     pub(crate) fn set_level(&self, worker: usize, level: u64) {
         if let Some(line) = self.levels.get(worker) {
             line.set(level);
         }
     }
 
-    /// The lowest bucket of all workers.
+    /// Returns the least of these distances.
     pub(crate) fn lowest(&self) -> u64 {
         let mut least = NONE;
         for line in &self.levels {

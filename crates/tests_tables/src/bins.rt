@@ -14,7 +14,7 @@ fn take_bucket(
     counts: &mut [u32],
 ) -> Result<usize, Fail> {
     let mut list = Vec::new(alloc);
-    bins.refill(&mut list, 1)?;
+    bins.refill(&mut list)?;
     assert!(rt; !list.is_empty());
     for entry in &list {
         assert_eq!(rt; bins.bucket_of(entry.dist), bucket);
@@ -88,7 +88,7 @@ fn neighbouring_and_far_buckets(rt: HostRuntime) -> Result<(), Fail> {
 #[test]
 fn entries_below_the_lowest_come_at_once(rt: HostRuntime) -> Result<(), Fail> {
     let mut bins = Bins::new(rt.alloc(), 0)?;
-    bins.open(1000);
+    bins.open(1000, 0);
     bins.put(Entry { vertex: 1, dist: 7 })?;
     bins.put(Entry {
         vertex: 2,
@@ -96,31 +96,62 @@ fn entries_below_the_lowest_come_at_once(rt: HostRuntime) -> Result<(), Fail> {
     })?;
     assert_eq!(rt; bins.advance()?, Some(1000));
     let mut list = Vec::new(rt.alloc());
-    bins.refill(&mut list, 1)?;
+    bins.refill(&mut list)?;
     assert!(rt; list.iter().all(|entry| entry.vertex == 1) && list.len() == 1);
     assert_eq!(rt; bins.advance()?, Some(1001));
     Ok(())
 }
 
-// Several buckets are taken at once, in their order, and the least distance that was put since is told.
+// Where most entries are put into the bucket that is being emptied, the buckets become narrower; where none is, wider.
 #[test]
-fn as_many_as_wanted_are_taken(rt: HostRuntime) -> Result<(), Fail> {
-    let mut bins = Bins::new(rt.alloc(), 0)?;
-    for dist in [9, 5, 5, 200, 300] {
+fn buckets_find_their_width(rt: HostRuntime) -> Result<(), Fail> {
+    let mut bins = Bins::new(rt.alloc(), 20)?;
+    for dist in 0..1000u64 {
         bins.put(Entry { vertex: 1, dist })?;
     }
-    assert_eq!(rt; bins.latest(), 5);
-    assert_eq!(rt; bins.advance()?, Some(5));
+    bins.adjust()?;
+    assert_eq!(rt; bins.shift(), 16);
+    for bucket in 1..1000u64 {
+        bins.put(Entry {
+            vertex: 1,
+            dist: bucket << 16,
+        })?;
+    }
+    // as many were moved as the last change had moved only now
+    bins.adjust()?;
+    assert_eq!(rt; bins.shift(), 16);
+    bins.put(Entry {
+        vertex: 1,
+        dist: 1000 << 16,
+    })?;
+    bins.adjust()?;
+    assert_eq!(rt; bins.shift(), 17);
+    Ok(())
+}
+
+// No entry is lost where the width changes, and they still come by bucket.
+#[test]
+fn a_change_of_width_loses_nothing(rt: HostRuntime) -> Result<(), Fail> {
+    let mut bins = Bins::new(rt.alloc(), 30)?;
+    for dist in 0..1000u64 {
+        bins.put(Entry {
+            vertex: 1,
+            dist: dist * 7919 % 1000,
+        })?;
+    }
     let mut list = Vec::new(rt.alloc());
-    bins.refill(&mut list, 3)?;
-    let dists: Vec<u64> = list.iter().map(|entry| entry.dist).collect(rt.alloc())?;
-    assert_eq!(rt; dists.as_slice(), [5u64, 5, 9].as_slice());
-    assert_eq!(rt; bins.latest(), u64::MAX);
-    bins.put(Entry { vertex: 1, dist: 7 })?;
-    assert_eq!(rt; bins.latest(), 7);
-    assert_eq!(rt; bins.advance()?, Some(7));
-    bins.refill(&mut list, 3)?;
-    assert_eq!(rt; list.len(), 2);
-    assert_eq!(rt; bins.advance()?, Some(300));
+    let mut seen = 0u64;
+    for _ in 0..2000 {
+        bins.adjust()?;
+        bins.refill(&mut list)?;
+        for entry in &list {
+            assert!(rt; bins.bucket_of(entry.dist) == bins.bucket_of(bins.start()));
+            seen += 1;
+        }
+        if bins.advance()?.is_none() {
+            break;
+        }
+    }
+    assert_eq!(rt; seen, 1000);
     Ok(())
 }
