@@ -1,4 +1,4 @@
-// What the plain programs of this folder share: lines, numbers, arcs of a `.gr` file, and their rows.
+// What the plain programs of this folder share: lines, numbers and their digits, arcs of a `.gr` file, and their rows.
 #pragma once
 #include <chrono>
 #include <cstdint>
@@ -67,6 +67,20 @@ static bool begins(const char *&at, const char *end, const char *words) {
     return true;
 }
 
+// The two digits of each number below 100.
+struct Pairs {
+    char digits[200];
+
+    constexpr Pairs() : digits() {
+        for (int i = 0; i < 100; i++) {
+            digits[2 * i] = '0' + i / 10;
+            digits[2 * i + 1] = '0' + i % 10;
+        }
+    }
+};
+
+constexpr Pairs pairs;
+
 // ## Graphs
 
 struct Arc {
@@ -96,7 +110,7 @@ static void take_arc(const char *at, const char *end, uint32_t &n, uint64_t &m, 
 }
 
 // Puts arcs into rows by counting.
-static std::vector<Edge> rows_of(uint32_t n, const std::vector<Arc> &arcs, std::vector<uint32_t> &starts) {
+[[maybe_unused]] static std::vector<Edge> rows_of(uint32_t n, const std::vector<Arc> &arcs, std::vector<uint32_t> &starts) {
     starts.assign(n + 2, 0);
     for (const Arc &arc : arcs) starts[arc.tail + 1]++;
     for (uint32_t v = 1; v <= n + 1; v++) starts[v] += starts[v - 1];

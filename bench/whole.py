@@ -3,7 +3,9 @@
 
 Whole times and peaks are of the program that users run (`spt tree GR SS --delta D --workers W`, its trees into a file), the
 parts (read, rows, solve, write) of `crates/bench_engine` (its command `whole`). The programs of a comparison run in turn,
-several times; the median of each counts, and the least stands beside it. Each time the trees are compared byte for byte.
+several times; the median of each counts, and the least stands beside it. Each time the trees are compared byte for byte. Below a table stands
+the control: what threads that only sum the bytes of the graph's file took of one thread's time, in turn with the runs. It tells what the
+machine's cores gave: aims of several workers mean something where four threads take at most a third.
 
 Usage: python3 bench/whole.py [--vertices N] [--runs K] [--only NAME..] [--random-delta SHARE] [--plain] [--no-parts]
                               [--keep FOLDER] [--built-spt PROGRAM] [--built PROGRAM]
@@ -13,6 +15,7 @@ NAME is one of
   deltas    deltas of 0.3 to 30 mean lengths on that graph, 1 and 4 workers
   random    1, 2 and 4 workers on a graph drawn at random with four arcs a vertex, three deltas
   sources   ten sources on the road-like graph, 1 and 4 workers
+  cores     2 and 4 workers beside a C++ program that does every part by as many threads (`bench/whole.cpp`)
   together  two commands at once on the road-like graph, with 4 workers each and with 2 each
   memory    the peaks on both graphs (a peak counts what this program took before the start, some 20 MiB)
 
@@ -39,12 +42,14 @@ HOME = parts.HOME
 PARTS = ["read", "rows", "solve", "write"]
 SEED = 1
 PLAIN = "C++"
+# how many threads the program by all threads has, and the control
+THREADS = (2, 4)
 
 # A job of ours: delta in mean lengths, and the aim: at most `bound` times the least of the jobs `than`.
 Job = collections.namedtuple("Job", "name share workers bound than at_once", defaults=[None, (PLAIN,), 1])
 # Jobs on one graph. `measure` is what the aims speak of: whole or peak.
-Comparison = collections.namedtuple("Comparison", "title kind sources jobs measure", defaults=["whole"])
-Programs = collections.namedtuple("Programs", "plain spt bench")
+Comparison = collections.namedtuple("Comparison", "title kind sources jobs measure by_threads", defaults=["whole", False])
+Programs = collections.namedtuple("Programs", "plain spt bench threads", defaults=[None])
 Files = collections.namedtuple("Files", "gr ss expected trees")
 
 
@@ -88,6 +93,15 @@ def sources(_chosen):
     return [Comparison(f"roads, ten sources, delta of {lengths(3)}", "roads", 10, jobs)]
 
 
+def by_threads(threads):
+    return f"C++, {threads} threads"
+
+
+def cores(_chosen):
+    jobs = [Job(named(threads), 3, threads, 1.2, (by_threads(threads),)) for threads in THREADS]
+    return [Comparison(f"roads, one source, every part by all threads, delta of {lengths(3)}", "roads", 1, jobs, by_threads=True)]
+
+
 def together(_chosen):
     name = "two at once, {} workers each".format
     jobs = [Job(name(2), 3, 2, at_once=2), Job(name(4), 3, 4, 1.3, (name(2),), at_once=2)]
@@ -107,6 +121,7 @@ COMPARISONS = {
     "deltas": deltas,
     "random": at_random,
     "sources": sources,
+    "cores": cores,
     "together": together,
     "memory": memory,
 }
@@ -211,11 +226,26 @@ def run_parts(programs, files, delta, job):
     return {part: told[part] for part in PARTS}
 
 
+def run_by_threads(programs, files, mean, threads):
+    remove(files.trees)
+    told = run_telling([programs.threads, files.gr, files.ss, str(3 * mean), str(threads), files.trees])
+    same(files, files.trees, by_threads(threads))
+    return told
+
+
+def control(programs, files):
+    """The milliseconds in which one thread and several sum the bytes of a graph's file, by their number."""
+    return {threads: run_telling([programs.threads, "control", files.gr, str(threads)])["sum"] for threads in (1, *THREADS)}
+
+
 def run_in_turn(programs, comparison, files, mean, runs):
     """What each run of each program took, by the names of the jobs."""
     found = collections.defaultdict(list)
     for _ in range(runs):
         found[PLAIN].append(run_plain(programs, files))
+        found["control"].append(control(programs, files))
+        for threads in THREADS if comparison.by_threads else []:
+            found[by_threads(threads)].append(run_by_threads(programs, files, mean, threads))
         for job in comparison.jobs if programs.spt else []:
             delta = max(1, round(job.share * mean))
             one = run_spt(programs, files, delta, job)
@@ -260,11 +290,14 @@ def print_table(comparison, told, runs, found):
     heads = ["program", *(f"{part}, ms" for part in PARTS)]
     heads += ["whole, ms", "least, ms", "of C++", "peak, MiB", "of C++", "aim, at most", "reached"]
     print(f"| {' | '.join(heads)} |\n{'|---' * len(heads)}|")
-    print_row(comparison, PLAIN, None, found)
+    for name in [PLAIN, *(by_threads(threads) for threads in THREADS if comparison.by_threads)]:
+        print_row(comparison, name, None, found)
     jobs = [job for job in comparison.jobs if job.name in found]
     for job in jobs:
         print_row(comparison, job.name, job, found)
-    print(flush=True)
+    one = median(found["control"], 1)
+    shares = [f"{threads} threads {median(found['control'], threads) / one:.2f}" for threads in THREADS]
+    print(f"\nControl, of one thread's time: {', '.join(shares)}\n", flush=True)
     aims = [aim_of(comparison, job, found) for job in jobs]
     return [aim[2] for aim in aims if aim]
 
@@ -273,10 +306,11 @@ def programs_of(chosen, folder):
     plain = parts.build_plain(folder, "dijkstra")
     if plain is None:
         sys.exit("whole: no C++ compiler")
+    threads = parts.build_plain(folder, "whole")
     if chosen.plain:
-        return Programs(plain, None, None)
+        return Programs(plain, None, None, threads)
     spt = chosen.built_spt or parts.program()
-    return Programs(plain, spt, None if chosen.no_parts else chosen.built or parts.build_ours())
+    return Programs(plain, spt, None if chosen.no_parts else chosen.built or parts.build_ours(), threads)
 
 
 def compare(chosen, folder):
