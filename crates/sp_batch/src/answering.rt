@@ -56,7 +56,7 @@ fn answer_source<const P: u32, R: Threads + Wait + Sync + Watch, W: Write, L>(
     ensures { AreAllAnswered P job.now.graph.now (source ∷ []) W.Write out.old result out.new }
 {
     match find_source::<P, R>(rt, alloc, job.graph, &job.team, job.meter, source) {
-        Ok(found) => write_one(&found, out),
+        Ok(found) => write_one(alloc, &found, out),
         Err(AllocError) => Err(BatchError::Memory),
     }
 }
@@ -132,7 +132,7 @@ fn find_and_write<const P: u32, R: Threads + Wait + Sync + Watch, W: Write, L>(
     { find_group::<P, R>(rt, alloc, graph, team, meter, sources) };
     let mut write = || -> Result<Summary, BatchError>
         ensures { IsGroupWritten W.Write before.entry.now out.entry.now result out.exit.now }
-    { write_group::<P, W>(before, out) };
+    { write_group::<P, W>(alloc, before, out) };
     join_mut(rt, &mut find, &mut write)
 }
 
@@ -220,7 +220,7 @@ pub(crate) fn answer_side_by_side<
         waiting = next;
         rest = later;
     }
-    let last = write_group::<P, W>(&waiting, out)?;
+    let last = write_group::<P, W>(alloc, &waiting, out)?;
     Ok(sum(summary, last))
 }
 

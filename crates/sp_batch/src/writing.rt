@@ -6,7 +6,8 @@ ghost use Rattle.sp_batch.specs.Steps.{AreWritten, IsGroupWritten, Fits, none, s
 use crate::finding::SourceAnswer;
 use sp_dimacs::Write;
 use sp_job::{BatchError, Summary};
-use sp_tree::{write_far, write_tree};
+use sp_tree::{write_far, write_tree_in_pages};
+use std::alloc::Global;
 
 /// Returns the summary of no source.
 pub(crate) fn nothing() -> Summary
@@ -33,6 +34,7 @@ pub(crate) fn sum(first: Summary, second: Summary) -> Summary
 
 /// Writes the answer for one source, and counts it.
 pub(crate) fn write_one<const P: u32, W: Write>(
+    alloc: Global,
     found: &SourceAnswer<P>,
     out: &mut W,
 ) -> Result<Summary, BatchError>
@@ -42,7 +44,7 @@ pub(crate) fn write_one<const P: u32, W: Write>(
         SourceAnswer::Tree(tree) => Ok(Summary {
             sources: 1,
             too_far: 0,
-            bytes: write_tree(tree, out)?,
+            bytes: write_tree_in_pages(alloc, tree, out)?,
         }),
         SourceAnswer::TooFar { source, vertex } => Ok(Summary {
             sources: 1,
@@ -54,6 +56,7 @@ pub(crate) fn write_one<const P: u32, W: Write>(
 
 /// Writes the answers for some sources, in their order, and counts them.
 pub(crate) fn write_group<const P: u32, W: Write>(
+    alloc: Global,
     group: &[SourceAnswer<P>],
     out: &mut W,
 ) -> Result<Summary, BatchError>
@@ -61,7 +64,7 @@ pub(crate) fn write_group<const P: u32, W: Write>(
 {
     let mut summary = nothing();
     for found in group {
-        summary = sum(summary, write_one(found, out)?);
+        summary = sum(summary, write_one(alloc, found, out)?);
     }
     Ok(summary)
 }

@@ -1,5 +1,6 @@
 pub mod Parts
 pub mod TreePieces
+pub mod SentRows
 pub mod Numerals
 pub mod Canonical
 pub mod TreeTexts

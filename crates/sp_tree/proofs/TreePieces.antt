@@ -5,6 +5,6 @@ use Rattle.sp_word.specs.Word.{Word}
 use Rattle.sp_answer.specs.Table.{TreeTable}
 use Rattle.sp_tree.specs.TreeText.{problem_text, row_text, end_text, tree_text}
 
-pub tree_is : (t : TreeTable) (n source : ℕ) (rows again : List (ℕ × Word)) → n ≡ t.n → source ≡ t.source → rows ≡ t.rows → again ≡ t.rows → tree_text t ≡ (problem_text n source ++ flat_map row_text rows) ++ end_text (length again)
+pub tree_is : (t : TreeTable) (rows : List (ℕ × Word)) → rows ≡ t.rows → tree_text t ≡ (problem_text t.n t.source ++ flat_map row_text rows) ++ end_text (length t.rows)
 unfolding tree_text
-tree_is t n source rows again n_is source_is rows_are again_are = rw (n_is, source_is, rows_are, again_are) refl
+tree_is t rows rows_are = rw rows_are refl

@@ -2,10 +2,12 @@
 //! block after block, in the memory of one tree.
 #![tactic(auto)]
 
+mod backward;
 mod block_state;
 mod blocks;
 mod laws;
 mod lines;
+mod pages;
 mod reading;
 mod stream;
 mod taking;
@@ -13,6 +15,7 @@ mod writing;
 
 pub use blocks::TreeBlocks;
 pub use laws::{tree_text_is_exact, tree_texts_are_accepted};
+pub use pages::write_tree_in_pages;
 pub use reading::{TreeReader, read_tree};
 pub use sp_answer::Tree;
 pub use writing::{write_far, write_tree};

@@ -64,13 +64,40 @@ fn send_row<const P: u32, W: Write>(out: &mut W, printer: &mut Printer, vertex: 
     push_row(&mut printer.block, vertex, word);
 }
 
-fn send_rows<const P: u32, W: Write>(out: &mut W, printer: &mut Printer, rows: &[(u32, Word<P>)])
+/// Sends the lines of rows, one after the other.
+pub(crate) fn send_rows<const P: u32, W: Write>(
+    out: &mut W,
+    printer: &mut Printer,
+    rows: &[(u32, Word<P>)],
+)
     ensures { Sends W.written W.passed W.has_failed
         (flat_map row_text rows.now) out.old printer.old out.new printer.new }
 {
     for (vertex, word) in rows {
         send_row(out, printer, *vertex, *word);
     }
+}
+
+/// Sends the problem line of a tree.
+pub(crate) fn send_problem<const P: u32, W: Write>(
+    out: &mut W,
+    printer: &mut Printer,
+    tree: &Tree<P>,
+)
+    ensures { Sends W.written W.passed W.has_failed
+        (problem_text tree.now.n tree.now.source) out.old printer.old out.new printer.new }
+{
+    make_room(out, printer, LINE_ROOM);
+    push_problem(&mut printer.block, tree.n(), tree.source());
+}
+
+/// Sends the last line of a tree, with the number of its rows.
+pub(crate) fn send_end<const P: u32, W: Write>(out: &mut W, printer: &mut Printer, tree: &Tree<P>)
+    ensures { Sends W.written W.passed W.has_failed
+        (end_text (length tree.now.rows)) out.old printer.old out.new printer.new }
+{
+    make_room(out, printer, LINE_ROOM);
+    push_end(&mut printer.block, tree.rows().len() as u64);
 }
 
 /// Writes the block of a tree, and returns its number of bytes.
@@ -81,11 +108,9 @@ pub fn write_tree<const P: u32, W: Write>(tree: &Tree<P>, out: &mut W) -> Result
     ensures passed { Counted W.passed out.old result out.new }
 {
     let mut printer = Printer::new();
-    make_room(out, &mut printer, LINE_ROOM);
-    push_problem(&mut printer.block, tree.n(), tree.source());
+    send_problem(out, &mut printer, tree);
     send_rows(out, &mut printer, tree.rows());
-    make_room(out, &mut printer, LINE_ROOM);
-    push_end(&mut printer.block, tree.rows().len() as u64);
+    send_end(out, &mut printer, tree);
     finish(out, printer)
 }
 
