@@ -1,5 +1,5 @@
 #!/usr/bin/env python3
-"""Runs each command of the program on a system that turns against it, and looks at status, text and line.
+"""Runs each command of the program, and its help, on a system that turns against it, and looks at status, text and line.
 
 Usage: python3 tests/hostile.py [--program PROGRAM] [--vertices N]
 
@@ -21,7 +21,7 @@ import tempfile
 
 sys.dont_write_bytecode = True
 import refused  # noqa: E402
-from harness import SECONDS, Count, graphs, options_of, program, put  # noqa: E402
+from harness import HOME, SECONDS, Count, graphs, options_of, program, put, read  # noqa: E402
 import trees  # noqa: E402
 
 PAGE = 4096
@@ -72,6 +72,12 @@ def cases(folder, vertices):
     steps = put(f"{folder}/long.rep", f"p rep {vertices} 1\n{offers}" + 2 * vertices * "s 1\n")
     calls = "".join(f"o 1 {it} {it} 1 shorter {2 * it - 1} {2 * it}\n" for it in rows)
     yield Case("replay", ("replay", steps), f"{calls}{kept}t {vertices} 0\nclosed yes\n", 0, {"replay": steps})
+
+
+def helps():
+    """Texts of help, which need no file."""
+    for name, words in (("spt", ("--help",)), ("tree", ("tree", "--help")), ("replay", ("help", "replay"))):
+        yield Case(f"help of {name}", words, read(f"{HOME}/tests/help/{name}.txt"), 0, {})
 
 
 # ## Runs
@@ -217,6 +223,9 @@ def main():
     with tempfile.TemporaryDirectory() as folder:
         refuser = refused.Refuser(folder)
         least = least_to_start(tried)
+        for case in helps():
+            close_at_once(count, tried, case)
+            fill_device(count, tried, case, folder)
         for case in cases(folder, chosen.vertices):
             close_at_once(count, tried, case)
             if len(case.text) > SHORT:
