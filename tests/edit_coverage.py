@@ -46,8 +46,6 @@ EXCEPTIONS = {
     "sp_job::answers::BatchError::from": NONE_YET,
     "sp_kept::shared::HeldGraph::graph": OF_A_FIELD,
     "sp_picture::faults::NoPicture::from": NONE_YET,
-    "sp_solve::reach::Reach::source": NONE_YET,
-    "sp_solve::reach::Reach::targets": NONE_YET,
     "sp_store::store::Store::graph": OF_A_FIELD,
     "sp_store::store::Store::table": OF_A_FIELD,
     "tests_round_samples::any_tasks": OF_TESTS,
