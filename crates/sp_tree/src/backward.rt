@@ -9,7 +9,7 @@ use itoa::write_digits;
 use sp_word::Word;
 
 /// The greatest number of bytes of a row's line.
-pub(crate) const ROW_ROOM: usize = 65;
+pub(crate) const ROW_ROOM: usize = 45;
 
 // Puts a byte before what stands from `end` on, and returns where it stands.
 #[inline(always)]
@@ -21,6 +21,19 @@ fn put_byte(byte: u8, bytes: &mut [u8], end: usize) -> usize
 {
     bytes[end - 1] = byte;
     end - 1
+}
+
+// Puts a space and the number of a vertex before what stands from `end` on, and returns where they begin.
+#[inline(always)]
+fn put_vertex(vertex: u32, bytes: &mut [u8], end: usize) -> usize
+    requires room { 11 ≤ end }
+    requires within { end ≤ length bytes.old }
+    ensures front { result ≤ end }
+    ensures short { end ≤ result + 11 }
+    ensures text { drop result bytes.new ≡ number_text vertex ++ drop end bytes.old }
+{
+    let start = write_digits(vertex as u64, bytes, end);
+    put_byte(b' ', bytes, start)
 }
 
 // Puts a space and a number before what stands from `end` on, and returns where they begin.
@@ -39,10 +52,10 @@ fn put_number(n: u64, bytes: &mut [u8], end: usize) -> usize
 // Puts the line of a row before what stands from `end` on, and returns where it begins.
 #[inline]
 fn put_row<const P: u32>(vertex: u32, word: Word<P>, bytes: &mut [u8], end: usize) -> usize
-    requires room { 65 ≤ end }
+    requires room { 45 ≤ end }
     requires within { end ≤ length bytes.old }
     ensures front { result ≤ end }
-    ensures short { end ≤ result + 65 }
+    ensures short { end ≤ result + 45 }
     ensures text { drop result bytes.new
         ≡ reached_text vertex word.entry ++ drop end bytes.old }
 {
@@ -50,15 +63,15 @@ fn put_row<const P: u32>(vertex: u32, word: Word<P>, bytes: &mut [u8], end: usiz
         return end;
     };
     let end = put_byte(b'\n', bytes, end);
-    let end = put_number(pred as u64, bytes, end);
+    let end = put_vertex(pred, bytes, end);
     let end = put_number(dist, bytes, end);
-    let end = put_number(vertex as u64, bytes, end);
+    let end = put_vertex(vertex, bytes, end);
     put_byte(b'v', bytes, end)
 }
 
 /// Puts the lines of rows at the end of these bytes, and returns where they begin.
 pub(crate) fn put_rows<const P: u32>(rows: &[(u32, Word<P>)], bytes: &mut [u8]) -> usize
-    requires { length rows.now * 65 ≤ length bytes.old }
+    requires { length rows.now * 45 ≤ length bytes.old }
     ensures within { result ≤ length bytes.new }
     ensures text { drop result bytes.new ≡ flat_map row_text rows.now }
 {

@@ -17,7 +17,7 @@ const PAGE_ROWS: usize = 8192;
 // Returns a page for the lines of some rows.
 fn new_page(alloc: Global, rows: usize) -> Result<Vec<u8>, AllocError>
     requires { rows ≤ 8192 }
-    ensures { IfOk result (λ page. length page.items ≡ rows * 65) }
+    ensures { IfOk result (λ page. length page.items ≡ rows * 45) }
 {
     vec![in alloc; 0; rows * ROW_ROOM]
 }
@@ -29,7 +29,7 @@ fn send_page<const P: u32, W: Write>(
     rows: &[(u32, Word<P>)],
     page: &mut Vec<u8>,
 )
-    requires { length rows.now * 65 ≤ length page.old.items }
+    requires { length rows.now * 45 ≤ length page.old.items }
     ensures sends { Sends W.written W.passed W.has_failed
         (flat_map row_text rows.now) out.old printer.old out.new printer.new }
     ensures length { length page.new.items ≡ length page.old.items }

@@ -6,7 +6,7 @@ use Rattle.sp_tree.proofs.backward.put_rows.Given as goal
 abbrev pub invariant-loop-left : goal.invariant-loop-left
 invariant-loop-left g l = record {
   count : l.left ≤ length l.rows;
-  room : l.left * 65 ≤ l.start;
+  room : l.left * 45 ≤ l.start;
   within : l.start ≤ length l.bytes;
   text : drop l.start l.bytes ≡ flat_map row_text (drop l.left l.rows);
 }
