@@ -1,9 +1,11 @@
-//! What a run from a source answers: its tree, a table of rows, or why there is none.
+//! What a run from a source answers: its tree, a table of rows, or the answer for one target, or why there is none.
 #![tactic(auto)]
 
 mod answer;
+mod pair;
 mod rows;
 mod tree;
 
 pub use answer::RunError;
+pub use pair::PairAnswer;
 pub use tree::Tree;

@@ -5,9 +5,10 @@ use Rattle.std.proofs.lemmas.Bool.{cases_eq}
 use Rattle.std.proofs.lemmas.List.{length-set}
 use Rattle.sp_word.specs.Word.{max_dist}
 use Rattle.sp_paths.specs.Paths.{Graph, IsPair}
-use Rattle.sp_solve.specs.declared.reach.PairAnswer.{PairAnswer as Told}
-use Rattle.sp_solve.specs.declared.reach.PairAnswer.TheVariants as told
-use Rattle.sp_solve.specs.Reach.{Reached, IsAnswerFor, answer_of}
+use Rattle.sp_answer.specs.declared.pair.PairAnswer.{PairAnswer as Told}
+use Rattle.sp_answer.specs.declared.pair.PairAnswer.TheVariants as told
+use Rattle.sp_answer.specs.Pair.{answer_of}
+use Rattle.sp_solve.specs.Reach.{Reached, IsAnswerFor}
 use Rattle.sp_pairs.specs.declared.asking.Slot.{Slot}
 use Rattle.sp_pairs.specs.declared.asking.Slot.TheVariants.{Open, Found, TooFar, NoWalk}
 use Rattle.sp_pairs.specs.Slots.{IsOpen, IsClosed, slot_of, IsHeld, pair_at, AreAllOpen, AreHeld, IsClosedAt, AreFirstClosed, StayClosed, IsFor}

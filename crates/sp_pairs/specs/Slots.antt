@@ -8,8 +8,8 @@ use Rattle.sp_job.specs.declared.answers.BatchError.{BatchError}
 use Rattle.sp_job.specs.declared.answers.BatchError.TheVariants.{Write}
 use Rattle.sp_paths.specs.Paths.{Graph, IsVertex, PairAnswer}
 use Rattle.sp_paths.specs.Paths.{Found as FoundPair, TooFar as FarVertex, NoWalk as NoWay}
-use Rattle.sp_solve.specs.declared.reach.PairAnswer.{PairAnswer as Told}
-use Rattle.sp_solve.specs.declared.reach.PairAnswer.TheVariants as told
+use Rattle.sp_answer.specs.declared.pair.PairAnswer.{PairAnswer as Told}
+use Rattle.sp_answer.specs.declared.pair.PairAnswer.TheVariants as told
 use Rattle.sp_solve.specs.Reach.{Reached}
 use Rattle.sp_pairs.specs.declared.asking.Slot.{Slot}
 use Rattle.sp_pairs.specs.declared.asking.Slot.TheVariants.{Open, Found, TooFar, NoWalk}

@@ -12,7 +12,7 @@ use Rattle.sp_graph.specs.LeftOut.{IsLeastLeftOut}
 use Rattle.sp_plain.specs.Passing.{IsTableOfWalks, IsFinishedTable}
 use Rattle.sp_plain.proofs.TableSteps.{small_within}
 use Rattle.sp_scan.specs.Shown.{IsClosedUpTo}
-use Rattle.sp_serial.specs.Target.{answer_by}
+use Rattle.sp_answer.specs.Pair.{answer_by}
 
 none_some : {x : ℕ} → Some x ≡ None → ⊥
 none_some e = cc

@@ -4,8 +4,8 @@ ghost use Rattle.sp_word.specs.Word.{is_layout, max_dist, max_pred};
 ghost use Rattle.sp_serial.specs.Target.{IsAnswerFor};
 ghost use Rattle.sp_serial.specs.Asked.{AreEnds, IsTargetRefusal};
 
-use crate::target::{TargetAnswer, solve_target};
-use sp_answer::RunError;
+use crate::target::solve_target;
+use sp_answer::{PairAnswer, RunError};
 use sp_graph::Graph;
 use sp_word::Delta;
 use std::alloc::Global;
@@ -18,7 +18,7 @@ pub fn run_target_alone<const P: u32>(
     delta: Delta<P>,
     source: u32,
     target: u32,
-) -> Result<TargetAnswer, RunError>
+) -> Result<PairAnswer, RunError>
     requires layout { is_layout P ≡ true }
     requires n { graph.now.n ≤ max_pred P }
     ensures ends { IfOk result (λ _. AreEnds graph.now.n source target) }

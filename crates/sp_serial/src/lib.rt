@@ -17,5 +17,5 @@ mod target;
 pub use alone::run_source_alone;
 pub use asked::run_target_alone;
 pub use run::solve_alone;
-pub use sp_answer::RunError;
-pub use target::{TargetAnswer, solve_target};
+pub use sp_answer::{PairAnswer, RunError};
+pub use target::solve_target;

@@ -3,39 +3,15 @@ ghost use Rattle.std.specs.Prelude.{◌≡◌, ◌≤◌, true, vec_len, IfOk, I
 ghost use Rattle.sp_word.specs.Word.{is_layout, max_dist, max_pred};
 ghost use Rattle.sp_paths.specs.Paths.{IsVertex};
 ghost use Rattle.sp_plain.specs.Passing.{IsTableOfWalks, IsFinishedTable};
-ghost use Rattle.sp_serial.specs.Target.{IsAnswerFor, answer_of, answer_by};
+ghost use Rattle.sp_serial.specs.Target.{IsAnswerFor};
 
 use crate::search::search;
+use sp_answer::PairAnswer;
 use sp_graph::{Graph, left_out, look_up};
 use sp_plain::{close_table, open_table};
 use sp_scan::is_relaxed_up_to;
 use sp_word::{Delta, Word};
 use std::alloc::{AllocError, Global};
-
-/// The answer for a target.
-#[derive(Clone, Copy, Debug, PartialEq, Eq)]
-pub enum TargetAnswer {
-    /// The target's word in the tree: its least length, and the smallest-numbered vertex before it on a walk of that
-    /// length.
-    Found { dist: u64, pred: u32 },
-    /// The target has no least length that fits a word, and this is the smallest vertex that is too far.
-    TooFar(u32),
-    /// No walk leads to the target.
-    NoWalk,
-}
-
-// Returns the answer that a vertex's word in the tree gives. If it is unreached, the vertex that is too far decides.
-fn answer_by<const P: u32>(word: Word<P>, far: Option<u32>) -> TargetAnswer
-    ensures { answer_of result ≡ answer_by word.entry far }
-{
-    if let (Some(dist), Some(pred)) = (word.dist(), word.pred()) {
-        return TargetAnswer::Found { dist, pred };
-    }
-    match far {
-        Some(vertex) => TargetAnswer::TooFar(vertex),
-        None => TargetAnswer::NoWalk,
-    }
-}
 
 // Returns the target's answer if the words show it: the target has a distance, and all arcs within it are relaxed.
 fn near_answer<const P: u32>(
@@ -43,7 +19,7 @@ fn near_answer<const P: u32>(
     source: u32,
     target: u32,
     words: &[Word<P>],
-) -> Option<TargetAnswer>
+) -> Option<PairAnswer>
     requires layout { is_layout P ≡ true }
     requires source { IsVertex graph.now.n source }
     requires target { IsVertex graph.now.n target }
@@ -55,7 +31,7 @@ fn near_answer<const P: u32>(
     let far = word.dist()?;
     let _ = graph.n();
     if is_relaxed_up_to(words, graph, far) {
-        Some(answer_by(word, None))
+        Some(PairAnswer::of_word(word, None))
     } else {
         None
     }
@@ -67,12 +43,12 @@ fn whole_answer<const P: u32>(
     source: u32,
     target: u32,
     words: &[Word<P>],
-) -> TargetAnswer
+) -> PairAnswer
     requires target { IsVertex graph.now.n target }
     requires table { IsFinishedTable graph.now source (max_dist P) words.now }
     ensures { IsAnswerFor graph.now source target (max_dist P) result }
 {
-    answer_by(look_up(words, target), left_out(words, graph.arcs()))
+    PairAnswer::of_word(look_up(words, target), left_out(words, graph.arcs()))
 }
 
 /// Returns the answer for a target of `source`. It ends as soon as the target's word is final, so a near target takes
@@ -85,7 +61,7 @@ pub fn solve_target<const P: u32>(
     _delta: Delta<P>,
     source: u32,
     target: u32,
-) -> Result<TargetAnswer, AllocError>
+) -> Result<PairAnswer, AllocError>
     requires layout { is_layout P ≡ true }
     requires source { IsVertex graph.now.n source }
     requires target { IsVertex graph.now.n target }

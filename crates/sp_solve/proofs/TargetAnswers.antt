@@ -15,9 +15,10 @@ use Rattle.sp_walks.specs.Walks.{WalksFrom}
 use Rattle.sp_scan.specs.Shown.{Shows, LeadsOut, IsClosedUpTo, IsArcRelaxed as IsEachRelaxed}
 use Rattle.sp_scan.specs.declared.scan.Scan.{Scan}
 use Rattle.sp_scan.specs.declared.scan.Scan.TheVariants.{Whole, LeavesOut, Open}
-use Rattle.sp_solve.specs.declared.reach.PairAnswer.{PairAnswer as Told}
+use Rattle.sp_answer.specs.declared.pair.PairAnswer.{PairAnswer as Told}
 use Rattle.sp_solve.specs.WholeRun.{IsPlace, IsOfWalks, IsRelaxedCopy}
-use Rattle.sp_solve.specs.Reach.{Reached, AnswersTargets, IsFinal, IsShown, IsAnswerFor, IsUpTo, answer_of, answer_by}
+use Rattle.sp_answer.specs.Pair.{answer_of, answer_by}
+use Rattle.sp_solve.specs.Reach.{Reached, AnswersTargets, IsFinal, IsShown, IsAnswerFor, IsUpTo}
 use Rattle.sp_solve.proofs.WholeRun.{whole_left}
 
 -- what the word of the target at a place tells

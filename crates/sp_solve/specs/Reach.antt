@@ -1,15 +1,14 @@
 -- What a run finds for some targets of its source.
 use Rattle.std.specs.Prelude.{◌≡◌, ◌≤◌, ℕ, List, [], All, length, Option, Some, None}
 use Rattle.sp_word.specs.Word.{Word, Pair, Unreached, max_dist}
-use Rattle.sp_paths.specs.Paths.{Graph, IsVertex, IsPair, PairAnswer, word_at}
-use Rattle.sp_paths.specs.Paths.{Found as FoundPair, TooFar as FarVertex, NoWalk as NoWay}
+use Rattle.sp_paths.specs.Paths.{Graph, IsVertex, IsPair, word_at}
+use Rattle.sp_answer.specs.declared.pair.PairAnswer.{PairAnswer as Told}
+use Rattle.sp_answer.specs.Pair.{answer_of, answer_by}
 use Rattle.sp_walks.specs.Walks.{WalksFrom}
 use Rattle.sp_graph.specs.LeftOut.{IsLeastLeftOut}
 use Rattle.sp_scan.specs.declared.scan.Scan.{Scan}
 use Rattle.sp_scan.specs.declared.scan.Scan.TheVariants.{Whole, LeavesOut, Open}
 use Rattle.sp_solve.specs.WholeRun.{IsRelaxedCopy}
-use Rattle.sp_solve.specs.declared.reach.PairAnswer.{PairAnswer as Told}
-use Rattle.sp_solve.specs.declared.reach.PairAnswer.TheVariants.{Found, TooFar, NoWalk}
 
 -- a source in a graph, and targets
 pub record Reached : Type 0 where
@@ -20,20 +19,9 @@ pub record Reached : Type 0 where
 abbrev pub reach_of : WalksFrom → List ℕ → Reached
 reach_of run targets = record { graph = run.graph; source = run.source; targets = targets }
 
-abbrev pub answer_of : Told → PairAnswer
-answer_of (Found d p) = FoundPair d p
-answer_of (TooFar v) = FarVertex v
-answer_of NoWalk = NoWay
-
 -- the answer for a target
 abbrev pub IsAnswerFor : (P : ℕ) → Graph → (s t : ℕ) → Told → Type 0
 IsAnswerFor P g s t told = IsPair g s t (max_dist P) (answer_of told)
-
--- what a word of the tree tells of its vertex, or, where it is none, the vertex that is too far
-abbrev pub answer_by : Word → (far : Option ℕ) → PairAnswer
-answer_by (Pair d p) far = FoundPair d p
-answer_by Unreached (Some v) = FarVertex v
-answer_by Unreached None = NoWay
 
 -- The words, and the vertex that is too far, tell the answer for each of the targets, which are vertices.
 pub record AnswersTargets (P : ℕ) (r : Reached) (words : List Word) (far : Option ℕ) : Type 0 where

@@ -6,6 +6,6 @@ mod relaxing;
 mod source;
 mod whole;
 
-pub use reach::{PairAnswer, Query, Reach, run_targets};
+pub use reach::{Query, Reach, run_targets};
 pub use source::{run_by_team, run_source, useful_team};
-pub use sp_answer::RunError;
+pub use sp_answer::{PairAnswer, RunError};

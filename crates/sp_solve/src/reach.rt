@@ -2,39 +2,16 @@
 ghost use Rattle.std.specs.Prelude.{◌≡◌, ◌<◌, ◌≤◌, true, length, slice_index, All, IfOk};
 ghost use Rattle.sp_word.specs.Word.{is_layout, max_pred};
 ghost use Rattle.sp_paths.specs.Paths.{IsVertex};
-ghost use Rattle.sp_solve.specs.Reach.{IsAnswerFor, answer_of, answer_by};
+ghost use Rattle.sp_solve.specs.Reach.{IsAnswerFor};
 
 use crate::whole::WholeRun;
+use sp_answer::PairAnswer;
 use sp_graph::{Graph, look_up};
 use sp_word::{Meter, Team, Word};
 use std::alloc::{AllocError, Global};
 use std::marker::Model;
 use std::sync::Wait;
 use std::thread::Threads;
-
-/// The answer for a target of a source.
-#[derive(Clone, Copy, Debug, PartialEq, Eq)]
-pub enum PairAnswer {
-    /// The target's word of the tree: its least length, and the smallest vertex before it on a walk of that length.
-    Found { dist: u64, pred: u32 },
-    /// No word has the target's least length, and this is the smallest vertex that is too far.
-    TooFar(u32),
-    /// No walk leads to the target.
-    NoWalk,
-}
-
-// Returns what a word of the tree tells of its vertex, or, where it is unreached, the vertex that is too far.
-fn answer_by<const P: u32>(word: Word<P>, far: Option<u32>) -> PairAnswer
-    ensures { answer_of result ≡ answer_by word.entry far }
-{
-    if let (Some(dist), Some(pred)) = (word.dist(), word.pred()) {
-        return PairAnswer::Found { dist, pred };
-    }
-    match far {
-        Some(vertex) => PairAnswer::TooFar(vertex),
-        None => PairAnswer::NoWalk,
-    }
-}
 
 /// What a run for targets is asked: the source that it begins at, and the targets, in any order.
 #[derive(Drop)]
@@ -98,7 +75,7 @@ impl<'g, const P: u32> Reach<'g, P> {
             IsAnswerFor P self.now.graph self.now.source target result }
     {
         let target = self.targets[place];
-        answer_by(look_up(self.words.as_slice(), target), self.far)
+        PairAnswer::of_word(look_up(self.words.as_slice(), target), self.far)
     }
 }
 

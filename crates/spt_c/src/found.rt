@@ -15,7 +15,8 @@ use crate::refusals::refusal;
 use crate::solving::width_for;
 use sp_graph::Graph;
 use sp_kept::KeptGraph;
-use sp_serial::{TargetAnswer, run_target_alone};
+use sp_answer::PairAnswer;
+use sp_serial::run_target_alone;
 use sp_word::Delta;
 use std::alloc::Global;
 
@@ -56,14 +57,14 @@ impl SptFound {
 }
 
 // Converts an answer: no distance is equal to the greatest number, which stands for no walk.
-fn of_answer(answer: TargetAnswer) -> Result<Cell, Told>
+fn of_answer(answer: PairAnswer) -> Result<Cell, Told>
     ensures { (g : Network) (s t max : ℕ) → IsAnswerFor g s t max answer
         → IsFoundIn max g s t result }
 {
     match answer {
-        TargetAnswer::Found { dist, pred } => Ok(Cell { dist, pred }),
-        TargetAnswer::TooFar(vertex) => Err(Told::TooFar(vertex)),
-        TargetAnswer::NoWalk => Ok(Cell::unreached()),
+        PairAnswer::Found { dist, pred } => Ok(Cell { dist, pred }),
+        PairAnswer::TooFar(vertex) => Err(Told::TooFar(vertex)),
+        PairAnswer::NoWalk => Ok(Cell::unreached()),
     }
 }
 
