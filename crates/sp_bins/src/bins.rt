@@ -15,7 +15,7 @@ const MARKED: usize = 64;
 
 const MARKS: usize = SLOTS * WHEELS / MARKED;
 
-// The width of the buckets is looked at anew when so many entries were put.
+// The width of the buckets is looked at anew when so many entries of heads were put.
 const LOT: u64 = 256;
 
 // The widest buckets are 2 to this power wide.
@@ -29,9 +29,9 @@ const WIDEST: u32 = 40;
 /// lowest one; when a wheel is used up, the next slot of the wheel above is dealt to those below. An entry is therefore
 /// moved at most once for each wheel, however far away its bucket is.
 ///
-/// The buckets find their width as they are worked off. Where many of the entries that are put fall into the bucket that
-/// is being emptied, its vertices are relaxed in too free an order, and many of them several times: then all buckets
-/// become narrower. Where hardly any do, they become wider.
+/// The buckets find their width as they are worked off. Where many heads fall into their tail's bucket, its vertices are
+/// relaxed in too free an order, and many of them several times: then all buckets become narrower. Where hardly any do,
+/// they become wider.
 #[derive(Drop)]
 pub struct Bins {
     alloc: Global,
@@ -43,8 +43,7 @@ pub struct Bins {
     slots: Vec<Vec<Entry>>,
     // A bit for each slot, which is set where the slot has an entry.
     marks: Vec<u64>,
-    // How many entries were put since the width was last looked at, and how many of them into the bucket that is being
-    // emptied.
+    // How many entries of heads were put since the width was last looked at, and how many of them into their tail's bucket.
     put: u64,
     near: u64,
     // How many entries were moved when the width was last changed.
@@ -120,8 +119,14 @@ impl Bins {
 
     /// Puts an entry into its bucket.
     pub fn put(&mut self, entry: Entry) -> Result<(), AllocError> {
+        self.lay(entry)
+    }
+
+    /// Puts the entry of a head into its bucket, and takes note of its tail's distance: where both often lie in one bucket,
+    /// buckets are too wide.
+    pub fn put_head(&mut self, entry: Entry, tail_dist: u64) -> Result<(), AllocError> {
         self.put = self.put.saturating_add(1);
-        if self.bucket_of(entry.dist) <= self.lowest {
+        if self.bucket_of(entry.dist) == self.bucket_of(tail_dist) {
             self.near = self.near.saturating_add(1);
         }
         self.lay(entry)
@@ -215,7 +220,7 @@ impl Bins {
         Ok(entries)
     }
 
-    // Returns the width that suits the entries that were put of late.
+    // Returns the width that suits the heads that were put of late.
     fn fitting_shift(&self) -> u32
         ensures { result < 64 }
     {
@@ -245,11 +250,11 @@ impl Bins {
         self.lay_all(&entries)
     }
 
-    /// Fits the width of the buckets to the entries that were put of late, where no entry of the bucket that is being
-    /// emptied is in hand.
+    /// Fits the width of the buckets to the heads that were put of late, where no entry of the bucket that is being emptied
+    /// is in hand.
     ///
-    /// All entries are moved for a new width. Buckets become wider only where as many entries were put as the last
-    /// change has moved, so that the moves take no more time than the entries.
+    /// All entries are moved for a new width. Buckets become wider only where as many heads were put as the last change
+    /// has moved, so that the moves take no more time than the entries.
     pub fn adjust(&mut self) -> Result<(), AllocError> {
         if self.put < LOT {
             return Ok(());

@@ -33,10 +33,11 @@ fn relax_row<const P: u32>(
     }
     for arc in graph.row(vertex) {
         if let Some(dist) = relax(words, *arc) {
-            bins.put(Entry {
+            let head = Entry {
                 vertex: arc.head,
                 dist,
-            })?;
+            };
+            bins.put_head(head, entry.dist)?;
         }
     }
     Ok(())

@@ -46,10 +46,13 @@ fn relax_arc<L: Lawful, const P: u32>(
     let sum = dist + u64::from(arc.len);
     let word = Word::<P>::pack(sum, arc.tail);
     match table.offer(caller, arc.head, word).reply {
-        Reply::Shorter => bins.put(Entry {
-            vertex: arc.head,
-            dist: sum,
-        }),
+        Reply::Shorter => {
+            let entry = Entry {
+                vertex: arc.head,
+                dist: sum,
+            };
+            bins.put_head(entry, dist)
+        }
         Reply::SmallerPred | Reply::Kept => Ok(()),
     }
 }

@@ -1,7 +1,7 @@
 //! Entries come out by bucket, each once, however far their buckets lie.
 
 use sp_bucket::{Bins, Entry};
-use std::alloc::Global;
+use std::alloc::{AllocError, Global};
 use std::process::Abort;
 use std::test::Fail;
 
@@ -102,28 +102,27 @@ fn entries_below_the_lowest_come_at_once(rt: HostRuntime) -> Result<(), Fail> {
     Ok(())
 }
 
-// Where most entries are put into the bucket that is being emptied, the buckets become narrower; where none is, wider.
+// Puts the entry of a head that lies as far behind its tail as told.
+fn put_head(bins: &mut Bins, dist: u64, length: u64) -> Result<(), AllocError> {
+    bins.put_head(Entry { vertex: 1, dist }, dist - length)
+}
+
+// Where most heads fall into their tail's bucket, the buckets become narrower; where none does, wider.
 #[test]
 fn buckets_find_their_width(rt: HostRuntime) -> Result<(), Fail> {
     let mut bins = Bins::new(rt.alloc(), 20)?;
-    for dist in 0..1000u64 {
-        bins.put(Entry { vertex: 1, dist })?;
+    for dist in 1..1001u64 {
+        put_head(&mut bins, dist, 1)?;
     }
     bins.adjust()?;
     assert_eq!(rt; bins.shift(), 16);
     for bucket in 1..1000u64 {
-        bins.put(Entry {
-            vertex: 1,
-            dist: bucket << 16,
-        })?;
+        put_head(&mut bins, bucket << 16, 1)?;
     }
-    // as many were moved as the last change had moved only now
+    // a thousand entries were moved, and so many more have to be put first
     bins.adjust()?;
     assert_eq!(rt; bins.shift(), 16);
-    bins.put(Entry {
-        vertex: 1,
-        dist: 1000 << 16,
-    })?;
+    put_head(&mut bins, 1000 << 16, 1)?;
     bins.adjust()?;
     assert_eq!(rt; bins.shift(), 17);
     Ok(())
@@ -134,10 +133,7 @@ fn buckets_find_their_width(rt: HostRuntime) -> Result<(), Fail> {
 fn a_change_of_width_loses_nothing(rt: HostRuntime) -> Result<(), Fail> {
     let mut bins = Bins::new(rt.alloc(), 30)?;
     for dist in 0..1000u64 {
-        bins.put(Entry {
-            vertex: 1,
-            dist: dist * 7919 % 1000,
-        })?;
+        put_head(&mut bins, 1 + dist * 7919 % 1000, 1)?;
     }
     let mut list = Vec::new(rt.alloc());
     let mut seen = 0u64;
