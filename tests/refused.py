@@ -102,6 +102,11 @@ def round_says_all(wanted, told):
     return told in ((5, wanted[1], ""), (OUTSIDE, "", ""))
 
 
+def call_says_all(wanted, told):
+    """Whether memory was wanting outside of a call that needs none."""
+    return told == (OUTSIDE, "", "")
+
+
 def words_end_short(wanted, told):
     """Whether memory was wanting to the words of the command line alone."""
     return told == (5, "", "spt: memory\n")
@@ -176,6 +181,7 @@ def texts_of_calls():
     yield "read_ss", ("s 1\n", "s 1\n")
     yield "read_pairs", ("q 1 4\nq 4 1\n", "q 1 18\nq 17 17\n")
     yield "read_tree", (tree, path["long.tree"])
+    yield "write_tree_in_pages", (tree, path["long.tree"])
     yield "build", ("a 1 2 3\na 1 3 3\na 1 4 6\na 2 4 2\na 3 4 2\n", arcs)
     for name in ("run_source", "run_source_with", "run_by_team"):
         yield name, (tree, far)
@@ -193,7 +199,7 @@ def texts_of_calls():
 
 
 # What else a call may end with.
-FITS = {"run_pairs": call_says_nothing_else, "round": round_says_all}
+FITS = {"run_pairs": call_says_nothing_else, "round": round_says_all, "write_tree_in_pages": call_says_all}
 
 
 def try_calls(count, refuser, program):

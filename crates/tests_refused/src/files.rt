@@ -1,10 +1,10 @@
-//! The checker, the step machine and its files.
+//! The checker, trees that are written, the step machine and its files.
 use crate::report::{Ending, tell_fault, tell_written};
 use crate::sample::Sample;
 use sp_cert::{CheckError, check};
 use sp_device::{OfRead, Write};
 use sp_replay::{read_offers, read_replay, replay, write_report};
-use sp_tree::read_tree;
+use sp_tree::{read_tree, write_tree_in_pages};
 use std::io;
 use std::thread::Threads;
 
@@ -25,6 +25,20 @@ pub fn call_check<R: AllocGlobal + Print + Threads + Sync>(
         Err(CheckError::Memory) => return Ok(Ending::Memory),
     }
     Ok(Ending::Answered)
+}
+
+/// Writes the sample's tree in pages. It is written, whether there is memory for a page or not.
+pub fn call_write_tree_in_pages<R: AllocGlobal, W: Write>(
+    rt: &R,
+    out: &mut W,
+    sample: Sample,
+) -> io::Result<Ending> {
+    let alloc = rt.alloc();
+    let mut text = OfRead::new(sample.tree().as_bytes());
+    let Ok(tree) = read_tree::<28, _>(alloc, &mut text) else {
+        return Err(io::Error::other("no tree"));
+    };
+    Ok(tell_written(write_tree_in_pages(alloc, &tree, out)))
 }
 
 /// Reads a replay file, and then plays it.

@@ -44,6 +44,7 @@ fn call<R: AllocGlobal + Eprint + Print + Threads + Wait + Sync, W: Write>(
         "run" => stages::call_run(rt, out, sample, workers),
         "round" => rounds::call_round(rt, workers),
         "run_targets" => runs::call_run_targets(rt, sample, workers),
+        "write_tree_in_pages" => files::call_write_tree_in_pages(rt, out, sample),
         "check" => files::call_check(rt, sample),
         "read_replay" => files::call_read_replay(rt, out, sample),
         "read_offers" => files::call_read_offers(rt, sample),

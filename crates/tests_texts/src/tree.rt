@@ -1,5 +1,6 @@
 mod counts;
 mod layouts;
+mod pages;
 mod pieces;
 mod tables;
 mod written;

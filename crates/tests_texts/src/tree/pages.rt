@@ -1,0 +1,81 @@
+//! Trees of several pages.
+
+use sp_device::{UpToWriter, WriteFault};
+use sp_tree::{Tree, write_tree, write_tree_in_pages};
+use std::alloc::{AllocError, Global};
+use std::test::Fail;
+
+// More bytes than the text of any tree here has.
+const AMPLE: usize = 1 << 20;
+
+// The rows of a page.
+const PAGE_ROWS: usize = 8192;
+
+// A tree whose rows are the vertices up to `n` but for each thousandth, with distances of six digits to eleven.
+fn tall(alloc: Global, n: u32) -> Result<Tree<28>, AllocError> {
+    let mut tree = Tree::<28>::bare(alloc, 100_000, 1);
+    for vertex in 1..100_000 {
+        let pred = vertex / 2;
+        if vertex > n || vertex % 1000 == 999 {
+            continue;
+        }
+        if tree.last() < vertex && vertex <= tree.n() && pred <= tree.n() {
+            tree.push_row(vertex, vertex as u64 * 600_000, pred)?;
+        }
+    }
+    Ok(tree)
+}
+
+// How many bytes stand up to each LF behind which a page begins, of the problem line and of each page.
+fn ends_of_pages(alloc: Global, text: &[u8]) -> Result<Vec<usize>, AllocError> {
+    let mut ends = Vec::new(alloc);
+    let mut lines = 0usize;
+    for (place, byte) in text.iter().enumerate() {
+        if *byte == b'\n' {
+            if lines % PAGE_ROWS == 0 {
+                ends.push(place)?;
+            }
+            lines = lines.wrapping_add(1);
+        }
+    }
+    Ok(ends)
+}
+
+#[test]
+fn same_bytes(rt: HostRuntime) -> Result<(), Fail> {
+    let alloc = rt.alloc();
+    for n in [1, 2, 600, 8199, 8200, 8201, 30_000] {
+        let tree = tall(alloc, n)?;
+        let mut by_lines = UpToWriter::new(alloc, AMPLE, AMPLE);
+        let mut by_pages = UpToWriter::new(alloc, AMPLE, 50_000);
+        let told = write_tree(&tree, &mut by_lines);
+        assert_eq!(rt; told, Ok(by_lines.taken().len() as u64));
+        assert_eq!(rt; write_tree_in_pages(alloc, &tree, &mut by_pages), told);
+        assert_eq!(rt; by_pages.taken(), by_lines.taken());
+    }
+    Ok(())
+}
+
+// Closes the device before and behind each place where a page ends.
+#[test]
+fn closed_between_pages(rt: HostRuntime) -> Result<(), Fail> {
+    let alloc = rt.alloc();
+    let tree = tall(alloc, 30_000)?;
+    let mut whole = UpToWriter::new(alloc, AMPLE, AMPLE);
+    assert!(rt; write_tree(&tree, &mut whole).is_ok());
+    let text = whole.taken();
+    let ends = ends_of_pages(alloc, text)?;
+    assert_eq!(rt; ends.len(), 4);
+    for end in ends {
+        assert!(rt; end < AMPLE);
+        for room in end..end + 3 {
+            let mut out = UpToWriter::new(alloc, room, AMPLE);
+            assert_eq!(rt;
+                write_tree_in_pages(alloc, &tree, &mut out),
+                Err(WriteFault)
+            );
+            assert_eq!(rt; Some(out.taken()), text.get(..room));
+        }
+    }
+    Ok(())
+}
