@@ -43,7 +43,6 @@ EXCEPTIONS = {
     "sp_disk::output::Disk::keep": OF_THE_SYSTEM,
     "sp_disk::output::Output::write": NONE_YET,
     "sp_disk::screen::Errors::write": NONE_YET,
-    "sp_job::answers::BatchError::from": NONE_YET,
     "sp_kept::shared::HeldGraph::graph": OF_A_FIELD,
     "sp_picture::faults::NoPicture::from": NONE_YET,
     "sp_store::store::Store::graph": OF_A_FIELD,

@@ -35,10 +35,6 @@ EXCEPTIONS = {
     ("sp_batch", "run_batch"): SPECIFIED,
     ("sp_batch", "run_batch_told"): LIKE_SPECIFIED,
     ("sp_pairs", "run_pairs"): SPECIFIED,
-    ("sp_cli", "run_on"): NOT_YET,
-    ("sp_cli", "run_file"): NOT_YET,
-    ("sp_cli", "run_given_on"): NOT_YET,
-    ("sp_cli", "run_given"): NOT_YET,
     ("tests_runs", "play"): NOT_YET,
 }
 # a comment, a string or a character, any of which may hold brackets; a lifetime has no closing quote

@@ -133,9 +133,9 @@ TreesOfSome P far_ok (Given given) s status = InSome P far_ok (λ ss. These give
 -- What `tree` answers: where the layout has no such width, exactly that, with nothing written; else what belongs to the
 -- texts of its files, where they are known; and if it succeeds, whatever is known of them, what belongs to some texts.
 pub record IsTreeAnswer (P : ℕ) (tree : TreeCommand) (s : Scene) (result : Result Status Fault) : Type 0 where
-  pub no_width : ¬ (IsBucket P tree.running.width) → (result ≡ Err fault.DeltaOutOfRange) × IsUnwritten s
-  pub told : IsBucket P tree.running.width → TreesOf P tree.running.far_ok tree.graph.now tree.sources s result
-  pub of_some : IfOk result (TreesOfSome P tree.running.far_ok tree.sources s)
+  pub no_width : ¬ (IsBucket P tree.options.width) → (result ≡ Err fault.DeltaOutOfRange) × IsUnwritten s
+  pub told : IsBucket P tree.options.width → TreesOf P tree.options.far_ok tree.graph.now tree.sources s result
+  pub of_some : IfOk result (TreesOfSome P tree.options.far_ok tree.sources s)
 
 abbrev pub TreeAnswers : (P : ℕ) → Meaning TreeCommand
 TreeAnswers P tree s result = IsTreeAnswer P tree s result
@@ -155,7 +155,7 @@ LackPlaces (Given given) = ⊥
 -- These faults the words of `tree` or its texts may bring about: the layout has no such width, a word spells no places,
 -- or a source is no vertex.
 abbrev pub tree_faults : (P : ℕ) → TreeCommand → Fault → Type 0
-tree_faults P tree fault.DeltaOutOfRange = ¬ (IsBucket P tree.running.width)
+tree_faults P tree fault.DeltaOutOfRange = ¬ (IsBucket P tree.options.width)
 tree_faults P tree fault.NoPlaces = LackPlaces tree.sources
 tree_faults P tree (fault.NoSuchVertex source) = Unit {0}
 tree_faults P tree _ = ⊥
@@ -186,7 +186,7 @@ PairsTold P far_ok gr pairs s (Err _) = ⊥
 
 -- what belongs to the texts of the files of `pairs`, where they are known
 abbrev pub PairsOf : (P : ℕ) → PairsCommand → Scene → Result Status Fault → Type 0
-PairsOf P given s result = (gr pairs : List ℕ) → HasText s given.graph.now gr → HasText s given.pairs.now pairs → PairsTold P given.running.far_ok gr pairs s result
+PairsOf P given s result = (gr pairs : List ℕ) → HasText s given.graph.now gr → HasText s given.pairs.now pairs → PairsTold P given.options.far_ok gr pairs s result
 
 -- Some texts spell a graph and pairs, and exactly the text of their answers was written.
 abbrev pub PairsOfSome : (P : ℕ) → (far_ok : Bool) → Scene → Status → Type 0
@@ -195,9 +195,9 @@ PairsOfSome P far_ok s status = (gr pairs : List ℕ) × ((read : HoldGraphAndPa
 -- What `pairs` answers: where the layout has no such width, exactly that, with nothing written; else what belongs to the
 -- texts of its files, where they are known; and if it succeeds, whatever is known of them, what belongs to some texts.
 pub record IsPairsAnswer (P : ℕ) (given : PairsCommand) (s : Scene) (result : Result Status Fault) : Type 0 where
-  pub no_width : ¬ (IsBucket P given.running.width) → (result ≡ Err fault.DeltaOutOfRange) × IsUnwritten s
-  pub told : IsBucket P given.running.width → PairsOf P given s result
-  pub of_some : IfOk result (PairsOfSome P given.running.far_ok s)
+  pub no_width : ¬ (IsBucket P given.options.width) → (result ≡ Err fault.DeltaOutOfRange) × IsUnwritten s
+  pub told : IsBucket P given.options.width → PairsOf P given s result
+  pub of_some : IfOk result (PairsOfSome P given.options.far_ok s)
 
 abbrev pub PairsAnswers : (P : ℕ) → Meaning PairsCommand
 PairsAnswers P given s result = IsPairsAnswer P given s result
@@ -210,6 +210,6 @@ pairs_paths given _ = None
 
 -- These faults the words of `pairs` or its texts may bring about: the layout has no such width, or a number is no vertex.
 abbrev pub pairs_faults : (P : ℕ) → PairsCommand → Fault → Type 0
-pairs_faults P given fault.DeltaOutOfRange = ¬ (IsBucket P given.running.width)
+pairs_faults P given fault.DeltaOutOfRange = ¬ (IsBucket P given.options.width)
 pairs_faults P given (fault.NoSuchVertex number) = Unit {0}
 pairs_faults P given _ = ⊥

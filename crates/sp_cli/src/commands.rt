@@ -1,13 +1,13 @@
 //! The commands of the program.
 //!
-//! A command is a type in a file of its own, here or in a crate below, with its words, its help and what it does. A new one is such
-//! a file, and its name in `AnyCommand`.
+//! Each command is a type in a file of its own, in this crate or in one below, with its arguments, its help and what it does. To add a
+//! command, write such a file, and put its type into `AnyCommand`.
 use crate::pairs::PairsCommand;
 use crate::tree::TreeCommand;
 use sp_command::OneOf;
 use sp_tools::{CheckCommand, OffersCommand, ReplayCommand};
 
-/// A command, with what it was given. They stand in the order of the help.
+/// A command of the program, with its options and the paths of its files. The commands stand in the order of the help.
 pub type AnyCommand<'a> = OneOf<
     TreeCommand<'a>,
     OneOf<PairsCommand<'a>, OneOf<CheckCommand<'a>, OneOf<ReplayCommand<'a>, OffersCommand<'a>>>>,

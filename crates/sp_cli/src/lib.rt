@@ -1,7 +1,7 @@
 //! The program `spt`, over any files and any streams.
 //!
-//! The commands `tree` and `pairs` stand here, the others in `sp_tools`; `run_command` runs the one that a command line orders, as
-//! `sp_order` does for any commands.
+//! This crate has the commands `tree` and `pairs`, and `sp_tools` has the others. `run_command` runs the command that a command line
+//! names, by `sp_order`, which does so for any type of commands.
 #![tactic(auto)]
 
 mod commands;

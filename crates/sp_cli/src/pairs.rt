@@ -1,10 +1,10 @@
-//! `spt pairs`: for each pair of a list how far its target is from its source.
+//! The command `spt pairs`, which writes the distance from source to target for each pair of a list.
 ghost use denote.Param.Send.{IsSync};
 ghost use Rattle.std.specs.Prelude.{◌≡◌, ◌≤◌, ℕ, true, List, Option, Some, Ok, Err, IfOk, IfErr, MatchResult};
 ghost use Rattle.sp_word.specs.Word.{is_layout};
 ghost use Rattle.sp_command.specs.Faults.{code_of, is_done, status_of};
 ghost use Rattle.sp_command.specs.Causes.{IsBorneOut};
-ghost use Rattle.sp_command.specs.Scene.{Files, scene};
+ghost use Rattle.sp_command.specs.Scene.{scene};
 ghost use Rattle.sp_cli.specs.Answers.{PairsAnswers, PairsTold, PairsOf, PairsOfSome, pairs_paths, pairs_faults};
 ghost use Rattle.sp_options.specs.Ends.{end_of, fault_of};
 
@@ -12,9 +12,9 @@ use clap::{ArgMatches, Error};
 use sp_command::{
     Command, Fault, FileKind, GRAPH_FILE, Inputs, Run, Status, Words, after_help, file,
 };
-use sp_device::{Read, Write};
+use sp_device::Write;
 use sp_job::{BatchError, Listener, Progress, Settings, Summary};
-use sp_options::{Running, Teller, Watched};
+use sp_options::{RunOptions, Teller, Watched};
 use sp_pairs::run_pairs_told;
 use std::alloc::Global;
 use std::sync::Wait;
@@ -26,12 +26,15 @@ As many as there are processors is a good choice, where they are free.
 No more threads are started than there are processors, nor any for a
 small graph. Any number gives the same bytes";
 
-/// What `pairs` is given, with the names of its files.
+/// The command `pairs`, with its options and the paths of its files.
 #[derive(Drop)]
 pub struct PairsCommand<'a> {
+    /// The path of the graph.
     pub graph: &'a str,
+    /// The path of the pairs.
     pub pairs: &'a str,
-    pub running: Running,
+    /// The options that say how runs are made.
+    pub options: RunOptions,
 }
 
 impl<'a> Command<'a> for PairsCommand<'a> {
@@ -111,20 +114,20 @@ Others are
         let command = clap::Command::new(alloc, Self::NAME)
             .arg(file(alloc, "GR", GRAPH_FILE))?
             .arg(file(alloc, "PAIRS", "The pairs, a file of lines q S T"))?;
-        Running::add_to(command, alloc, WORKERS_LONG)
+        RunOptions::add_to(command, alloc, WORKERS_LONG)
     }
 
     fn read(alloc: Global, given: &ArgMatches<'a>) -> Result<Option<Self>, Error> {
         let (Some(graph), Some(pairs)) = (given.get_str("GR"), given.get_str("PAIRS")) else {
             return Ok(None);
         };
-        let Some(running) = Running::read(alloc, given)? else {
+        let Some(options) = RunOptions::read(alloc, given)? else {
             return Ok(None);
         };
         Ok(Some(PairsCommand {
             graph,
             pairs,
-            running,
+            options,
         }))
     }
 
@@ -138,14 +141,14 @@ Others are
 }
 
 impl PairsCommand<'_> {
-    // Tells that all is written, where it is, and how the run ends.
+    // Reports that everything is written, if it is, and returns how the command ends.
     fn end<F: Inputs>(
         &self,
         answer: Result<Summary, BatchError>,
         teller: &Teller<'_, F>,
     ) -> Result<Status, Fault>
         ensures { MatchResult answer
-            (λ summary. result ≡ Ok (end_of self.now.running.far_ok summary))
+            (λ summary. result ≡ Ok (end_of self.now.options.far_ok summary))
             (λ error. result ≡ Err (fault_of error)) }
     {
         if let Ok(written) = answer {
@@ -155,44 +158,10 @@ impl PairsCommand<'_> {
                 count,
             });
         }
-        self.running.end_of(answer)
+        self.options.end_of(answer)
     }
 
-    // Runs for the pairs of one text in the graph of another.
-    fn run_on<const P: u32, R: Threads + Wait + Sync, G: Read, S: Read, F: Inputs, W: Write>(
-        &self,
-        rt: &R,
-        alloc: Global,
-        gr: &mut G,
-        pairs: &mut S,
-        settings: &Settings<P, Teller<'_, F>>,
-        out: &mut W,
-    ) -> Result<Status, Fault>
-        requires { (is_layout P ≡ true) × IsSync R.row }
-        ensures answered { (gr_text list_text : List ℕ) (files : Files)
-            → G.left gr.old ≡ Some gr_text → S.left pairs.old ≡ Some list_text
-            → PairsTold P self.now.running.far_ok gr_text list_text
-            (scene files
-            (W.written out.old) (W.written out.new) (W.has_failed out.new)) result }
-        ensures of_some { (files : Files)
-            → IfOk result (PairsOfSome P self.now.running.far_ok
-            (scene files
-            (W.written out.old) (W.written out.new) (W.has_failed out.new))) }
-        ensures borne_out { (files : Files)
-            → G.failing gr.old ≡ files.failing self.now.graph.now
-            → S.failing pairs.old ≡ files.failing self.now.pairs.now
-            → IfErr result (IsBorneOut (pairs_paths self.now) (pairs_faults P self.now)
-            (scene files
-            (W.written out.old) (W.written out.new) (W.has_failed out.new))) }
-        ensures done { IfOk result (λ status. is_done status ≡ true) }
-        ensures unwritten { IfErr result
-            (λ fault. code_of (status_of fault) ≤ 2 → out.new ≡ out.old) }
-    {
-        let answer = run_pairs_told::<P, R, G, S, W, _>(rt, alloc, gr, pairs, out, settings);
-        self.end(answer, settings.listener)
-    }
-
-    // Runs for the pairs of the file.
+    // Finds and writes the answers for the pairs of the file.
     fn run_file<const P: u32, R: Threads + Wait + Sync, F: Inputs, W: Write>(
         &self,
         rt: &R,
@@ -205,7 +174,7 @@ impl PairsCommand<'_> {
         ensures answered { PairsOf P self.now
             (scene (F.files files.now)
             (W.written out.old) (W.written out.new) (W.has_failed out.new)) result }
-        ensures of_some { IfOk result (PairsOfSome P self.now.running.far_ok
+        ensures of_some { IfOk result (PairsOfSome P self.now.options.far_ok
             (scene (F.files files.now)
             (W.written out.old) (W.written out.new) (W.has_failed out.new))) }
         ensures borne_out { IfErr result (IsBorneOut
@@ -218,7 +187,10 @@ impl PairsCommand<'_> {
         let (gr, pairs) = FileKind::Pairs.open_with_graph(files, self.graph, self.pairs)?;
         let mut gr = Watched::new(gr, FileKind::Graph, settings.listener);
         let mut pairs = Watched::new(pairs, FileKind::Pairs, settings.listener);
-        self.run_on::<P, R, _, _, F, W>(rt, alloc, &mut gr, &mut pairs, settings, out)
+        let answer = run_pairs_told::<P, R, _, _, W, _>(
+            rt, alloc, &mut gr, &mut pairs, out, settings,
+        );
+        self.end(answer, settings.listener)
     }
 }
 
@@ -237,13 +209,8 @@ impl<const P: u32> Run<P> for PairsCommand<'_> {
         files: &F,
         out: &mut W,
     ) -> Result<Status, Fault> {
-        let (width, workers) = self.running.team::<P>()?;
-        let teller = self.running.teller(files);
-        let settings = Settings {
-            width,
-            workers,
-            listener: &teller,
-        };
+        let teller = self.options.teller(files);
+        let settings = self.options.settings::<P, _>(&teller)?;
         self.run_file::<P, R, F, W>(rt, alloc, files, &settings, out)
     }
 }

@@ -1,10 +1,10 @@
-//! `spt tree`: for each source of a list its shortest-path tree.
+//! The command `spt tree`, which writes the shortest-path tree of each source of a list.
 ghost use denote.Param.Send.{IsSync};
 ghost use Rattle.std.specs.Prelude.{◌≡◌, ◌≤◌, ℕ, true, List, Option, Some, Ok, Err, IfOk, IfErr, MatchResult};
 ghost use Rattle.sp_word.specs.Word.{is_layout};
 ghost use Rattle.sp_command.specs.Faults.{code_of, is_done, status_of};
 ghost use Rattle.sp_command.specs.Causes.{IsBorneOut};
-ghost use Rattle.sp_command.specs.Scene.{Files, scene};
+ghost use Rattle.sp_command.specs.Scene.{scene};
 ghost use Rattle.sp_cli.specs.Answers.{TreeAnswers, TreesTold, InText, These, TreesOf, TreesOfFile, TreesOfGiven, TreesOfSome, InSome, tree_paths, tree_faults};
 ghost use Rattle.sp_options.specs.Sources.{path_of};
 ghost use Rattle.sp_options.specs.Ends.{end_of, fault_of};
@@ -14,9 +14,9 @@ use sp_batch::{run_batch_told, run_given_told};
 use sp_command::{
     Command, Fault, FileKind, GRAPH_FILE, Inputs, Run, Status, Words, after_help, file,
 };
-use sp_device::{Read, Write};
+use sp_device::Write;
 use sp_job::{BatchError, Listener, Places, Progress, Settings, Summary};
-use sp_options::{Given, Running, Sources, Teller, Watched};
+use sp_options::{Given, RunOptions, Sources, Teller, Watched};
 use std::alloc::Global;
 use std::sync::Wait;
 use std::thread::Threads;
@@ -28,12 +28,15 @@ all work on one tree, or each on a tree of its own where there are
 several sources. No more threads are started than there are
 processors, nor any for a small graph. Any number gives the same bytes";
 
-/// What `tree` is given, with the names of its files.
+/// The command `tree`, with its options and the paths of its files.
 #[derive(Drop)]
 pub struct TreeCommand<'a> {
+    /// The path of the graph.
     pub graph: &'a str,
+    /// The sources whose trees are written.
     pub sources: Sources<'a>,
-    pub running: Running,
+    /// The options that say how runs are made.
+    pub options: RunOptions,
 }
 
 impl<'a> Command<'a> for TreeCommand<'a> {
@@ -129,11 +132,11 @@ Others are
 
     fn words(alloc: Global) -> Words<'a> {
         let command = clap::Command::new(alloc, Self::NAME).arg(file(alloc, "GR", GRAPH_FILE))?;
-        Running::add_to(Sources::add_to(command, alloc)?, alloc, WORKERS_LONG)
+        RunOptions::add_to(Sources::add_to(command, alloc)?, alloc, WORKERS_LONG)
     }
 
     fn read(alloc: Global, given: &ArgMatches<'a>) -> Result<Option<Self>, Error> {
-        let (Some(graph), Some(running)) = (given.get_str("GR"), Running::read(alloc, given)?)
+        let (Some(graph), Some(options)) = (given.get_str("GR"), RunOptions::read(alloc, given)?)
         else {
             return Ok(None);
         };
@@ -143,7 +146,7 @@ Others are
         Ok(Some(TreeCommand {
             graph,
             sources,
-            running,
+            options,
         }))
     }
 
@@ -156,15 +159,37 @@ Others are
     }
 }
 
+// The files of the command line, and the settings of the job.
+struct Context<'a, const P: u32, F> {
+    files: &'a F,
+    settings: &'a Settings<'a, P, Teller<'a, F>>,
+}
+
+impl<const P: u32, F> Drop for Context<'_, P, F> {
+    fn drop(self) {
+        let Context {
+            files: _,
+            settings: _,
+        } = self;
+    }
+}
+
+// A file of sources, and the places of it whose sources have a tree; all of its sources have one if no places are given.
+#[derive(Clone, Copy)]
+struct SourceFile<'a> {
+    path: &'a str,
+    places: Option<Places>,
+}
+
 impl TreeCommand<'_> {
-    // Tells that all is written, where it is, and how the run ends.
+    // Reports that everything is written, if it is, and returns how the command ends.
     fn end<F: Inputs>(
         &self,
         answer: Result<Summary, BatchError>,
         teller: &Teller<'_, F>,
     ) -> Result<Status, Fault>
         ensures { MatchResult answer
-            (λ summary. result ≡ Ok (end_of self.now.running.far_ok summary))
+            (λ summary. result ≡ Ok (end_of self.now.options.far_ok summary))
             (λ error. result ≡ Err (fault_of error)) }
     {
         if let Ok(written) = answer {
@@ -173,153 +198,99 @@ impl TreeCommand<'_> {
                 count: written.sources as usize,
             });
         }
-        self.running.end_of(answer)
+        self.options.end_of(answer)
     }
 
-    // Runs from the sources of one text, or from those at some places of it, in the graph of another.
-    fn run_on<const P: u32, R: Threads + Wait + Sync, G: Read, S: Read, F: Inputs, W: Write>(
-        &self,
-        rt: &R,
-        alloc: Global,
-        gr: &mut G,
-        ss: &mut S,
-        places: Option<Places>,
-        settings: &Settings<P, Teller<'_, F>>,
-        out: &mut W,
-    ) -> Result<Status, Fault>
-        requires { (is_layout P ≡ true) × IsSync R.row }
-        ensures answered { (gr_text ss_text : List ℕ) (files : Files)
-            → G.left gr.old ≡ Some gr_text → S.left ss.old ≡ Some ss_text
-            → TreesTold P self.now.running.far_ok gr_text (InText places ss_text)
-            (scene files
-            (W.written out.old) (W.written out.new) (W.has_failed out.new)) result }
-        ensures of_some { (files : Files)
-            → IfOk result (InSome P self.now.running.far_ok (InText places) (scene files
-            (W.written out.old) (W.written out.new) (W.has_failed out.new))) }
-        ensures borne_out { (files : Files) (path : List ℕ) → path_of self.now.sources ≡ Some path
-            → G.failing gr.old ≡ files.failing self.now.graph.now
-            → S.failing ss.old ≡ files.failing path
-            → IfErr result (IsBorneOut (tree_paths self.now) (tree_faults P self.now) (scene files
-            (W.written out.old) (W.written out.new) (W.has_failed out.new))) }
-        ensures done { IfOk result (λ status. is_done status ≡ true) }
-        ensures unwritten { IfErr result
-            (λ fault. code_of (status_of fault) ≤ 2 → out.new ≡ out.old) }
-    {
-        let answer = run_batch_told::<P, R, G, S, W, _>(rt, alloc, gr, ss, places, out, settings);
-        self.end(answer, settings.listener)
-    }
-
-    // Runs from the sources of the file of this path, or from those at some places of it.
+    // Runs from the sources of a file, or from those at some of its places.
     fn run_file<const P: u32, R: Threads + Wait + Sync, F: Inputs, W: Write>(
         &self,
         rt: &R,
         alloc: Global,
-        files: &F,
-        path: &str,
-        places: Option<Places>,
-        settings: &Settings<P, Teller<'_, F>>,
+        context: &Context<'_, P, F>,
+        list: &SourceFile<'_>,
         out: &mut W,
     ) -> Result<Status, Fault>
         requires run { (is_layout P ≡ true) × IsSync R.row }
-        requires path { path_of self.now.sources ≡ Some path.now }
-        ensures answered { TreesOfFile P self.now.running.far_ok self.now.graph.now path.now places
-            (scene (F.files files.now)
+        requires path { path_of self.now.sources ≡ Some list.now.path.now }
+        ensures answered { TreesOfFile P self.now.options.far_ok self.now.graph.now
+            list.now.path.now list.now.places (scene (F.files context.now.files.now)
             (W.written out.old) (W.written out.new) (W.has_failed out.new)) result }
-        ensures of_some { IfOk result (InSome P self.now.running.far_ok (InText places)
-            (scene (F.files files.now)
+        ensures of_some { IfOk result (InSome P self.now.options.far_ok (InText list.now.places)
+            (scene (F.files context.now.files.now)
             (W.written out.old) (W.written out.new) (W.has_failed out.new))) }
         ensures borne_out { IfErr result (IsBorneOut (tree_paths self.now) (tree_faults P self.now)
-            (scene (F.files files.now)
+            (scene (F.files context.now.files.now)
             (W.written out.old) (W.written out.new) (W.has_failed out.new))) }
         ensures done { IfOk result (λ status. is_done status ≡ true) }
         ensures unwritten { IfErr result
             (λ fault. code_of (status_of fault) ≤ 2 → out.new ≡ out.old) }
     {
-        let (gr, ss) = FileKind::Sources.open_with_graph(files, self.graph, path)?;
+        let (files, settings) = (context.files, context.settings);
+        let (gr, ss) = FileKind::Sources.open_with_graph(files, self.graph, list.path)?;
         let mut gr = Watched::new(gr, FileKind::Graph, settings.listener);
         let mut ss = Watched::new(ss, FileKind::Sources, settings.listener);
-        self.run_on::<P, R, _, _, F, W>(rt, alloc, &mut gr, &mut ss, places, settings, out)
-    }
-
-    // Runs from the sources that were given, in the graph of a text.
-    fn run_given_on<const P: u32, R: Threads + Wait + Sync, G: Read, F: Inputs, W: Write>(
-        &self,
-        rt: &R,
-        alloc: Global,
-        gr: &mut G,
-        given: &Given,
-        settings: &Settings<P, Teller<'_, F>>,
-        out: &mut W,
-    ) -> Result<Status, Fault>
-        requires { (is_layout P ≡ true) × IsSync R.row }
-        ensures answered { (gr_text : List ℕ) (files : Files) → G.left gr.old ≡ Some gr_text
-            → TreesTold P self.now.running.far_ok gr_text (These given.now.list.items)
-            (scene files
-            (W.written out.old) (W.written out.new) (W.has_failed out.new)) result }
-        ensures of_some { (files : Files)
-            → IfOk result (InSome P self.now.running.far_ok (λ _. These given.now.list.items)
-            (scene files
-            (W.written out.old) (W.written out.new) (W.has_failed out.new))) }
-        ensures borne_out { (files : Files) → G.failing gr.old ≡ files.failing self.now.graph.now
-            → IfErr result (IsBorneOut (tree_paths self.now) (tree_faults P self.now) (scene files
-            (W.written out.old) (W.written out.new) (W.has_failed out.new))) }
-        ensures done { IfOk result (λ status. is_done status ≡ true) }
-        ensures unwritten { IfErr result
-            (λ fault. code_of (status_of fault) ≤ 2 → out.new ≡ out.old) }
-    {
-        let answer = run_given_told::<P, R, G, W, _>(rt, alloc, gr, &given.list, out, settings);
+        let places = list.places;
+        let answer = run_batch_told::<P, R, _, _, W, _>(
+            rt, alloc, &mut gr, &mut ss, places, out, settings,
+        );
         self.end(answer, settings.listener)
     }
 
-    // Runs from the sources that were given.
+    // Runs from the sources that the command line gives.
     fn run_given<const P: u32, R: Threads + Wait + Sync, F: Inputs, W: Write>(
         &self,
         rt: &R,
         alloc: Global,
-        files: &F,
+        context: &Context<'_, P, F>,
         given: &Given,
-        settings: &Settings<P, Teller<'_, F>>,
         out: &mut W,
     ) -> Result<Status, Fault>
         requires { (is_layout P ≡ true) × IsSync R.row }
-        ensures answered { TreesOfGiven P self.now.running.far_ok self.now.graph.now
-            given.now.list.items
-            (scene (F.files files.now)
+        ensures answered { TreesOfGiven P self.now.options.far_ok self.now.graph.now
+            given.now.list.items (scene (F.files context.now.files.now)
             (W.written out.old) (W.written out.new) (W.has_failed out.new)) result }
         ensures of_some { IfOk result
-            (InSome P self.now.running.far_ok (λ _. These given.now.list.items)
-            (scene (F.files files.now)
+            (InSome P self.now.options.far_ok (λ _. These given.now.list.items)
+            (scene (F.files context.now.files.now)
             (W.written out.old) (W.written out.new) (W.has_failed out.new))) }
         ensures borne_out { IfErr result (IsBorneOut (tree_paths self.now) (tree_faults P self.now)
-            (scene (F.files files.now)
+            (scene (F.files context.now.files.now)
             (W.written out.old) (W.written out.new) (W.has_failed out.new))) }
         ensures done { IfOk result (λ status. is_done status ≡ true) }
         ensures unwritten { IfErr result
             (λ fault. code_of (status_of fault) ≤ 2 → out.new ≡ out.old) }
     {
+        let (files, settings) = (context.files, context.settings);
         let gr = FileKind::Graph.open(files, self.graph)?;
         let mut gr = Watched::new(gr, FileKind::Graph, settings.listener);
-        self.run_given_on::<P, R, _, F, W>(rt, alloc, &mut gr, given, settings, out)
+        let answer = run_given_told::<P, R, _, W, _>(
+            rt,
+            alloc,
+            &mut gr,
+            &given.list,
+            out,
+            settings,
+        );
+        self.end(answer, settings.listener)
     }
 
-    // Runs from the sources, whichever they are.
+    // Runs from the sources, wherever they stand.
     fn run_all<const P: u32, R: Threads + Wait + Sync, F: Inputs, W: Write>(
         &self,
         rt: &R,
         alloc: Global,
-        files: &F,
-        settings: &Settings<P, Teller<'_, F>>,
+        context: &Context<'_, P, F>,
         out: &mut W,
     ) -> Result<Status, Fault>
         requires { (is_layout P ≡ true) × IsSync R.row }
-        ensures answered { TreesOf P self.now.running.far_ok self.now.graph.now self.now.sources
-            (scene (F.files files.now)
+        ensures answered { TreesOf P self.now.options.far_ok self.now.graph.now self.now.sources
+            (scene (F.files context.now.files.now)
             (W.written out.old) (W.written out.new) (W.has_failed out.new)) result }
-        ensures of_some { IfOk result (TreesOfSome P self.now.running.far_ok self.now.sources
-            (scene (F.files files.now)
+        ensures of_some { IfOk result (TreesOfSome P self.now.options.far_ok self.now.sources
+            (scene (F.files context.now.files.now)
             (W.written out.old) (W.written out.new) (W.has_failed out.new))) }
         ensures borne_out { IfErr result (IsBorneOut (tree_paths self.now) (tree_faults P self.now)
-            (scene (F.files files.now)
+            (scene (F.files context.now.files.now)
             (W.written out.old) (W.written out.new) (W.has_failed out.new))) }
         ensures done { IfOk result (λ status. is_done status ≡ true) }
         ensures unwritten { IfErr result
@@ -327,16 +298,21 @@ impl TreeCommand<'_> {
     {
         match &self.sources {
             Sources::File(path) => {
-                self.run_file::<P, R, F, W>(rt, alloc, files, path, None, settings, out)
+                let list = SourceFile { path, places: None };
+                self.run_file::<P, R, F, W>(rt, alloc, context, &list, out)
             }
             Sources::Part(path, places) => {
                 if places.is_none() {
                     return Err(Fault::NoPlaces);
                 }
-                self.run_file::<P, R, F, W>(rt, alloc, files, path, *places, settings, out)
+                let list = SourceFile {
+                    path,
+                    places: *places,
+                };
+                self.run_file::<P, R, F, W>(rt, alloc, context, &list, out)
             }
             Sources::Given(given) => {
-                self.run_given::<P, R, F, W>(rt, alloc, files, given, settings, out)
+                self.run_given::<P, R, F, W>(rt, alloc, context, given, out)
             }
         }
     }
@@ -357,13 +333,12 @@ impl<const P: u32> Run<P> for TreeCommand<'_> {
         files: &F,
         out: &mut W,
     ) -> Result<Status, Fault> {
-        let (width, workers) = self.running.team::<P>()?;
-        let teller = self.running.teller(files);
-        let settings = Settings {
-            width,
-            workers,
-            listener: &teller,
+        let teller = self.options.teller(files);
+        let settings = self.options.settings::<P, _>(&teller)?;
+        let context = Context {
+            files,
+            settings: &settings,
         };
-        self.run_all::<P, R, F, W>(rt, alloc, files, &settings, out)
+        self.run_all::<P, R, F, W>(rt, alloc, &context, out)
     }
 }

@@ -1,4 +1,4 @@
-//! What a batch of sources or of pairs answers.
+//! The answer of a batch of sources or of pairs.
 ghost use Rattle.std.specs.Prelude.{◌≡◌};
 ghost use Rattle.sp_job.specs.declared.answers.BatchError.TheVariants.{Memory, Write};
 
@@ -6,30 +6,30 @@ use sp_dimacs::{DimacsError, WriteFault};
 use std::alloc::AllocError;
 use thiserror::Error;
 
-/// What was written.
+/// A summary of what a batch has written.
 #[derive(Clone, Copy, Debug, PartialEq, Eq)]
 pub struct Summary {
-    /// How many sources, or pairs, there were.
+    /// The number of sources, or of pairs.
     pub sources: u64,
-    /// How many of them have a vertex that is too far as their answer.
+    /// The number of those whose answer is a vertex that is too far.
     pub too_far: u64,
-    /// How many bytes were written.
+    /// The number of bytes that were written.
     pub bytes: u64,
 }
 
-/// Why a batch wasn't written to its end.
+/// The reason why a batch wasn't written to its end.
 #[derive(Clone, Copy, Debug, PartialEq, Eq, Error)]
 pub enum BatchError {
-    /// The graph's text has a fault, and this is the first.
+    /// The text of the graph has a fault. This is its first one.
     #[error("gr: {0}")]
     Gr(DimacsError),
-    /// The sources' text has a fault, and this is the first.
+    /// The text of the sources has a fault. This is its first one.
     #[error("ss: {0}")]
     Ss(DimacsError),
-    /// The pairs' text has a fault, and this is the first.
+    /// The text of the pairs has a fault. This is its first one.
     #[error("pairs: {0}")]
     Pairs(DimacsError),
-    /// A source or a target isn't a vertex of the graph, and this is the first such number.
+    /// A source or a target isn't a vertex of the graph. This is the first such number.
     #[error("source {0}: no such vertex")]
     NoSuchVertex(u32),
     /// Memory was refused.

@@ -1,17 +1,17 @@
-//! A job under way.
+//! A job whose graph has been read.
 
 use sp_graph::Graph;
 use sp_word::{Meter, Team};
 
-/// A job under way: the graph of its runs, and how they are made.
+/// A job whose graph has been read: the graph, and what each of its runs takes.
 #[derive(Drop)]
 pub struct Job<'a, const P: u32, L> {
-    /// The graph that the runs go through.
+    /// The graph that the runs search.
     pub graph: &'a Graph,
-    /// The width of a bucket, and how many workers a run has.
+    /// The width of a bucket and the number of workers of a run, which `Settings::team_for` has chosen for this graph.
     pub team: Team<P>,
-    /// Where the workers count the vertices that they relax.
+    /// The meter on which the workers count the vertices that they relax.
     pub meter: &'a Meter,
-    /// Who is told how far the job is.
+    /// The listener that hears of the job's progress.
     pub listener: &'a L,
 }

@@ -1,4 +1,4 @@
-//! A job: how its runs from sources are made, which places of a list are asked for, who is told how far it is, and what it
+//! Jobs: the settings of a job, the places of a list that it answers, the listener that hears of its progress, and what it
 //! answers.
 #![tactic(auto)]
 

@@ -1,4 +1,4 @@
-//! Places of a list of sources. Those that stand there are answered, and no others.
+//! Places of a list of sources. A job answers the sources that stand there, and no others.
 ghost use Rattle.std.specs.Prelude.{◌≡◌, ◌≤◌, ◌↔◌, IsSome, IfSome, Some};
 ghost use Rattle.sp_dimacs.specs.Sources.{AreSourcesWithin};
 ghost use Rattle.sp_job.specs.Places.{part_of, AreNumbered};
@@ -6,9 +6,9 @@ ghost use Rattle.sp_job.specs.Places.{part_of, AreNumbered};
 use sp_dimacs::SsFile;
 use std::marker::Model;
 
-/// The places of a list from a first to a last, both counted from 1; none where the last comes before the first.
+/// The places of a list from a first to a last one, both counted from 1. There are none if the last comes before the first.
 ///
-/// Contracts see the two numbers.
+/// In contracts the places are these two numbers.
 #[derive(Clone, Copy, Debug, PartialEq, Eq)]
 pub struct Places {
     first: u32,
@@ -28,7 +28,7 @@ impl Model for Places {
 }
 
 impl Places {
-    /// Makes the places from a first to a last, if the first is at least 1.
+    /// Returns the places from `first` to `last`, or `None` if `first` is 0.
     pub fn new(first: u32, last: u32) -> Option<Places>
         ensures places { IfSome result (λ places. places ≡ (first, last)) }
         ensures exactly { IsSome result ↔ (1 ≤ first) }
@@ -39,7 +39,7 @@ impl Places {
         Some(Places { first, last })
     }
 
-    /// Returns what stands at these places of a list, as far as the list goes.
+    /// Returns the part of a list that stands at these places. Places beyond the end of the list are passed over.
     #[tactic(auto, using(std::proofs::lemmas::List::take_min, std::proofs::lemmas::List::drop_min))]
     pub fn of(self, list: &[u32]) -> &[u32]
         ensures { result.now ≡ part_of (Some self) list.now }
@@ -49,7 +49,7 @@ impl Places {
     }
 }
 
-/// Returns the sources of a file that stand at these places, or all of them where no places are given.
+/// Returns the sources of a file that stand at these places, or all of them if no places are given.
 #[tactic(auto, using(crate::proofs::PartsOfLists::chosen_numbered))]
 pub fn chosen<const P: u32>(places: Option<Places>, file: &SsFile) -> &[u32]
     requires { AreSourcesWithin P file.now }

@@ -1,16 +1,16 @@
-//! What is told of a batch while it runs.
+//! The progress of a batch, and the listener that hears of it.
 use crate::answers::Summary;
 use sp_word::Meter;
 use std::fmt;
 
-/// How far a batch is.
+/// The progress of a batch.
 #[derive(Clone, Copy, Debug, PartialEq, Eq)]
 pub enum Progress {
-    /// The files are read, and the graph's rows are made.
+    /// The files are read, and the rows of the graph are built.
     Graph { vertices: u32, arcs: usize },
-    /// The answers for the sources of the summary are written, of `count` sources in all.
+    /// The answers that the summary counts are written, of `count` sources in all.
     Sources { written: Summary, count: usize },
-    /// The answers for the first `found` pairs are known, of `count` pairs in all.
+    /// The answers for the first `found` of `count` pairs are known.
     Pairs { found: usize, count: usize },
 }
 
@@ -29,19 +29,20 @@ impl fmt::Display for Progress {
     }
 }
 
-/// Hears how far a batch is, on the thread that called it. A batch answers and writes the same for each listener.
+/// A listener that hears of a batch's progress, on the thread that called the batch. What a batch answers and writes doesn't
+/// depend on its listener.
 pub trait Listener: Drop {
-    /// Hears how far the batch is: once its graph stands, and before each source, group of sources or pair that is answered
-    /// next.
+    /// Hears of the progress: once when the graph is built, and before each run from a source, a group of sources or a pair.
     fn hear(&self, progress: Progress);
 
     /// Returns the meter on which the workers count the vertices that they relax, if the listener reads it while they work.
+    /// There is none by default.
     fn meter(&self) -> Option<&Meter> {
         None
     }
 }
 
-/// Takes no notice of what it hears.
+/// A listener that takes no notice of what it hears.
 #[derive(Drop)]
 pub struct Nobody;
 

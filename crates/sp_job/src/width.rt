@@ -1,4 +1,4 @@
-//! The width of a bucket, chosen or taken from the graph.
+//! The settings of a job, and the width of a bucket, which is given or taken from the graph.
 ghost use Rattle.std.specs.Prelude.{◌≡◌, true};
 ghost use Rattle.sp_word.specs.Word.{is_layout};
 ghost use Rattle.sp_job.specs.Width.{width_among};
@@ -6,28 +6,31 @@ ghost use Rattle.sp_job.specs.Width.{width_among};
 use sp_graph::Graph;
 use sp_word::{Delta, Team, Word, Workers};
 
-/// How wide a bucket of tentative distances is. A batch answers and writes the same for each width.
+/// The width of a bucket of tentative distances, as it is asked for. What a batch answers and writes doesn't depend on it.
 #[derive(Clone, Copy, Debug, PartialEq, Eq)]
 pub enum BucketWidth<const P: u32> {
-    /// A bucket has this width.
+    /// This width.
     Of(Delta<P>),
-    /// A bucket is as wide as an arc of the graph is long in the mean, rounded down, but no wider than the greatest distance
-    /// of a word. In a graph without arcs it has the width 1.
+    /// The mean length of the graph's arcs, rounded down, but no more than the greatest distance of a word. In a graph
+    /// without arcs it is 1.
     MeanLength,
 }
 
-/// What the user asks of a job: how its runs are made, and who is told how far it is.
+/// What is asked of a job: how its runs are to be made, and which listener hears of its progress.
+///
+/// This is the form that is asked for, before the graph is read. `team_for` resolves it to the form that a run takes, a
+/// `Team`, in which the width is a number.
 #[derive(Drop)]
 pub struct Settings<'a, const P: u32, L> {
     /// The width of a bucket.
     pub width: BucketWidth<P>,
-    /// How many threads may work, the calling one counted.
+    /// The number of threads that may work, the calling one counted.
     pub workers: Workers,
-    /// Who is told how far the job is.
+    /// The listener that hears of the job's progress.
     pub listener: &'a L,
 }
 
-// Returns the width of a bucket in this graph.
+// Returns the width of a bucket as a number, for this graph.
 fn width_for<const P: u32>(width: &BucketWidth<P>, graph: &Graph) -> Delta<P>
     requires { is_layout P ≡ true }
     ensures { result ≡ width_among graph.now.arcs width.now }
@@ -45,7 +48,7 @@ fn width_for<const P: u32>(width: &BucketWidth<P>, graph: &Graph) -> Delta<P>
 }
 
 impl<const P: u32, L> Settings<'_, P, L> {
-    /// Returns the team of the runs in this graph.
+    /// Returns what a run in this graph takes: the width of a bucket as a number, and the number of workers.
     pub fn team_for(&self, graph: &Graph) -> Team<P>
         requires { is_layout P ≡ true }
         ensures delta { result.delta ≡ width_among graph.now.arcs self.now.width }

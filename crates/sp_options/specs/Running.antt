@@ -1,9 +1,9 @@
--- How a command line says that runs are made.
+-- What a command line says of how runs are made.
 use Rattle.std.specs.Prelude.{◌≡◌, ◌⊎◌, ℕ, List, Some, codes}
 use Rattle.clap.specs.Matches.{first_value, one_text}
 use Rattle.clap.specs.declared.parser.matches.Found.{Found}
 use Rattle.sp_word.specs.Ranges.{IsCrew}
-use Rattle.sp_options.specs.declared.running.Running.{Running}
+use Rattle.sp_options.specs.declared.running.RunOptions.{RunOptions}
 use Rattle.sp_options.specs.declared.width.Width.{Width}
 use Rattle.sp_options.specs.Numbers.{SpellsNumber, IsFlag}
 use Rattle.sp_options.specs.Width.{SpellsWidth}
@@ -24,13 +24,13 @@ HasWidth found width = (word : List ℕ) × (first_value found (codes "delta") �
 abbrev pub LacksWidth : Found → Type 0
 LacksWidth found = (word : List ℕ) (width : Width) → first_value found (codes "delta") ≡ Some word → SpellsWidth word width → ⊥
 
--- Runs are made as the options of a command line say.
-pub record IsAskedFor (found : Found) (running : Running) : Type 0 where
-  pub width : HasWidth found running.width
-  pub workers : HasCrew found running.workers
-  pub far_ok : IsFlag found (codes "far-ok") running.far_ok
-  pub progress : IsFlag found (codes "progress") running.progress
+-- These are the options of a command line.
+pub record IsAskedFor (found : Found) (options : RunOptions) : Type 0 where
+  pub width : HasWidth found options.width
+  pub workers : HasCrew found options.workers
+  pub far_ok : IsFlag found (codes "far-ok") options.far_ok
+  pub progress : IsFlag found (codes "progress") options.progress
 
--- A command line doesn't say how runs are made.
-abbrev pub LacksRunning : Found → Type 0
-LacksRunning found = LacksWidth found ⊎ LacksCrew found
+-- A command line lacks a width or a number of workers.
+abbrev pub LacksOptions : Found → Type 0
+LacksOptions found = LacksWidth found ⊎ LacksCrew found

@@ -1,4 +1,4 @@
-//! Sources that a command line gives in place of a file of them.
+//! Sources that the command line gives, in place of a file of sources.
 ghost use Rattle.std.specs.Prelude.{◌≡◌, ◌<◌, ◌^◌, ℕ, List, All, IfOk, MatchOption};
 ghost use Rattle.clap.specs.Matches.{found_of, values_left};
 ghost use Rattle.sp_job.specs.Places.{AreNumbered};
@@ -9,16 +9,16 @@ use clap::parser::ValuesRef;
 use clap::{Arg, ArgAction, ArgMatches, value_parser};
 use std::alloc::{AllocError, Global};
 
-// The greatest predecessor of any word.
+// The greatest predecessor in any layout of a word.
 const MAX_VERTEX: i64 = 4_294_967_294;
 
-// As many sources as a file may have.
+// The greatest number of sources, which is that of a file.
 const MOST_SOURCES: usize = 1_048_576;
 
-// What `clap` knows the option by.
+// The identifier of the option for `clap`.
 const ID: &str = "source";
 
-/// Sources of the command line, each at least 1, and no more than a file may have.
+/// Sources that the command line gives. Each is at least 1, and there are no more of them than a file may have.
 #[derive(Drop)]
 pub struct Given {
     pub list: Vec<u32>,
@@ -26,7 +26,7 @@ pub struct Given {
 }
 
 impl Given {
-    /// The option.
+    /// Returns the option that gives a source.
     pub fn option<'a>(alloc: Global) -> Arg<'a> {
         Arg::new(alloc, ID)
             .long(ID)
@@ -36,7 +36,8 @@ impl Given {
             .help("A source, in place of a file of them; as often as wanted")
     }
 
-    /// Reads them, if they may be asked for.
+    /// Reads the sources from what `clap` has found, or returns `None` if none are given, if one of them is no source, or if
+    /// there are too many.
     pub fn read(alloc: Global, given: &ArgMatches<'_>) -> Result<Option<Given>, AllocError>
         ensures { IfOk result (λ found. MatchOption found (LacksGiven (found_of given.now))
             (λ sources. AreGiven (found_of given.now) sources.list.items)) }
@@ -50,7 +51,7 @@ impl Given {
         }
     }
 
-    // These, if they may be asked for.
+    // Returns these sources, or `None` if one of them is 0 or if there are too many.
     fn new(list: Vec<u32>) -> Option<Given>
         ensures { MatchOption result (¬ (AreNumbered list.items))
             (λ given. given.list.items ≡ list.items) }
@@ -67,7 +68,7 @@ impl Given {
     }
 }
 
-// The numbers that values spell, if each does.
+// Returns the numbers that the values spell, or `None` if one of them spells no number.
 fn numbers_of(alloc: Global, values: ValuesRef<'_, '_, u32>) -> Result<Option<Vec<u32>>, AllocError>
     ensures { IfOk result (λ found. MatchOption found
         ((list : List ℕ) → SpellNumbers (values_left values.entry) list

@@ -1,4 +1,5 @@
-//! What the commands share that run from sources: their options, how their runs are made and told of, and how they end.
+//! The options that `tree` and `pairs` share, the sources of `tree`, reports of a command's progress, and the way in which a run
+//! from sources ends.
 #![tactic(auto)]
 
 mod given;
@@ -10,6 +11,6 @@ mod width;
 
 pub use given::Given;
 pub use reading::Watched;
-pub use running::{Running, Teller};
+pub use running::{RunOptions, Teller};
 pub use sources::Sources;
 pub use width::Width;

@@ -1,27 +1,27 @@
-//! Files whose reading is told.
+//! Devices that report how much of them has been read.
 ghost use Rattle.std.specs.Prelude.{◌≡◌};
 
 use crate::running::Teller;
 use sp_command::{FileKind, Inputs, Report};
 use sp_device::{Failed, Read};
 
-// It is told each time that so many bytes more were read.
+// A report is made each time that this many more bytes have been read.
 const STRETCH: u64 = 1 << 20;
 
-/// A device of which is told how much was read, now and then and at its end.
+/// A device that reports now and then how many of its bytes have been read, and once more at its end.
 #[derive(Drop)]
 pub struct Watched<'t, 'f, D, F> {
     device: D,
     file: FileKind,
     teller: &'t Teller<'f, F>,
-    // How many bytes were read.
+    // The number of bytes that have been read.
     bytes: u64,
-    // It is told next when so many were read.
+    // The number of bytes at which the next report is made.
     next: u64,
 }
 
 impl<'t, 'f, D: Read, F: Inputs> Watched<'t, 'f, D, F> {
-    /// A device of which nothing was read yet.
+    /// Returns a watched device, of which nothing has been read yet.
     pub fn new(device: D, file: FileKind, teller: &'t Teller<'f, F>) -> Self
         ensures left { ⟦<Watched<'static, 'static, D, F> as Read>⟧.left result ≡ D.left device }
         ensures has_failed { ⟦<Watched<'static, 'static, D, F> as Read>⟧.has_failed result
@@ -38,7 +38,7 @@ impl<'t, 'f, D: Read, F: Inputs> Watched<'t, 'f, D, F> {
         }
     }
 
-    // Counts what was read, none at the end.
+    // Counts the bytes of a read, which are none at the end of the file, and makes a report if one is due.
     fn count(&mut self, bytes: usize)
         ensures { self.new.device ≡ self.old.device }
     {

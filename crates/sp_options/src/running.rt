@@ -1,36 +1,38 @@
-//! How runs from sources are made and told of, and how they end.
+//! The options that say how runs from sources are made, the reports of their progress, and the way in which they end.
 ghost use Rattle.std.specs.Prelude.{◌≡◌, ℕ, true, List, Some, Ok, Err, IfOk, MatchOption, MatchResult};
 ghost use Rattle.sp_word.specs.Word.{is_layout};
 ghost use Rattle.sp_word.specs.Ranges.{IsCrew};
 ghost use Rattle.clap.specs.Matches.{found_of};
 ghost use Rattle.sp_options.specs.Ends.{end_of, fault_of};
 ghost use Rattle.sp_options.specs.Numbers.{SpellsNumber, IsFlag};
-ghost use Rattle.sp_options.specs.Running.{IsAskedFor, LacksRunning, HasCrew, LacksCrew};
+ghost use Rattle.sp_options.specs.Running.{IsAskedFor, LacksOptions, HasCrew, LacksCrew};
 ghost use Rattle.sp_options.specs.Width.{bucket_of, IsBucket};
 ghost use Rattle.sp_command.specs.declared.faults.Fault.TheVariants.{DeltaOutOfRange};
 
 use crate::width::Width;
 use clap::{Arg, ArgMatches, Command, Error, value_parser};
 use sp_command::{Fault, FileKind, Inputs, Report, Status, Words, flag, valued};
-use sp_job::{BatchError, BucketWidth, Listener, Progress, Summary};
+use sp_job::{BatchError, Listener, Progress, Settings, Summary};
 use sp_word::{Meter, Workers};
 use std::alloc::Global;
 
-/// How runs are made.
+/// The options of a command that runs from sources, as the command line gives them.
+///
+/// They belong to no layout of a word. `settings` resolves them for the layout in which the command runs.
 #[derive(Drop)]
-pub struct Running {
+pub struct RunOptions {
     // The width of a bucket.
     width: Width,
-    // How many threads may work, the main thread counted.
+    // The number of threads that may work, the main thread counted.
     workers: Workers,
-    // Whether a run is done where a vertex is too far.
+    /// Whether the exit status is 0 even if a vertex is too far.
     pub far_ok: bool,
-    // Whether it is told how far a run is.
+    // Whether the progress is to be reported.
     progress: bool,
 }
 
-impl Running {
-    /// Adds its options to those of a command, with what there is to know of the number of threads.
+impl RunOptions {
+    /// Adds these options to a command. `workers` is the text that its help adds on the number of threads.
     pub fn add_to<'a>(command: Command<'a>, alloc: Global, workers: &'a str) -> Words<'a> {
         command
             .arg(Width::option(alloc))?
@@ -56,10 +58,11 @@ impl Running {
         flag(alloc, "progress", about)
     }
 
-    /// Reads them.
+    /// Reads the options from what `clap` has found, or returns `None` if the width or the number of workers is missing or
+    /// is none.
     pub fn read(alloc: Global, given: &ArgMatches<'_>) -> Result<Option<Self>, Error>
         ensures { IfOk result (λ found. MatchOption found
-            (LacksRunning (found_of given.now)) (IsAskedFor (found_of given.now))) }
+            (LacksOptions (found_of given.now)) (IsAskedFor (found_of given.now))) }
     {
         let (Some(delta), Some(workers)) = (given.get_str(Width::ID), workers_in(given)) else {
             return Ok(None);
@@ -67,7 +70,7 @@ impl Running {
         let Some(width) = Width::read(alloc, delta)? else {
             return Ok(None);
         };
-        Ok(Some(Running {
+        Ok(Some(RunOptions {
             width,
             workers,
             far_ok: flag_in(given, "far-ok"),
@@ -75,21 +78,30 @@ impl Running {
         }))
     }
 
-    /// The width and the number of threads, if words with `P` bits of predecessor have such a distance.
-    pub fn team<const P: u32>(&self) -> Result<(BucketWidth<P>, Workers), Fault>
+    /// Returns the settings of a job with this listener, or a fault if words with `P` bits of predecessor have no such
+    /// distance as the width.
+    pub fn settings<'a, const P: u32, L>(
+        &self,
+        listener: &'a L,
+    ) -> Result<Settings<'a, P, L>, Fault>
         requires { is_layout P ≡ true }
-        ensures { MatchResult result
-            (λ team. IsBucket P self.now.width
-            × (team ≡ (bucket_of self.now.width, self.now.workers)))
+        ensures exactly { MatchResult result (λ _. IsBucket P self.now.width)
             (λ fault. ¬ (IsBucket P self.now.width) × (fault ≡ DeltaOutOfRange)) }
+        ensures width { IfOk result (λ settings. settings.width ≡ bucket_of self.now.width) }
+        ensures workers { IfOk result (λ settings. settings.workers ≡ self.now.workers) }
+        ensures listener { IfOk result (λ settings. settings.listener.now ≡ listener.now) }
     {
-        match self.width.bucket::<P>() {
-            Some(width) => Ok((width, self.workers)),
-            None => Err(Fault::DeltaOutOfRange),
-        }
+        let Some(width) = self.width.bucket::<P>() else {
+            return Err(Fault::DeltaOutOfRange);
+        };
+        Ok(Settings {
+            width,
+            workers: self.workers,
+            listener,
+        })
     }
 
-    /// Tells how far a run is, where that was asked for.
+    /// Returns a teller that reports the progress to the files of the command line, if that was asked for.
     pub fn teller<'f, F: Inputs>(&self, files: &'f F) -> Teller<'f, F> {
         Teller {
             files,
@@ -97,7 +109,7 @@ impl Running {
         }
     }
 
-    /// How a run ends that has answered so.
+    /// Returns how a command ends whose batch has answered this.
     pub fn end_of(&self, answer: Result<Summary, BatchError>) -> Result<Status, Fault>
         ensures { MatchResult answer (λ summary. result ≡ Ok (end_of self.now.far_ok summary))
             (λ error. result ≡ Err (fault_of error)) }
@@ -109,21 +121,21 @@ impl Running {
     }
 }
 
-// The number of workers.
+// Returns the number of workers, if the command line has one.
 fn workers_in(given: &ArgMatches<'_>) -> Option<Workers>
     ensures { MatchOption result (LacksCrew (found_of given.now)) (HasCrew (found_of given.now)) }
 {
     Workers::new(given.get_one("workers")?)
 }
 
-// Whether a flag was given.
+// Returns whether a flag was given.
 fn flag_in(given: &ArgMatches<'_>, name: &str) -> bool
     ensures { IsFlag (found_of given.now) name.now result }
 {
     given.get_flag(name)
 }
 
-/// Tells by the files of a command line how far a run is.
+/// A listener that reports the progress of a run to the files of a command line.
 pub struct Teller<'f, F> {
     files: &'f F,
     is_asked: bool,
@@ -139,7 +151,7 @@ impl<F> Drop for Teller<'_, F> {
 }
 
 impl<F: Inputs> Teller<'_, F> {
-    /// Tells it, where that was asked for.
+    /// Reports the progress, if that was asked for.
     pub fn tell(&self, report: Report) {
         if self.is_asked {
             self.files.tell(report);
@@ -161,6 +173,7 @@ impl<F: Inputs> Listener for Teller<'_, F> {
     }
 }
 
+// Returns the report of a batch's progress.
 fn report_of(progress: Progress) -> Report {
     match progress {
         Progress::Graph { vertices, arcs } => Report::Graph {
@@ -179,7 +192,7 @@ fn report_of(progress: Progress) -> Report {
     }
 }
 
-// How a run ends that has written all answers.
+// Returns the exit status of a command that has written all answers.
 fn status_after(summary: Summary, far_ok: bool) -> Status
     ensures { result ≡ end_of far_ok summary }
 {
@@ -190,6 +203,7 @@ fn status_after(summary: Summary, far_ok: bool) -> Status
     }
 }
 
+// Returns the fault that an error of a batch is told as.
 fn fault_of(error: BatchError) -> Fault
     ensures { result ≡ fault_of error }
 {

@@ -1,4 +1,4 @@
-//! The sources of `spt tree`: those of a file, a part of them, or those of the command line.
+//! The sources of `spt tree`, which stand in a file or on the command line.
 use crate::given::Given;
 use crate::places::places_of;
 use clap::{Arg, ArgMatches, Command};
@@ -10,14 +10,15 @@ const PART_LONG: &str = "\
 Write the trees of the sources at the places from A to B of the file
 alone, counted from 1. Places beyond its end have no tree";
 
-/// Which sources have a tree.
+/// The sources whose trees are written.
 #[derive(Drop)]
 pub enum Sources<'a> {
-    /// Those of a file.
+    /// All sources of the file with this path.
     File(&'a str),
-    /// Those at some places of a file, where the word for the places spells some, of which the last is not before the first.
+    /// The sources at these places of the file with this path. There are no places if the word for them isn't `A-B`, with A
+    /// at least 1 and B at least A.
     Part(&'a str, Option<Places>),
-    /// These.
+    /// These sources, which the command line gives.
     Given(Given),
 }
 
@@ -26,7 +27,7 @@ impl<'a> Sources<'a> {
     ghost use Rattle.clap.specs.Matches.{found_of};
     ghost use Rattle.sp_options.specs.Sources.{AreNamed, NamesNone, path_of};
 
-    /// Adds the file and the options that stand for it.
+    /// Adds the argument for the file to a command, and the options for a part of it or for sources in its place.
     pub fn add_to(command: Command<'a>, alloc: Global) -> Words<'a> {
         command
             .arg(Self::file(alloc)?)?
@@ -46,7 +47,7 @@ impl<'a> Sources<'a> {
         valued(alloc, PLACES, "A-B", about, PART_LONG).conflicts_with("source")
     }
 
-    /// Reads them.
+    /// Reads the sources from what `clap` has found, or returns `None` if there are none.
     pub fn read(alloc: Global, given: &ArgMatches<'a>) -> Result<Option<Self>, AllocError>
         ensures { IfOk result (λ found. MatchOption found
             (NamesNone (found_of given.now)) (AreNamed (found_of given.now))) }
@@ -63,7 +64,7 @@ impl<'a> Sources<'a> {
         }))
     }
 
-    /// The path of the file.
+    /// Returns the path of the file, if the sources stand in one.
     pub fn path(&self) -> Option<&'a str>
         ensures { option_map (λ path. path.now) result ≡ path_of self.now }
     {

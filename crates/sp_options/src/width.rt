@@ -1,4 +1,4 @@
-//! The width of a bucket: a number, or the word that stands for the mean length of an arc.
+//! The width of a bucket, which is a number or the mean length of an arc.
 ghost use Rattle.std.specs.Prelude.{◌≡◌, ◌≤◌, ℕ, true, Ok, Some, IfOk, IfSome, IsNone, MatchOption};
 ghost use Rattle.std.specs.Option.{SomeIff};
 ghost use Rattle.sp_word.specs.Word.{is_layout};
@@ -11,7 +11,7 @@ use sp_job::BucketWidth;
 use sp_word::Delta;
 use std::alloc::Global;
 
-// The greatest distance of any word.
+// The greatest distance in any layout of a word.
 const MAX_DELTA: u64 = 17_592_186_044_414;
 
 // The word for the mean length.
@@ -23,26 +23,30 @@ distance of a word, or `mean` for the mean length of an arc, rounded
 down. The mean is a good choice, and so are a third of it and thirty
 times as much. Any delta gives the same bytes";
 
-/// The width of a bucket.
+/// The width of a bucket as the command line gives it. It may be greater than the greatest distance of the layout in which
+/// the command runs.
 #[derive(Clone, Copy, Debug, PartialEq, Eq)]
 pub enum Width {
-    /// This number.
+    /// This width.
     Number(u64),
     /// The mean length of an arc.
     MeanLength,
 }
 
 impl Width {
-    /// What `clap` knows the option by.
+    /// The identifier of the option for `clap`.
     pub const ID: &'static str = "delta";
 
-    /// The option, with any text for its value.
+    /// Returns the option, which takes any text as its value.
     pub fn option<'a>(alloc: Global) -> Arg<'a> {
         let about = "The width of a bucket of tentative distances, or `mean`";
         valued(alloc, Self::ID, "D", about, LONG).required(true)
     }
 
-    /// Reads the option's text. One that spells no width is refused as `clap` refuses one that is no number in range.
+    /// Reads a width from the option's text.
+    ///
+    /// A text that spells a width is read. Any other text is refused, by the error with which `clap` refuses a number out of
+    /// range or a text that is no number; if `clap` took it, the result would be `None`.
     pub fn read(alloc: Global, text: &str) -> Result<Option<Width>, Error>
         ensures spelled { IfOk result (λ found. IfSome found (SpellsWidth text.now)) }
         ensures exactly { (width : Width) → SpellsWidth text.now width
@@ -57,7 +61,7 @@ impl Width {
         }
     }
 
-    /// What runs are given, if words with `P` bits of predecessor have such a distance.
+    /// Returns the width for runs in words with `P` bits of predecessor, or `None` if these have no such distance.
     pub fn bucket<const P: u32>(self) -> Option<BucketWidth<P>>
         requires { is_layout P ≡ true }
         ensures { SomeIff result (IsBucket P self) (bucket_of self) }
@@ -69,7 +73,7 @@ impl Width {
     }
 }
 
-// The number from 1 to the greatest distance of any word that a text spells.
+// Returns the number that a text spells, if it is at least 1 and at most the greatest distance of any word.
 fn number_in(text: &str) -> Option<u64>
     ensures { MatchOption result ((number : ℕ) → SpellsWidth text.now (Width.Number number) → ⊥)
         (λ number. SpellsWidth text.now (Width.Number number)) }
@@ -81,7 +85,7 @@ fn number_in(text: &str) -> Option<u64>
     Some(number)
 }
 
-// Has `clap` tell that a text is no number in range.
+// Returns the error with which `clap` refuses a text that is no number in range, or `None` if `clap` takes the text.
 fn refuse(alloc: Global, text: &str) -> Result<Option<Width>, Error>
     ensures { IfOk result IsNone }
 {
@@ -92,7 +96,7 @@ fn refuse(alloc: Global, text: &str) -> Result<Option<Width>, Error>
     Ok(None)
 }
 
-// The option, with a number in range for its value.
+// Returns the option, which takes a number in range as its value.
 fn number_option<'a>(alloc: Global) -> Arg<'a> {
     Width::option(alloc).value_parser(value_parser!(u64).range(1..=MAX_DELTA as i64))
 }

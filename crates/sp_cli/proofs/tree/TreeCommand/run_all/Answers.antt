@@ -33,14 +33,14 @@ pub returns-else-is_none-clause-answered : goal.returns-else-is_none-clause-answ
 returns-else-is_none-clause-answered g c =
     let some : IsSome c.in-Part.places = search rules in
     let ran = c.run_file-in-Part in
-    told_of g.row.P c.args.self.now.running.far_ok c.args.self.now.graph.now c.args.self.now.sources c.in-Part.path c.in-Part.places (scene (g.F.Inputs.files c.args.files.now) (g.W.Write.written c.args.out.now) (g.W.Write.written ran.new.out) (g.W.Write.has_failed ran.new.out)) ran.result c.in-Part.is
-    (told g.row.P c.args.self.now.running.far_ok c.args.self.now.graph.now c.in-Part.path.now c.in-Part.places (scene (g.F.Inputs.files c.args.files.now) (g.W.Write.written c.args.out.now) (g.W.Write.written ran.new.out) (g.W.Write.has_failed ran.new.out)) ran.result
+    told_of g.row.P c.args.self.now.options.far_ok c.args.self.now.graph.now c.args.self.now.sources c.in-Part.path c.in-Part.places (scene (g.F.Inputs.files c.args.context.now.files.now) (g.W.Write.written c.args.out.now) (g.W.Write.written ran.new.out) (g.W.Write.has_failed ran.new.out)) ran.result c.in-Part.is
+    (told g.row.P c.args.self.now.options.far_ok c.args.self.now.graph.now c.in-Part.path.now c.in-Part.places (scene (g.F.Inputs.files c.args.context.now.files.now) (g.W.Write.written c.args.out.now) (g.W.Write.written ran.new.out) (g.W.Write.has_failed ran.new.out)) ran.result
     some ran.ensures.answered)
 
 pub returns-else-is_none-clause-of_some : goal.returns-else-is_none-clause-of_some
 returns-else-is_none-clause-of_some g c =
     let some : IsSome c.in-Part.places = search rules in
     let ran = c.run_file-in-Part in
-    some_of g.row.P c.args.self.now.running.far_ok c.args.self.now.sources c.in-Part.path c.in-Part.places (scene (g.F.Inputs.files c.args.files.now) (g.W.Write.written c.args.out.now) (g.W.Write.written ran.new.out) (g.W.Write.has_failed ran.new.out)) ran.result c.in-Part.is
-    (told_of_some g.row.P c.args.self.now.running.far_ok c.in-Part.path c.in-Part.places (scene (g.F.Inputs.files c.args.files.now) (g.W.Write.written c.args.out.now) (g.W.Write.written ran.new.out) (g.W.Write.has_failed ran.new.out)) ran.result
+    some_of g.row.P c.args.self.now.options.far_ok c.args.self.now.sources c.in-Part.path c.in-Part.places (scene (g.F.Inputs.files c.args.context.now.files.now) (g.W.Write.written c.args.out.now) (g.W.Write.written ran.new.out) (g.W.Write.has_failed ran.new.out)) ran.result c.in-Part.is
+    (told_of_some g.row.P c.args.self.now.options.far_ok c.in-Part.path c.in-Part.places (scene (g.F.Inputs.files c.args.context.now.files.now) (g.W.Write.written c.args.out.now) (g.W.Write.written ran.new.out) (g.W.Write.has_failed ran.new.out)) ran.result
     some ran.ensures.of_some)
