@@ -1,5 +1,12 @@
-//! Tests of the program over memory whose devices fail. What it writes where they don't is compared by `tests/commands.py`.
+//! Tests of the program over memory: devices that fail, and files of output. What it writes where no device fails is compared by
+//! `tests/commands.py`.
 #![tactic(auto)]
+
+mod memory;
+mod stored;
+
+pub use memory::{KeptFile, Memory};
+pub use stored::StoredFile;
 
 #[cfg(test)]
 mod faults;
