@@ -10,4 +10,4 @@ mod run;
 mod tree;
 
 pub use run::run_command;
-pub use sp_command::{Form, Inputs, Outputs};
+pub use sp_command::{Encoding, Inputs, Outputs};

@@ -12,7 +12,7 @@ ghost use Rattle.sp_options.specs.Ends.{end_of, fault_of};
 use clap::{ArgMatches, Error};
 use sp_batch::{run_batch_told, run_given_told};
 use sp_command::{
-    Command, Fault, FileKind, GRAPH_FILE, Inputs, Run, Status, Words, after_help, file,
+    BuiltCommand, Command, Fault, FileKind, GRAPH_FILE, Inputs, Run, Status, after_help, file,
 };
 use sp_device::Write;
 use sp_job::{BatchError, Listener, Places, Progress, Settings, Summary};
@@ -130,7 +130,7 @@ Others are
             "a file" "the output"
     );
 
-    fn words(alloc: Global) -> Words<'a> {
+    fn build(alloc: Global) -> BuiltCommand<'a> {
         let command = clap::Command::new(alloc, Self::NAME).arg(file(alloc, "GR", GRAPH_FILE))?;
         RunOptions::add_to(Sources::add_to(command, alloc)?, alloc, WORKERS_LONG)
     }

@@ -12,8 +12,8 @@ use std::alloc::{AllocError, Global};
 use std::sync::Wait;
 use std::thread::Threads;
 
-/// The words of a command, or of the program.
-pub type Words<'a> = Result<clap::Command<'a>, AllocError>;
+/// A command, or the program, as it is built for `clap`, unless memory is refused.
+pub type BuiltCommand<'a> = Result<clap::Command<'a>, AllocError>;
 
 /// A command that a command line can name.
 pub trait Command<'a>: Drop {
@@ -29,8 +29,8 @@ pub trait Command<'a>: Drop {
     /// The text that ends its help: its files, what it writes, an example, faults and exit statuses.
     const AFTER_HELP: &'static str;
 
-    /// Returns its name, and the arguments that it has besides the layout and the file of its output.
-    fn words(alloc: Global) -> Words<'a>;
+    /// Builds it with its name, and the arguments that it has besides the layout and the file of its output.
+    fn build(alloc: Global) -> BuiltCommand<'a>;
 
     /// Reads its arguments, or finds a fault in words that `clap` accepted.
     fn read(alloc: Global, given: &ArgMatches<'a>) -> Result<Option<Self>, Error>;
@@ -41,8 +41,8 @@ pub trait Command<'a>: Drop {
 
 /// One command, or a choice of several. A value is one of them.
 pub trait Commands<'a>: Drop {
-    /// Adds the words of each command to those of the program.
-    fn add_to(program: clap::Command<'a>, alloc: Global) -> Words<'a>;
+    /// Adds each command to the program.
+    fn add_to(program: clap::Command<'a>, alloc: Global) -> BuiltCommand<'a>;
 
     /// Reads the arguments of the command that has this name.
     fn read_named(alloc: Global, name: &str, given: &ArgMatches<'a>) -> Result<Option<Self>, Error>;
@@ -55,8 +55,8 @@ pub trait Commands<'a>: Drop {
 }
 
 impl<'a, C: Command<'a>> Commands<'a> for C {
-    fn add_to(program: clap::Command<'a>, alloc: Global) -> Words<'a> {
-        let command = C::words(alloc)?
+    fn add_to(program: clap::Command<'a>, alloc: Global) -> BuiltCommand<'a> {
+        let command = C::build(alloc)?
             .about(C::ABOUT)
             .long_about(C::LONG_ABOUT)
             .after_long_help(C::AFTER_HELP)
@@ -94,7 +94,7 @@ pub enum OneOf<A, B> {
 }
 
 impl<'a, A: Commands<'a>, B: Commands<'a>> Commands<'a> for OneOf<A, B> {
-    fn add_to(program: clap::Command<'a>, alloc: Global) -> Words<'a> {
+    fn add_to(program: clap::Command<'a>, alloc: Global) -> BuiltCommand<'a> {
         B::add_to(A::add_to(program, alloc)?, alloc)
     }
 

@@ -8,9 +8,9 @@ use crate::names::{Quoted, Shown};
 use sp_text::Kind;
 use std::{fmt, io};
 
-/// The form of a file that isn't plain text.
+/// The encoding of a file that isn't plain text.
 #[derive(Clone, Copy, Debug, PartialEq, Eq)]
-pub enum Form {
+pub enum Encoding {
     Gzip,
     Bzip2,
     Xz,
@@ -21,17 +21,17 @@ pub enum Form {
     Utf16,
 }
 
-impl Form {
-    /// Returns the form of a file that begins with these bytes, if it is one of these.
-    pub fn of(beginning: &[u8]) -> Option<Form> {
+impl Encoding {
+    /// Returns the encoding of a file that begins with these bytes, if it is one of these.
+    pub fn of(beginning: &[u8]) -> Option<Encoding> {
         match beginning {
-            [0x1f, 0x8b, ..] => Some(Form::Gzip),
-            [b'B', b'Z', b'h', ..] => Some(Form::Bzip2),
-            [0xfd, b'7', b'z', b'X', b'Z', 0, ..] => Some(Form::Xz),
-            [0x28, 0xb5, 0x2f, 0xfd, ..] => Some(Form::Zstd),
-            [b'P', b'K', 3, 4, ..] => Some(Form::Zip),
-            [0xef, 0xbb, 0xbf, ..] => Some(Form::Marked),
-            [0xff, 0xfe, ..] | [0xfe, 0xff, ..] => Some(Form::Utf16),
+            [0x1f, 0x8b, ..] => Some(Encoding::Gzip),
+            [b'B', b'Z', b'h', ..] => Some(Encoding::Bzip2),
+            [0xfd, b'7', b'z', b'X', b'Z', 0, ..] => Some(Encoding::Xz),
+            [0x28, 0xb5, 0x2f, 0xfd, ..] => Some(Encoding::Zstd),
+            [b'P', b'K', 3, 4, ..] => Some(Encoding::Zip),
+            [0xef, 0xbb, 0xbf, ..] => Some(Encoding::Marked),
+            [0xff, 0xfe, ..] | [0xfe, 0xff, ..] => Some(Encoding::Utf16),
             _ => None,
         }
     }
@@ -39,27 +39,27 @@ impl Form {
     // Returns the program that makes plain text of it.
     fn tool(self) -> &'static str {
         match self {
-            Form::Gzip => "zcat",
-            Form::Bzip2 => "bzcat",
-            Form::Xz => "xzcat",
-            Form::Zstd => "zstdcat",
-            Form::Zip => "funzip",
-            Form::Marked => "tail -c +4",
-            Form::Utf16 => "iconv -f UTF-16 -t UTF-8",
+            Encoding::Gzip => "zcat",
+            Encoding::Bzip2 => "bzcat",
+            Encoding::Xz => "xzcat",
+            Encoding::Zstd => "zstdcat",
+            Encoding::Zip => "funzip",
+            Encoding::Marked => "tail -c +4",
+            Encoding::Utf16 => "iconv -f UTF-16 -t UTF-8",
         }
     }
 }
 
-impl fmt::Display for Form {
+impl fmt::Display for Encoding {
     fn fmt<W: fmt::Write>(&self, f: &mut fmt::Formatter<W>) -> fmt::Result {
         f.write_str(match self {
-            Form::Gzip => "compressed by gzip",
-            Form::Bzip2 => "compressed by bzip2",
-            Form::Xz => "compressed by xz",
-            Form::Zstd => "compressed by zstd",
-            Form::Zip => "compressed by zip",
-            Form::Marked => "begins with a byte order mark",
-            Form::Utf16 => "text in UTF-16",
+            Encoding::Gzip => "compressed by gzip",
+            Encoding::Bzip2 => "compressed by bzip2",
+            Encoding::Xz => "compressed by xz",
+            Encoding::Zstd => "compressed by zstd",
+            Encoding::Zip => "compressed by zip",
+            Encoding::Marked => "begins with a byte order mark",
+            Encoding::Utf16 => "text in UTF-16",
         })
     }
 }
@@ -107,11 +107,11 @@ pub enum Hint<'a> {
         reason: io::Error,
     },
     /// The program that makes plain text of a command's file.
-    Form {
+    Encoding {
         command: &'a str,
         file: FileKind,
         path: &'a str,
-        form: Form,
+        encoding: Encoding,
     },
     /// The layout for a graph with this many vertices.
     Layout {
@@ -148,12 +148,12 @@ impl fmt::Display for Hint<'_> {
         f.write_str("spt: ")?;
         match self {
             Hint::Reason { name, reason } => write!(f, "{}: {reason}", Shown(name))?,
-            Hint::Form {
+            Hint::Encoding {
                 command,
                 file,
                 path,
-                form,
-            } => write_form(f, command, *file, path, *form)?,
+                encoding,
+            } => write_encoding(f, command, *file, path, *encoding)?,
             Hint::Layout {
                 path,
                 vertices,
@@ -187,17 +187,17 @@ impl fmt::Display for Hint<'_> {
     }
 }
 
-// Writes the form of a file, and a command that reads it as plain text. The command names the path only if a terminal
+// Writes the encoding of a file, and a command that reads it as plain text. The command names the path only if a terminal
 // shows all of it.
-fn write_form<W: fmt::Write>(
+fn write_encoding<W: fmt::Write>(
     f: &mut fmt::Formatter<W>,
     command: &str,
     file: FileKind,
     path: &str,
-    form: Form,
+    encoding: Encoding,
 ) -> fmt::Result {
-    let tool = form.tool();
-    write!(f, "{}: {form}; use {tool}", Shown(name_of(path)))?;
+    let tool = encoding.tool();
+    write!(f, "{}: {encoding}; use {tool}", Shown(name_of(path)))?;
     if path != "-"
         && let Some(word) = Quoted::new(path)
     {
@@ -265,11 +265,11 @@ fn input_hint<'a, C: Commands<'a>, F: Inputs>(
     match kind {
         Kind::Memory => None,
         Kind::Read => reason_of(name_of(path), files),
-        _ => Some(Hint::Form {
+        _ => Some(Hint::Encoding {
             command: command.name(),
             file,
             path,
-            form: files.form()?,
+            encoding: files.encoding()?,
         }),
     }
 }

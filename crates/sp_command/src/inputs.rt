@@ -2,7 +2,7 @@
 ghost use Rattle.std.specs.Prelude.{◌≡◌, false, IfNone, IfSome};
 ghost use Rattle.sp_command.specs.Scene.{Files, IsOpened, unknown_files};
 
-use crate::hints::Form;
+use crate::hints::Encoding;
 use crate::report::Report;
 use sp_device::Read;
 use sp_word::Meter;
@@ -41,8 +41,8 @@ pub trait Inputs {
         None
     }
 
-    /// Returns the form of the file that was last begun to be read, if it is known and isn't plain text.
-    fn form(&self) -> Option<Form> {
+    /// Returns the encoding of the file that was last begun to be read, if it is known and isn't plain text.
+    fn encoding(&self) -> Option<Encoding> {
         None
     }
 }

@@ -23,10 +23,10 @@ mod text;
 
 pub use advice::Advice;
 pub use arguments::{PLACES, file, flag, valued};
-pub use commands::{Command, Commands, OneOf, Words};
+pub use commands::{BuiltCommand, Command, Commands, OneOf};
 pub use faults::{Fault, FileKind, Status};
 pub use help::GRAPH_FILE;
-pub use hints::{Form, Hint, Naming, PlacesFault, hint_of, output_hint};
+pub use hints::{Encoding, Hint, Naming, PlacesFault, hint_of, output_hint};
 pub use inputs::Inputs;
 pub use layout::{NoPredBits, PredBits, run_in};
 pub use outputs::{OUTPUT, Outputs};

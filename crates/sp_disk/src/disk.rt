@@ -2,7 +2,7 @@
 use crate::noted::{Noted, Notes};
 use crate::screen::{Errors, Screen};
 use either::Either;
-use sp_command::{Form, Inputs, Report};
+use sp_command::{Encoding, Inputs, Report};
 use sp_device::OfRead;
 use sp_word::Meter;
 use std::io::{Stderr, Stdin};
@@ -67,8 +67,8 @@ impl<'a, R: Files + Eprint + Clock + Wait> Inputs for Disk<'a, R> {
         self.notes.reason()
     }
 
-    fn form(&self) -> Option<Form> {
-        self.notes.form()
+    fn encoding(&self) -> Option<Encoding> {
+        self.notes.encoding()
     }
 
     fn tell(&self, report: Report) {

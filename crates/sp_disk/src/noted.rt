@@ -1,6 +1,6 @@
 //! What is noted of files and streams of the system while they are read and written.
 use crate::screen::Watch;
-use sp_command::Form;
+use sp_command::Encoding;
 use std::cell::Cell;
 use std::io;
 
@@ -8,7 +8,7 @@ use std::io;
 #[derive(Drop)]
 pub struct Notes {
     reason: Cell<Option<io::Error>>,
-    form: Cell<Option<Form>>,
+    encoding: Cell<Option<Encoding>>,
     size: Cell<Option<u64>>,
     watch: Watch,
 }
@@ -18,7 +18,7 @@ impl Notes {
     pub fn new() -> Self {
         Notes {
             reason: Cell::new(None),
-            form: Cell::new(None),
+            encoding: Cell::new(None),
             size: Cell::new(None),
             watch: Watch::new(),
         }
@@ -46,8 +46,8 @@ impl Notes {
     }
 
     /// What the file is whose reading began last, if it is no plain text.
-    pub fn form(&self) -> Option<Form> {
-        self.form.get()
+    pub fn encoding(&self) -> Option<Encoding> {
+        self.encoding.get()
     }
 
     /// How many bytes the file has whose reading began last, if that is known.
@@ -88,7 +88,7 @@ impl<T: io::Read> io::Read for Noted<'_, T> {
             Ok(n) => {
                 if !self.has_begun {
                     self.has_begun = true;
-                    self.notes.form.set(Form::of(&buf[..n]));
+                    self.notes.encoding.set(Encoding::of(&buf[..n]));
                     self.notes.size.set(self.size);
                 }
                 Ok(n)

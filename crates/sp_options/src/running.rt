@@ -11,7 +11,7 @@ ghost use Rattle.sp_command.specs.declared.faults.Fault.TheVariants.{DeltaOutOfR
 
 use crate::width::Width;
 use clap::{Arg, ArgMatches, Command, Error, value_parser};
-use sp_command::{Fault, FileKind, Inputs, Report, Status, Words, flag, valued};
+use sp_command::{BuiltCommand, Fault, FileKind, Inputs, Report, Status, flag, valued};
 use sp_job::{BatchError, Listener, Progress, Settings, Summary};
 use sp_word::{Meter, Workers};
 use std::alloc::Global;
@@ -33,7 +33,7 @@ pub struct RunOptions {
 
 impl RunOptions {
     /// Adds these options to a command. `workers` is the text that its help adds on the number of threads.
-    pub fn add_to<'a>(command: Command<'a>, alloc: Global, workers: &'a str) -> Words<'a> {
+    pub fn add_to<'a>(command: Command<'a>, alloc: Global, workers: &'a str) -> BuiltCommand<'a> {
         command
             .arg(Width::option(alloc))?
             .arg(Self::workers(alloc, workers))?

@@ -2,7 +2,7 @@
 use crate::given::Given;
 use crate::places::places_of;
 use clap::{Arg, ArgMatches, Command};
-use sp_command::{PLACES, Words, valued};
+use sp_command::{BuiltCommand, PLACES, valued};
 use sp_job::Places;
 use std::alloc::{AllocError, Global};
 
@@ -28,7 +28,7 @@ impl<'a> Sources<'a> {
     ghost use Rattle.sp_options.specs.Sources.{AreNamed, NamesNone, path_of};
 
     /// Adds the argument for the file to a command, and the options for a part of it or for sources in its place.
-    pub fn add_to(command: Command<'a>, alloc: Global) -> Words<'a> {
+    pub fn add_to(command: Command<'a>, alloc: Global) -> BuiltCommand<'a> {
         command
             .arg(Self::file(alloc)?)?
             .arg(Given::option(alloc))?

@@ -15,7 +15,7 @@ use crate::graphs::read_graph;
 use clap::{ArgMatches, Error};
 use sp_cert::{CheckError, Rule};
 use sp_command::{
-    Command, Fault, FileKind, GRAPH_FILE, Inputs, Run, Status, Words, after_help, file, flag,
+    BuiltCommand, Command, Fault, FileKind, GRAPH_FILE, Inputs, Run, Status, after_help, file, flag,
 };
 use sp_device::{Printer, Write, WriteFault, finish, print_number, print_text};
 use sp_graph::Graph;
@@ -93,7 +93,7 @@ being gr or tree; the kinds are those of `spt tree --help`. In a tree file
             "a file" "the answer"
     );
 
-    fn words(alloc: Global) -> Words<'a> {
+    fn build(alloc: Global) -> BuiltCommand<'a> {
         clap::Command::new(alloc, Self::NAME)
             .arg(file(alloc, "GR", GRAPH_FILE))?
             .arg(file(alloc, "TREE", "The tree file"))?

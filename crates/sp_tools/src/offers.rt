@@ -10,7 +10,7 @@ ghost use Rattle.sp_tools.specs.Early.{IsEarly, no_faults};
 
 use clap::{ArgMatches, Error};
 use sp_actors::final_words;
-use sp_command::{Command, Fault, FileKind, Inputs, Run, Status, Words, after_help, file};
+use sp_command::{BuiltCommand, Command, Fault, FileKind, Inputs, Run, Status, after_help, file};
 use sp_device::Write;
 use sp_machine::Programme;
 use sp_replay::{read_offers, write_words};
@@ -75,7 +75,7 @@ A fault is told with its line, as in `spt: offers: line 2: 5 OutOfRange A`:
             "the file" "the output"
     );
 
-    fn words(alloc: Global) -> Words<'a> {
+    fn build(alloc: Global) -> BuiltCommand<'a> {
         clap::Command::new(alloc, Self::NAME).arg(file(alloc, "FILE", "The offers file"))
     }
 

@@ -12,7 +12,9 @@ ghost use Rattle.sp_tools.specs.ReplayAnswers.{IsReplayRefused, IsPictureOf, Tel
 ghost use Rattle.sp_tools.specs.Early.{IsEarly};
 
 use clap::{ArgMatches, Error};
-use sp_command::{Command, Fault, FileKind, Inputs, Run, Status, Words, after_help, file, flag};
+use sp_command::{
+    BuiltCommand, Command, Fault, FileKind, Inputs, Run, Status, after_help, file, flag,
+};
 use sp_device::Write;
 use sp_picture::{NoPicture, Picture, picture_of, write_picture};
 use sp_replay::{ReplayFile, read_replay, write_report};
@@ -114,7 +116,7 @@ Others are
             "the file" "the output"
     );
 
-    fn words(alloc: Global) -> Words<'a> {
+    fn build(alloc: Global) -> BuiltCommand<'a> {
         let svg = "Write a picture of the run in place of the report, as SVG";
         clap::Command::new(alloc, Self::NAME)
             .arg(file(alloc, "FILE", "The replay file"))?
