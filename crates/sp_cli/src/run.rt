@@ -1,11 +1,10 @@
 //! A whole run of the program.
 ghost use Rattle.std.specs.Prelude.{◌≡◌, ◌≤◌};
-ghost use Rattle.sp_command.specs.Layouts.{IsRunIn};
 ghost use Rattle.sp_command.specs.Scene.{scene};
 ghost use Rattle.sp_order.specs.Told.{IsAnswered};
 
 use crate::commands::AnyCommand;
-use sp_command::{Outputs, Run};
+use sp_command::{Outputs, RunIn};
 use sp_device::Write;
 use sp_order::run_line;
 use std::alloc::Global;
@@ -28,9 +27,7 @@ pub fn run_command<R: Threads + Wait + Sync, F: Outputs, W: Write, E: Write>(
     ensures silent_no { result ≡ 3 → err.new ≡ err.old }
     ensures silent_far { result ≡ 4 → err.new ≡ err.old }
     ensures unwritten { 1 ≤ result → result ≤ 2 → out.new ≡ out.old }
-    ensures obeyed { IsAnswered (IsRunIn
-        ⟦<AnyCommand<'static> as Run<20>>⟧ ⟦<AnyCommand<'static> as Run<24>>⟧
-        ⟦<AnyCommand<'static> as Run<28>>⟧ ⟦<AnyCommand<'static> as Run<32>>⟧)
+    ensures obeyed { IsAnswered ⟦<AnyCommand<'static> as RunIn>⟧.runs
         (scene (F.files files.old)
         (W.written out.old) (W.written out.new) (W.has_failed out.new))
         (F.outputs files.old) (F.outputs files.new)

@@ -8,6 +8,10 @@ use Rattle.sp_command.specs.declared.layout.PredBits.TheVariants.{Bits20, Bits24
 use Rattle.sp_command.specs.Causes.{IsBorneOut}
 use Rattle.sp_command.specs.Scene.{Scene}
 
+-- This says what a command's answer in each layout tells about a scene.
+abbrev pub Runs : Type 0 → Type 1
+Runs Command = PredBits → Command → Scene → Result Status Fault → Type 0
+
 -- The command answers as it means to, and something in the scene brings its fault about.
 pub record IsRun {Command : Type 0} {P : ℕ} (running : Running Command P) (command : Command) (s : Scene) (result : Result Status Fault) : Type 0 where
   pub answered : running.answers command s result

@@ -1,8 +1,9 @@
 //! The layouts of a word, and the option that selects one. Every list of the layouts is in this module.
+ghost use denote.Param.Send.{IsSync};
 ghost use Rattle.std.specs.Prelude.{◌≡◌, ◌<◌, ◌≤◌, true, IfNone, IfOk, IfErr, IfSome};
 ghost use Rattle.sp_word.specs.Word.{max_dist, max_pred};
 ghost use Rattle.sp_command.specs.Faults.{code_of, is_done, status_of};
-ghost use Rattle.sp_command.specs.Layouts.{IsRunIn};
+ghost use Rattle.sp_command.specs.Layouts.{IsRunIn, Runs};
 ghost use Rattle.sp_command.specs.Scene.{scene};
 ghost use Rattle.sp_command.specs.Words.{ReadsSpelling, bits_in};
 
@@ -126,28 +127,46 @@ impl fmt::Display for PredBits {
     }
 }
 
-/// Runs the command in the layout that has this many bits of predecessor.
-pub fn run_in<C, R: Threads + Wait + Sync, F: Inputs, W: Write>(
-    command: &C,
-    pred_bits: PredBits,
-    rt: &R,
-    alloc: Global,
-    files: &F,
-    out: &mut W,
-) -> Result<Status, Fault>
-where
-    C: Run<20> + Run<24> + Run<28> + Run<32>,
-    ensures run { IsRunIn
-        ⟦<C as Run<20>>⟧ ⟦<C as Run<24>>⟧ ⟦<C as Run<28>>⟧ ⟦<C as Run<32>>⟧
-        pred_bits command.now (scene (F.files files.now)
-        (W.written out.old) (W.written out.new) (W.has_failed out.new)) result }
-    ensures done { IfOk result (λ status. is_done status ≡ true) }
-    ensures unwritten { IfErr result (λ fault. code_of (status_of fault) ≤ 2 → out.new ≡ out.old) }
-{
-    match pred_bits {
-        PredBits::Bits20 => <C as Run<20>>::run(command, rt, alloc, files, out),
-        PredBits::Bits24 => <C as Run<24>>::run(command, rt, alloc, files, out),
-        PredBits::Bits28 => <C as Run<28>>::run(command, rt, alloc, files, out),
-        PredBits::Bits32 => <C as Run<32>>::run(command, rt, alloc, files, out),
+/// A command that can run in each layout.
+pub trait RunIn {
+    /// What an answer in the layout that has this many bits of predecessor says of the texts of files, and of what is
+    /// then written.
+    ghost runs: { Runs Self };
+
+    /// Runs the command in the layout that has this many bits of predecessor.
+    fn run_in<R: Threads + Wait + Sync, F: Inputs, W: Write>(
+        &self,
+        pred_bits: PredBits,
+        rt: &R,
+        alloc: Global,
+        files: &F,
+        out: &mut W,
+    ) -> Result<Status, Fault>
+        requires { IsSync R.row }
+        ensures run { runs pred_bits self.now (scene (F.files files.now)
+            (W.written out.old) (W.written out.new) (W.has_failed out.new)) result }
+        ensures done { IfOk result (λ status. is_done status ≡ true) }
+        ensures unwritten { IfErr result
+            (λ fault. code_of (status_of fault) ≤ 2 → out.new ≡ out.old) };
+}
+
+impl<C: Run<20> + Run<24> + Run<28> + Run<32>> RunIn for C {
+    ghost runs = { IsRunIn
+        ⟦<C as Run<20>>⟧ ⟦<C as Run<24>>⟧ ⟦<C as Run<28>>⟧ ⟦<C as Run<32>>⟧ };
+
+    fn run_in<R: Threads + Wait + Sync, F: Inputs, W: Write>(
+        &self,
+        pred_bits: PredBits,
+        rt: &R,
+        alloc: Global,
+        files: &F,
+        out: &mut W,
+    ) -> Result<Status, Fault> {
+        match pred_bits {
+            PredBits::Bits20 => <C as Run<20>>::run(self, rt, alloc, files, out),
+            PredBits::Bits24 => <C as Run<24>>::run(self, rt, alloc, files, out),
+            PredBits::Bits28 => <C as Run<28>>::run(self, rt, alloc, files, out),
+            PredBits::Bits32 => <C as Run<32>>::run(self, rt, alloc, files, out),
+        }
     }
 }

@@ -28,7 +28,7 @@ pub use faults::{Fault, FileKind, Status};
 pub use help::GRAPH_FILE;
 pub use hints::{Encoding, Hint, Naming, PlacesFault, hint_of, output_hint};
 pub use inputs::Inputs;
-pub use layout::{NoPredBits, PredBits, run_in};
+pub use layout::{NoPredBits, PredBits, RunIn};
 pub use outputs::{OUTPUT, Outputs};
 pub use report::Report;
 pub use running::Run;

@@ -10,7 +10,8 @@ use Rattle.sp_command.specs.Outputs.{OutputFiles}
 use Rattle.sp_command.specs.Scene.{Scene}
 use Rattle.sp_order.specs.declared.hints.Refusal.{Refusal}
 use Rattle.sp_order.specs.declared.hints.Telling.TheVariants.{Nothing}
-use Rattle.sp_order.specs.Orders.{Runs, IsObeyed}
+use Rattle.sp_command.specs.Layouts.{Runs}
+use Rattle.sp_order.specs.Orders.{IsObeyed}
 use Rattle.sp_order.specs.Told.{EndsWith, IsAnswered}
 use Rattle.sp_order.proofs.Telling.{told_by}
 

@@ -6,14 +6,11 @@ use Rattle.sp_command.specs.declared.faults.Status.{Status}
 use Rattle.sp_command.specs.declared.faults.Status.TheVariants as status
 use Rattle.sp_command.specs.declared.layout.PredBits.{PredBits}
 use Rattle.sp_command.specs.Faults.{status_of}
+use Rattle.sp_command.specs.Layouts.{Runs}
 use Rattle.sp_command.specs.Outputs.{OutputFiles, IsBlank, with_kept}
 use Rattle.sp_command.specs.Scene.{Files, Scene, scene, IsUnwritten}
 use Rattle.sp_order.specs.declared.words.Order.{Order}
 use Rattle.sp_order.specs.declared.words.Order.TheVariants.{Show, Run}
-
--- This says how a command runs in words with each number of bits of predecessor.
-abbrev pub Runs : Type 0 → Type 1
-Runs Command = PredBits → Command → Scene → Result Status Fault → Type 0
 
 -- ## An output that goes to a file
 

@@ -7,13 +7,14 @@ use Rattle.sp_command.specs.declared.faults.Fault.{Fault}
 use Rattle.sp_command.specs.declared.faults.Fault.TheVariants.{WriteFailed}
 use Rattle.sp_command.specs.declared.faults.Status.{Status}
 use Rattle.sp_command.specs.Faults.{code_of, status_of}
+use Rattle.sp_command.specs.Layouts.{Runs}
 use Rattle.sp_command.specs.Lines.{line_of}
 use Rattle.sp_command.specs.Outputs.{OutputFiles}
 use Rattle.sp_command.specs.Scene.{Scene}
 use Rattle.sp_order.specs.declared.hints.Refusal.{Refusal}
 use Rattle.sp_order.specs.declared.hints.Telling.{Telling}
 use Rattle.sp_order.specs.declared.hints.Telling.TheVariants.{Nothing, Line, Lines}
-use Rattle.sp_order.specs.Orders.{Runs, IsObeyed, end_of}
+use Rattle.sp_order.specs.Orders.{IsObeyed, end_of}
 
 -- The writer has failed, and a beginning of the text was written.
 abbrev pub BreaksOff : {E : Type 0} → Writer E → List ℕ → (old new : E) → Type 0

@@ -1,6 +1,6 @@
 //! The command line of the program `spt`: reads the order that its words give, carries it out, and reports a fault.
 //!
-//! The commands are a type, `C`. Its impls of `Commands` and `Run` do what concerns all commands: they add their words,
+//! The commands are a type, `C`. Its impls of `Commands` and `RunIn` do what concerns all commands: they add their words,
 //! read the one that is named, and run it.
 #![tactic(auto)]
 

@@ -1,7 +1,6 @@
 //! A whole run of the program.
 ghost use Rattle.std.specs.Prelude.{◌≡◌, ◌≤◌, true, IfOk, IfErr, MatchResult};
 ghost use Rattle.sp_command.specs.Faults.{code_of, is_done, status_of};
-ghost use Rattle.sp_command.specs.Layouts.{IsRunIn};
 ghost use Rattle.sp_command.specs.Scene.{scene};
 ghost use Rattle.sp_command.specs.declared.faults.Fault.TheVariants.{WriteFailed};
 ghost use Rattle.sp_order.specs.declared.hints.Telling.TheVariants.{Nothing};
@@ -11,7 +10,7 @@ ghost use Rattle.sp_order.specs.Words.{names_output};
 
 use crate::hints::Refusal;
 use crate::words::{Order, read_order};
-use sp_command::{Commands, Fault, Outputs, PredBits, Run, Status, print, run_in};
+use sp_command::{Commands, Fault, Outputs, PredBits, RunIn, Status, print};
 use sp_device::Write;
 use std::alloc::Global;
 use std::sync::Wait;
@@ -29,14 +28,13 @@ pub fn run_line<'a, C, R: Threads + Wait + Sync, F: Outputs, W: Write, E: Write>
     err: &mut E,
 ) -> u8
 where
-    C: Commands<'a> + Run<20> + Run<24> + Run<28> + Run<32>,
+    C: Commands<'a> + RunIn,
     ensures range { result ≤ 6 }
     ensures silent { result ≡ 0 → err.new ≡ err.old }
     ensures silent_no { result ≡ 3 → err.new ≡ err.old }
     ensures silent_far { result ≡ 4 → err.new ≡ err.old }
     ensures unwritten { 1 ≤ result → result ≤ 2 → out.new ≡ out.old }
-    ensures obeyed { IsAnswered (IsRunIn
-        ⟦<C as Run<20>>⟧ ⟦<C as Run<24>>⟧ ⟦<C as Run<28>>⟧ ⟦<C as Run<32>>⟧)
+    ensures obeyed { IsAnswered C.runs
         (scene (F.files files.old)
         (W.written out.old) (W.written out.new) (W.has_failed out.new))
         (F.outputs files.old) (F.outputs files.new)
@@ -68,14 +66,13 @@ fn obey<'a, C, R: Threads + Wait + Sync, F: Outputs, W: Write>(
     out: &mut W,
 ) -> Result<Status, Refusal<'a>>
 where
-    C: Commands<'a> + Run<20> + Run<24> + Run<28> + Run<32>,
+    C: Commands<'a> + RunIn,
     ensures done { IfOk result (λ status. is_done status ≡ true) }
     ensures unwritten { IfErr result
         (λ refusal. code_of (status_of refusal.fault) ≤ 2 → out.new ≡ out.old) }
     ensures unread { IfErr result
         (λ refusal. refusal.telling ≡ Nothing → refusal.fault ≡ WriteFailed) }
-    ensures obeyed { let obeyed = IsObeyed (IsRunIn
-        ⟦<C as Run<20>>⟧ ⟦<C as Run<24>>⟧ ⟦<C as Run<28>>⟧ ⟦<C as Run<32>>⟧)
+    ensures obeyed { let obeyed = IsObeyed C.runs
         (scene (F.files files.old)
         (W.written out.old) (W.written out.new) (W.has_failed out.new))
         (F.outputs files.old) (F.outputs files.new)
@@ -98,12 +95,11 @@ fn carry_out<C, R: Threads + Wait + Sync, F: Outputs, W: Write>(
     out: &mut W,
 ) -> Result<Status, Fault>
 where
-    C: Run<20> + Run<24> + Run<28> + Run<32>,
+    C: RunIn,
     ensures done { IfOk result (λ status. is_done status ≡ true) }
     ensures unwritten { IfErr result (λ fault. code_of (status_of fault) ≤ 2 → out.new ≡ out.old) }
     ensures elsewhere { names_output order.now ≡ true → out.new ≡ out.old }
-    ensures carried { IsCarriedOut (IsRunIn
-        ⟦<C as Run<20>>⟧ ⟦<C as Run<24>>⟧ ⟦<C as Run<28>>⟧ ⟦<C as Run<32>>⟧)
+    ensures carried { IsCarriedOut C.runs
         order.now (scene (F.files files.old)
         (W.written out.old) (W.written out.new) (W.has_failed out.new))
         (F.outputs files.old) (F.outputs files.new) result }
@@ -118,7 +114,7 @@ where
             pred_bits,
             output: None,
             ..
-        } => run_in(command, *pred_bits, rt, alloc, files, out),
+        } => command.run_in(*pred_bits, rt, alloc, files, out),
         Order::Run {
             command,
             pred_bits,
@@ -138,10 +134,9 @@ fn run_into<C, R: Threads + Wait + Sync, F: Outputs>(
     path: &str,
 ) -> Result<Status, Fault>
 where
-    C: Run<20> + Run<24> + Run<28> + Run<32>,
+    C: RunIn,
     ensures done { IfOk result (λ status. is_done status ≡ true) }
-    ensures into { RunsInto (IsRunIn
-        ⟦<C as Run<20>>⟧ ⟦<C as Run<24>>⟧ ⟦<C as Run<28>>⟧ ⟦<C as Run<32>>⟧)
+    ensures into { RunsInto C.runs
         pred_bits command.now path.now (F.files files.old)
         (F.outputs files.old) (F.outputs files.new) result }
     ensures inputs { F.files files.new ≡ F.files files.old }
@@ -149,7 +144,7 @@ where
     let Some((name, mut output)) = files.create(alloc, path)? else {
         return Err(Fault::CannotWrite);
     };
-    match run_in(command, pred_bits, rt, alloc, files, &mut output) {
+    match command.run_in(pred_bits, rt, alloc, files, &mut output) {
         Ok(status) => match files.keep(name, output) {
             Ok(()) => Ok(status),
             Err(_) => Err(Fault::CannotWrite),
