@@ -32,14 +32,10 @@ OF_THE_SYSTEM = "of the files that the system keeps nothing is known, so every b
 OF_TESTS = "it makes what tests run on, which tell whether it is right"
 # by the path of a function, with its crate
 EXCEPTIONS = {
-    "sp_command::faults::Fault::from": NONE_YET,
-    "sp_command::faults::FileKind::fault": NONE_YET,
-    "sp_command::text::print_short": NONE_YET,
     "sp_disk::output::Disk::create": OF_THE_SYSTEM,
     "sp_disk::output::Disk::discard": OF_THE_SYSTEM,
     "sp_disk::output::Disk::keep": OF_THE_SYSTEM,
     "sp_kept::shared::HeldGraph::graph": OF_A_FIELD,
-    "sp_picture::faults::NoPicture::from": NONE_YET,
     "sp_store::store::Store::graph": OF_A_FIELD,
     "sp_store::store::Store::table": OF_A_FIELD,
     "tests_round_samples::any_tasks": OF_TESTS,

@@ -1,1 +1,2 @@
 pub mod LineSteps
+pub mod Displays

@@ -1,5 +1,5 @@
 -- The lines that tell faults on standard error.
-use Rattle.std.specs.Prelude.{◌≡◌, ℕ, Bool, true, ◌==◌, ◌&&◌, ◌||◌, nat_le, List, [], ◌∷◌, ◌++◌, Option, Some, None, Result, Ok, Err, codes, decimal}
+use Rattle.std.specs.Prelude.{◌≡◌, ◌⊎◌, ℕ, Bool, true, ◌==◌, ◌&&◌, ◌||◌, nat_le, List, [], ◌∷◌, ◌++◌, Option, Some, None, Result, Ok, Err, codes, decimal}
 use Rattle.std.specs.Borrow.{Bor}
 use Rattle.std.specs.List.{concat, flat_map, list_all}
 use Rattle.std.specs.Io.KnownBytes.{Appends}
@@ -80,6 +80,10 @@ IsLineWritten w why old result new = (line : List ℕ) → line_of why ≡ Some 
 -- Something was perhaps written.
 abbrev pub MayAppend : {W : Type 0} → Writer W → (old new : W) → Type 0
 MayAppend w old new = (more : List ℕ) × Appends (w.written old) (w.written new) more
+
+-- Nothing was written; or exactly the text was; or the writer has failed, and a beginning of the text was written.
+abbrev pub MayShow : {W : Type 0} → Writer W → List ℕ → (old new : W) → Type 0
+MayShow w text old new = (new ≡ old) ⊎ (Appends (w.written old) (w.written new) text ⊎ (IsBegun text (w.written old) (w.written new) × (w.has_failed new ≡ true)))
 
 -- The byte is a line's end, or a character that a terminal shows.
 abbrev pub is_plain : ℕ → Bool

@@ -178,15 +178,15 @@ impl Fault {
 impl From<AllocError> for Fault {
     ghost from_gives = { λ _ fault. fault ≡ Memory };
 
-    fn from(_error: AllocError) -> Fault {
-        Fault::Memory
+    fn from(_error: AllocError) -> Self {
+        Self::Memory
     }
 }
 
 impl From<WriteFault> for Fault {
     ghost from_gives = { λ _ fault. fault ≡ WriteFailed };
 
-    fn from(_error: WriteFault) -> Fault {
-        Fault::WriteFailed
+    fn from(_error: WriteFault) -> Self {
+        Self::WriteFailed
     }
 }

@@ -1,7 +1,8 @@
 //! Text on a device.
-ghost use Rattle.std.specs.Prelude.{◌≡◌};
+ghost use Rattle.std.specs.Prelude.{◌≡◌, ◌++◌, ℕ, List, Some, OnOk};
 ghost use Rattle.std.specs.Io.KnownBytes.{Appends};
-ghost use Rattle.sp_command.specs.Lines.{IsPlain, MayAppend, is_plain};
+ghost use Rattle.std.specs.Fmt.{WritesText};
+ghost use Rattle.sp_command.specs.Lines.{IsPlain, MayAppend, MayShow, is_plain};
 
 use crate::names::is_unprintable;
 use sp_device::{Block, Write, WriteFault, write_all};
@@ -16,7 +17,8 @@ struct TextWriter<'a, W> {
 
 impl<W: Write> fmt::Write for TextWriter<'_, W> {
     ghost write_str_gives = { λ old text new.
-        Appends (W.written old.device.now) (W.written new.device.now) text };
+        (new.device.ghost_name ≡ old.device.ghost_name)
+        × Appends (W.written old.device.now) (W.written new.device.now) text };
 
     fn write_str(&mut self, text: &str) -> fmt::Result {
         match write_all(self.device, text.as_bytes()) {
@@ -33,6 +35,8 @@ struct BlockWriter {
 }
 
 impl fmt::Write for BlockWriter {
+    ghost write_str_gives = { λ old text new. new.block ≡ old.block ++ text };
+
     fn write_str(&mut self, text: &str) -> fmt::Result {
         if self.block.room_left() < text.len() {
             return Err(fmt::Error);
@@ -75,13 +79,30 @@ fn is_hidden(c: char) -> bool {
     c != '\n' && is_unprintable(c)
 }
 
+// Writes the display form of a value to a writer, and returns the writer and whether all was written.
+fn display_on<T: fmt::Write, D: fmt::Display>(writer: T, shown: &D) -> (T, fmt::Result)
+    ensures { OnOk result.1
+        (WritesText T.write_str_gives writer (D.output shown.now) result.0) }
+{
+    let mut formatter = fmt::Formatter::new(writer);
+    let ended = formatter.write(shown);
+    (formatter.into_inner(), ended)
+}
+
 /// Writes the display form of a value, with `?` for each character that a terminal doesn't show. It allocates no
-/// memory.
-pub fn print<W: Write, D: fmt::Display>(out: &mut W, shown: &D) -> Result<(), WriteFault> {
-    let mut writer = LineWriter {
-        inner: TextWriter { device: out },
-    };
-    match write!(writer, "{shown}") {
+/// memory. A value that refuses to be displayed is answered like a device that fails.
+pub fn print<W: Write, D: fmt::Display>(out: &mut W, shown: &D) -> Result<(), WriteFault>
+    ensures shown { (text : List ℕ) → D.output shown.now ≡ Some text → IsPlain text
+        → OnOk result (Appends (W.written out.old) (W.written out.new) text) }
+{
+    let inner = TextWriter { device: out };
+    let (writer, ended) = display_on(LineWriter { inner }, shown);
+    let LineWriter {
+        inner: TextWriter { device },
+    } = writer;
+    // No effect at run time. The proof reads what `out` holds from this use.
+    let _ = &*device;
+    match ended {
         Ok(()) => Ok(()),
         Err(fmt::Error) => Err(WriteFault),
     }
@@ -90,13 +111,15 @@ pub fn print<W: Write, D: fmt::Display>(out: &mut W, shown: &D) -> Result<(), Wr
 /// Writes the display form of a value, with `?` for each character that a terminal doesn't show, if it has at most 8,192
 /// bytes. It makes no difference whether the device takes it. It allocates no memory.
 pub fn print_short<W: Write, D: fmt::Display>(out: &mut W, shown: &D)
-    ensures { MayAppend W.Write out.old out.new }
+    ensures kept { MayAppend W.Write out.old out.new }
+    ensures shown { (text : List ℕ) → D.output shown.now ≡ Some text → IsPlain text
+        → MayShow W.Write text out.old out.new }
 {
-    let block = Block::new();
-    let mut writer = LineWriter {
-        inner: BlockWriter { block },
+    let inner = BlockWriter {
+        block: Block::new(),
     };
-    if write!(writer, "{shown}").is_ok() {
+    let (writer, ended) = display_on(LineWriter { inner }, shown);
+    if ended.is_ok() {
         let _ = write_all(out, writer.inner.block.bytes());
     }
 }
