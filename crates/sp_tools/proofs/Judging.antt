@@ -74,6 +74,12 @@ all_judged left passed has_failed g start text old new before after all known h 
     let is = whole text (trees_text h.trees ++ []) (left_of left new after) (rw known at came) gives.1 in
     (h.trees, record { some = some_trees h.trees (2 ^ 64 - 1) (lines_before old) h.lines gives.0; tables = h.tables; is = is ∙ append-nil (trees_text h.trees) }, h.judged)
 
+-- The same whatever is known of the text: the trees are those of the text that they make.
+pub some_judged : {P : ℕ} {D : Type 0} (left : D → Option (List ℕ)) (passed : D → ℕ) (has_failed : D → Bool) (g : Graph) (start : Option (List ℕ)) (old new : TreeBlocks P) (before after : D) (all : List Judged)
+    → HaveVerdicts left passed g start old before all → Gives left passed has_failed old before (Ok None) new after → (text : List ℕ) × FileJudged P g text all
+some_judged left passed has_failed g start old new before after all h gives =
+    (trees_text h.trees, (h.trees, record { some = some_trees h.trees (2 ^ 64 - 1) (lines_before old) h.lines gives.0; tables = h.tables; is = refl }, h.judged))
+
 left_behind : (P : ℕ) (text front block : List ℕ) (left : Option (List ℕ)) (failed : Bool) (fault : DimacsError) → Consumes (Some text) left (front ++ block) → IsFaultOf P block left failed fault
     → (behind : List ℕ) × (text ≡ front ++ block ++ behind) × IsFaultOf P block (Some behind) failed fault
 left_behind P text front block None failed fault came h = absurd came

@@ -9,6 +9,7 @@ use Rattle.sp_dimacs.specs.Formats.{gr}
 use Rattle.sp_dimacs.specs.Graph.{SpellsGraph, GraphRead, graph_of}
 use Rattle.sp_answer.specs.Table.{TreeTable, IsTable}
 use Rattle.sp_tree.specs.Reading.{TreeRead}
+use Rattle.sp_tree.specs.TreeText.{tree_text}
 use Rattle.sp_replay.specs.declared.replays.ReplayFile.{ReplayFile}
 use Rattle.sp_replay.specs.ReplayFormat.{replay}
 use Rattle.sp_replay.specs.ReplayFile.{ReplayRead}
@@ -44,6 +45,21 @@ tree_judged P gr_text text g left failed tree verdict (file, spelled, same) (_, 
   block = block;
   says = same_verdict P g (graph_of file) same tree verdict says;
 }
+
+-- A table is the one of its own text.
+pub some_tree_judged : (P : ℕ) (g : Graph) (tree : TreeTable) (verdict : Verdict) → (text : List ℕ) × IsGraphIn P text g → IsTable P tree → IsVerdict P g tree verdict → (gr text : List ℕ) × TreeJudged P gr text verdict
+some_tree_judged P g tree verdict (gr_text, file, spelled, same) within says = (
+  gr_text,
+  tree_text tree,
+  record {
+    file = file;
+    graph = spelled;
+    table = tree;
+    within = within;
+    block = refl;
+    says = same_verdict P g (graph_of file) same tree verdict says;
+  },
+)
 
 pub trees_judged : (P : ℕ) (gr_text text : List ℕ) (g : Graph) (all : List Judged) → IsGraphIn P gr_text g → FileJudged P g text all → TreesJudged P gr_text text all
 trees_judged P gr_text text g all (file, spelled, same) says = record { file = file; graph = spelled; says = same_file P g (graph_of file) same text all says }

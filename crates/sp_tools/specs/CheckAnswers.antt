@@ -1,5 +1,5 @@
 -- The answer of `check` to the texts of its files.
-use Rattle.std.specs.Prelude.{◌≡◌, ℕ, Bool, true, false, List, Some, None, Option, Result, Err}
+use Rattle.std.specs.Prelude.{◌≡◌, ℕ, Bool, true, false, List, Some, None, Option, Result, Err, IfOk}
 use Rattle.std.specs.List.{flat_map}
 use Rattle.sp_text.specs.declared.faults.DimacsError.{DimacsError}
 use Rattle.sp_dimacs.specs.declared.graphs.GrFile.{GrFile}
@@ -13,7 +13,7 @@ use Rattle.sp_command.specs.declared.faults.FileKind.{FileKind}
 use Rattle.sp_command.specs.declared.faults.FileKind.TheVariants as kind
 use Rattle.sp_command.specs.Scene.{Scene, Meaning}
 use Rattle.sp_command.specs.Causes.{Paths}
-use Rattle.sp_command.specs.Answers.{Tells}
+use Rattle.sp_command.specs.Answers.{Told, Tells}
 use Rattle.sp_tools.specs.declared.check.CheckCommand.{CheckCommand}
 use Rattle.sp_tools.specs.declared.check.Verdict.{Verdict}
 use Rattle.sp_tools.specs.declared.check_all.Judged.{Judged}
@@ -71,10 +71,20 @@ abbrev pub SaysOf : (P : ℕ) → (all : Bool) → (gr tree : List ℕ) → Scen
 SaysOf P true gr tree s result = TellsVerdicts P gr tree s result
 SaysOf P false gr tree s result = TellsVerdict P gr tree s result
 
+-- Some texts spell a graph and a tree, or with `all` trees, and exactly the text of the verdicts was written.
+abbrev pub SaysOfSome : (P : ℕ) → (all : Bool) → Scene → Status → Type 0
+SaysOfSome P true s status = (gr trees : List ℕ) × Told (TreesJudged P gr trees) judged_texts end_of s status
+SaysOfSome P false s status = (gr tree : List ℕ) × Told (TreeJudged P gr tree) verdict_text verdict_end s status
+
 -- The answer is the verdict on the tree of the second file, or with `all` the verdicts on its trees, against the graph
--- of the first file.
+-- of the first file, where their texts are known; and if it succeeds, whatever is known of them, what belongs to some
+-- texts.
+pub record IsCheckAnswer (P : ℕ) (c : CheckCommand) (s : Scene) (result : Result Status Fault) : Type 0 where
+  pub told : (gr tree : List ℕ) → GiveTexts s.files.text c gr tree → SaysOf P c.all gr tree s result
+  pub of_some : IfOk result (SaysOfSome P c.all s)
+
 abbrev pub CheckAnswers : (P : ℕ) → Meaning CheckCommand
-CheckAnswers P c s result = (gr tree : List ℕ) → GiveTexts s.files.text c gr tree → SaysOf P c.all gr tree s result
+CheckAnswers P c s result = IsCheckAnswer P c s result
 
 -- These are the paths of the command's files.
 abbrev pub check_paths : CheckCommand → Paths

@@ -1,5 +1,5 @@
 -- The answer of `offers` to the text of its file.
-use Rattle.std.specs.Prelude.{ℕ, Bool, List, Option, Some, None, Result, Err}
+use Rattle.std.specs.Prelude.{ℕ, Bool, List, Option, Some, None, Result, Err, IfOk}
 use Rattle.sp_text.specs.declared.faults.DimacsError.{DimacsError}
 use Rattle.sp_text.specs.Text.{Item as Line, Spells}
 use Rattle.sp_text.specs.Formats.{ranges_of}
@@ -15,7 +15,7 @@ use Rattle.sp_command.specs.declared.faults.FileKind.{FileKind}
 use Rattle.sp_command.specs.declared.faults.FileKind.TheVariants as kind
 use Rattle.sp_command.specs.Scene.{Scene, HasText, Meaning}
 use Rattle.sp_command.specs.Causes.{Paths}
-use Rattle.sp_command.specs.Answers.{Tells}
+use Rattle.sp_command.specs.Answers.{Told, Tells}
 use Rattle.sp_tools.specs.declared.offers.OffersCommand.{OffersCommand}
 use Rattle.sp_tools.specs.ReplayAnswers.{done}
 
@@ -41,9 +41,18 @@ IsOffersRefused P text _ e = ⊥
 abbrev pub TellsWords : (P : ℕ) → (text : List ℕ) → Scene → Result Status Fault → Type 0
 TellsWords P text s result = Tells (AreLeft P text) words_text done (IsOffersRefused P text) s result
 
--- The answer is the words that the offers of the file leave.
+-- Some text spells offers, and exactly the text of the words that they leave was written.
+abbrev pub TellsWordsOfSome : (P : ℕ) → Scene → Status → Type 0
+TellsWordsOfSome P s status = (text : List ℕ) × Told (AreLeft P text) words_text done s status
+
+-- The answer is the words that the offers of the file leave, where its text is known; and if it succeeds, whatever is
+-- known of it, what belongs to some text.
+pub record IsOffersAnswer (P : ℕ) (c : OffersCommand) (s : Scene) (result : Result Status Fault) : Type 0 where
+  pub told : (text : List ℕ) → HasText s c.file.now text → TellsWords P text s result
+  pub of_some : IfOk result (TellsWordsOfSome P s)
+
 abbrev pub OffersAnswers : (P : ℕ) → Meaning OffersCommand
-OffersAnswers P c s result = (text : List ℕ) → HasText s c.file.now text → TellsWords P text s result
+OffersAnswers P c s result = IsOffersAnswer P c s result
 
 -- This is the path of the command's file.
 abbrev pub offers_paths : OffersCommand → Paths

@@ -1,5 +1,5 @@
 -- The answer of `replay` to the text of its file.
-use Rattle.std.specs.Prelude.{◌≡◌, ◌<◌, ◌≤◌, ◌⊎◌, ℕ, Bool, true, false, List, length, map, All, Some, None, Result, Ok, Err}
+use Rattle.std.specs.Prelude.{◌≡◌, ◌<◌, ◌≤◌, ◌⊎◌, ℕ, Bool, true, false, List, length, map, All, Some, None, Result, Ok, Err, IfOk}
 use Rattle.std.specs.String.{string_bytes}
 use Rattle.sp_text.specs.declared.faults.DimacsError.{DimacsError}
 use Rattle.sp_machine.specs.declared.report.Report.{Report}
@@ -19,7 +19,7 @@ use Rattle.sp_command.specs.declared.faults.FileKind.{FileKind}
 use Rattle.sp_command.specs.declared.faults.FileKind.TheVariants as kind
 use Rattle.sp_command.specs.Scene.{Scene, HasText, IsUnwritten, Meaning}
 use Rattle.sp_command.specs.Causes.{Paths}
-use Rattle.sp_command.specs.Answers.{Tells}
+use Rattle.sp_command.specs.Answers.{Told, Tells}
 use Rattle.sp_tools.specs.declared.replay.ReplayCommand.{ReplayCommand}
 use Rattle.sp_tools.specs.Reading.{ReplayIn, SpellsReplay}
 
@@ -69,9 +69,19 @@ abbrev pub SaysOf : (P : ℕ) → (svg : Bool) → (text : List ℕ) → Scene �
 SaysOf P true text s result = TellsPicture P text s result
 SaysOf P false text s result = TellsReport P text s result
 
--- The answer is the report of the run of the file, or with `svg` a picture of it.
+-- Some text spells a run, and exactly the text of its report was written, or with `svg` of its picture.
+abbrev pub SaysOfSome : (P : ℕ) → (svg : Bool) → Scene → Status → Type 0
+SaysOfSome P true s status = (text : List ℕ) × Told (IsDrawn {P = P} text) picture_text done s status
+SaysOfSome P false s status = (text : List ℕ) × Told (IsReplayed {P = P} text) report_text done s status
+
+-- The answer is the report of the run of the file, or with `svg` a picture of it, where its text is known; and if it
+-- succeeds, whatever is known of it, what belongs to some text.
+pub record IsReplayAnswer (P : ℕ) (c : ReplayCommand) (s : Scene) (result : Result Status Fault) : Type 0 where
+  pub told : (text : List ℕ) → HasText s c.file.now text → SaysOf P c.svg text s result
+  pub of_some : IfOk result (SaysOfSome P c.svg s)
+
 abbrev pub ReplayAnswers : (P : ℕ) → Meaning ReplayCommand
-ReplayAnswers P c s result = (text : List ℕ) → HasText s c.file.now text → SaysOf P c.svg text s result
+ReplayAnswers P c s result = IsReplayAnswer P c s result
 
 -- This is the path of the command's file.
 abbrev pub replay_paths : ReplayCommand → Paths

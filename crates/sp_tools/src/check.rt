@@ -7,7 +7,7 @@ ghost use Rattle.sp_command.specs.Faults.{is_done};
 ghost use Rattle.sp_command.specs.Scene.{scene};
 ghost use Rattle.sp_command.specs.Answers.{Hinders};
 ghost use Rattle.sp_tools.specs.Verdict.{IsVerdict, verdict_text, verdict_end};
-ghost use Rattle.sp_tools.specs.CheckAnswers.{TreeJudged, IsTreeRefused, TellsVerdict, GiveTexts, CheckAnswers, check_paths};
+ghost use Rattle.sp_tools.specs.CheckAnswers.{TreeJudged, IsTreeRefused, TellsVerdict, GiveTexts, SaysOfSome, CheckAnswers, check_paths};
 ghost use Rattle.sp_tools.specs.Early.{IsEarly, no_faults};
 
 use crate::check_all::check_all_files;
@@ -159,6 +159,9 @@ fn check_file<const P: u32, R: Threads + Sync, F: Inputs, W: Write>(
         → TellsVerdict P gr tree
         (scene (F.files files.now)
         (W.written out.old) (W.written out.new) (W.has_failed out.new)) result }
+    ensures of_some { IfOk result (SaysOfSome P false
+        (scene (F.files files.now)
+        (W.written out.old) (W.written out.new) (W.has_failed out.new))) }
     ensures borne_out { IfErr result (IsBorneOut (check_paths given.now) no_faults
         (scene (F.files files.now)
         (W.written out.old) (W.written out.new) (W.has_failed out.new))) }
@@ -180,6 +183,7 @@ fn find_verdict<const P: u32, R: Threads + Sync, F: Inputs>(
     requires { is_layout P ≡ true }
     ensures judged { (gr tree : List ℕ) → GiveTexts (F.files files.now).text given.now gr tree
         → IfOk result (TreeJudged P gr tree) }
+    ensures found { IfOk result (λ verdict. (gr tree : List ℕ) × TreeJudged P gr tree verdict) }
     ensures refused { (gr tree : List ℕ) → GiveTexts (F.files files.now).text given.now gr tree
         → IfErr result (Hinders (IsTreeRefused P gr tree)) }
     ensures early { IfErr result

@@ -8,7 +8,7 @@ ghost use Rattle.sp_command.specs.Faults.{is_done};
 ghost use Rattle.sp_command.specs.Scene.{scene};
 ghost use Rattle.sp_command.specs.Answers.{Hinders};
 ghost use Rattle.sp_tools.specs.Verdicts.{FileJudged, TellsFault, judged_text, end_of};
-ghost use Rattle.sp_tools.specs.CheckAnswers.{TreesJudged, AreTreesRefused, TellsVerdicts, GiveTexts, check_paths};
+ghost use Rattle.sp_tools.specs.CheckAnswers.{TreesJudged, AreTreesRefused, TellsVerdicts, GiveTexts, SaysOfSome, check_paths};
 ghost use Rattle.sp_tools.specs.Early.{IsEarly, IsOfFile, no_faults};
 
 use crate::check::{CheckCommand, Verdict, judge};
@@ -23,7 +23,9 @@ use std::thread::Threads;
 /// The verdict of the checker on a block.
 #[derive(Clone, Copy, Debug, PartialEq, Eq)]
 pub struct Judged {
+    /// The source of the block's tree.
     pub source: u32,
+    /// Whether it is that source's shortest-path tree, and else what is wrong.
     pub verdict: Verdict,
 }
 
@@ -40,6 +42,9 @@ pub fn check_all_files<const P: u32, R: Threads + Sync, F: Inputs, W: Write>(
         → TellsVerdicts P gr tree
         (scene (F.files files.now)
         (W.written out.old) (W.written out.new) (W.has_failed out.new)) result }
+    ensures of_some { IfOk result (SaysOfSome P true
+        (scene (F.files files.now)
+        (W.written out.old) (W.written out.new) (W.has_failed out.new))) }
     ensures borne_out { IfErr result (IsBorneOut (check_paths given.now) no_faults
         (scene (F.files files.now)
         (W.written out.old) (W.written out.new) (W.has_failed out.new))) }
@@ -61,6 +66,8 @@ fn find_verdicts<const P: u32, R: Threads + Sync, F: Inputs>(
     requires { is_layout P ≡ true }
     ensures judged { (gr tree : List ℕ) → GiveTexts (F.files files.now).text given.now gr tree
         → IfOk result (λ all. TreesJudged P gr tree all.items) }
+    ensures found { IfOk result
+        (λ all. (gr trees : List ℕ) × TreesJudged P gr trees all.items) }
     ensures refused { (gr tree : List ℕ) → GiveTexts (F.files files.now).text given.now gr tree
         → IfErr result (Hinders (AreTreesRefused P gr tree)) }
     ensures early { IfErr result
@@ -81,6 +88,7 @@ fn judge_blocks<const P: u32, R: Threads + Sync, D: Read>(
     requires { is_layout P ≡ true }
     ensures judged { (text : List ℕ) → D.left trees.old ≡ Some text
         → IfOk result (λ all. FileJudged P graph.now text all.items) }
+    ensures found { IfOk result (λ all. (text : List ℕ) × FileJudged P graph.now text all.items) }
     ensures refused { (text : List ℕ) → D.left trees.old ≡ Some text
         → IfErr result (TellsFault P text (D.has_failed trees.new)) }
     ensures told { D.has_failed trees.old ≡ false

@@ -15,6 +15,7 @@ pub fn read_graph<const P: u32, D: Read>(alloc: Global, gr: &mut D) -> Result<Gr
     requires { is_layout P ≡ true }
     ensures graph { (text : List ℕ) → D.left gr.old ≡ Some text
         → IfOk result (IsGraphIn P text) }
+    ensures found { IfOk result (λ graph. (text : List ℕ) × IsGraphIn P text graph) }
     ensures refused { (text : List ℕ) → D.left gr.old ≡ Some text
         → IfErr result (IsGraphFault P text) }
     ensures told { IfErr result (IsOfFile FileKind.Graph (D.failing gr.old)) }

@@ -5,7 +5,8 @@ ghost use Rattle.sp_command.specs.declared.faults.Status.TheVariants.{Done};
 ghost use Rattle.sp_command.specs.Causes.{IsBorneOut};
 ghost use Rattle.sp_command.specs.Scene.{scene};
 ghost use Rattle.sp_command.specs.Answers.{Hinders};
-ghost use Rattle.sp_tools.specs.OffersAnswers.{SpellsOffers, IsOffersRefused, TellsWords, OffersAnswers, offers_paths};
+ghost use Rattle.sp_replay.specs.Offers.{IsOffersFile};
+ghost use Rattle.sp_tools.specs.OffersAnswers.{SpellsOffers, IsOffersRefused, TellsWords, TellsWordsOfSome, OffersAnswers, offers_paths};
 ghost use Rattle.sp_tools.specs.Early.{IsEarly, no_faults};
 
 use clap::{ArgMatches, Error};
@@ -122,6 +123,9 @@ fn offer_file<const P: u32, R: Threads + Wait + Sync, F: Inputs, W: Write>(
         → TellsWords P text
         (scene (F.files files.now)
         (W.written out.old) (W.written out.new) (W.has_failed out.new)) result }
+    ensures of_some { IfOk result (TellsWordsOfSome P
+        (scene (F.files files.now)
+        (W.written out.old) (W.written out.new) (W.has_failed out.new))) }
     ensures borne_out { IfErr result (IsBorneOut (offers_paths given.now) no_faults
         (scene (F.files files.now)
         (W.written out.old) (W.written out.new) (W.has_failed out.new))) }
@@ -143,6 +147,7 @@ fn read_file<const P: u32, F: Inputs>(
     requires { is_layout P ≡ true }
     ensures spelled { (text : List ℕ) → (F.files files.now).text given.now.file.now ≡ Some text
         → IfOk result (SpellsOffers text) }
+    ensures found { IfOk result IsOffersFile }
     ensures refused { (text : List ℕ) → (F.files files.now).text given.now.file.now ≡ Some text
         → IfErr result (Hinders (IsOffersRefused P text)) }
     ensures early { IfErr result

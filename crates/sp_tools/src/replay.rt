@@ -7,8 +7,9 @@ ghost use Rattle.sp_command.specs.Causes.{IsBorneOut};
 ghost use Rattle.sp_command.specs.Scene.{scene};
 ghost use Rattle.sp_command.specs.Answers.{Hinders};
 ghost use Rattle.sp_machine.specs.Programme.{IsNumber};
+ghost use Rattle.sp_replay.specs.ReplayFile.{IsReplayFile};
 ghost use Rattle.sp_tools.specs.Reading.{SpellsReplay};
-ghost use Rattle.sp_tools.specs.ReplayAnswers.{IsReplayRefused, IsPictureOf, TellsReport, TellsPicture, ReplayAnswers, replay_paths, replay_faults};
+ghost use Rattle.sp_tools.specs.ReplayAnswers.{IsReplayRefused, IsPictureOf, TellsReport, TellsPicture, SaysOfSome, ReplayAnswers, replay_paths, replay_faults};
 ghost use Rattle.sp_tools.specs.Early.{IsEarly};
 
 use clap::{ArgMatches, Error};
@@ -171,6 +172,7 @@ fn read_file<const P: u32, F: Inputs>(
     requires { is_layout P ≡ true }
     ensures spelled { (text : List ℕ) → (F.files files.now).text given.now.file.now ≡ Some text
         → IfOk result (SpellsReplay text) }
+    ensures found { IfOk result IsReplayFile }
     ensures refused { (text : List ℕ) → (F.files files.now).text given.now.file.now ≡ Some text
         → IfErr result (Hinders (IsReplayRefused P text)) }
     ensures steps { IfOk result (λ file. All (IsNumber file.programme.actors) file.steps.items) }
@@ -196,6 +198,9 @@ fn report<const P: u32, F: Inputs, W: Write>(
         → TellsReport P text
         (scene (F.files files.now)
         (W.written out.old) (W.written out.new) (W.has_failed out.new)) result }
+    ensures of_some { IfOk result (SaysOfSome P false
+        (scene (F.files files.now)
+        (W.written out.old) (W.written out.new) (W.has_failed out.new))) }
     ensures borne_out { IfErr result (IsBorneOut (replay_paths given.now) (replay_faults given.now)
         (scene (F.files files.now)
         (W.written out.old) (W.written out.new) (W.has_failed out.new))) }
@@ -247,6 +252,9 @@ fn draw<const P: u32, F: Inputs, W: Write>(
         → TellsPicture P text
         (scene (F.files files.now)
         (W.written out.old) (W.written out.new) (W.has_failed out.new)) result }
+    ensures of_some { IfOk result (SaysOfSome P true
+        (scene (F.files files.now)
+        (W.written out.old) (W.written out.new) (W.has_failed out.new))) }
     ensures borne_out { IfErr result (IsBorneOut (replay_paths given.now) (replay_faults given.now)
         (scene (F.files files.now)
         (W.written out.old) (W.written out.new) (W.has_failed out.new))) }

@@ -1,4 +1,4 @@
-use Rattle.sp_tools.proofs.Texts.{tree_judged}
+use Rattle.sp_tools.proofs.Texts.{tree_judged, some_tree_judged}
 use Rattle.sp_tools.proofs.check.find_verdict.Goals as goal
 
 pub returns-in-Err-clause-refused : goal.returns-in-Err-clause-refused
@@ -10,3 +10,7 @@ pub returns-clause-judged : goal.returns-clause-judged
 returns-clause-judged g c = λ gr tree texts.
     tree_judged g.row.P gr tree c.in_ok-graph.graph (g.F.File.Read.left c.read_tree.new.reader) (g.F.File.Read.has_failed c.read_tree.new.reader) c.in-Ok.tree c.in_ok-judge.field-0
     (c.in_ok-graph.ensures.graph gr (c.in_ok-gr.ensures.graph.gives gr texts.0)) (c.in-Ok.ensures.exact tree (c.in_ok-gr.ensures.file.gives tree texts.1)) c.in-Ok.ensures.found c.in_ok-judge.ensures
+
+pub returns-clause-found : goal.returns-clause-found
+returns-clause-found g c =
+    some_tree_judged g.row.P c.in_ok-graph.graph c.in-Ok.tree c.in_ok-judge.field-0 c.in_ok-graph.ensures.found c.in-Ok.ensures.found c.in_ok-judge.ensures

@@ -8,3 +8,9 @@ returns-in_err-write_verdicts-clause-answered g c = λ gr trees texts.
     let p = err_from_is_err_and residual.result residual.ensures.1 in
     let begun = rw c.deref.ensures.value at c.in_err-write_verdicts.ensures in
     rw (p.1, p.2) (inr (refl, begun.1, (c.in_ok-all.all.items, c.in_ok-all.ensures.judged gr trees texts, begun.0)))
+
+pub returns-clause-of_some : goal.returns-clause-of_some
+returns-clause-of_some g c =
+    let found = c.in_ok-all.ensures.found in
+    let wrote = rw c.deref.ensures.value at c.in_ok-write_verdicts.ensures in
+    (found.0, found.1, c.in_ok-all.all.items, found.2, wrote.0, refl)

@@ -1,3 +1,4 @@
+use Rattle.std.proofs.Common.{ℕ, List}
 use Rattle.sp_command.specs.Answers.{Hinders}
 use Rattle.sp_tools.specs.Verdicts.{FileJudged, TellsFault}
 use Rattle.sp_tools.specs.CheckAnswers.{TreesJudged, AreTreesRefused}
@@ -16,3 +17,9 @@ returns-clause-refused g c = λ gr trees texts.
     let failed = g.F.File.Read.has_failed c.judge_blocks.new.trees in
     err_as (TellsFault g.row.P trees failed) (Hinders (AreTreesRefused g.row.P gr trees)) c.judge_blocks.result
     (trees_refused g.row.P gr trees c.in_ok-graph.graph failed graph) (c.judge_blocks.ensures.refused trees (c.in_ok-gr.ensures.file.gives trees texts.1))
+
+pub returns-clause-found : goal.returns-clause-found
+returns-clause-found g c =
+    let graph = c.in_ok-graph.ensures.found in
+    ok_as (λ all. (text : List ℕ) × FileJudged g.row.P c.in_ok-graph.graph text all.items) (λ all. (gr trees : List ℕ) × TreesJudged g.row.P gr trees all.items) c.judge_blocks.result
+    (λ all is. (graph.0, is.0, trees_judged g.row.P graph.0 is.0 c.in_ok-graph.graph all.items graph.1 is.1)) c.judge_blocks.ensures.found
