@@ -95,12 +95,11 @@ Others are
   spt: delta out of range            a word of this layout has no such distance
                                      (exit status 1)
   spt: standard input twice          both files are `-` (exit status 1)
-  spt: source V: no such vertex      the first number of a pair above N, S
-                                     before T; nothing is written
-                                     (exit status 2)
   spt: memory                        nothing is written (exit status 5)
   spt: write failed                  a beginning of the output may stand
                                      (exit status 6)
+A number of a pair that is no vertex is told as `spt tree --help` tells it of a
+source: the first number above N, S before T; nothing is written.
 ",
         statuses:
             0 "done"

@@ -8,6 +8,7 @@ const MOST: usize = 5;
 #[derive(Clone, Copy, Debug)]
 pub struct Fields<'l> {
     kept: [&'l str; MOST],
+    /// How many fields the line has.
     pub count: usize,
 }
 

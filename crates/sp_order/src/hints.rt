@@ -28,6 +28,7 @@ enum Telling<'a> {
 /// A fault, with the text about it.
 #[derive(Drop)]
 pub struct Refusal<'a> {
+    /// Why the order isn't carried out.
     pub fault: Fault,
     telling: Telling<'a>,
 }

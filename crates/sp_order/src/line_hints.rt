@@ -10,8 +10,11 @@ use sp_text::Kind;
 pub struct Refused<'a> {
     /// The word that names the command.
     pub command: &'a str,
+    /// The file in which the line stands.
     pub file: FileKind,
+    /// What is wrong with the line.
     pub kind: Kind,
+    /// The layout in which the command runs.
     pub pred_bits: PredBits,
     /// The number of vertices of the graph, if it is known.
     pub vertices: Option<u64>,

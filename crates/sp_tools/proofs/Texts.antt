@@ -48,7 +48,7 @@ tree_judged P gr_text text g left failed tree verdict (file, spelled, same) (_, 
 
 -- A table is the one of its own text.
 pub some_tree_judged : (P : ℕ) (g : Graph) (tree : TreeTable) (verdict : Verdict) → (text : List ℕ) × IsGraphIn P text g → IsTable P tree → IsVerdict P g tree verdict → (gr text : List ℕ) × TreeJudged P gr text verdict
-some_tree_judged P g tree verdict (gr_text, file, spelled, same) within says = (
+some_tree_judged P g tree verdict (gr_text, (file, spelled, same)) within says = (
   gr_text,
   tree_text tree,
   record {

@@ -1,5 +1,5 @@
 //! `spt replay`: runs a replay file, and writes its report or its picture.
-ghost use Rattle.std.specs.Prelude.{◌≡◌, ◌≢◌, ◌<◌, ◌≤◌, ◌⊎◌, ◌↔◌, ℕ, List, Some, true, length, All, IfOk, IfErr};
+ghost use Rattle.std.specs.Prelude.{◌≡◌, ◌≢◌, ◌<◌, ◌≤◌, ◌⊎◌, ◌↔◌, ℕ, List, Some, true, false, length, All, IfOk, IfErr};
 ghost use Rattle.sp_word.specs.Word.{is_layout};
 ghost use Rattle.sp_command.specs.declared.faults.Fault.TheVariants.{Memory, TooManySteps, WriteFailed};
 ghost use Rattle.sp_command.specs.declared.faults.Status.TheVariants.{Done};

@@ -11,4 +11,4 @@ returns-in_err-write_verdict-clause-answered g c = λ gr tree texts.
 pub returns-clause-of_some : goal.returns-clause-of_some
 returns-clause-of_some g c =
     let found = c.in_ok-verdict.ensures.found in
-    (found.0, found.1, c.in_ok-verdict.verdict, found.2, c.in_ok-write_verdict.ensures.0, c.status.ensures.exact)
+    (found.0, found.1, (c.in_ok-verdict.verdict, found.2, c.in_ok-write_verdict.ensures.0, c.status.ensures.exact))

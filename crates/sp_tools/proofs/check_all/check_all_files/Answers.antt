@@ -9,8 +9,15 @@ returns-in_err-write_verdicts-clause-answered g c = λ gr trees texts.
     let begun = rw c.deref.ensures.value at c.in_err-write_verdicts.ensures in
     rw (p.1, p.2) (inr (refl, begun.1, (c.in_ok-all.all.items, c.in_ok-all.ensures.judged gr trees texts, begun.0)))
 
+pub returns-clause-answered : goal.returns-clause-answered
+returns-clause-answered g c = λ gr trees texts.
+    let wrote = rw c.deref.ensures.value at c.in_ok-write_verdicts.ensures in
+    let status = rw c.deref-2.ensures.value at c.status_of.ensures.exact in
+    (c.in_ok-all.all.items, c.in_ok-all.ensures.judged gr trees texts, wrote.0, status)
+
 pub returns-clause-of_some : goal.returns-clause-of_some
 returns-clause-of_some g c =
     let found = c.in_ok-all.ensures.found in
     let wrote = rw c.deref.ensures.value at c.in_ok-write_verdicts.ensures in
-    (found.0, found.1, c.in_ok-all.all.items, found.2, wrote.0, refl)
+    let status = rw c.deref-2.ensures.value at c.status_of.ensures.exact in
+    (found.0, found.1, (c.in_ok-all.all.items, found.2, wrote.0, status))

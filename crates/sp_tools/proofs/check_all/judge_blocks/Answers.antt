@@ -1,6 +1,6 @@
 use Rattle.std.proofs.Common.{rules, ◌≡◌, ◌∙◌, [], ◌∷◌, ◌++◌, refl}
 use Rattle.sp_tools.specs.declared.check_all.Judged.{Judged}
-use Rattle.sp_tools.proofs.Judging.{none_judged, one_more, refused}
+use Rattle.sp_tools.proofs.Judging.{none_judged, one_more, refused, some_judged}
 use Rattle.sp_tools.proofs.check_all.judge_blocks.Goals as goal
 
 pub loop-tree-init : goal.loop-tree-init
@@ -25,6 +25,11 @@ pub returns-in-Err-clause-refused : goal.returns-in-Err-clause-refused
 returns-in-Err-clause-refused g c = λ text known.
     let before = c.loop-tree.invariant.verdicts in
     rw c.fault.ensures (refused g.D.Read.left g.D.Read.passed g.D.Read.has_failed c.args.graph.now (g.D.Read.left c.args.trees.now) text _ c.next.new.self c.loop-tree.trees c.next.new.reader c.loop-tree.all.items c.in-Err.error known before (c.in-Err.ensures.gives before.going))
+
+pub returns-in-Ok-None-clause-found : goal.returns-in-Ok-None-clause-found
+returns-in-Ok-None-clause-found g c =
+    let before = c.loop-tree.invariant.verdicts in
+    some_judged g.D.Read.left g.D.Read.passed g.D.Read.has_failed c.args.graph.now (g.D.Read.left c.args.trees.now) _ c.next.new.self c.loop-tree.trees c.next.new.reader c.loop-tree.all.items before ((rw c.in-Ok-None.field-0-is at c.in-Ok-None.ensures.gives) before.going)
 
 pub returns-in-Err-clause-told : goal.returns-in-Err-clause-told
 returns-in-Err-clause-told g c = λ sound.

@@ -18,9 +18,6 @@ pub returns-in-Err-clause-told : goal.returns-in-Err-clause-told
 returns-in-Err-clause-told g c = rw c.fault.ensures (refl, λ read never. c.in-Err.ensures.never never read)
 
 pub returns-clause-found : goal.returns-clause-found
-returns-clause-found g c = (
-  c.in-Ok.ensures.found.0,
-  c.in-Ok.file,
-  c.in-Ok.ensures.found.1,
-  same_graph c.in-Ok.file c.in_ok-from_arcs.field-0 c.in_ok-from_arcs.ensures.n c.in_ok-from_arcs.ensures.arcs,
-)
+returns-clause-found g c =
+    let found = c.in-Ok.ensures.found in
+    (found.0, (c.in-Ok.file, found.1, same_graph c.in-Ok.file c.in_ok-from_arcs.field-0 c.in_ok-from_arcs.ensures.n c.in_ok-from_arcs.ensures.arcs))

@@ -22,4 +22,4 @@ returns-clause-of_some g c =
     let found = c.in_ok-programme.ensures.found in
     let wrote = rw c.deref.ensures.value at c.in_ok-write_words.ensures in
     let left : AreLeft g.row.P found.text c.in_ok-words.words.items = record { programme = c.in_ok-programme.programme; spelled = (found.problem, found.lines, found.spelled, found.says); least = c.in_ok-words.ensures } in
-    (found.text, c.in_ok-words.words.items, left, wrote.0, refl)
+    (found.text, (c.in_ok-words.words.items, left, wrote.0, refl))

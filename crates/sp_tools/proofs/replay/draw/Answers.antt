@@ -28,4 +28,4 @@ pub returns-clause-of_some : goal.returns-clause-of_some
 returns-clause-of_some g c =
     let found = c.in_ok-file.ensures.found in
     let drawn : IsDrawn {P = g.row.P} found.text c.in_ok-picture.picture = record { file = c.in_ok-file.file; spelled = (found.problem, found.lines, found.spelled, found.says); few = c.in_ok-picture.ensures.few; is = c.in_ok-picture.ensures.picture } in
-    (found.text, c.in_ok-picture.picture, drawn, c.in_ok-write_picture.ensures.0, refl)
+    (found.text, (c.in_ok-picture.picture, drawn, c.in_ok-write_picture.ensures.0, refl))

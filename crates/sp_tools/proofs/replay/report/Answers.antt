@@ -22,4 +22,4 @@ returns-clause-of_some g c =
     let found = c.in_ok-file.ensures.found in
     let is = rw c.deref.ensures.value at c.in_ok-report.ensures.report in
     let replayed : IsReplayed {P = g.row.P} found.text c.in_ok-report.report = record { file = c.in_ok-file.file; spelled = (found.problem, found.lines, found.spelled, found.says); is = is } in
-    (found.text, c.in_ok-report.report, replayed, c.in_ok-write_report.ensures.0, refl)
+    (found.text, (c.in_ok-report.report, replayed, c.in_ok-write_report.ensures.0, refl))
