@@ -79,7 +79,7 @@ lies beyond it, one line that names the smallest such V (exit status 4 at the
 end):
   x S V
 
-It takes at most 28 bytes of memory a vertex, 24 an arc, 8 a source, and 3 MB;
+It takes at most 28 bytes of memory a vertex, 24 an arc, 8 a source, and 4 MB;
 where several workers run several sources, 48 bytes a vertex more for each
 worker.
 
