@@ -11,6 +11,8 @@ pub use stored::StoredFile;
 #[cfg(test)]
 mod faults;
 #[cfg(test)]
+mod outputs;
+#[cfg(test)]
 mod shelf;
 #[cfg(test)]
 mod streams;
