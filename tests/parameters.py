@@ -24,8 +24,6 @@ OF_C = "a C program calls it"
 SPECIFIED = "its parameters are specified, and the runtime's handle and the allocator stand before them"
 # what does the same for a listener
 LIKE_SPECIFIED = "it takes what run_batch takes, whose parameters are specified, and the places of the list"
-# what is to be made one type
-NOT_YET = "what a run takes isn't one type there yet"
 EXCEPTIONS = {
     ("spt_c", "spt_tree"): OF_C,
     ("spt_c", "spt_trees"): OF_C,
@@ -35,7 +33,6 @@ EXCEPTIONS = {
     ("sp_batch", "run_batch"): SPECIFIED,
     ("sp_batch", "run_batch_told"): LIKE_SPECIFIED,
     ("sp_pairs", "run_pairs"): SPECIFIED,
-    ("tests_runs", "play"): NOT_YET,
 }
 # a comment, a string or a character, any of which may hold brackets; a lifetime has no closing quote
 PASSED_OVER = re.compile(r"//[^\n]*|/\*.*?\*/|\"(?:\\.|[^\"\\])*\"|b?'(?:\\[^\n]*?|[^'\\\n])'", re.S)

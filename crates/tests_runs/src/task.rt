@@ -30,14 +30,20 @@ struct Played {
     refused: bool,
 }
 
+/// A round that is to be played: its tasks, its number, and how many workers it has.
+#[derive(Clone, Copy)]
+struct Plan<'t> {
+    tasks: &'t [Task],
+    number: u64,
+    workers: Workers,
+}
+
 /// Plays one round, of which nothing is known but that a bench comes back.
 fn play<M: Lowering + Send + Sync, R: Threads + Wait + Sync, G: Gate + Sync>(
     rt: &R,
     alloc: Global,
     bench: Bench,
-    tasks: &[Task],
-    number: u64,
-    workers: Workers,
+    plan: &Plan<'_>,
     gate: &G,
 ) -> Played {
     let Bench {
@@ -51,9 +57,9 @@ fn play<M: Lowering + Send + Sync, R: Threads + Wait + Sync, G: Gate + Sync>(
         table: &table,
         claims: &claims,
         rows: &rows,
-        tasks: any_tasks(&rows, tasks),
-        number,
-        workers,
+        tasks: any_tasks(&rows, plan.tasks),
+        number: plan.number,
+        workers: plan.workers,
     };
     let (caller, claimer, found, started, refused) = match run_round_by::<M, R, AnyWord, G, 28>(
         rt, alloc, &round, caller, claimer, gate,
@@ -168,15 +174,12 @@ fn two_workers_meet(rt: HostRuntime) -> Result<(), Fail> {
     offer(&mut bench, 3, 1, 1);
     let gate = Meeting::new();
     let tasks = [light(2, 1), light(3, 1)];
-    let played = play::<Loop, HostRuntime, Meeting>(
-        &rt,
-        alloc,
-        bench,
-        &tasks,
-        1,
-        crew(&rt, 2),
-        &gate,
-    );
+    let plan = Plan {
+        tasks: &tasks,
+        number: 1,
+        workers: crew(&rt, 2),
+    };
+    let played = play::<Loop, HostRuntime, Meeting>(&rt, alloc, bench, &plan, &gate);
     assert!(rt; !played.refused, "no memory");
     assert!(rt; gate.met(), "the workers did not meet");
     assert_eq!(rt; played.started, 2);
@@ -202,15 +205,12 @@ fn thief_takes(rt: HostRuntime) -> Result<(), Fail> {
     offer(&mut bench, 4, 1, 1);
     let gate = Thief::new();
     let tasks = [light(2, 1), light(3, 1), light(4, 1)];
-    let played = play::<Loop, HostRuntime, Thief>(
-        &rt,
-        alloc,
-        bench,
-        &tasks,
-        1,
-        crew(&rt, 2),
-        &gate,
-    );
+    let plan = Plan {
+        tasks: &tasks,
+        number: 1,
+        workers: crew(&rt, 2),
+    };
+    let played = play::<Loop, HostRuntime, Thief>(&rt, alloc, bench, &plan, &gate);
     assert!(rt; !played.refused, "no memory");
     assert!(rt; gate.came() >= 2, "no task was taken from the leader");
     let wanted = [entry(5, 2), entry(6, 2), entry(7, 2)];
@@ -228,20 +228,29 @@ fn diamond<M: Lowering + Send + Sync, R: Threads + Wait + Sync>(
 ) -> Result<bool, AllocError> {
     let mut bench = set_up(alloc, 4, &DIAMOND, 100)?;
     offer(&mut bench, 1, 0, 0);
-    let one = play::<M, R, OpenGate>(rt, alloc, bench, first, 1, workers, &OpenGate);
+    let round_1 = Plan {
+        tasks: first,
+        number: 1,
+        workers,
+    };
+    let one = play::<M, R, OpenGate>(rt, alloc, bench, &round_1, &OpenGate);
     let wanted = [entry(2, 3), entry(3, 3), entry(4, 6)];
     let first_found = are_entries(one.found.as_slice(), &wanted) && one.started == workers.get();
     // every claim of round 1 would be refused now, so the leader makes all three offers
     let again_by = Count::new();
-    let again = play::<M, R, Count>(rt, alloc, one.bench, first, 1, workers, &again_by);
+    let again = play::<M, R, Count>(rt, alloc, one.bench, &round_1, &again_by);
     let none_found = again.found.is_empty() && !again.refused && again_by.is_leader_alone(3);
     // both offers of 5 to 4 are made, and the first alone is shorter
     let second = [light(2, 3), light(3, 3), light(4, 6)];
-    let both = Workers::new(2).unwrap();
-    let two = play::<M, R, OpenGate>(rt, alloc, again.bench, &second, 2, both, &OpenGate);
+    let round_2 = Plan {
+        tasks: &second,
+        number: 2,
+        workers: Workers::new(2).unwrap(),
+    };
+    let two = play::<M, R, OpenGate>(rt, alloc, again.bench, &round_2, &OpenGate);
     let last_found = are_entries(two.found.as_slice(), &[entry(4, 5)]);
     let more_by = Count::new();
-    let more = play::<M, R, Count>(rt, alloc, two.bench, &second, 2, both, &more_by);
+    let more = play::<M, R, Count>(rt, alloc, two.bench, &round_2, &more_by);
     let no_more = more.found.is_empty() && !more.refused && more_by.is_leader_alone(2);
     Ok(first_found && none_found && last_found && no_more)
 }
@@ -305,15 +314,12 @@ fn many_workers_leave_the_words_of_one_caller(rt: HostRuntime) -> Result<(), Fai
     let wanted = words(alloc, &mut plain)?;
     for workers in [1, 2, 4, 64] {
         let bench = set_up(alloc, MANY, arcs.as_slice(), 25)?;
-        let played = play::<Loop, HostRuntime, OpenGate>(
-            &rt,
-            alloc,
-            bench,
-            tasks.as_slice(),
-            1,
-            crew(&rt, workers),
-            &OpenGate,
-        );
+        let plan = Plan {
+            tasks: tasks.as_slice(),
+            number: 1,
+            workers: crew(&rt, workers),
+        };
+        let played = play::<Loop, HostRuntime, OpenGate>(&rt, alloc, bench, &plan, &OpenGate);
         assert!(rt; !played.refused, "no memory");
         assert!(rt; 1 <= played.started && played.started <= workers);
         let mut bench = played.bench;
@@ -338,25 +344,19 @@ fn refused_rounds_are_made_up_for(rt: HostRuntime) -> Result<(), Fail> {
     offer(&mut bench, 3, 1, 1);
     let tasks = [light(2, 1), light(3, 1)];
     let wanted = [entry(4, 2), entry(5, 2)];
-    let first = play::<Loop, HostRuntime, OpenGate>(
-        &rt,
-        alloc,
-        bench,
-        &tasks,
-        1,
-        crew(&rt, 2),
-        &OpenGate,
-    );
+    let plan = Plan {
+        tasks: &tasks,
+        number: 1,
+        workers: crew(&rt, 2),
+    };
+    let first = play::<Loop, HostRuntime, OpenGate>(&rt, alloc, bench, &plan, &OpenGate);
     assert!(rt; first.refused || are_entries(first.found.as_slice(), &wanted));
-    let second = play::<Loop, HostRuntime, OpenGate>(
-        &rt,
-        alloc,
-        first.bench,
-        &tasks,
-        2,
-        crew(&rt, 2),
-        &OpenGate,
-    );
+    let plan = Plan {
+        tasks: &tasks,
+        number: 2,
+        workers: crew(&rt, 2),
+    };
+    let second = play::<Loop, HostRuntime, OpenGate>(&rt, alloc, first.bench, &plan, &OpenGate);
     let mut bench = second.bench;
     let left = words(alloc, &mut bench)?;
     let pair = |dist: u64, pred: u64| (dist << 28) | pred;
