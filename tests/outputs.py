@@ -244,7 +244,7 @@ def modes(count, program, folder):
 
 
 # A ring of so many vertices, whose trees take several writes.
-RING = 4000
+RING = 20000
 
 
 def ring_tree(source):
@@ -273,7 +273,7 @@ class Reader(threading.Thread):
 
 
 def round_of(words, draw, sources, span):
-    """Runs one writer for each source, and ends some of them by signals, each within most of the span that one takes alone.
+    """Runs one writer for each source, and ends some of them by signals, each within this span.
 
     Whether no writer fails, the sources of those that ended well, and the processes of the others."""
     runs, ends = [], []
@@ -282,7 +282,7 @@ def round_of(words, draw, sources, span):
         runs.append(it)
         if draw.random() < 0.75:
             number = draw.choice((signal.SIGKILL, signal.SIGTERM, signal.SIGINT))
-            ends.append(threading.Timer(draw.random() * 0.8 * span, it.send_signal, [number]))
+            ends.append(threading.Timer(draw.random() * span, it.send_signal, [number]))
             ends[-1].start()
     for it in runs:
         it.wait(timeout=SECONDS)
@@ -294,11 +294,13 @@ def round_of(words, draw, sources, span):
 
 
 def span_of(words):
-    """How long a writer takes alone, in seconds: the shortest time of a few."""
+    """How long a writer takes alone once it has begun, in seconds: the shortest time of a few. What it takes to begin it is left out."""
     spans = []
     for _ in range(5):
+        writer = subprocess.Popen([*words, "1"], stdout=subprocess.DEVNULL)
         begun = time.monotonic()
-        subprocess.run([*words, "1"], check=True, stdout=subprocess.DEVNULL)
+        if writer.wait() != 0:
+            raise RuntimeError(f"{' '.join(words)} ended with status {writer.returncode}")
         spans.append(time.monotonic() - begun)
     return min(spans)
 
@@ -317,12 +319,14 @@ def writers(count, program, folder):
             with open(path, "wb") as it:
                 it.write(ring_tree(1))
             words = [program, "tree", graph, "--delta", "1", "-o", path, "--source"]
-            span = span_of(words)
+            span, share = span_of(words), 0.8
             reader = Reader(path, texts)
             reader.start()
             for number in range(rounds):
                 sources = draw.sample(range(1, 61), several)
-                true, done, more = round_of(words, draw, sources, span)
+                true, done, more = round_of(words, draw, sources, share * span)
+                # a timer may come late on a busy machine: signals come sooner where none has ended a writer, and later where some have
+                share = min(0.8, 1.2 * share) if more else max(0.02, 0.6 * share)
                 with open(path, "rb") as it:
                     now = texts.get(it.read())
                 may = sources if done else [*sources, before]
