@@ -104,7 +104,7 @@ fn entries_below_the_lowest_come_at_once(rt: HostRuntime) -> Result<(), Fail> {
 
 // Puts the entry of a head that lies as far behind its tail as told.
 fn put_head(bins: &mut Bins, dist: u64, length: u64) -> Result<(), AllocError> {
-    bins.put_head(Entry { vertex: 1, dist }, dist - length)
+    bins.put_head(Entry { vertex: 1, dist }, dist.saturating_sub(length))
 }
 
 // Where most heads fall into their tail's bucket, the buckets become narrower; where none does, wider.
@@ -142,7 +142,7 @@ fn a_change_of_width_loses_nothing(rt: HostRuntime) -> Result<(), Fail> {
         bins.refill(&mut list)?;
         for entry in &list {
             assert!(rt; bins.bucket_of(entry.dist) == bins.bucket_of(bins.start()));
-            seen += 1;
+            seen = seen.saturating_add(1);
         }
         if bins.advance()?.is_none() {
             break;
