@@ -1,0 +1,129 @@
+-- What the definitions mean: the least of all lengths, one forest, and the tree of one source.
+use Rattle.std.proofs.Common.{◌≡◌, ℕ, ◌≤◌, ◌⊎◌, inl, inr, List, [], ◌∷◌, Option, Some, None, sym, refl, ap, ◌∙◌, subst, arith}
+use Rattle.std.specs.Prelude.{Contains}
+use Rattle.sp_word.specs.History.{Table}
+use Rattle.sp_word.specs.Word.{Word, Pair, Unreached}
+use Rattle.sp_paths.specs.Paths.{Graph, HasWalk, IsLeast, IsTreeWord, EndsInTree, IsNear as IsNearOne, IsPredecessor as IsPredecessorFromOne}
+use Rattle.sp_paths.proofs.Least.{least_exists}
+use Rattle.sp_forest.specs.Forests.{HasWalkFromAny, IsNearest, IsPredecessor, IsForestWord, IsNear, IsForestWithin, IsFar}
+use Rattle.sp_forest.specs.Laws.{IsLeastOfAll, NearestIsLeastOfAll, ForestsAreOne, OneSource, ForestOfOneIsTree}
+use Rattle.sp_forest.proofs.Walks.{contains_front, contains_first, nearest_same, source_nearest}
+
+-- ## The least of all
+
+pub nearest_is_least_of_all : NearestIsLeastOfAll
+nearest_is_least_of_all g ss v d gr = (there, back)
+  where
+    there : IsNearest g ss v d → IsLeastOfAll g ss v d
+    there h =
+        let (s, here, w) = h.walk in
+        ((s, here, record { walk = w; least = λ e w'. h.least e (s, here, w') }), λ r e there' least. h.least e (r, there', least.walk))
+
+    back : IsLeastOfAll g ss v d → IsNearest g ss v d
+    back ((s, here, least), all) = record {
+      walk = (s, here, least.walk);
+      least = λ e (r, there', w). (let other = least_exists g gr r v e w in let low = all r other.0 there' other.1 in omega (arith, other.2));
+    }
+
+-- ## One forest
+
+-- the distance of a word is the least
+pub forest_nearest : (g : Graph) (ss : List ℕ) (v d p : ℕ) → IsForestWord g ss v (Pair d p) → IsNearest g ss v d
+forest_nearest g ss v d p (inl own) = subst (IsNearest g ss v) (sym own.1) (source_nearest g ss v own.0)
+forest_nearest g ss v d p (inr h) = h.1.least
+
+forest_word_only : (g : Graph) (ss : List ℕ) (v : ℕ) (w w' : Word) → IsForestWord g ss v w → IsForestWord g ss v w' → w ≡ w'
+forest_word_only g ss v Unreached Unreached a b = refl
+forest_word_only g ss v Unreached (Pair d p) a b = absurd (a d (forest_nearest g ss v d p b).walk)
+forest_word_only g ss v (Pair d p) Unreached a b = absurd (b d (forest_nearest g ss v d p a).walk)
+forest_word_only g ss v (Pair d p) (Pair e q) (inl a) (inl b) = cc
+forest_word_only g ss v (Pair d p) (Pair e q) (inl a) (inr b) = absurd (b.0 a.0)
+forest_word_only g ss v (Pair d p) (Pair e q) (inr a) (inl b) = absurd (a.0 b.0)
+forest_word_only g ss v (Pair d p) (Pair e q) (inr a) (inr b) =
+    let dist : d ≡ e = nearest_same g ss v d e a.1.least b.1.least in
+    let one : p ≤ q = a.1.smallest q (b.1.before.0, b.1.before.1, b.1.before.2, b.1.before.3, b.1.before.4 ∙ sym dist) in
+    let two : q ≤ p = b.1.smallest p (a.1.before.0, a.1.before.1, a.1.before.2, a.1.before.3, a.1.before.4 ∙ dist) in
+    let pred : p ≡ q = omega arith in
+    cc
+
+far_only : (g : Graph) (ss : List ℕ) (max : ℕ) (a b : Option ℕ) → IsFar g ss max a → IsFar g ss max b → a ≡ b
+far_only g ss max None None fa fb = refl
+far_only g ss max None (Some v) fa fb = absurd (fa v fb.0)
+far_only g ss max (Some v) None fa fb = absurd (fb v fa.0)
+far_only g ss max (Some v) (Some w) fa fb =
+    let one = fa.1 w fb.0 in
+    let two = fb.1 v fa.0 in
+    let same : v ≡ w = omega arith in
+    ap Some same
+
+pub forests_are_one : ForestsAreOne
+forests_are_one = record {
+  forest = λ g ss a b fa fb v h. forest_word_only g ss v (a v) (b v) (fa v h) (fb v h);
+  far = far_only;
+}
+
+-- ## One source
+
+only_one : (s r : ℕ) → Contains (s ∷ []) r → r ≡ s
+only_one s r here = go (contains_front s r [] here)
+  where
+    go : (s ≡ r) ⊎ Contains [] r → r ≡ s
+    go (inl same) = sym same
+    go (inr none) = absurd (omega (arith, none.1))
+
+module _ (g : Graph) (s : ℕ) where
+  walk_to : (v d : ℕ) → HasWalkFromAny g (s ∷ []) v d → HasWalk g s v d
+  walk_to v d (r, here, w) = subst (λ x. HasWalk g x v d) (only_one s r here) w
+
+  walk_of : (v d : ℕ) → HasWalk g s v d → HasWalkFromAny g (s ∷ []) v d
+  walk_of v d w = (s, contains_first s [], w)
+
+  least_to : (v d : ℕ) → IsNearest g (s ∷ []) v d → IsLeast g s v d
+  least_to v d h = record { walk = walk_to v d h.walk; least = λ e w. h.least e (walk_of v e w) }
+
+  least_of : (v d : ℕ) → IsLeast g s v d → IsNearest g (s ∷ []) v d
+  least_of v d h = record { walk = walk_of v d h.walk; least = λ e w. h.least e (walk_to v e w) }
+
+  before_to : (v d u : ℕ) → IsPredecessor g (s ∷ []) v d u → IsPredecessorFromOne g s v d u
+  before_to v d u (c, l, least, a, q) = (c, l, least_to u c least, a, q)
+
+  before_of : (v d u : ℕ) → IsPredecessorFromOne g s v d u → IsPredecessor g (s ∷ []) v d u
+  before_of v d u (c, l, least, a, q) = (c, l, least_of u c least, a, q)
+
+  word_to : (v : ℕ) (w : Word) → IsForestWord g (s ∷ []) v w → IsTreeWord g s v w
+  word_to v Unreached h = λ d w. h d (walk_of v d w)
+  word_to v (Pair d p) (inl own) = inl (only_one s v own.0, own.1, own.2)
+  word_to v (Pair d p) (inr h) = inr (
+    λ same. h.0 (subst (Contains (s ∷ [])) (sym same) (contains_first s [])),
+    record { least = least_to v d h.1.least; before = before_to v d p h.1.before; smallest = λ u b. h.1.smallest u (before_of v d u b) },
+  )
+
+  word_of : (v : ℕ) (w : Word) → IsTreeWord g s v w → IsForestWord g (s ∷ []) v w
+  word_of v Unreached h = λ d w. h d (walk_to v d w)
+  word_of v (Pair d p) (inl own) = inl (subst (Contains (s ∷ [])) (sym own.0) (contains_first s []), own.1, own.2)
+  word_of v (Pair d p) (inr h) = inr (
+    λ here. h.0 (only_one s v here),
+    record { least = least_of v d h.1.least; before = before_of v d p h.1.before; smallest = λ u b. h.1.smallest u (before_to v d u b) },
+  )
+
+  near_to : (max v : ℕ) → IsNear g (s ∷ []) max v → IsNearOne g s max v
+  near_to max v (d, least, low) = (d, least_to v d least, low)
+
+  near_of : (max v : ℕ) → IsNearOne g s max v → IsNear g (s ∷ []) max v
+  near_of max v (d, least, low) = (d, least_of v d least, low)
+
+  within_to : (max : ℕ) (words : Table) → IsForestWithin g (s ∷ []) max words → EndsInTree g s max words
+  within_to max words h = record { near = λ v n. word_to v (words v) (h.near v (near_of max v n)); others = λ v at far. h.others v at (λ n. far (near_to max v n)) }
+
+  within_of : (max : ℕ) (words : Table) → EndsInTree g s max words → IsForestWithin g (s ∷ []) max words
+  within_of max words h = record { near = λ v n. word_of v (words v) (h.near v (near_to max v n)); others = λ v at far. h.others v at (λ n. far (near_of max v n)) }
+
+  one_source : OneSource g s
+  one_source = record {
+    nearest = λ v d. (least_to v d, least_of v d);
+    forest = λ words. (λ f v h. word_to v (words v) (f v h), λ f v h. word_of v (words v) (f v h));
+    within = λ max words. (within_to max words, within_of max words);
+  }
+
+pub forest_of_one_is_tree : ForestOfOneIsTree
+forest_of_one_is_tree g s = one_source g s
