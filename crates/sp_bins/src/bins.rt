@@ -21,6 +21,9 @@ const LOT: u64 = 256;
 // The widest buckets are 2 to this power wide.
 const WIDEST: u32 = 40;
 
+// A list with room for this many entries at most is left in the slot whose list is taken for it.
+const SMALL: usize = 4;
+
 /// Entries by bucket, in hierarchical wheels like those in which G. Varghese and T. Lauck keep timers ("Hashed and
 /// hierarchical timing wheels", 1987).
 ///
@@ -136,7 +139,10 @@ impl Bins {
     fn empty(&mut self, place: usize, list: &mut Vec<Entry>) -> Result<(), AllocError>
         requires { place < 2048 }
     {
-        if list.is_empty() {
+        if list.is_empty() && list.capacity() <= SMALL {
+            // (where a bucket has an entry or two, no memory is asked for)
+            mem::swap(list, &mut self.slots[place]);
+        } else if list.is_empty() {
             *list = mem::replace(&mut self.slots[place], Vec::new(self.alloc));
         } else {
             list.extend_from_slice(&self.slots[place])?;
