@@ -16,7 +16,8 @@ in a place stands behind, as `twin: TEXT`; the kit passes it over, and tests/twi
 
 Usage: python3 tests/edits.py [--over-gate] [--changed] [CRATE..]
 
---over-gate takes the libraries that `rt ci` has just proved in this folder; else they are proved first where they aren't yet.
+--over-gate takes the libraries that `rt ci` has just proved in this folder; else what the crates below state is taken as build/check.py
+has it, and built first where it isn't at hand.
 --changed leaves out the crates of which dist/edits says that all their edits were refused: with these edits, of these sources of the
 crate and of those below it, by a kit of this logic. A run writes that list to .spt/edits, where a sum of a crate that it doesn't try
 stays, and build/release puts it into dist/.
@@ -35,9 +36,9 @@ import tempfile
 HOME = os.path.dirname(os.path.dirname(os.path.realpath(__file__)))
 sys.dont_write_bytecode = True
 sys.path.insert(0, f"{HOME}/build")
-import kit  # noqa: E402
+import check  # noqa: E402
 
-rt = kit.load("rt")
+rt = check.rt
 HEAD = re.compile(r"( *)(?:pub(?:\([a-z]+\))? )?(?:const )?(?:unsafe )?(?:extern \"C\" )?fn (\w+)")
 # what a check says of a function that isn't proved for its own body, and not only for what it calls
 WRONG = r"^fn {}::(\S+): (?:not proved|no proof)(?!: it calls)"
@@ -348,8 +349,10 @@ def main():
     for crate in refused_before:
         print(f"{crate.name}: its edits were refused before, of the same sources")
     crates = [it for it in crates if it not in refused_before]
-    for crate in crates:
-        if not chosen.over_gate and any(dep.build_rlib(JOBS, anew=False) for dep in crate.below()):
+    if not chosen.over_gate:
+        os.makedirs(check.KEPT, exist_ok=True)
+        below = {dep.name: dep for crate in crates for dep in crate.below()}
+        if not all(check.provide(dep, os.cpu_count()) for dep in rt.rtlib.crates_below(HOME) if dep.name in below):
             return 1
     found = rt.in_lanes(lanes(crates)) if crates else {}
     wrong = {name for (name, _), outcomes in found.items() if not all(outcomes)}
