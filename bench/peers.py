@@ -2,6 +2,7 @@
 """Times spt beside the shortest-path programs that others use, each on one thread, and compares all distances.
 
 Usage: python3 bench/peers.py [--size N] [--sources K] [--workers W] [--library LIBRARY] [--program PROGRAM]
+                             [--figure FILE]
 
 The graphs are a road-like grid of about N vertices and a random graph of N arcs (bench/graphs.py; N is 300000 where none is given),
 each with K sources drawn by lot. A row of the table is a program:
@@ -14,7 +15,8 @@ each with K sources drawn by lot. A row of the table is a program:
 spt, SciPy, Boost and LEMON find predecessors too; igraph and NetworkX find distances alone. spt writes trees as text, Boost and LEMON
 distances in binary. igraph, NetworkX and SciPy are taken where this Python can import them (Debian: python3-igraph,
 python3-networkx, python3-scipy), Boost and LEMON where a C++ compiler finds their headers (libboost-dev, liblemon-dev). What isn't
-installed is told below the table, and so is whose distances are others than spt's; then the status is 1.
+installed is told below the table, and so is whose distances are others than spt's; then the status is 1. --figure draws the table
+as bars, into a picture (SVG).
 """
 
 import argparse
@@ -31,6 +33,7 @@ import tempfile
 import time
 
 sys.dont_write_bytecode = True
+import figure  # noqa: E402
 import graphs  # noqa: E402
 import parts  # noqa: E402
 
@@ -193,8 +196,15 @@ def cells(seconds, ours):
     return ["", ""] if seconds is None else [f"{seconds:.4f}", f"{ours / seconds:.2f}"]
 
 
+def panels(title, rows, count):
+    """The bars of a graph: a tree of a graph in memory, and the whole job."""
+    for asked, field in (("one tree, of a graph in memory", "solve"), (f"{count} trees, from file to file", "whole")):
+        bars = [(name, getattr(taken, field)) for name, taken in rows if getattr(taken, field) is not None]
+        yield f"{title}: {asked}", bars
+
+
 def compare(title, job, peers):
-    """Prints the rows of a graph, and answers what else is to be told of its peers."""
+    """Prints the rows of a graph, and answers its panels of bars and what else is to be told of its peers."""
     rows, remarks = [], []
     for name, peer in peers.items():
         try:
@@ -207,7 +217,7 @@ def compare(title, job, peers):
         print(f"| {' | '.join([title, name, *cells(taken.solve, solve), *cells(taken.whole, whole)])} |", flush=True)
         if taken.distances != rows[0][1].distances:
             remarks.append(f"{name} DISAGREES on the graph `{title}`")
-    return remarks
+    return list(panels(title, rows, len(job.sources))), remarks
 
 
 def measure(chosen, folder):
@@ -219,10 +229,15 @@ def measure(chosen, folder):
     peers.update({name: native(*words) for name, words in NATIVE.items()})
     print(f"{chosen.sources} sources a graph, every program once, on one thread where no workers are named\n")
     print("| graph | program | solve, s | spt's multiple | whole, s | spt's multiple |\n|---|---|---|---|---|---|")
-    remarks = []
+    remarks, bars = [], []
     for kind, n in (("roads", chosen.size), ("random", max(1, chosen.size // 4))):
         job = read_job(kind, n, chosen.sources, folder)
-        remarks += compare(f"{kind}, {n:,} vertices, {len(job.tails):,} arcs", job, peers)
+        its_bars, its_remarks = compare(f"{kind}, {n:,} vertices, {len(job.tails):,} arcs", job, peers)
+        bars += its_bars
+        remarks += its_remarks
+    if chosen.figure:
+        with open(chosen.figure, "w") as file:
+            file.write(figure.drawn("Shortest-path trees: time taken, shorter is better", bars))
     print("\n" + "\n".join(dict.fromkeys(remarks)) if remarks else "\nAll distances agree.")
     return 1 if any("DISAGREES" in it for it in remarks) else 0
 
@@ -234,6 +249,7 @@ def main():
     options.add_argument("--workers", type=int, default=4, help="a further row of the program with this number; 1 leaves it out")
     options.add_argument("--library", type=os.path.abspath, help="this libspt.so in place of one that build/libraries puts down")
     options.add_argument("--program", type=os.path.abspath, help="this program in place of the one that ./spt runs")
+    options.add_argument("--figure", help="a file for a picture of the table, as SVG")
     chosen = options.parse_args()
     sys.path.insert(0, f"{HOME}/python")
     with tempfile.TemporaryDirectory() as folder:
