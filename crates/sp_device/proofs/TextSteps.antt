@@ -1,9 +1,10 @@
 -- A text that is sent to a writer, step by step.
-use Rattle.std.proofs.Common.{◌≡◌, ℕ, Bool, true, false, zero, suc, ◌+◌, ◌-◌, ◌^◌, ◌<◌, ◌≤◌, List, [], ◌++◌, length, take, drop, min, Option, sym, ap, ◌∙◌, append_assoc, take-append-drop, length-append, arith}
+use Rattle.std.proofs.Common.{◌≡◌, ℕ, true, false, zero, suc, ◌+◌, ◌-◌, ◌^◌, ◌<◌, ◌≤◌, List, [], ◌++◌, length, take, drop, min, Option, sym, ap, ◌∙◌, append_assoc, take-append-drop, length-append, arith}
 use Rattle.std.proofs.lemmas.List.{append-nil}
 use Rattle.std.proofs.lemmas.Bool.{false≢true}
 use Rattle.std.proofs.KnownBytes.{Appends-nil, Appends-trans}
 use Rattle.std.specs.Io.KnownBytes.{Appends}
+use Rattle.sp_device.specs.declared.devices.Write.{Ghosts as Writer}
 use Rattle.sp_device.specs.declared.printing.Printer.{Printer}
 use Rattle.sp_device.specs.Devices.{IsBegun}
 use Rattle.sp_device.specs.Printing.{IsSent, IsSending}
@@ -30,38 +31,38 @@ begun_behind text front bytes old mid new whole wrote h = record {
   wrote = Appends-trans old mid new front h.part wrote h.wrote;
 }
 
-pub sends_ok : {W : Type 0} (written : W → Option (List ℕ)) (passed : W → ℕ) (has_failed : W → Bool) (text : List ℕ) (start out : W) (printer : Printer) → printer.failed ≡ false → IsSent written passed text start out printer → IsSending written passed has_failed text start out printer
-sends_ok written passed has_failed text start out printer going sent = record {
+pub sends_ok : {W : Type 0} (w : Writer W) (text : List ℕ) (start out : W) (printer : Printer) → printer.failed ≡ false → IsSent w text start out printer → IsSending w text start out printer
+sends_ok w text start out printer going sent = record {
   going = λ _. sent;
   begun = λ failed. absurd (false≢true (sym going ∙ failed));
   failed = λ failed. absurd (false≢true (sym going ∙ failed));
 }
 
-pub sends_failed : {W : Type 0} (written : W → Option (List ℕ)) (passed : W → ℕ) (has_failed : W → Bool) (text : List ℕ) (start out : W) (printer : Printer) → printer.failed ≡ true → IsBegun text (written start) (written out) → has_failed out ≡ true
-    → IsSending written passed has_failed text start out printer
-sends_failed written passed has_failed text start out printer failed begun fails = record {
+pub sends_failed : {W : Type 0} (w : Writer W) (text : List ℕ) (start out : W) (printer : Printer) → printer.failed ≡ true → IsBegun text (w.written start) (w.written out) → w.has_failed out ≡ true
+    → IsSending w text start out printer
+sends_failed w text start out printer failed begun fails = record {
   going = λ going. absurd (false≢true (sym going ∙ failed));
   begun = λ _. begun;
   failed = λ _. fails;
 }
 
 -- Nothing was sent yet.
-none_sent : {W : Type 0} (written : W → Option (List ℕ)) (passed : W → ℕ) (out : W) (printer : Printer) → printer.block ≡ [] → printer.count ≡ 0 → IsSent written passed [] out out printer
-none_sent written passed out printer empty none = record {
+none_sent : {W : Type 0} (w : Writer W) (out : W) (printer : Printer) → printer.block ≡ [] → printer.count ≡ 0 → IsSent w [] out out printer
+none_sent w out printer empty none = record {
   done = [];
   parts = sym empty;
-  wrote = Appends-nil (written out);
+  wrote = Appends-nil (w.written out);
   went = omega arith;
   counted = none;
   small = λ (some : 0 < 0). absurd (omega (arith, some));
 }
 
-pub unsent : {W : Type 0} (written : W → Option (List ℕ)) (passed : W → ℕ) (has_failed : W → Bool) (out : W) (printer : Printer) → printer.block ≡ [] → printer.count ≡ 0 → printer.failed ≡ false → IsSending written passed has_failed [] out out printer
-unsent written passed has_failed out printer empty none going = sends_ok written passed has_failed [] out out printer going (none_sent written passed out printer empty none)
+pub unsent : {W : Type 0} (w : Writer W) (out : W) (printer : Printer) → printer.block ≡ [] → printer.count ≡ 0 → printer.failed ≡ false → IsSending w [] out out printer
+unsent w out printer empty none going = sends_ok w [] out out printer going (none_sent w out printer empty none)
 
-block_pushed : {W : Type 0} (written : W → Option (List ℕ)) (passed : W → ℕ) (front bytes : List ℕ) (start out : W) (printer : Printer) (block : List ℕ) → IsSent written passed front start out printer → block ≡ printer.block ++ bytes
-    → IsSent written passed (front ++ bytes) start out (record { block = block; count = printer.count; failed = printer.failed })
-block_pushed written passed front bytes start out printer block h is = record {
+block_pushed : {W : Type 0} (w : Writer W) (front bytes : List ℕ) (start out : W) (printer : Printer) (block : List ℕ) → IsSent w front start out printer → block ≡ printer.block ++ bytes
+    → IsSent w (front ++ bytes) start out (record { block = block; count = printer.count; failed = printer.failed })
+block_pushed w front bytes start out printer block h is = record {
   done = h.done;
   parts = ap (λ (t : List ℕ). t ++ bytes) h.parts ∙ (append_assoc h.done printer.block bytes ∙ ap (λ (t : List ℕ). h.done ++ t) (sym is));
   wrote = h.wrote;
@@ -71,11 +72,11 @@ block_pushed written passed front bytes start out printer block h is = record {
 }
 
 -- What is pushed is sent.
-pub pushed : {W : Type 0} (written : W → Option (List ℕ)) (passed : W → ℕ) (has_failed : W → Bool) (front bytes : List ℕ) (start out : W) (printer : Printer) (block : List ℕ) → IsSending written passed has_failed front start out printer → block ≡ printer.block ++ bytes
-    → IsSending written passed has_failed (front ++ bytes) start out (record { block = block; count = printer.count; failed = printer.failed })
-pushed written passed has_failed front bytes start out printer block h is = record {
-  going = λ going. block_pushed written passed front bytes start out printer block (h.going going) is;
-  begun = λ failed. begun_more front bytes (written start) (written out) (h.begun failed);
+pub pushed : {W : Type 0} (w : Writer W) (front bytes : List ℕ) (start out : W) (printer : Printer) (block : List ℕ) → IsSending w front start out printer → block ≡ printer.block ++ bytes
+    → IsSending w (front ++ bytes) start out (record { block = block; count = printer.count; failed = printer.failed })
+pushed w front bytes start out printer block h is = record {
+  going = λ going. block_pushed w front bytes start out printer block (h.going going) is;
+  begun = λ failed. begun_more front bytes (w.written start) (w.written out) (h.begun failed);
   failed = h.failed;
 }
 
@@ -90,30 +91,30 @@ sum_small zero (suc d) s p q limit is from small = omega (arith, from, small (om
 sum_small (suc n) d s p q limit is from small = omega (arith, is, from, limit (omega arith))
 
 -- Bytes are written behind a text all of which was written.
-pub written_on : {W : Type 0} (written : W → Option (List ℕ)) (passed : W → ℕ) (front bytes : List ℕ) (start out new : W) (printer : Printer) (count : ℕ) → IsSent written passed front start out printer → printer.block ≡ []
-    → Appends (written out) (written new) bytes → passed new ≡ passed out + length bytes → (0 < length bytes → passed new ≤ 2 ^ 62) → count ≡ min (printer.count + length bytes) (2 ^ 64 - 1)
-    → IsSent written passed (front ++ bytes) start new (record { block = printer.block; count = count; failed = printer.failed })
-written_on written passed front bytes start out new printer count h empty wrote went limit is =
+pub written_on : {W : Type 0} (w : Writer W) (front bytes : List ℕ) (start out new : W) (printer : Printer) (count : ℕ) → IsSent w front start out printer → printer.block ≡ []
+    → Appends (w.written out) (w.written new) bytes → w.passed new ≡ w.passed out + length bytes → (0 < length bytes → w.passed new ≤ 2 ^ 62) → count ≡ min (printer.count + length bytes) (2 ^ 64 - 1)
+    → IsSent w (front ++ bytes) start new (record { block = printer.block; count = count; failed = printer.failed })
+written_on w front bytes start out new printer count h empty wrote went limit is =
     let whole : front ≡ h.done = h.parts ∙ rw empty (append-nil h.done) in
-    let short = sum_small (length bytes) (length h.done) (passed start) (passed out) (passed new) limit went h.went h.small in
+    let short = sum_small (length bytes) (length h.done) (w.passed start) (w.passed out) (w.passed new) limit went h.went h.small in
     record {
       done = h.done ++ bytes;
       parts = ap (λ (t : List ℕ). t ++ bytes) whole ∙ rw empty (sym (append-nil (h.done ++ bytes)));
-      wrote = Appends-trans (written start) (written out) (written new) h.done bytes h.wrote wrote;
+      wrote = Appends-trans (w.written start) (w.written out) (w.written new) h.done bytes h.wrote wrote;
       went = omega (arith, h.went, length-append h.done bytes);
       counted = omega (arith, h.counted, short, length-append h.done bytes);
-      small = rw (length-append h.done bytes) (still_small (length bytes) (length h.done) (passed out) (passed new) limit went h.small);
+      small = rw (length-append h.done bytes) (still_small (length bytes) (length h.done) (w.passed out) (w.passed new) limit went h.small);
     }
 
 -- What waits is written.
-pub flushed : {W : Type 0} (written : W → Option (List ℕ)) (passed : W → ℕ) (front bytes : List ℕ) (start out new : W) (printer : Printer) (block : List ℕ) (count : ℕ) → IsSent written passed front start out printer → bytes ≡ printer.block
-    → Appends (written out) (written new) bytes → passed new ≡ passed out + length bytes → (0 < length bytes → passed new ≤ 2 ^ 62) → block ≡ [] → count ≡ min (printer.count + length bytes) (2 ^ 64 - 1)
-    → IsSent written passed front start new (record { block = block; count = count; failed = printer.failed })
-flushed written passed front bytes start out new printer block count h waits wrote went limit empty is = record {
+pub flushed : {W : Type 0} (w : Writer W) (front bytes : List ℕ) (start out new : W) (printer : Printer) (block : List ℕ) (count : ℕ) → IsSent w front start out printer → bytes ≡ printer.block
+    → Appends (w.written out) (w.written new) bytes → w.passed new ≡ w.passed out + length bytes → (0 < length bytes → w.passed new ≤ 2 ^ 62) → block ≡ [] → count ≡ min (printer.count + length bytes) (2 ^ 64 - 1)
+    → IsSent w front start new (record { block = block; count = count; failed = printer.failed })
+flushed w front bytes start out new printer block count h waits wrote went limit empty is = record {
   done = h.done ++ bytes;
   parts = h.parts ∙ rw (← waits, empty) (sym (append-nil (h.done ++ bytes)));
-  wrote = Appends-trans (written start) (written out) (written new) h.done bytes h.wrote wrote;
+  wrote = Appends-trans (w.written start) (w.written out) (w.written new) h.done bytes h.wrote wrote;
   went = omega (arith, h.went, length-append h.done bytes);
-  counted = omega (arith, h.counted, sum_small (length bytes) (length h.done) (passed start) (passed out) (passed new) limit went h.went h.small, length-append h.done bytes);
-  small = rw (length-append h.done bytes) (still_small (length bytes) (length h.done) (passed out) (passed new) limit went h.small);
+  counted = omega (arith, h.counted, sum_small (length bytes) (length h.done) (w.passed start) (w.passed out) (w.passed new) limit went h.went h.small, length-append h.done bytes);
+  small = rw (length-append h.done bytes) (still_small (length bytes) (length h.done) (w.passed out) (w.passed new) limit went h.small);
 }

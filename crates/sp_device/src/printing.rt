@@ -39,8 +39,7 @@ impl Printer {
 // Writes the bytes that wait.
 fn flush<W: Write>(out: &mut W, printer: &mut Printer)
     ensures block { printer.new.block ≡ [] }
-    ensures sends { KeepsSending W.written W.passed W.has_failed
-        out.old printer.old out.new printer.new }
+    ensures sends { KeepsSending W.Write out.old printer.old out.new printer.new }
 {
     if printer.failed {
         printer.block.clear();
@@ -62,8 +61,7 @@ fn flush<W: Write>(out: &mut W, printer: &mut Printer)
 // Writes bytes while none wait.
 fn write_on<W: Write>(out: &mut W, printer: &mut Printer, bytes: &[u8])
     requires { printer.old.block ≡ [] }
-    ensures { Sends W.written W.passed W.has_failed bytes.now
-        out.old printer.old out.new printer.new }
+    ensures { Sends W.Write bytes.now out.old printer.old out.new printer.new }
 {
     if printer.failed {
         return;
@@ -78,8 +76,7 @@ fn write_on<W: Write>(out: &mut W, printer: &mut Printer, bytes: &[u8])
 pub fn make_room<W: Write>(out: &mut W, printer: &mut Printer, room: usize)
     requires { room ≤ 8192 }
     ensures room { length printer.new.block + room ≤ 8192 }
-    ensures sends { KeepsSending W.written W.passed W.has_failed
-        out.old printer.old out.new printer.new }
+    ensures sends { KeepsSending W.Write out.old printer.old out.new printer.new }
 {
     if printer.block.room_left() < room {
         flush(out, printer);
@@ -88,8 +85,7 @@ pub fn make_room<W: Write>(out: &mut W, printer: &mut Printer, room: usize)
 
 /// Sends these bytes after the others.
 pub fn print_text<W: Write>(out: &mut W, printer: &mut Printer, bytes: &[u8])
-    ensures { Sends W.written W.passed W.has_failed bytes.now
-        out.old printer.old out.new printer.new }
+    ensures { Sends W.Write bytes.now out.old printer.old out.new printer.new }
 {
     if bytes.len() <= ROOM {
         make_room(out, printer, bytes.len());
@@ -102,8 +98,7 @@ pub fn print_text<W: Write>(out: &mut W, printer: &mut Printer, bytes: &[u8])
 
 /// Sends a number in decimal.
 pub fn print_number<W: Write>(out: &mut W, printer: &mut Printer, n: u64)
-    ensures { Sends W.written W.passed W.has_failed (decimal n)
-        out.old printer.old out.new printer.new }
+    ensures { Sends W.Write (decimal n) out.old printer.old out.new printer.new }
 {
     let mut buffer = Buffer::new();
     print_text(out, printer, buffer.format(n).as_bytes());
@@ -111,10 +106,8 @@ pub fn print_number<W: Write>(out: &mut W, printer: &mut Printer, n: u64)
 
 /// Writes the bytes that wait, and returns how many bytes were written in all.
 pub fn finish<W: Write>(out: &mut W, mut printer: Printer) -> Result<u64, WriteFault>
-    ensures written { EndsSending W.written W.passed W.has_failed
-        out.old printer result out.new }
-    ensures passed { EndsCounting W.written W.passed W.has_failed
-        out.old printer result out.new }
+    ensures written { EndsSending W.Write out.old printer result out.new }
+    ensures passed { EndsCounting W.Write out.old printer result out.new }
 {
     flush(out, &mut printer);
     if printer.failed {

@@ -2,6 +2,7 @@
 use Rattle.std.specs.Prelude.{◌≡◌, ℕ, ◌+◌, ◌-◌, ◌^◌, ◌<◌, ◌≤◌, ◌⊎◌, min, slice_get, Bool, true, false, List, [], ◌∷◌, ◌++◌, length, Option, Some, None, Result, Ok, Err}
 use Rattle.std.specs.Borrow.{Bor}
 use Rattle.std.specs.Io.KnownBytes.{Consumes, IsAtEnd}
+use Rattle.sp_device.specs.declared.devices.Read.{Ghosts as Reader}
 use Rattle.sp_text.specs.declared.faults.Kind.{Kind}
 use Rattle.sp_text.specs.declared.faults.Kind.TheVariants.{LongLine, Read}
 use Rattle.sp_text.specs.declared.rooms.TheConstants.{LONGEST_LINE}
@@ -11,63 +12,63 @@ use Rattle.sp_dimacs.specs.declared.lines.Lines.{Lines}
 use Rattle.sp_dimacs.specs.declared.lines.State.{State}
 use Rattle.sp_dimacs.specs.declared.lines.State.TheVariants.{Going, Over, Refused}
 
--- `start` holds the bytes that the device had before the first line, if they are known, and `left` holds those that it
--- still has.
+-- `start` holds the bytes that the device had before the first line, if they are known, and `r.left` holds those that
+-- it still has.
 
 -- These lines came, each with its LF. After them came some bytes that still wait.
-pub record AreEnded {R : Type 0} (left : R → Option (List ℕ)) (start : Option (List ℕ)) (given : List (List ℕ)) (reader : Lines R) : Type 0 where
+pub record AreEnded {R : Type 0} (r : Reader R) (start : Option (List ℕ)) (given : List (List ℕ)) (reader : Lines R) : Type 0 where
   pub behind : List ℕ
-  pub came : Consumes start (left reader.reader) (behind ++ reader.piece)
+  pub came : Consumes start (r.left reader.reader) (behind ++ reader.piece)
   pub ended : ended behind ≡ given
   pub whole : rest behind ≡ []
 
 -- The text has ended: these lines came, each with its LF, and then this last line without one.
-pub record IsLast {R : Type 0} (left : R → Option (List ℕ)) (start : Option (List ℕ)) (given : List (List ℕ)) (line : List ℕ) (reader : Lines R) : Type 0 where
+pub record IsLast {R : Type 0} (r : Reader R) (start : Option (List ℕ)) (given : List (List ℕ)) (line : List ℕ) (reader : Lines R) : Type 0 where
   pub text : List ℕ
-  pub came : Consumes start (left reader.reader) text
-  pub all : IsAtEnd (left reader.reader)
+  pub came : Consumes start (r.left reader.reader) text
+  pub all : IsAtEnd (r.left reader.reader)
   pub ended : ended text ≡ given
   pub open_line : rest text ≡ line
 
 -- The text has ended, and these are its lines.
-pub record AreAll {R : Type 0} (left : R → Option (List ℕ)) (start : Option (List ℕ)) (given : List (List ℕ)) (reader : Lines R) : Type 0 where
+pub record AreAll {R : Type 0} (r : Reader R) (start : Option (List ℕ)) (given : List (List ℕ)) (reader : Lines R) : Type 0 where
   pub text : List ℕ
-  pub came : Consumes start (left reader.reader) text
-  pub all : IsAtEnd (left reader.reader)
+  pub came : Consumes start (r.left reader.reader) text
+  pub all : IsAtEnd (r.left reader.reader)
   pub lines : lines text ≡ given
 
-abbrev pub Stands : {R : Type 0} → (R → Option (List ℕ)) → Option (List ℕ) → List (List ℕ) → Lines R → State → Type 0
-Stands left start given reader Going = AreEnded left start given reader
-Stands left start given reader Over = AreAll left start given reader
-Stands left start given reader (Refused e) = ⊥
+abbrev pub Stands : {R : Type 0} → Reader R → Option (List ℕ) → List (List ℕ) → Lines R → State → Type 0
+Stands r start given reader Going = AreEnded r start given reader
+Stands r start given reader Over = AreAll r start given reader
+Stands r start given reader (Refused e) = ⊥
 
 -- The reader has given these lines, which are the first of the text, and no others.
-pub record IsBehindLines {R : Type 0} (left : R → Option (List ℕ)) (start : Option (List ℕ)) (given : List (List ℕ)) (reader : Lines R) : Type 0 where
+pub record IsBehindLines {R : Type 0} (r : Reader R) (start : Option (List ℕ)) (given : List (List ℕ)) (reader : Lines R) : Type 0 where
   pub number : reader.number ≡ min (length given) (2 ^ 64 - 1)
-  pub stands : Stands left start given reader reader.state
+  pub stands : Stands r start given reader reader.state
 
 -- This is the next line of the text. It has its LF; or it has none, and the text has ended.
-abbrev pub IsNext : {R : Type 0} → (R → Option (List ℕ)) → Option (List ℕ) → List (List ℕ) → List ℕ → Lines R → (has_end : Bool) → Type 0
-IsNext left start given line reader true = AreEnded left start (given ++ line ∷ []) reader
-IsNext left start given line reader false = IsLast left start given line reader × (0 < length line)
+abbrev pub IsNext : {R : Type 0} → Reader R → Option (List ℕ) → List (List ℕ) → List ℕ → Lines R → (has_end : Bool) → Type 0
+IsNext r start given line reader true = AreEnded r start (given ++ line ∷ []) reader
+IsNext r start given line reader false = IsLast r start given line reader × (0 < length line)
 
 -- After the given lines, the part of the next line that came is too long; or it isn't, and the device has failed.
-pub record IsRefused {R : Type 0} (left : R → Option (List ℕ)) (has_failed : R → Bool) (start : Option (List ℕ)) (given : List (List ℕ)) (kind : Kind) (reader : Lines R) : Type 0 where
+pub record IsRefused {R : Type 0} (r : Reader R) (start : Option (List ℕ)) (given : List (List ℕ)) (kind : Kind) (reader : Lines R) : Type 0 where
   pub front : List ℕ
   pub more : List ℕ
-  pub came : Consumes start (left reader.reader) (front ++ more)
+  pub came : Consumes start (r.left reader.reader) (front ++ more)
   pub ended : ended front ≡ given
-  pub why : ((kind ≡ LongLine) × (LONGEST_LINE < length (rest front))) ⊎ ((kind ≡ Read) × (length (rest front) ≤ LONGEST_LINE) × (more ≡ []) × (has_failed reader.reader ≡ true))
+  pub why : ((kind ≡ LongLine) × (LONGEST_LINE < length (rest front))) ⊎ ((kind ≡ Read) × (length (rest front) ≤ LONGEST_LINE) × (more ≡ []) × (r.has_failed reader.reader ≡ true))
 
 -- This says whether the line that was given last had its LF.
 abbrev pub had_lf : {R : Type 0} → Lines R → Bool
 had_lf reader = reader.has_end
 
 -- The answer to a request for the next line is this line, or that there is none, or its fault.
-abbrev pub Gave : {R : Type 0} → (R → Option (List ℕ)) → (R → Bool) → Option (List ℕ) → List (List ℕ) → List ℕ → Result Bool DimacsError → Lines R → Type 0
-Gave left has_failed start given line (Ok true) new = IsBehindLines left start (given ++ line ∷ []) new × IsNext left start given line new (had_lf new) × (length line ≤ LONGEST_LINE)
-Gave left has_failed start given line (Ok false) new = IsBehindLines left start given new × AreAll left start given new
-Gave left has_failed start given line (Err e) new = (new.state ≡ Refused e) × (e.line ≡ min (length given + 1) (2 ^ 64 - 1)) × IsRefused left has_failed start given e.kind new
+abbrev pub Gave : {R : Type 0} → Reader R → Option (List ℕ) → List (List ℕ) → List ℕ → Result Bool DimacsError → Lines R → Type 0
+Gave r start given line (Ok true) new = IsBehindLines r start (given ++ line ∷ []) new × IsNext r start given line new (had_lf new) × (length line ≤ LONGEST_LINE)
+Gave r start given line (Ok false) new = IsBehindLines r start given new × AreAll r start given new
+Gave r start given line (Err e) new = (new.state ≡ Refused e) × (e.line ≡ min (length given + 1) (2 ^ 64 - 1)) × IsRefused r start given e.kind new
 
 -- The line in the buffer is the next one. Without its LF it is the last; and without a byte it is no line.
 abbrev pub Counted : {R : Type 0} → Lines R → (has_end : Bool) → (is_line : Bool) → Lines R → Type 0
@@ -84,16 +85,16 @@ abbrev pub IsStillRefused : {R : Type 0} → Lines R → Lines R → Type 0
 IsStillRefused old new = (e : DimacsError) → IsRefusedAs e old → IsRefusedAs e new
 
 -- This is the answer with the line that is lent.
-abbrev pub GaveNext : {R : Type 0} → (R → Option (List ℕ)) → (R → Bool) → Option (List ℕ) → List (List ℕ) → Result (Option (Bor (List ℕ))) DimacsError → Lines R → Type 0
-GaveNext left has_failed start given (Ok (Some line)) new = Gave left has_failed start given line.now (Ok true) new
-GaveNext left has_failed start given (Ok None) new = Gave left has_failed start given [] (Ok false) new
-GaveNext left has_failed start given (Err e) new = Gave left has_failed start given [] (Err e) new
+abbrev pub GaveNext : {R : Type 0} → Reader R → Option (List ℕ) → List (List ℕ) → Result (Option (Bor (List ℕ))) DimacsError → Lines R → Type 0
+GaveNext r start given (Ok (Some line)) new = Gave r start given line.now (Ok true) new
+GaveNext r start given (Ok None) new = Gave r start given [] (Ok false) new
+GaveNext r start given (Err e) new = Gave r start given [] (Err e) new
 
 -- This is the reader after the answer: a reader that has refused its text stays refused, and one after some lines gave
 -- the next line.
-abbrev pub Gives : {R : Type 0} → (R → Option (List ℕ)) → (R → Bool) → Lines R → Result (Option (Bor (List ℕ))) DimacsError → Lines R → Type 0
-Gives left has_failed old result new = IsStillRefused old new ×
-    ((start : Option (List ℕ)) (given : List (List ℕ)) → IsBehindLines left start given old → GaveNext left has_failed start given result new)
+abbrev pub Gives : {R : Type 0} → Reader R → Lines R → Result (Option (Bor (List ℕ))) DimacsError → Lines R → Type 0
+Gives r old result new = IsStillRefused old new ×
+    ((start : Option (List ℕ)) (given : List (List ℕ)) → IsBehindLines r start given old → GaveNext r start given result new)
 
 -- The next line of the text is too long, or the device has failed.
 abbrev pub IsFaulty : (text : List ℕ) → (given : List (List ℕ)) → Kind → Type 0

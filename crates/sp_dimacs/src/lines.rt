@@ -40,8 +40,7 @@ fn read_line<R: Read>(
     room: &mut LineBuffer,
 ) -> Result<bool, Kind>
     requires { room.old ≡ [] }
-    ensures read { LineRead (R.left reader.old) (R.left reader.new)
-        (R.has_failed reader.new) piece.old result piece.new room.new }
+    ensures read { LineRead R.Read reader.old reader.new piece.old result piece.new room.new }
     ensures short { OnOk result (length room.new ≤ LONGEST_LINE) }
 {
     loop {
@@ -79,7 +78,7 @@ impl<R: Read> Lines<R> {
 
     /// Returns a reader that stands before the first line.
     pub fn new(reader: R) -> Self
-        ensures { IsBehindLines R.left (R.left reader) [] result }
+        ensures { IsBehindLines R.Read (R.left reader) [] result }
     {
         Lines {
             reader,
@@ -96,8 +95,8 @@ impl<R: Read> Lines<R> {
         ensures again { (e : DimacsError) → self.old.state ≡ Refused e
             → (result ≡ Err e) × (self.new ≡ self.old) }
         ensures gave { (start : Option (List ℕ)) (given : List (List ℕ))
-            → IsBehindLines R.left start given self.old
-            → Gave R.left R.has_failed start given self.new.room result self.new }
+            → IsBehindLines R.Read start given self.old
+            → Gave R.Read start given self.new.room result self.new }
     {
         match self.state {
             State::Over => return Ok(false),
@@ -143,7 +142,7 @@ impl<R: Read> Lines<R> {
     /// Returns the number of the line that was given last, or 0 before the first.
     pub fn line(&self) -> u64
         ensures { (start : Option (List ℕ)) (given : List (List ℕ))
-            → IsBehindLines R.left start given self.now → result ≡ min (length given) (2 ^ 64 - 1) }
+            → IsBehindLines R.Read start given self.now → result ≡ min (length given) (2 ^ 64 - 1) }
     {
         self.number
     }
@@ -161,9 +160,9 @@ impl<R: Read> Lines<R> {
     pub fn next(&mut self) -> Result<Option<&[u8]>, DimacsError>
         ensures again { (e : DimacsError) → IsRefusedAs e self.old → result ≡ Err e }
         ensures text { (text : List ℕ) (given : List (List ℕ))
-            → IsBehindLines R.left (Some text) given self.old → GaveOf text given result }
+            → IsBehindLines R.Read (Some text) given self.old → GaveOf text given result }
         ensures* after { sem 𝓛
-            (Rests (the_row R.row) self.entry (Gives R.left R.has_failed self.old result)) }
+            (Rests (the_row R.row) self.entry (Gives R.Read self.old result)) }
     {
         match self.advance() {
             Ok(true) => Ok(Some(self.room.bytes())),

@@ -146,8 +146,7 @@ pub fn write_picture<const P: u32, W: Write>(
     picture: &Picture<P>,
     out: &mut W,
 ) -> Result<u64, WriteFault>
-    ensures { Written W.written W.has_failed
-        (string_bytes picture.now.text) out.old result out.new }
+    ensures { Written W.Write (string_bytes picture.now.text) out.old result out.new }
 {
     let bytes = picture.text.as_bytes();
     write_all(out, bytes)?;

@@ -10,16 +10,14 @@ use sp_machine::{Finished, Report};
 use sp_word::Word;
 
 fn send_call<const P: u32, W: Write>(out: &mut W, printer: &mut Printer, call: &Finished<P>)
-    ensures { Sends W.written W.passed W.has_failed
-        (call_text call.now) out.old printer.old out.new printer.new }
+    ensures { Sends W.Write (call_text call.now) out.old printer.old out.new printer.new }
 {
     make_room(out, printer, CALL_ROOM);
     push_call(&mut printer.block, call);
 }
 
 fn send_calls<const P: u32, W: Write>(out: &mut W, printer: &mut Printer, calls: &[Finished<P>])
-    ensures { Sends W.written W.passed W.has_failed
-        (flat_map call_text calls.now) out.old printer.old out.new printer.new }
+    ensures { Sends W.Write (flat_map call_text calls.now) out.old printer.old out.new printer.new }
 {
     for call in calls {
         send_call(out, printer, call);
@@ -32,8 +30,8 @@ fn send_reached<const P: u32, W: Write>(
     vertex: u64,
     word: Word<P>,
 )
-    ensures { Sends W.written W.passed W.has_failed
-        (reached_text vertex word.entry) out.old printer.old out.new printer.new }
+    ensures { Sends W.Write (reached_text vertex word.entry)
+        out.old printer.old out.new printer.new }
 {
     make_room(out, printer, REACHED_ROOM);
     push_reached(&mut printer.block, vertex, word);
@@ -41,8 +39,7 @@ fn send_reached<const P: u32, W: Write>(
 
 /// Sends the lines of the reached vertices.
 pub fn send_words<const P: u32, W: Write>(out: &mut W, printer: &mut Printer, words: &[Word<P>])
-    ensures { Sends W.written W.passed W.has_failed
-        (reached_from 1 words.now) out.old printer.old out.new printer.new }
+    ensures { Sends W.Write (reached_from 1 words.now) out.old printer.old out.new printer.new }
 {
     for (place, word) in words.iter().enumerate() {
         send_reached(out, printer, (place + 1) as u64, *word);
@@ -50,8 +47,8 @@ pub fn send_words<const P: u32, W: Write>(out: &mut W, printer: &mut Printer, wo
 }
 
 fn send_end<W: Write>(out: &mut W, printer: &mut Printer, wins: u64, losses: u64, closed: bool)
-    ensures { Sends W.written W.passed W.has_failed
-        (totals_text wins losses ++ closed_text closed) out.old printer.old out.new printer.new }
+    ensures { Sends W.Write (totals_text wins losses ++ closed_text closed)
+        out.old printer.old out.new printer.new }
 {
     make_room(out, printer, END_ROOM);
     push_end(&mut printer.block, wins, losses, closed);
@@ -59,8 +56,7 @@ fn send_end<W: Write>(out: &mut W, printer: &mut Printer, wins: u64, losses: u64
 
 // Sends the lines of a report with a new printer.
 fn print_report<const P: u32, W: Write>(report: &Report<P>, out: &mut W) -> Printer
-    ensures { IsSending W.written W.passed W.has_failed
-        (report_text report.now) out.old out.new result }
+    ensures { IsSending W.Write (report_text report.now) out.old out.new result }
 {
     let mut printer = Printer::new();
     send_calls(out, &mut printer, &report.calls);
@@ -76,7 +72,7 @@ pub fn write_report<const P: u32, W: Write>(
     report: &Report<P>,
     out: &mut W,
 ) -> Result<u64, WriteFault>
-    ensures { Written W.written W.has_failed (report_text report.now) out.old result out.new }
+    ensures { Written W.Write (report_text report.now) out.old result out.new }
 {
     let printer = print_report(report, out);
     finish(out, printer)

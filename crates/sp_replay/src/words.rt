@@ -23,8 +23,7 @@ fn count_reached<const P: u32>(words: &[Word<P>]) -> usize
 }
 
 fn send_count<W: Write>(out: &mut W, printer: &mut Printer, count: u64)
-    ensures { Sends W.written W.passed W.has_failed
-        (count_text count) out.old printer.old out.new printer.new }
+    ensures { Sends W.Write (count_text count) out.old printer.old out.new printer.new }
 {
     make_room(out, printer, COUNT_ROOM);
     push_count(&mut printer.block, count);
@@ -32,8 +31,7 @@ fn send_count<W: Write>(out: &mut W, printer: &mut Printer, count: u64)
 
 // Sends the lines of the words with a new printer.
 fn print_words<const P: u32, W: Write>(words: &[Word<P>], out: &mut W) -> Printer
-    ensures { IsSending W.written W.passed W.has_failed
-        (words_text words.now) out.old out.new result }
+    ensures { IsSending W.Write (words_text words.now) out.old out.new result }
 {
     let mut printer = Printer::new();
     send_words(out, &mut printer, words);
@@ -49,7 +47,7 @@ pub fn write_words<const P: u32, W: Write>(
     words: &[Word<P>],
     out: &mut W,
 ) -> Result<u64, WriteFault>
-    ensures { Written W.written W.has_failed (words_text words.now) out.old result out.new }
+    ensures { Written W.Write (words_text words.now) out.old result out.new }
 {
     let printer = print_words(words, out);
     finish(out, printer)

@@ -1,7 +1,8 @@
 -- What was read of a device, where its bytes are known.
-use Rattle.std.proofs.Common.{◌≡◌, ◌≢◌, ℕ, ◌⊎◌, Bool, true, false, List, [], Option, Some, Result, Ok, Err, inl, inr}
+use Rattle.std.proofs.Common.{◌≡◌, ◌≢◌, ℕ, ◌⊎◌, Bool, true, false, List, [], Some, Result, Ok, Err, inl, inr}
 use Rattle.std.specs.Prelude.{IfErr}
 use Rattle.std.specs.Io.KnownBytes.{IsAtEnd}
+use Rattle.sp_device.specs.declared.devices.Read.{Ghosts as Reader}
 use Rattle.sp_text.specs.declared.faults.Kind.TheVariants.{Memory, Read}
 use Rattle.sp_text.specs.declared.faults.DimacsError.{DimacsError}
 use Rattle.sp_text.specs.First.{Judge, IsSilent, fault_at_failure}
@@ -20,10 +21,10 @@ kind_told judge text at_end failure has_failed e silent (inr (inl (end, inl is))
 kind_told judge text at_end failure has_failed e silent (inr (inl (end, inr memory))) read = absurd (memory_silent judge _ _ e memory read)
 kind_told judge text at_end failure has_failed e silent (inr (inr (is, fault))) read = is
 
-pub read_told : {V : Type 0} (judge : Judge) (Spelled : List (List ℕ) → V → Type 0) (old new : Option (List ℕ)) (has_failed : Bool) (result : Result V DimacsError) → IsSilent judge → ReadOn judge Spelled old new has_failed result
-    → IfErr result (λ e. e.kind ≡ Read → has_failed ≡ true)
-read_told judge Spelled old new has_failed (Ok value) silent h = tt
-read_told judge Spelled old new has_failed (Err e) silent (given, gone, fault) = kind_told judge given (IsAtEnd new) (fault_at_failure judge given ≡ Some e) has_failed e silent fault
+pub read_told : {R V : Type 0} (judge : Judge) (Spelled : List (List ℕ) → V → Type 0) (r : Reader R) (old : R) (result : Result V DimacsError) (new : R) → IsSilent judge → ReadOn judge Spelled r old result new
+    → IfErr result (λ e. e.kind ≡ Read → r.has_failed new ≡ true)
+read_told judge Spelled r old (Ok value) new silent h = tt
+read_told judge Spelled r old (Err e) new silent (given, gone, fault) = kind_told judge given (IsAtEnd (r.left new)) (fault_at_failure judge given ≡ Some e) (r.has_failed new) e silent fault
 
 -- A device that hasn't failed isn't told of.
 pub never_read : {V : Type 0} (has_failed : Bool) (result : Result V DimacsError) → has_failed ≡ false → IfErr result (λ e. e.kind ≡ Read → has_failed ≡ true) → IfErr result (λ e. e.kind ≢ Read)

@@ -1,6 +1,7 @@
 -- The answer to the whole text of a device.
 use Rattle.std.specs.Prelude.{◌≡◌, ◌≢◌, ℕ, ◌⊎◌, Bool, true, List, [], ◌++◌, Option, Some, None, Result, Ok, Err, IfErr}
 use Rattle.std.specs.Io.KnownBytes.{Consumes, IsAtEnd}
+use Rattle.sp_device.specs.declared.devices.Read.{Ghosts as Reader}
 use Rattle.sp_device.specs.Failing.{Failing, Never}
 use Rattle.sp_text.specs.declared.faults.DimacsError.{DimacsError}
 use Rattle.sp_text.specs.declared.faults.Kind.TheVariants.{Read}
@@ -20,10 +21,10 @@ abbrev pub IsSpelled : {V : Type 0} → Judge → (List (List ℕ) → V → Typ
 IsSpelled judge Spelled value = (text : List ℕ) × (fault_at_end judge text ≡ None) × Spelled (lines text) value
 
 -- This says the same where the bytes of the device may be unknown: this text came from it.
-abbrev pub ReadOn : {V : Type 0} → Judge → (List (List ℕ) → V → Type 0) → Option (List ℕ) → Option (List ℕ) → Bool → Result V DimacsError → Type 0
-ReadOn judge Spelled old new has_failed (Ok value) = (text : List ℕ) × Consumes old new text × IsAtEnd new × (fault_at_end judge text ≡ None) × Spelled (lines text) value
-ReadOn judge Spelled old new has_failed (Err e) = (front : List ℕ) × Consumes old new front ×
-    (Refused judge [] front e ⊎ (IsAtEnd new × IsToldOf judge front e) ⊎ ((has_failed ≡ true) × (fault_at_failure judge front ≡ Some e)))
+abbrev pub ReadOn : {R V : Type 0} → Judge → (List (List ℕ) → V → Type 0) → Reader R → R → Result V DimacsError → R → Type 0
+ReadOn judge Spelled r old (Ok value) new = (text : List ℕ) × Consumes (r.left old) (r.left new) text × IsAtEnd (r.left new) × (fault_at_end judge text ≡ None) × Spelled (lines text) value
+ReadOn judge Spelled r old (Err e) new = (front : List ℕ) × Consumes (r.left old) (r.left new) front ×
+    (Refused judge [] front e ⊎ (IsAtEnd (r.left new) × IsToldOf judge front e) ⊎ ((r.has_failed new ≡ true) × (fault_at_failure judge front ≡ Some e)))
 
 -- The fault Read is never told of a device that never fails.
 abbrev pub NeverRead : {V : Type 0} → Failing → Result V DimacsError → Type 0

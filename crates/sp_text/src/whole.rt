@@ -17,8 +17,7 @@ fn read_on<R: Read, T: LineTaker + Drop>(
     mut feeder: Feeder<T>,
 ) -> Result<T::Value, DimacsError>
     requires { IsBehind T.rules T.After [] feeder }
-    ensures read { ReadOn T.rules T.Spelled (R.left reader.old) (R.left reader.new)
-        (R.has_failed reader.new) result }
+    ensures read { ReadOn T.rules T.Spelled R.Read reader.old result reader.new }
     ensures never { R.failing reader.old ≡ Never → R.has_failed reader.new ≡ false }
 {
     let mut buffer = [0u8; PIECE];

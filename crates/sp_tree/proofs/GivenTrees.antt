@@ -1,6 +1,7 @@
 -- How a tree is given.
 use Rattle.std.proofs.Common.{◌≡◌, ◌≢◌, ℕ, ◌≤◌, ◌^◌, Bool, false, List, [], length, Option, Result, Ok, Err, inl, inr}
 use Rattle.std.specs.Prelude.{IfErr}
+use Rattle.sp_device.specs.declared.devices.Read.{Ghosts as Reader}
 use Rattle.sp_text.specs.declared.faults.Kind.TheVariants.{Memory, Read}
 use Rattle.sp_text.specs.declared.faults.DimacsError.{DimacsError}
 use Rattle.sp_text.specs.Lines.{ended}
@@ -15,14 +16,14 @@ use Rattle.sp_tree.specs.Silence.{tree_silent}
 use Rattle.sp_tree.specs.Stream.{Stream, left_in, IsFaultOf, BlockFed, BlockRead}
 
 -- A block was fed, and its text has ended.
-pub block_read : {P : ℕ} {R U : Type 0} (left : R → Option (List ℕ)) (passed : R → ℕ) (has_failed : R → Bool) (old new : Stream R) (u : U) (tree again : TreeReader P) (result : Result TreeTable DimacsError)
-    → BlockFed left passed has_failed old (Ok u) new tree
+pub block_read : {P : ℕ} {R U : Type 0} (r : Reader R) (old new : Stream R) (u : U) (tree again : TreeReader P) (result : Result TreeTable DimacsError)
+    → BlockFed r old (Ok u) new tree
     → ((text : List ℕ) → length text ≤ 2 ^ 62 → IsBehindTree text tree → TreeFinished text result again)
-    → BlockRead P left passed has_failed old result new
-block_read left passed has_failed old new u tree again (Ok t) (front, within, came, whole, small, short, behind) finished =
+    → BlockRead P r old result new
+block_read r old new u tree again (Ok t) (front, within, came, whole, small, short, behind) finished =
     let end = finished front small behind in
     (end.1, short, rw end.0 at came)
-block_read left passed has_failed old new u tree again (Err e) (front, within, came, whole, small, short, behind) finished =
+block_read r old new u tree again (Err e) (front, within, came, whole, small, short, behind) finished =
     let end = finished front small behind in
     (front, within, came, inr (inl (whole, end.1)))
 
@@ -37,7 +38,7 @@ fault_told P front left has_failed e going (inr (inl (end, is))) read = told_sil
 fault_told P front left has_failed e going (inr (inr (failed, is))) read = cc
 
 -- A block that was read of a device that hasn't failed doesn't have the fault Read.
-pub read_never : {R : Type 0} (P : ℕ) (left : R → Option (List ℕ)) (passed : R → ℕ) (has_failed : R → Bool) (old : Stream R) (result : Result TreeTable DimacsError) (new : Stream R)
-    → has_failed new.reader ≡ false → BlockRead P left passed has_failed old result new → IfErr result (λ e. e.kind ≢ Read)
-read_never P left passed has_failed old (Ok tree) new going h = tt
-read_never P left passed has_failed old (Err e) new going (front, within, came, is) = fault_told P front (left_in left new) (has_failed new.reader) e going is
+pub read_never : {R : Type 0} (P : ℕ) (r : Reader R) (old : Stream R) (result : Result TreeTable DimacsError) (new : Stream R)
+    → r.has_failed new.reader ≡ false → BlockRead P r old result new → IfErr result (λ e. e.kind ≢ Read)
+read_never P r old (Ok tree) new going h = tt
+read_never P r old (Err e) new going (front, within, came, is) = fault_told P front (left_in r new) (r.has_failed new.reader) e going is

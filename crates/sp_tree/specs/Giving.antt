@@ -1,6 +1,7 @@
 -- Where a reader of blocks stands, and what it gives.
-use Rattle.std.specs.Prelude.{◌≡◌, ℕ, ◌+◌, ◌-◌, ◌^◌, ◌<◌, min, Bool, true, List, [], Option, Some, None, Result, Ok, Err}
+use Rattle.std.specs.Prelude.{◌≡◌, ℕ, ◌+◌, ◌-◌, ◌^◌, ◌<◌, min, true, List, [], Option, Some, None, Result, Ok, Err}
 use Rattle.std.specs.Io.KnownBytes.{Consumes, IsAtEnd}
+use Rattle.sp_device.specs.declared.devices.Read.{Ghosts as Reader}
 use Rattle.sp_text.specs.declared.faults.DimacsError.{DimacsError}
 use Rattle.sp_answer.specs.Table.{TreeTable, IsTable}
 use Rattle.sp_tree.specs.TreeText.{tree_text}
@@ -9,8 +10,8 @@ use Rattle.sp_tree.specs.Block.{lines_in}
 use Rattle.sp_tree.specs.Stream.{stream, left_in, IsShort, BlockRefused}
 
 -- The bytes that are left, where they are known.
-abbrev pub left_of : {P : ℕ} {R : Type 0} → (R → Option (List ℕ)) → TreeBlocks P → R → Option (List ℕ)
-left_of left blocks reader = left_in left (stream blocks.piece reader)
+abbrev pub left_of : {P : ℕ} {R : Type 0} → Reader R → TreeBlocks P → R → Option (List ℕ)
+left_of r blocks reader = left_in r (stream blocks.piece reader)
 
 -- No tree was given yet, and no byte waits.
 pub record IsFresh {P : ℕ} (blocks : TreeBlocks P) : Type 0 where
@@ -19,8 +20,8 @@ pub record IsFresh {P : ℕ} (blocks : TreeBlocks P) : Type 0 where
   pub spent : blocks.spent ≡ None
 
 -- No fault was met yet.
-abbrev pub IsGoing : {P : ℕ} {R : Type 0} → (R → ℕ) → TreeBlocks P → R → Type 0
-IsGoing passed blocks reader = (blocks.spent ≡ None) × IsShort passed (stream blocks.piece reader)
+abbrev pub IsGoing : {P : ℕ} {R : Type 0} → Reader R → TreeBlocks P → R → Type 0
+IsGoing r blocks reader = (blocks.spent ≡ None) × IsShort r (stream blocks.piece reader)
 
 -- The reader has refused its text with this fault.
 abbrev pub IsSpent : {P : ℕ} → DimacsError → TreeBlocks P → Type 0
@@ -35,15 +36,15 @@ abbrev pub in_file : ℕ → DimacsError → DimacsError
 in_file lines e = record { line = min (lines + e.line) (2 ^ 64 - 1); kind = e.kind }
 
 -- Where some tree was given before, a byte is left, or the device has failed: the end behind a tree is no fault.
-abbrev pub HasBegun : {P : ℕ} {R : Type 0} → (R → Option (List ℕ)) → (R → Bool) → TreeBlocks P → R → R → Type 0
-HasBegun left has_failed old before after = 0 < lines_before old → left_of left old before ≡ Some [] → has_failed after ≡ true
+abbrev pub HasBegun : {P : ℕ} {R : Type 0} → Reader R → TreeBlocks P → R → R → Type 0
+HasBegun r old before after = 0 < lines_before old → left_of r old before ≡ Some [] → r.has_failed after ≡ true
 
 -- The text of the next tree was read; or none is left, and some tree was given before; or this is the fault of the next block, at its line
 -- of the file.
-abbrev pub Gives : {P : ℕ} {R : Type 0} → (R → Option (List ℕ)) → (R → ℕ) → (R → Bool) → TreeBlocks P → R → Result (Option TreeTable) DimacsError → TreeBlocks P → R → Type 0
-Gives {P} left passed has_failed old before (Ok (Some tree)) new after =
-    IsTable P tree × IsGoing passed new after × Consumes (left_of left old before) (left_of left new after) (tree_text tree) × (lines_before new ≡ min (lines_before old + lines_in tree) (2 ^ 64 - 1))
-Gives left passed has_failed old before (Ok None) new after =
-    (0 < lines_before old) × IsAtEnd (left_of left new after) × IsGoing passed new after × Consumes (left_of left old before) (left_of left new after) [] × (lines_before new ≡ lines_before old)
-Gives {P} left passed has_failed old before (Err e) new after =
-    IsSpent e new × HasBegun left has_failed old before after × (fault : DimacsError) × (e ≡ in_file (lines_before old) fault) × BlockRefused P left has_failed (stream old.piece before) (stream new.piece after) fault
+abbrev pub Gives : {P : ℕ} {R : Type 0} → Reader R → TreeBlocks P → R → Result (Option TreeTable) DimacsError → TreeBlocks P → R → Type 0
+Gives {P} r old before (Ok (Some tree)) new after =
+    IsTable P tree × IsGoing r new after × Consumes (left_of r old before) (left_of r new after) (tree_text tree) × (lines_before new ≡ min (lines_before old + lines_in tree) (2 ^ 64 - 1))
+Gives r old before (Ok None) new after =
+    (0 < lines_before old) × IsAtEnd (left_of r new after) × IsGoing r new after × Consumes (left_of r old before) (left_of r new after) [] × (lines_before new ≡ lines_before old)
+Gives {P} r old before (Err e) new after =
+    IsSpent e new × HasBegun r old before after × (fault : DimacsError) × (e ≡ in_file (lines_before old) fault) × BlockRefused P r (stream old.piece before) (stream new.piece after) fault

@@ -1,6 +1,7 @@
 -- The bytes of a device, block after block.
 use Rattle.std.specs.Prelude.{◌≡◌, ℕ, ◌^◌, ◌<◌, ◌≤◌, ◌⊎◌, Bool, true, false, List, [], length, Option, Some, Result, Ok, Err}
 use Rattle.std.specs.Io.KnownBytes.{Consumes, IsAtEnd, prepend_known}
+use Rattle.sp_device.specs.declared.devices.Read.{Ghosts as Reader}
 use Rattle.sp_text.specs.declared.faults.DimacsError.{DimacsError}
 use Rattle.sp_text.specs.First.{fault_at_failure, fault_at_end}
 use Rattle.sp_text.specs.Feeding.{Refused}
@@ -20,13 +21,13 @@ abbrev pub stream : {R : Type 0} → List ℕ → R → Stream R
 stream piece reader = record { reader = reader; piece = piece }
 
 -- The bytes that are left, where they are known: those that wait, and those that the device still has.
-abbrev pub left_in : {R : Type 0} → (R → Option (List ℕ)) → Stream R → Option (List ℕ)
-left_in left stream = prepend_known stream.piece (left stream.reader)
+abbrev pub left_in : {R : Type 0} → Reader R → Stream R → Option (List ℕ)
+left_in r stream = prepend_known stream.piece (r.left stream.reader)
 
 -- The bytes that wait have passed the device, which passes 2^62 bytes at most.
-pub record IsShort {R : Type 0} (passed : R → ℕ) (stream : Stream R) : Type 0 where
-  pub counted : length stream.piece ≤ passed stream.reader
-  pub limit : 0 < length stream.piece → passed stream.reader ≤ 2 ^ 62
+pub record IsShort {R : Type 0} (r : Reader R) (stream : Stream R) : Type 0 where
+  pub counted : length stream.piece ≤ r.passed stream.reader
+  pub limit : 0 < length stream.piece → r.passed stream.reader ≤ 2 ^ 62
 
 -- A beginning of the block shows this fault; or it is all of the block, or of the text, and has it; or the device has failed behind it.
 abbrev pub IsFaultOf : (P : ℕ) → (front : List ℕ) → (left : Option (List ℕ)) → (has_failed : Bool) → DimacsError → Type 0
@@ -34,26 +35,26 @@ IsFaultOf P front left has_failed e =
     Refused (tree_judge P) [] front e ⊎ ((IsBlock front ⊎ IsAtEnd left) × (fault_at_end (tree_judge P) front ≡ Some e)) ⊎ ((has_failed ≡ true) × (fault_at_failure (tree_judge P) front ≡ Some e))
 
 -- The next block has this fault, at this line of the block.
-abbrev pub BlockRefused : {R : Type 0} → (P : ℕ) → (R → Option (List ℕ)) → (R → Bool) → Stream R → Stream R → DimacsError → Type 0
-BlockRefused P left has_failed old new e =
-    (front : List ℕ) × IsWithinBlock front × Consumes (left_in left old) (left_in left new) front × IsFaultOf P front (left_in left new) (has_failed new.reader) e
+abbrev pub BlockRefused : {R : Type 0} → (P : ℕ) → Reader R → Stream R → Stream R → DimacsError → Type 0
+BlockRefused P r old new e =
+    (front : List ℕ) × IsWithinBlock front × Consumes (left_in r old) (left_in r new) front × IsFaultOf P front (left_in r new) (r.has_failed new.reader) e
 
 -- The bytes of one block were fed, or all that were left; or the fault of the block was met.
-abbrev pub BlockFed : {P : ℕ} {R U : Type 0} → (R → Option (List ℕ)) → (R → ℕ) → (R → Bool) → Stream R → Result U DimacsError → Stream R → TreeReader P → Type 0
-BlockFed left passed has_failed old (Ok u) new tree =
-    (front : List ℕ) × IsWithinBlock front × Consumes (left_in left old) (left_in left new) front × (IsBlock front ⊎ IsAtEnd (left_in left new)) × (length front ≤ 2 ^ 62) × IsShort passed new × IsBehindTree front tree
-BlockFed {P} left passed has_failed old (Err e) new tree = BlockRefused P left has_failed old new e
+abbrev pub BlockFed : {P : ℕ} {R U : Type 0} → Reader R → Stream R → Result U DimacsError → Stream R → TreeReader P → Type 0
+BlockFed r old (Ok u) new tree =
+    (front : List ℕ) × IsWithinBlock front × Consumes (left_in r old) (left_in r new) front × (IsBlock front ⊎ IsAtEnd (left_in r new)) × (length front ≤ 2 ^ 62) × IsShort r new × IsBehindTree front tree
+BlockFed {P} r old (Err e) new tree = BlockRefused P r old new e
 
 -- A tree was read, or the fault of the block was met.
-abbrev pub BlockRead : {R : Type 0} → (P : ℕ) → (R → Option (List ℕ)) → (R → ℕ) → (R → Bool) → Stream R → Result TreeTable DimacsError → Stream R → Type 0
-BlockRead P left passed has_failed old (Ok tree) new = IsTable P tree × IsShort passed new × Consumes (left_in left old) (left_in left new) (tree_text tree)
-BlockRead P left passed has_failed old (Err e) new = BlockRefused P left has_failed old new e
+abbrev pub BlockRead : {R : Type 0} → (P : ℕ) → Reader R → Stream R → Result TreeTable DimacsError → Stream R → Type 0
+BlockRead P r old (Ok tree) new = IsTable P tree × IsShort r new × Consumes (left_in r old) (left_in r new) (tree_text tree)
+BlockRead P r old (Err e) new = BlockRefused P r old new e
 
 -- No byte is left; or one is; or the device has failed.
-abbrev pub IsLookedAt : {R E : Type 0} → (R → Option (List ℕ)) → (R → ℕ) → (R → Bool) → Stream R → Result Bool E → Stream R → Type 0
-IsLookedAt left passed has_failed old (Ok true) new =
-    IsShort passed new × Consumes (left_in left old) (left_in left new) [] × IsAtEnd (left_in left new)
-IsLookedAt left passed has_failed old (Ok false) new =
-    IsShort passed new × Consumes (left_in left old) (left_in left new) [] × (left_in left old ≡ Some [] → ⊥)
-IsLookedAt left passed has_failed old (Err e) new =
-    Consumes (left_in left old) (left_in left new) [] × (has_failed new.reader ≡ true)
+abbrev pub IsLookedAt : {R E : Type 0} → Reader R → Stream R → Result Bool E → Stream R → Type 0
+IsLookedAt r old (Ok true) new =
+    IsShort r new × Consumes (left_in r old) (left_in r new) [] × IsAtEnd (left_in r new)
+IsLookedAt r old (Ok false) new =
+    IsShort r new × Consumes (left_in r old) (left_in r new) [] × (left_in r old ≡ Some [] → ⊥)
+IsLookedAt r old (Err e) new =
+    Consumes (left_in r old) (left_in r new) [] × (r.has_failed new.reader ≡ true)

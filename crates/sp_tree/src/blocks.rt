@@ -55,10 +55,10 @@ impl<const P: u32> TreeBlocks<P> {
 
     // Reads the next block, and returns its tree.
     fn read_block<R: Read>(&mut self, reader: &mut R) -> Result<Tree<P>, DimacsError>
-        ensures read { IsShort R.passed (stream self.old.piece reader.old)
-            → BlockRead P R.left R.passed R.has_failed (stream self.old.piece reader.old)
+        ensures read { IsShort R.Read (stream self.old.piece reader.old)
+            → BlockRead P R.Read (stream self.old.piece reader.old)
             result (stream self.new.piece reader.new) }
-        ensures never { IsShort R.passed (stream self.old.piece reader.old)
+        ensures never { IsShort R.Read (stream self.old.piece reader.old)
             → R.has_failed reader.old ≡ false → NeverRead (R.failing reader.old) result }
         ensures going { R.failing reader.old ≡ Never → R.has_failed reader.old ≡ false
             → R.has_failed reader.new ≡ false }
@@ -103,9 +103,9 @@ impl<const P: u32> TreeBlocks<P> {
     pub fn next<R: Read>(&mut self, reader: &mut R) -> Result<Option<Tree<P>>, DimacsError>
         ensures again { (e : DimacsError) → IsSpent e self.old
             → (result ≡ Err e) × (self.new ≡ self.old) × (reader.new ≡ reader.old) }
-        ensures gives { IsGoing R.passed self.old reader.old
-            → Gives R.left R.passed R.has_failed self.old reader.old result self.new reader.new }
-        ensures never { IsGoing R.passed self.old reader.old → R.has_failed reader.old ≡ false
+        ensures gives { IsGoing R.Read self.old reader.old
+            → Gives R.Read self.old reader.old result self.new reader.new }
+        ensures never { IsGoing R.Read self.old reader.old → R.has_failed reader.old ≡ false
             → NeverRead (R.failing reader.old) result }
         ensures going { R.failing reader.old ≡ Never → R.has_failed reader.old ≡ false
             → R.has_failed reader.new ≡ false }

@@ -30,8 +30,8 @@ fn send_page<const P: u32, W: Write>(
     page: &mut Vec<u8>,
 )
     requires { length rows.now * 45 ≤ length page.old.items }
-    ensures sends { Sends W.written W.passed W.has_failed
-        (flat_map row_text rows.now) out.old printer.old out.new printer.new }
+    ensures sends { Sends W.Write (flat_map row_text rows.now)
+        out.old printer.old out.new printer.new }
     ensures length { length page.new.items ≡ length page.old.items }
 {
     let start = put_rows(rows, page);
@@ -45,8 +45,7 @@ fn send_pages<const P: u32, W: Write>(
     printer: &mut Printer,
     rows: &[(u32, Word<P>)],
 )
-    ensures { Sends W.written W.passed W.has_failed
-        (flat_map row_text rows.now) out.old printer.old out.new printer.new }
+    ensures { Sends W.Write (flat_map row_text rows.now) out.old printer.old out.new printer.new }
 {
     let size = PAGE_ROWS.min(rows.len());
     let Ok(mut page) = new_page(alloc, size) else {
@@ -69,8 +68,8 @@ pub fn write_tree_in_pages<const P: u32, W: Write>(
     tree: &Tree<P>,
     out: &mut W,
 ) -> Result<u64, WriteFault>
-    ensures written { Written W.written W.has_failed (tree_text tree.now) out.old result out.new }
-    ensures passed { Counted W.passed out.old result out.new }
+    ensures written { Written W.Write (tree_text tree.now) out.old result out.new }
+    ensures passed { Counted W.Write out.old result out.new }
 {
     let mut printer = Printer::new();
     send_problem(out, &mut printer, tree);

@@ -16,9 +16,9 @@ pub fn feed_block<const P: u32, R: Read>(
     piece: &mut Piece,
     tree: &mut TreeReader<P>,
 ) -> Result<(), DimacsError>
-    ensures fed { IsShort R.passed (stream piece.old reader.old) → IsBehindTree [] tree.old
-        → BlockFed R.left R.passed R.has_failed (stream piece.old reader.old) result
-        (stream piece.new reader.new) tree.new }
+    ensures fed { IsShort R.Read (stream piece.old reader.old) → IsBehindTree [] tree.old
+        → BlockFed R.Read (stream piece.old reader.old)
+        result (stream piece.new reader.new) tree.new }
     ensures going { R.failing reader.old ≡ Never → R.has_failed reader.old ≡ false
         → R.has_failed reader.new ≡ false }
     ensures lasting { R.failing reader.new ≡ R.failing reader.old }
@@ -45,9 +45,9 @@ pub fn feed_block<const P: u32, R: Read>(
 /// Returns whether no bytes are left.
 #[tactic(auto, using(crate::proofs::LeftBytes::one_waits, crate::proofs::LeftBytes::one_came))]
 pub fn is_over<R: Read>(reader: &mut R, piece: &mut Piece) -> Result<bool, Failed>
-    ensures looked { IsShort R.passed (stream piece.old reader.old)
-        → IsLookedAt R.left R.passed R.has_failed (stream piece.old reader.old) result
-        (stream piece.new reader.new) }
+    ensures looked { IsShort R.Read (stream piece.old reader.old)
+        → IsLookedAt R.Read (stream piece.old reader.old)
+        result (stream piece.new reader.new) }
     ensures going { R.failing reader.old ≡ Never → R.has_failed reader.old ≡ false
         → R.has_failed reader.new ≡ false }
     ensures lasting { R.failing reader.new ≡ R.failing reader.old }

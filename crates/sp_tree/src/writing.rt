@@ -57,8 +57,8 @@ fn push_far(block: &mut Block, source: u32, vertex: u32)
 }
 
 fn send_row<const P: u32, W: Write>(out: &mut W, printer: &mut Printer, vertex: u32, word: Word<P>)
-    ensures { Sends W.written W.passed W.has_failed
-        (reached_text vertex word.entry) out.old printer.old out.new printer.new }
+    ensures { Sends W.Write (reached_text vertex word.entry)
+        out.old printer.old out.new printer.new }
 {
     make_room(out, printer, LINE_ROOM);
     push_row(&mut printer.block, vertex, word);
@@ -70,8 +70,7 @@ pub(crate) fn send_rows<const P: u32, W: Write>(
     printer: &mut Printer,
     rows: &[(u32, Word<P>)],
 )
-    ensures { Sends W.written W.passed W.has_failed
-        (flat_map row_text rows.now) out.old printer.old out.new printer.new }
+    ensures { Sends W.Write (flat_map row_text rows.now) out.old printer.old out.new printer.new }
 {
     for (vertex, word) in rows {
         send_row(out, printer, *vertex, *word);
@@ -84,8 +83,8 @@ pub(crate) fn send_problem<const P: u32, W: Write>(
     printer: &mut Printer,
     tree: &Tree<P>,
 )
-    ensures { Sends W.written W.passed W.has_failed
-        (problem_text tree.now.n tree.now.source) out.old printer.old out.new printer.new }
+    ensures { Sends W.Write (problem_text tree.now.n tree.now.source)
+        out.old printer.old out.new printer.new }
 {
     make_room(out, printer, LINE_ROOM);
     push_problem(&mut printer.block, tree.n(), tree.source());
@@ -93,8 +92,8 @@ pub(crate) fn send_problem<const P: u32, W: Write>(
 
 /// Sends the last line of a tree, with the number of its rows.
 pub(crate) fn send_end<const P: u32, W: Write>(out: &mut W, printer: &mut Printer, tree: &Tree<P>)
-    ensures { Sends W.written W.passed W.has_failed
-        (end_text (length tree.now.rows)) out.old printer.old out.new printer.new }
+    ensures { Sends W.Write (end_text (length tree.now.rows))
+        out.old printer.old out.new printer.new }
 {
     make_room(out, printer, LINE_ROOM);
     push_end(&mut printer.block, tree.rows().len() as u64);
@@ -104,8 +103,8 @@ pub(crate) fn send_end<const P: u32, W: Write>(out: &mut W, printer: &mut Printe
 ///
 /// It allocates no memory. If the writer fails, a prefix of the block was written.
 pub fn write_tree<const P: u32, W: Write>(tree: &Tree<P>, out: &mut W) -> Result<u64, WriteFault>
-    ensures written { Written W.written W.has_failed (tree_text tree.now) out.old result out.new }
-    ensures passed { Counted W.passed out.old result out.new }
+    ensures written { Written W.Write (tree_text tree.now) out.old result out.new }
+    ensures passed { Counted W.Write out.old result out.new }
 {
     let mut printer = Printer::new();
     send_problem(out, &mut printer, tree);
@@ -118,9 +117,8 @@ pub fn write_tree<const P: u32, W: Write>(tree: &Tree<P>, out: &mut W) -> Result
 ///
 /// It allocates no memory. If the writer fails, a prefix of the line was written.
 pub fn write_far<W: Write>(source: u32, vertex: u32, out: &mut W) -> Result<u64, WriteFault>
-    ensures written { Written W.written W.has_failed
-        (far_text source vertex) out.old result out.new }
-    ensures passed { Counted W.passed out.old result out.new }
+    ensures written { Written W.Write (far_text source vertex) out.old result out.new }
+    ensures passed { Counted W.Write out.old result out.new }
 {
     let mut printer = Printer::new();
     make_room(out, &mut printer, LINE_ROOM);

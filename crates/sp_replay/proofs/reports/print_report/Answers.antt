@@ -6,5 +6,5 @@ use Rattle.sp_replay.proofs.reports.print_report.Goals as goal
 pub returns : goal.returns
 returns g c =
     let start = c.args.out.now in
-    let none = unsent g.W.Write.written g.W.Write.passed g.W.Write.has_failed start c.new-printer.result c.new-printer.ensures.block c.new-printer.ensures.count c.new-printer.ensures.going in
+    let none = unsent g.W.Write start c.new-printer.result c.new-printer.ensures.block c.new-printer.ensures.count c.new-printer.ensures.going in
     rw (report_is c.args.report.now c.deref.result.now c.deref-2.result.now c.deref.ensures.value c.deref-2.ensures.value) (c.send_end.ensures _ start (c.send_words.ensures _ start (c.send_calls.ensures [] start none)))

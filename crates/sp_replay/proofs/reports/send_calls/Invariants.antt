@@ -5,4 +5,4 @@ use Rattle.sp_device.specs.Printing.{Sends}
 use Rattle.sp_replay.proofs.reports.send_calls.Given as goal
 
 abbrev pub invariant-loop-call : goal.invariant-loop-call
-invariant-loop-call g l = Sends g.W.Write.written g.W.Write.passed g.W.Write.has_failed (flat_map call_text (take l.call-index l.calls)) l.fn.out l.fn.printer l.out l.printer
+invariant-loop-call g l = Sends g.W.Write (flat_map call_text (take l.call-index l.calls)) l.fn.out l.fn.printer l.out l.printer

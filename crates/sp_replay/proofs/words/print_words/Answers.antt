@@ -5,5 +5,5 @@ use Rattle.sp_replay.proofs.words.print_words.Goals as goal
 pub returns : goal.returns
 returns g c =
     let start = c.args.out.now in
-    let none = unsent g.W.Write.written g.W.Write.passed g.W.Write.has_failed start c.new-printer.result c.new-printer.ensures.block c.new-printer.ensures.count c.new-printer.ensures.going in
+    let none = unsent g.W.Write start c.new-printer.result c.new-printer.ensures.block c.new-printer.ensures.count c.new-printer.ensures.going in
     rw (← c.count_reached.ensures.count) (c.send_count.ensures _ start (c.send_words.ensures [] start none))

@@ -6,7 +6,7 @@ abbrev pub invariant-loop-rest : goal.invariant-loop-rest
 invariant-loop-rest g l = record {
   short : length l.rest ≤ length l.rows;
   page : length l.page.items ≡ l.size * 45;
-  sent : IsSentBut g.W.Write.written g.W.Write.passed g.W.Write.has_failed l.rows l.rest l.fn.out l.fn.printer l.out l.printer;
+  sent : IsSentBut g.W.Write l.rows l.rest l.fn.out l.fn.printer l.out l.printer;
 }
 
 abbrev pub decreases-loop-rest : goal.decreases-loop-rest

@@ -11,7 +11,7 @@ returns-clause-written g c =
     let tree = c.args.tree.now in
     let head = problem_text tree.n tree.source in
     let rows = flat_map row_text c.rows.result.now in
-    let none = unsent g.W.Write.written g.W.Write.passed g.W.Write.has_failed start c.new-printer.result c.new-printer.ensures.block c.new-printer.ensures.count c.new-printer.ensures.going in
+    let none = unsent g.W.Write start c.new-printer.result c.new-printer.ensures.block c.new-printer.ensures.count c.new-printer.ensures.going in
     let all = c.send_end.ensures (head ++ rows) start (c.send_pages.ensures head start (c.send_problem.ensures [] start none)) in
     rw (tree_is tree c.rows.result.now c.rows.ensures.rows) (c.finish.ensures.written ((head ++ rows) ++ end_text (length tree.rows)) start all)
 
@@ -21,6 +21,6 @@ returns-clause-passed g c =
     let tree = c.args.tree.now in
     let head = problem_text tree.n tree.source in
     let rows = flat_map row_text c.rows.result.now in
-    let none = unsent g.W.Write.written g.W.Write.passed g.W.Write.has_failed start c.new-printer.result c.new-printer.ensures.block c.new-printer.ensures.count c.new-printer.ensures.going in
+    let none = unsent g.W.Write start c.new-printer.result c.new-printer.ensures.block c.new-printer.ensures.count c.new-printer.ensures.going in
     let all = c.send_end.ensures (head ++ rows) start (c.send_pages.ensures head start (c.send_problem.ensures [] start none)) in
     c.finish.ensures.passed ((head ++ rows) ++ end_text (length tree.rows)) start all

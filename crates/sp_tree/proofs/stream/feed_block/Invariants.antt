@@ -6,7 +6,7 @@ use Rattle.sp_tree.proofs.BlockSteps.{IsFeeding}
 use Rattle.sp_tree.proofs.stream.feed_block.Given as goal
 
 abbrev pub invariant-loop-state : goal.invariant-loop-state
-invariant-loop-state g l = (IsShort g.R.Read.passed (stream l.fn.piece l.fn.reader) → IsBehindTree [] l.fn.tree → IsFeeding g.R.Read.left g.R.Read.passed (stream l.fn.piece l.fn.reader) l.state (stream l.piece l.reader) l.tree)
+invariant-loop-state g l = (IsShort g.R.Read (stream l.fn.piece l.fn.reader) → IsBehindTree [] l.fn.tree → IsFeeding g.R.Read (stream l.fn.piece l.fn.reader) l.state (stream l.piece l.reader) l.tree)
     × (g.R.Read.failing l.reader ≡ g.R.Read.failing l.fn.reader)
     × (g.R.Read.failing l.fn.reader ≡ Never → g.R.Read.has_failed l.fn.reader ≡ false → g.R.Read.has_failed l.reader ≡ false)
 

@@ -5,4 +5,4 @@ use Rattle.sp_tree.proofs.writing.send_end.Goals as goal
 
 pub returns : goal.returns
 returns g c = λ front start sent.
-    rw c.rows.ensures.rows at (pushed g.W.Write.written g.W.Write.passed g.W.Write.has_failed front (end_text (length c.rows.result.now)) start c.make_room.new.out c.make_room.new.printer c.push_end.new.block (c.make_room.ensures.sends front start sent) c.push_end.ensures)
+    rw c.rows.ensures.rows at (pushed g.W.Write front (end_text (length c.rows.result.now)) start c.make_room.new.out c.make_room.new.printer c.push_end.new.block (c.make_room.ensures.sends front start sent) c.push_end.ensures)

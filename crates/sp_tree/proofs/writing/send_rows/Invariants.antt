@@ -5,4 +5,4 @@ use Rattle.sp_device.specs.Printing.{Sends}
 use Rattle.sp_tree.proofs.writing.send_rows.Given as goal
 
 abbrev pub invariant-loop-vertex : goal.invariant-loop-vertex
-invariant-loop-vertex g l = Sends g.W.Write.written g.W.Write.passed g.W.Write.has_failed (flat_map row_text (take l.vertex-index l.rows)) l.fn.out l.fn.printer l.out l.printer
+invariant-loop-vertex g l = Sends g.W.Write (flat_map row_text (take l.vertex-index l.rows)) l.fn.out l.fn.printer l.out l.printer
