@@ -36,7 +36,7 @@ module _ (P : ℕ) (run : WalksFrom) (place : IsPlace P run) (words : List Word)
   -- ## Arcs within a distance are relaxed
 
   -- with buckets as wide as that, the first one has passed its test
-  passed : (far : ℕ) → IsClosedUpTo run.graph (max_dist P) far (word_at words) → HasPassed run.graph run.source (max_dist P) (far + 1) 0 (word_at words)
+  pub passed : (far : ℕ) → IsClosedUpTo run.graph (max_dist P) far (word_at words) → HasPassed run.graph run.source (max_dist P) (far + 1) 0 (word_at words)
   passed far closed = record {
     graph = place.graph;
     source = place.source;

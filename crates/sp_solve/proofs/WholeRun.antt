@@ -17,7 +17,7 @@ use Rattle.sp_team.specs.Law.{AllowsArcs, IsReady}
 use Rattle.sp_scan.specs.Shown.{Shows, LeadsOut}
 use Rattle.sp_scan.specs.declared.scan.Scan.TheVariants.{Whole}
 use Rattle.sp_answer.specs.Answer.{IsAnswer}
-use Rattle.sp_solve.specs.WholeRun.{IsPlace, TakesWalks, IsRelaxedCopy}
+use Rattle.sp_solve.specs.WholeRun.{IsPlace, TakesWalks, IsOfWalks, IsRelaxedCopy}
 
 -- a lawful pair is of a walk
 pub lawful_walk : (g : Graph) (s v d p : ℕ) → IsLawful g s v (Pair d p) → HasWalk g s v d
@@ -48,7 +48,7 @@ module _ (P : ℕ) (run : WalksFrom) (place : IsPlace P run) where
 
   -- ## The tree
 
-  module _ (words : List Word) (copy : IsRelaxedCopy P run words) where
+  module _ (words : List Word) (copy : IsOfWalks P run words) where
     pred_within : (v : ℕ) (w : Word) → IsLawful run.graph run.source v w → HasPredWithin run.graph.n w
     pred_within v Unreached law = tt
     pred_within v (Pair d p) (inl own) = let zero_is = own.2 in omega arith
@@ -58,8 +58,9 @@ module _ (P : ℕ) (run : WalksFrom) (place : IsPlace P run) where
     preds_within k d lt =
         let at : IsVertex run.graph.n (k + 1) = (let size = copy.0 in (omega arith, omega arith)) in
         let is : word_at words (k + 1) ≡ get_or words k d = (let there : k + 1 - 1 ≡ k = omega arith in ap (λ i. get_or words i Unreached) there ∙ get_or_default words k Unreached d lt) in
-        subst (λ n. HasPredWithin n (get_or words k d)) (sym copy.0) (subst (HasPredWithin run.graph.n) is (pred_within (k + 1) (word_at words (k + 1)) (copy.1.table.lawful (k + 1) at)))
+        subst (λ n. HasPredWithin n (get_or words k d)) (sym copy.0) (subst (HasPredWithin run.graph.n) is (pred_within (k + 1) (word_at words (k + 1)) (copy.1.lawful (k + 1) at)))
 
+  module _ (words : List Word) (copy : IsRelaxedCopy P run words) where
     pub whole_answer : (t : TreeTable) → t ≡ tree_of run.source words → ((v : ℕ) → 1 ≤ v → v ≤ t.n → slice_get words (v - 1) ≡ Some (table_of t v)) → FinishedIsTree
         → IsLeastLeftOut run.graph (word_at words) None → IsAnswer P run.graph run.source t
     whole_answer t is each law none =

@@ -1,11 +1,13 @@
-//! Runs by a team: the shortest-path tree from a source, or what is to be told of some targets.
+//! Runs by a team: the shortest-path tree from a source, its part within a distance, or what is to be told of some targets.
 #![tactic(auto)]
 
 mod reach;
 mod relaxing;
 mod source;
 mod whole;
+mod within;
 
 pub use reach::{Query, Reach, run_targets};
 pub use source::{run_by_team, run_source, useful_team};
 pub use sp_answer::{PairAnswer, RunError};
+pub use within::{Part, cut, run_within, run_within_metered};

@@ -32,8 +32,8 @@ fn farthest<const P: u32>(words: &[Word<P>], targets: &[u32]) -> Option<u64>
 }
 
 impl<'g, const P: u32> WholeRun<'g, P> {
-    // Makes the table of the run, in which the source has its pair.
-    fn open(&self) -> Result<(OfferTable<Walks<'g>, P>, Caller), AllocError>
+    /// Makes the table of the run, in which the source has its pair.
+    pub(crate) fn open(&self) -> Result<(OfferTable<Walks<'g>, P>, Caller), AllocError>
         ensures table { IfOk result (λ made. TakesWalks self.now made.0.law made.0.vertices) }
         ensures caller { IfOk result (λ made. made.1.table ≡ made.0.id) }
         ensures opened { IfOk result (λ made. HasOpened self.now made.1) }
@@ -44,8 +44,8 @@ impl<'g, const P: u32> WholeRun<'g, P> {
         Ok((table, caller))
     }
 
-    // Lets the team relax what the queue asks for, as far as the targets lie, and then copies all words.
-    fn lower<R: Threads + Wait + Sync>(
+    /// Lets the team relax what the queue asks for, as far as the targets and the limit lie, and then copies all words.
+    pub(crate) fn lower<R: Threads + Wait + Sync>(
         &self,
         rt: &R,
         table: &OfferTable<Walks<'g>, P>,
@@ -108,6 +108,7 @@ impl<'g, const P: u32> WholeRun<'g, P> {
                 team: self.team,
                 queue: queue.as_slice(),
                 targets,
+                limit: u64::MAX,
                 meter: self.meter,
             };
             let done = self.lower(rt, table, &search, caller, words);

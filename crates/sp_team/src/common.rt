@@ -1,9 +1,9 @@
 //! What all workers of a team have in common.
 use crate::chunk::Chunk;
 use crate::deques::{TeamDeques, make_deques};
+use crate::search::Search;
 use crate::signals::Signals;
 use crossbeam_deque::{Stealer, Worker};
-use sp_word::Team;
 use std::alloc::{AllocError, Global};
 
 /// A worker begins with buckets that are delta wide, divided by 2 to this power.
@@ -23,6 +23,8 @@ pub struct Common {
     pub queue: Vec<u32>,
     /// The vertices whose words are looked for; all vertices, where none is named.
     pub targets: Vec<u32>,
+    /// The greatest distance that is looked for.
+    pub limit: u64,
     /// A bucket is 2 to this power wide at first.
     pub shift: u32,
 }
@@ -31,19 +33,18 @@ impl Common {
     /// Makes what the workers of a search have in common, and the deque of each of them.
     pub fn new<const P: u32>(
         alloc: Global,
-        team: Team<P>,
-        queue: &[u32],
-        targets: &[u32],
+        search: &Search<P>,
     ) -> Result<(Common, Vec<Worker<Chunk>>), AllocError> {
-        let workers = team.workers.get() as usize;
+        let workers = search.team.workers.get() as usize;
         let TeamDeques { owners, stealers } = make_deques(alloc, workers)?;
         let common = Common {
             alloc,
             signals: Signals::new(alloc, workers)?,
             stealers,
-            queue: Vec::from_slice(alloc, queue)?,
-            targets: Vec::from_slice(alloc, targets)?,
-            shift: team.delta.get().ilog2().saturating_sub(FINER),
+            queue: Vec::from_slice(alloc, search.queue)?,
+            targets: Vec::from_slice(alloc, search.targets)?,
+            limit: search.limit,
+            shift: search.team.delta.get().ilog2().saturating_sub(FINER),
         };
         Ok((common, owners))
     }

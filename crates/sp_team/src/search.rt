@@ -21,12 +21,14 @@ pub struct Search<'q, const P: u32> {
     pub queue: &'q [u32],
     /// The vertices whose words are looked for; all vertices, where none is named.
     pub targets: &'q [u32],
+    /// The greatest distance that is looked for: entries beyond it aren't worked off. `u64::MAX` where there is none.
+    pub limit: u64,
     /// Where the workers count the vertices that they relax.
     pub meter: &'q Meter,
 }
 
-/// How far a worker has to go: to the farthest of the targets, once all of them are reached. Since distances only fall, it
-/// goes too far at first, and far enough always.
+/// How far a worker has to go: to the limit, and to the farthest of the targets, once all of them are reached. Since distances
+/// only fall, it goes too far at first, and far enough always.
 #[derive(Clone, Copy)]
 pub(crate) struct Horizon {
     // the greatest distance of an entry that may have a bearing on the targets' words
@@ -38,10 +40,10 @@ pub(crate) struct Horizon {
 }
 
 impl Horizon {
-    /// Makes the horizon of targets that weren't looked at.
-    pub(crate) fn new() -> Horizon {
+    /// Makes the horizon of targets that weren't looked at: it lies at the limit.
+    pub(crate) fn new(limit: u64) -> Horizon {
         Horizon {
-            end: u64::MAX,
+            end: limit,
             seen: 0,
             farthest: 0,
         }
@@ -52,9 +54,10 @@ impl Horizon {
         dist <= self.end
     }
 
-    // Where all targets are reached, puts it at the farthest, and looks at them from the first on again.
+    // Where all targets are reached, puts it at the farthest, if that is nearer than the limit, and looks at them from the
+    // first on again.
     fn close_in(&mut self) {
-        self.end = self.farthest;
+        self.end = self.end.min(self.farthest);
         self.seen = 0;
         self.farthest = 0;
     }

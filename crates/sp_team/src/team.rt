@@ -139,7 +139,7 @@ fn work<R: Wait, L: Lawful, const P: u32>(
     if !begin(rt, graph, table, common, hands, caller)? {
         return Ok(());
     }
-    let mut horizon = Horizon::new();
+    let mut horizon = Horizon::new(common.limit);
     for _ in rt.forever() {
         if !hands.find(rt, common)? {
             return Ok(());
@@ -301,7 +301,7 @@ fn run_workers<R: Threads + Wait + Sync, L: Lawful + Send + Sync, const P: u32>(
 }
 
 /// Relaxes the arcs of the vertices in the queue, and of all whose distance becomes smaller thereby, as long as there is
-/// memory for the entries; where targets are named, of those no farther than the farthest target.
+/// memory for the entries; of those no farther than the limit, and where targets are named, than the farthest target.
 ///
 /// The workers are this thread and threads that it starts and joins. Each has a caller of its own.
 pub fn relax_all<R: Threads + Wait + Sync, L: Lawful + Send + Sync, const P: u32>(
@@ -316,8 +316,8 @@ pub fn relax_all<R: Threads + Wait + Sync, L: Lawful + Send + Sync, const P: u32
     requires caller { caller.table ≡ table.now.id }
     ensures { IsLater (lawful P (L.allows table.now.law)) caller result.caller }
 {
-    let (team, queue, targets, meter) = (search.team, search.queue, search.targets, search.meter);
-    let (common, owners) = match Common::new(alloc, team, queue, targets) {
+    let meter = search.meter;
+    let (common, owners) = match Common::new(alloc, search) {
         Ok(made) => made,
         Err(_) => return Relaxed { caller, lost: true },
     };

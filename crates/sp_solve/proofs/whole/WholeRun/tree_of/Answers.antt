@@ -17,7 +17,7 @@ of_words-requires g c =
     let size = copy.0 in
     let low = place.source.0 in
     let high = place.source.1 in
-    (omega arith, (omega arith, (place.layout, (omega arith, (subst (λ k. k ≤ max_pred g.row.P) (sym size) place.most, (low, (omega arith, preds_within g.row.P run place c.args.words.now copy)))))))
+    (omega arith, (omega arith, (place.layout, (omega arith, (subst (λ k. k ≤ max_pred g.row.P) (sym size) place.most, (low, (omega arith, preds_within g.row.P run place c.args.words.now (copy.0, copy.1.table, copy.1.within))))))))
 
 pub returns : goal.returns
 returns g c =

@@ -1,0 +1,36 @@
+use Rattle.std.proofs.Common.{List, Some, None, sym, subst}
+use Rattle.sp_word.specs.Word.{max_dist}
+use Rattle.sp_paths.specs.declared.arc.Arc.{Arc}
+use Rattle.sp_paths.specs.Paths.{word_at}
+use Rattle.sp_scan.specs.declared.scan.Scan.TheVariants.{Whole, LeavesOut}
+use Rattle.sp_scan.specs.Shown.{Shows}
+use Rattle.sp_near.specs.Sources.{Sources}
+use Rattle.sp_near.specs.NearRun.{IsOfWalks, IsRelaxedCopy}
+use Rattle.sp_graph.specs.LeftOut.{IsLeastLeftOut}
+use Rattle.sp_near.proofs.NearRun.{relaxed, whole_left, left_left}
+use Rattle.sp_near.proofs.run.NearRun.relax_turns.Goals as goal
+
+pub returns-in-Whole-clause-left : goal.returns-in-Whole-clause-left
+returns-in-Whole-clause-left g c =
+    let run : Sources = record { graph = c.self.inside.graph.now; sources = c.self.inside.sources.now } in
+    let words = c.lower-done.new.words in
+    let copy = subst (λ r. IsOfWalks g.row.P r words) (sym c.self.view_is) c.lower-done.ensures.copy in
+    let shows = subst (λ (arcs : List Arc). Shows (max_dist g.row.P) (word_at words) arcs Whole) c.arcs.ensures.arcs c.in-Whole.ensures in
+    subst (λ (r : Sources). IsLeastLeftOut r.graph (word_at words) None) c.self.view_is (whole_left g.row.P run c.self.invariant words copy shows)
+
+pub returns-in-LeavesOut-clause-relaxed : goal.returns-in-LeavesOut-clause-relaxed
+returns-in-LeavesOut-clause-relaxed g c =
+    let run : Sources = record { graph = c.self.inside.graph.now; sources = c.self.inside.sources.now } in
+    let words = c.lower-done.new.words in
+    let copy = subst (λ r. IsOfWalks g.row.P r words) (sym c.self.view_is) c.lower-done.ensures.copy in
+    let shows = subst (λ (arcs : List Arc). Shows (max_dist g.row.P) (word_at words) arcs (LeavesOut c.in-LeavesOut.vertex)) c.arcs.ensures.arcs c.in-LeavesOut.ensures in
+    subst (λ r. IsRelaxedCopy g.row.P r words) c.self.view_is (relaxed g.row.P run c.self.invariant words copy shows.0)
+
+pub returns-in-LeavesOut-clause-left : goal.returns-in-LeavesOut-clause-left
+returns-in-LeavesOut-clause-left g c =
+    let run : Sources = record { graph = c.self.inside.graph.now; sources = c.self.inside.sources.now } in
+    let words = c.lower-done.new.words in
+    let v = c.in-LeavesOut.vertex in
+    let copy = subst (λ r. IsOfWalks g.row.P r words) (sym c.self.view_is) c.lower-done.ensures.copy in
+    let shows = subst (λ (arcs : List Arc). Shows (max_dist g.row.P) (word_at words) arcs (LeavesOut v)) c.arcs.ensures.arcs c.in-LeavesOut.ensures in
+    subst (λ (r : Sources). IsLeastLeftOut r.graph (word_at words) (Some v)) c.self.view_is (left_left g.row.P run c.self.invariant words copy v shows)

@@ -1,0 +1,5 @@
+pub mod Sources
+pub mod ForestTable
+pub mod Rooted
+pub mod Nearest
+pub mod NearRun

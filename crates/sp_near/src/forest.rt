@@ -1,0 +1,107 @@
+//! Forests as tables of rows.
+ghost use Rattle.std.specs.Prelude.{◌≡◌, ◌≤◌, length, true, None, Some, IfOk, MatchOption};
+ghost use Rattle.sp_word.specs.Word.{is_layout, max_pred};
+ghost use Rattle.sp_paths.specs.Paths.{IsVertex, word_at};
+ghost use Rattle.sp_forest.specs.Roots.{FallsBack};
+ghost use Rattle.sp_near.specs.ForestTable.{IsForestTable, row_in, root_of, table_of};
+ghost use Rattle.sp_near.specs.Rooted.{HoldsWords, HoldsRoots};
+
+use crate::roots::roots_of;
+use crate::rows::rows_of;
+use sp_word::Word;
+use std::alloc::{AllocError, Global};
+use std::marker::Model;
+
+/// A forest of shortest paths from several sources: the number of vertices, and a row for each vertex that is reached.
+#[derive(Drop)]
+pub struct Forest<const P: u32> {
+    n: u32,
+    // each vertex with its word and its root
+    rows: Vec<(u32, Word<P>, u32)>,
+}
+
+impl<const P: u32> Model for Forest<P> {
+    ghost use Rattle.sp_near.specs.ForestTable.{ForestTable, IsForestTable};
+
+    ghost Value = { ForestTable };
+
+    ghost view = { λ f. record { n = f.n; rows = f.rows.items } };
+
+    ghost invariant = { λ f. IsForestTable P (record { n = f.n; rows = f.rows.items }) };
+}
+
+impl<const P: u32> Forest<P> {
+    /// Makes the forest in which the vertices have these words. Their chains of predecessors end.
+    pub(crate) fn of_words(alloc: Global, words: &[Word<P>]) -> Result<Forest<P>, AllocError>
+        requires layout { is_layout P ≡ true }
+        requires most { length words.now ≤ max_pred P }
+        requires falls { FallsBack (length words.now) (word_at words.now) }
+        ensures n { IfOk result (λ forest. forest.n ≡ length words.now) }
+        ensures words { IfOk result (HoldsWords words.now) }
+        ensures roots { IfOk result (HoldsRoots words.now) }
+    {
+        let roots = roots_of(alloc, words)?;
+        let rows = rows_of(alloc, words, roots.as_slice())?;
+        Ok(Forest {
+            n: words.len() as u32,
+            rows,
+        })
+    }
+
+    /// Returns the number of vertices.
+    pub fn n(&self) -> u32
+        ensures n { result ≡ self.now.n }
+        ensures table { IsForestTable P self.now }
+    {
+        self.n
+    }
+
+    /// Returns the reached vertices, by rising number, each with its word and its root.
+    pub fn rows(&self) -> &[(u32, Word<P>, u32)]
+        ensures rows { result.now ≡ self.now.rows }
+        ensures table { IsForestTable P self.now }
+    {
+        &self.rows
+    }
+
+    // Returns the row of a vertex, if it has one.
+    fn row(&self, vertex: u32) -> Option<(u32, Word<P>, u32)>
+        ensures { MatchOption result (row_in self.now.rows vertex ≡ None)
+            (λ row. row_in self.now.rows vertex ≡ Some row) }
+    {
+        match self.rows.binary_search_by_key(
+            &vertex,
+            |row: &(u32, Word<P>, u32)| -> u32
+                ensures { result ≡ row.now.0 }
+            { row.0 },
+        ) {
+            Ok(place) => Some(self.rows[place]),
+            Err(_) => None,
+        }
+    }
+
+    /// Returns the word of a vertex: its least distance from any of the sources, and the smallest vertex before it on such a
+    /// walk.
+    pub fn word(&self, vertex: u32) -> Word<P>
+        requires { IsVertex self.now.n vertex }
+        ensures { result ≡ table_of self.now vertex }
+    {
+        // The layout of the words is the fact of the fields that is needed below.
+        let _ = &self.n;
+        match self.row(vertex) {
+            Some(row) => row.1,
+            None => Word::unreached(),
+        }
+    }
+
+    /// Returns the root of a vertex: the source at which its chain of predecessors begins. A vertex that isn't reached has none.
+    pub fn root(&self, vertex: u32) -> Option<u32>
+        requires { IsVertex self.now.n vertex }
+        ensures { result ≡ root_of self.now vertex }
+    {
+        match self.row(vertex) {
+            Some(row) => Some(row.2),
+            None => None,
+        }
+    }
+}

@@ -1,0 +1,120 @@
+//! A run by a team from several sources.
+//!
+//! The team lowers the words, in whatever order. What the run answers rests on a copy of the words alone.
+ghost use Rattle.std.specs.Prelude.{◌≡◌, ◌≤◌, true, All, length, IfOk};
+ghost use Rattle.sp_word.specs.Word.{is_layout, max_pred};
+ghost use Rattle.sp_paths.specs.Paths.{IsVertex};
+ghost use Rattle.sp_near.specs.NearRun.{TakesWalks, KnowsOwn, IsOfWalks};
+
+use crate::walks::NearWalks;
+use sp_graph::Graph;
+use sp_offer::{Caller, OfferTable};
+use sp_team::{Relaxed, Search, relax_all};
+use sp_word::{Meter, Team, Word};
+use std::alloc::{AllocError, Global};
+use std::marker::Model;
+use std::sync::Wait;
+use std::thread::Threads;
+
+/// A run from several sources of a graph, by a team. Contracts see the graph and the sources.
+#[derive(Drop)]
+pub(crate) struct NearRun<'g, const P: u32> {
+    pub(crate) alloc: Global,
+    pub(crate) graph: &'g Graph,
+    pub(crate) sources: &'g [u32],
+    pub(crate) team: Team<P>,
+    // where the team counts what it has relaxed
+    pub(crate) meter: &'g Meter,
+}
+
+impl<'g, const P: u32> Model for NearRun<'g, P> {
+    ghost use Rattle.sp_near.specs.Sources.{Sources};
+    ghost use Rattle.sp_near.specs.NearRun.{IsPlace};
+
+    ghost Value = { Sources };
+
+    ghost view = { λ r. record { graph = r.graph.now; sources = r.sources.now } };
+
+    ghost invariant = { λ r. IsPlace P
+        (record { graph = r.graph.now; sources = r.sources.now }) };
+}
+
+// Offers each of the sources its own pair.
+fn offer_sources<'g, const P: u32>(
+    table: &OfferTable<NearWalks<'g>, P>,
+    sources: &[u32],
+    caller: &mut Caller,
+)
+    requires layout { is_layout P ≡ true }
+    requires law { table.now.law.sources ≡ sources.now }
+    requires vertices { All (IsVertex table.now.vertices) sources.now }
+    requires caller { caller.old.table ≡ table.now.id }
+    ensures caller { caller.new.table ≡ caller.old.table }
+    ensures own { KnowsOwn sources.entry.now caller.new }
+{
+    for source in sources {
+        table.offer(caller, *source, Word::pack(0, 0));
+    }
+}
+
+impl<'g, const P: u32> NearRun<'g, P> {
+    /// Makes a run from vertices of the graph.
+    pub(crate) fn new(
+        alloc: Global,
+        graph: &'g Graph,
+        sources: &'g [u32],
+        team: Team<P>,
+        meter: &'g Meter,
+    ) -> NearRun<'g, P>
+        requires layout { is_layout P ≡ true }
+        requires most { graph.now.n ≤ max_pred P }
+        requires vertices { All (IsVertex graph.now.n) sources.now }
+        ensures graph { result.graph ≡ graph.entry.now }
+        ensures sources { result.sources ≡ sources.entry.now }
+    {
+        let _ = graph.n();
+        NearRun {
+            alloc,
+            graph,
+            sources,
+            team,
+            meter,
+        }
+    }
+
+    /// Makes the table of the run, in which each source has its pair.
+    pub(crate) fn open(&self) -> Result<(OfferTable<NearWalks<'g>, P>, Caller), AllocError>
+        ensures table { IfOk result (λ made. TakesWalks self.now made.0.law made.0.vertices) }
+        ensures caller { IfOk result (λ made. made.1.table ≡ made.0.id) }
+        ensures own { IfOk result (λ made. KnowsOwn self.now.sources made.1) }
+    {
+        let walks = NearWalks::new(self.graph, self.sources);
+        let (table, mut caller) = OfferTable::new(self.alloc, self.graph.n(), walks)?;
+        offer_sources(&table, self.sources, &mut caller);
+        Ok((table, caller))
+    }
+
+    /// Lets the team relax what the queue asks for, as far as the limit lies, and then copies all words.
+    pub(crate) fn lower<R: Threads + Wait + Sync>(
+        &self,
+        rt: &R,
+        table: &OfferTable<NearWalks<'g>, P>,
+        search: &Search<P>,
+        caller: Caller,
+        words: &mut [Word<P>],
+    ) -> Relaxed
+        requires table { TakesWalks self.now table.now.law table.now.vertices }
+        requires caller { caller.table ≡ table.now.id }
+        requires own { KnowsOwn self.now.sources caller }
+        requires room { length words.old ≡ self.now.graph.n }
+        ensures caller { result.caller.table ≡ table.entry.now.id }
+        ensures own { KnowsOwn self.now.sources result.caller }
+        ensures copy { IsOfWalks P self.now words.new }
+    {
+        let Relaxed { mut caller, lost } = relax_all(
+            rt, self.alloc, self.graph, table, search, caller,
+        );
+        table.copy_words(&mut caller, words);
+        Relaxed { caller, lost }
+    }
+}
