@@ -92,6 +92,7 @@ pub fn run_pairs<const P: u32, R: Threads + Wait + Sync, G: Read, S: Read, W: Wr
         W.Write out.old out.new result }
     ensures untouched { IfErr result (λ e. is_early e ≡ true → out.new ≡ out.old) }
     ensures found { PairsOfSome P W.Write out.old out.new result }
+    ensures may_fail { IfErr result (MayFail (G.failing gr.old) (S.failing pairs.old)) }
 {
     let settings = Settings {
         width,
