@@ -47,7 +47,7 @@ def option_of(entry):
     head, text = entry.split("\n", 1)
     text = textwrap.dedent(re.sub(r"^ +$", "", text, flags=re.M)).strip("\n")
     whole = " ".join(text.split())
-    values = re.search(r"\[possible values: ([^\]]*)\]|, or `(mean)`", whole)
+    values = re.search(r"\[possible values: ([^\]]*)\]|, or `(mean|all)`", whole)
     listed = (values[1] or values[2]).split(", ") if values else []
     return Option(found[1], found[2], listed, re.split(r"[,;.]| \(", whole)[0], head.strip(), text)
 

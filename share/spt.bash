@@ -10,7 +10,7 @@ _spt() {
         --pred-bits) words='20 24 28 32' ;;
         --source) words='' ;;
         --sources) words='' ;;
-        --workers) words='' ;;
+        --workers) words='all' ;;
         *) words=none ;;
     esac
     if [ "$words" != none ]; then

@@ -87,8 +87,8 @@ def cases():
     made += [Case("refused pairs", "pairs g.gr g.pairs", {"g.gr": DIAMOND, "g.pairs": pairs}, 2, fault) for pairs, fault in REFUSED]
     made = by_teams(made)
     made += [
-        Case("no option but delta", f"pairs g.gr g.pairs {delta}", {"g.gr": DIAMOND, "g.pairs": THREE}, 0, THREE_TEXT)
-        for delta in ("--delta=3", "--delta mean")
+        Case("few options", f"pairs g.gr g.pairs {options}", {"g.gr": DIAMOND, "g.pairs": THREE}, 0, THREE_TEXT)
+        for options in ("--delta=3", "--delta mean", "--delta 3 --workers all")
     ]
     made += greatest()
     far = {"g.gr": FAR, "g.pairs": TO_LAST}

@@ -115,6 +115,8 @@ OPTIONS = [
     "g.gr g.ss --delta 4294967294 --pred-bits 32",
     "g.gr g.ss --delta mean",
     "g.gr g.ss --delta=mean --pred-bits 32 --workers 2",
+    "g.gr g.ss --delta 3 --workers all",
+    "g.gr g.ss --delta 3 --workers=+64",
 ]
 
 # In the graph of the diamond vertex 4 ends its walks; three sources stand in the file.

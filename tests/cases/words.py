@@ -70,6 +70,14 @@ TOLD = [
         "error: invalid value 'auto' for '--workers <W>': invalid digit found in string\n",
         "",
     ),
+    (
+        "workers of a beginning of all",
+        "tree f.rep f.rep --delta 3 --workers al",
+        "error: invalid value 'al' for '--workers <W>': invalid digit found in string\n",
+        "",
+    ),
+    ("no workers", "tree f.rep f.rep --delta 3 --workers 0", "error: invalid value '0' for '--workers <W>': 0 is not in 1..=64\n", ""),
+    ("more workers than 64", "pairs f.rep f.rep --delta 3 --workers 65", "error: invalid value '65' for '--workers <W>': 65 is not in 1..=64\n", ""),
     # what a terminal would do as it is told
     (
         "control characters",
@@ -106,6 +114,9 @@ REFUSED = [
     "tree f.rep f.rep --delta 1 --workers 2.0",
     "tree f.rep f.rep --delta 1 --workers ",
     "tree f.rep f.rep --delta 1 --workers 4294967297",
+    "tree f.rep f.rep --delta 1 --workers All",
+    "tree f.rep f.rep --delta 1 --workers all1",
+    "pairs f.rep f.rep --delta 1 --workers 64,1",
     "tree f.rep --delta 1",
     "tree f.rep --delta 1 --source 0",
     "tree f.rep --delta 1 --source 4294967295",

@@ -21,10 +21,10 @@ use std::sync::Wait;
 use std::thread::Threads;
 
 const WORKERS_LONG: &str = "\
-Threads that may work at once, from 1 to 64, the main thread counted.
-As many as there are processors is a good choice, where they are free.
-No more threads are started than there are processors, nor any for a
-small graph. Any number gives the same bytes";
+Threads that may work at once, from 1 to 64, the main thread counted,
+or `all` for as many as there are processors, at most 64: a good
+choice where they are free. No more threads are started than there are
+processors, nor any for a small graph. Any number gives the same bytes";
 
 /// The command `pairs`, with its options and the paths of its files.
 #[derive(Drop)]

@@ -5,3 +5,4 @@ pub mod Places
 pub mod Running
 pub mod Sources
 pub mod Width
+pub mod Workers

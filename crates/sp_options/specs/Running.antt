@@ -1,20 +1,20 @@
 -- What a command line says of how runs are made.
 use Rattle.std.specs.Prelude.{◌≡◌, ◌⊎◌, ℕ, List, Some, codes}
-use Rattle.clap.specs.Matches.{first_value, one_text}
+use Rattle.clap.specs.Matches.{first_value}
 use Rattle.clap.specs.declared.parser.matches.Found.{Found}
-use Rattle.sp_word.specs.Ranges.{IsCrew}
 use Rattle.sp_options.specs.declared.running.RunOptions.{RunOptions}
 use Rattle.sp_options.specs.declared.width.Width.{Width}
-use Rattle.sp_options.specs.Numbers.{SpellsNumber, IsFlag}
+use Rattle.sp_options.specs.Numbers.{IsFlag}
 use Rattle.sp_options.specs.Width.{SpellsWidth}
+use Rattle.sp_options.specs.Workers.{SpellsWorkers}
 
 -- This is the number of workers.
 abbrev pub HasCrew : Found → (workers : ℕ) → Type 0
-HasCrew found workers = (word : List ℕ) × (one_text found (codes "workers") ≡ Some word) × SpellsNumber word workers
+HasCrew found workers = (word : List ℕ) × (first_value found (codes "workers") ≡ Some word) × SpellsWorkers word workers
 
--- A command line has no word for a number of workers from 1 to 64.
+-- A command line has no word for a number of workers.
 abbrev pub LacksCrew : Found → Type 0
-LacksCrew found = (word : List ℕ) (workers : ℕ) → one_text found (codes "workers") ≡ Some word → SpellsNumber word workers → IsCrew workers → ⊥
+LacksCrew found = (word : List ℕ) (workers : ℕ) → first_value found (codes "workers") ≡ Some word → SpellsWorkers word workers → ⊥
 
 -- This is the width.
 abbrev pub HasWidth : Found → Width → Type 0

@@ -8,6 +8,7 @@ mod reading;
 mod running;
 mod sources;
 mod width;
+mod workers;
 
 pub use given::Given;
 pub use reading::Watched;

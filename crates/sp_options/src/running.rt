@@ -1,17 +1,17 @@
 //! The options that say how runs from sources are made, the reports of their progress, and the way in which they end.
-ghost use Rattle.std.specs.Prelude.{◌≡◌, ℕ, true, List, Some, Ok, Err, IfOk, MatchOption, MatchResult};
+ghost use Rattle.std.specs.Prelude.{◌≡◌, ℕ, true, List, Some, Ok, Err, IfOk, IfErr, MatchOption, MatchResult};
 ghost use Rattle.sp_word.specs.Word.{is_layout};
-ghost use Rattle.sp_word.specs.Ranges.{IsCrew};
 ghost use Rattle.clap.specs.Matches.{found_of};
 ghost use Rattle.sp_options.specs.Ends.{end_of, fault_of};
-ghost use Rattle.sp_options.specs.Numbers.{SpellsNumber, IsFlag};
-ghost use Rattle.sp_options.specs.Running.{IsAskedFor, LacksOptions, HasCrew, LacksCrew};
+ghost use Rattle.sp_options.specs.Numbers.{IsFlag};
+ghost use Rattle.sp_options.specs.Running.{IsAskedFor, LacksOptions};
 ghost use Rattle.sp_options.specs.Width.{bucket_of, IsBucket};
 ghost use Rattle.sp_command.specs.declared.faults.Fault.TheVariants.{DeltaOutOfRange};
 
 use crate::width::Width;
-use clap::{Arg, ArgMatches, Command, Error, value_parser};
-use sp_command::{BuiltCommand, Fault, FileKind, Inputs, Report, Status, flag, valued};
+use crate::workers::{WORKERS, read_workers, workers_option};
+use clap::{Arg, ArgMatches, Command, Error};
+use sp_command::{BuiltCommand, Fault, FileKind, Inputs, Report, Status, flag};
 use sp_job::{BatchError, Listener, Progress, Settings, Summary};
 use sp_word::{Meter, Workers};
 use std::alloc::Global;
@@ -36,16 +36,9 @@ impl RunOptions {
     pub fn add_to<'a>(command: Command<'a>, alloc: Global, workers: &'a str) -> BuiltCommand<'a> {
         command
             .arg(Width::option(alloc))?
-            .arg(Self::workers(alloc, workers))?
+            .arg(workers_option(alloc, workers))?
             .arg(Self::far_ok(alloc))?
             .arg(Self::progress(alloc))
-    }
-
-    fn workers<'a>(alloc: Global, more: &'a str) -> Arg<'a> {
-        let about = "Threads that may work at once";
-        valued(alloc, "workers", "W", about, more)
-            .value_parser(value_parser!(u32).range(1..=64))
-            .default_value("1")
     }
 
     fn far_ok<'a>(alloc: Global) -> Arg<'a> {
@@ -58,16 +51,20 @@ impl RunOptions {
         flag(alloc, "progress", about)
     }
 
-    /// Reads the options from what `clap` has found, or returns `None` if the width or the number of workers is missing or
-    /// is none.
+    /// Reads the options from what `clap` has found. If the width or the number of workers is none, the result is the error of
+    /// `clap` that says so; if one of them is missing, it is `None`.
     pub fn read(alloc: Global, given: &ArgMatches<'_>) -> Result<Option<Self>, Error>
-        ensures { IfOk result (λ found. MatchOption found
+        ensures read { IfOk result (λ found. MatchOption found
             (LacksOptions (found_of given.now)) (IsAskedFor (found_of given.now))) }
+        ensures refused { IfErr result (λ _. LacksOptions (found_of given.now)) }
     {
-        let (Some(delta), Some(workers)) = (given.get_str(Width::ID), workers_in(given)) else {
+        let (Some(delta), Some(crew)) = (given.get_str(Width::ID), given.get_str(WORKERS)) else {
             return Ok(None);
         };
         let Some(width) = Width::read(alloc, delta)? else {
+            return Ok(None);
+        };
+        let Some(workers) = read_workers(alloc, crew)? else {
             return Ok(None);
         };
         Ok(Some(RunOptions {
@@ -119,13 +116,6 @@ impl RunOptions {
             Err(error) => Err(fault_of(error)),
         }
     }
-}
-
-// Returns the number of workers, if the command line has one.
-fn workers_in(given: &ArgMatches<'_>) -> Option<Workers>
-    ensures { MatchOption result (LacksCrew (found_of given.now)) (HasCrew (found_of given.now)) }
-{
-    Workers::new(given.get_one("workers")?)
 }
 
 // Returns whether a flag was given.

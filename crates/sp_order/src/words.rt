@@ -1,8 +1,8 @@
 //! The words of a command line, and the order that they give.
-ghost use Rattle.std.specs.Prelude.{◌≡◌, ◌≢◌, ◌↔◌, true, false, IfErr, IsSome};
-ghost use Rattle.clap.specs.Words.{kind_of};
+ghost use Rattle.std.specs.Prelude.{◌≡◌, ◌≢◌, ◌↔◌, true, false, IfErr, IsSome, MatchOption, option_map};
+ghost use Rattle.clap.specs.Words.{found_of, kind_of};
 ghost use Rattle.sp_order.specs.Orders.{IsOfWords};
-ghost use Rattle.sp_order.specs.Words.{is_text, names_output};
+ghost use Rattle.sp_order.specs.Words.{is_text, names_output, output_of, NamesOutput, NamesNoOutput};
 ghost use Rattle.sp_command.specs.declared.faults.Fault.TheVariants.{Memory, Usage};
 ghost use Rattle.sp_order.specs.declared.words.Order.TheVariants.{Show};
 
@@ -31,7 +31,8 @@ pub enum Order<'a, C> {
 impl<'a, C> Order<'a, C> {
     /// Returns the file to which the output goes, if there is one.
     pub fn output(&self) -> Option<&'a str>
-        ensures { IsSome result ↔ (names_output self.now ≡ true) }
+        ensures named { IsSome result ↔ (names_output self.now ≡ true) }
+        ensures path { option_map (λ path. path.now) result ≡ output_of self.now }
     {
         match self {
             Order::Show(_) => None,
@@ -101,7 +102,10 @@ fn order_of<'a, C: Commands<'a>>(
 }
 
 // Returns the file to which the output goes, if it isn't standard output.
-fn output_of<'a>(given: &ArgMatches<'a>) -> Option<&'a str> {
+fn output_of<'a>(given: &ArgMatches<'a>) -> Option<&'a str>
+    ensures path { MatchOption result (NamesNoOutput (found_of given.now))
+        (λ path. NamesOutput (found_of given.now) path.now) }
+{
     match given.get_str(OUTPUT) {
         Some("-") => None,
         path => path,

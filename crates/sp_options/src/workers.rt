@@ -1,0 +1,64 @@
+//! The number of workers, which is a number or that of the processors.
+ghost use Rattle.std.specs.Prelude.{◌≡◌, ℕ, Ok, Some, IfOk, IfSome, IsNone, MatchOption};
+ghost use Rattle.sp_word.specs.Ranges.{IsCrew};
+ghost use Rattle.sp_options.specs.Numbers.{SpellsNumber};
+ghost use Rattle.sp_options.specs.Workers.{SpellsWorkers};
+
+use clap::{Arg, Command, Error, value_parser};
+use sp_command::valued;
+use sp_word::{MOST_WORKERS, Workers};
+use std::alloc::Global;
+
+/// The identifier of the option for `clap`.
+pub const WORKERS: &str = "workers";
+
+// The word for as many workers as there are processors: a run never starts more than these.
+const ALL: &str = "all";
+
+/// Returns the option, which takes any text as its value. `more` is the text that its help adds.
+pub fn workers_option<'a>(alloc: Global, more: &'a str) -> Arg<'a> {
+    let about = "Threads that may work at once, or `all`";
+    valued(alloc, WORKERS, "W", about, more).default_value("1")
+}
+
+/// Reads a number of workers from the option's text.
+///
+/// A text that spells one is read. Any other text is refused, by the error with which `clap` refuses a number out of range or
+/// a text that is no number; if `clap` took it, the result would be `None`.
+pub fn read_workers(alloc: Global, text: &str) -> Result<Option<Workers>, Error>
+    ensures spelled { IfOk result (λ found. IfSome found (SpellsWorkers text.now)) }
+    ensures exactly { (workers : ℕ) → SpellsWorkers text.now workers
+        → result ≡ Ok (Some workers) }
+{
+    if text == ALL {
+        return Ok(Workers::new(MOST_WORKERS));
+    }
+    match number_in(text) {
+        Some(workers) => Ok(Some(workers)),
+        None => refuse(alloc, text),
+    }
+}
+
+// Returns the number that a text spells, if it is one of workers.
+fn number_in(text: &str) -> Option<Workers>
+    ensures { MatchOption result ((number : ℕ) → SpellsNumber text.now number → IsCrew number → ⊥)
+        (λ number. SpellsNumber text.now number × IsCrew number) }
+{
+    Workers::new(text.parse().ok()?)
+}
+
+// Returns the error with which `clap` refuses a text that is no number in range, or `None` if `clap` takes the text.
+fn refuse(alloc: Global, text: &str) -> Result<Option<Workers>, Error>
+    ensures { IfOk result IsNone }
+{
+    let word = format!(in alloc; "--workers={text}")?;
+    Command::new(alloc, "spt")
+        .arg(number_option(alloc))?
+        .try_get_matches_from(&["spt", word.as_str()])?;
+    Ok(None)
+}
+
+// Returns the option, which takes a number in range as its value.
+fn number_option<'a>(alloc: Global) -> Arg<'a> {
+    workers_option(alloc, "").value_parser(value_parser!(u32).range(1..=MOST_WORKERS as i64))
+}
