@@ -236,8 +236,7 @@ pub fn judge<const P: u32, R: Threads + Sync>(
 }
 
 fn print_verdict<W: Write>(verdict: Verdict, out: &mut W) -> Printer
-    ensures { IsSending W.written W.passed W.has_failed
-        (verdict_text verdict) out.old out.new result }
+    ensures { IsSending W.Write (verdict_text verdict) out.old out.new result }
 {
     let mut printer = Printer::new();
     match verdict {
@@ -255,7 +254,7 @@ fn print_verdict<W: Write>(verdict: Verdict, out: &mut W) -> Printer
 
 // Writes the verdict as a line.
 fn write_verdict<W: Write>(verdict: Verdict, out: &mut W) -> Result<u64, WriteFault>
-    ensures { Finished W.written W.has_failed (verdict_text verdict) out.old result out.new }
+    ensures { Finished W.Write (verdict_text verdict) out.old result out.new }
 {
     let printer = print_verdict(verdict, out);
     finish(out, printer)

@@ -126,8 +126,7 @@ fn status_of(all: &[Judged]) -> Status
 
 // Sends the line of a block.
 fn print_judged<W: Write>(judged: Judged, out: &mut W, printer: &mut Printer)
-    ensures { Sends W.written W.passed W.has_failed
-        (judged_text judged) out.old printer.old out.new printer.new }
+    ensures { Sends W.Write (judged_text judged) out.old printer.old out.new printer.new }
 {
     match judged.verdict {
         Verdict::Yes => print_text(out, printer, b"yes\n"),
@@ -145,8 +144,7 @@ fn print_judged<W: Write>(judged: Judged, out: &mut W, printer: &mut Printer)
 
 // Sends the lines of all blocks.
 fn print_verdicts<W: Write>(all: &[Judged], out: &mut W, printer: &mut Printer)
-    ensures { Sends W.written W.passed W.has_failed
-        (flat_map judged_text all.now) out.old printer.old out.new printer.new }
+    ensures { Sends W.Write (flat_map judged_text all.now) out.old printer.old out.new printer.new }
 {
     for judged in all {
         print_judged(*judged, out, printer);
@@ -155,8 +153,7 @@ fn print_verdicts<W: Write>(all: &[Judged], out: &mut W, printer: &mut Printer)
 
 // Writes a line for each block.
 fn write_verdicts<W: Write>(all: &[Judged], out: &mut W) -> Result<u64, WriteFault>
-    ensures { Finished W.written W.has_failed
-        (flat_map judged_text all.now) out.old result out.new }
+    ensures { Finished W.Write (flat_map judged_text all.now) out.old result out.new }
 {
     let mut printer = Printer::new();
     print_verdicts(all, out, &mut printer);

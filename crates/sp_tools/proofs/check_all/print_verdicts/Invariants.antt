@@ -5,4 +5,4 @@ use Rattle.sp_tools.specs.Verdicts.{judged_text}
 use Rattle.sp_tools.proofs.check_all.print_verdicts.Given as goal
 
 abbrev pub invariant-loop-judged : goal.invariant-loop-judged
-invariant-loop-judged g l = Sends g.W.Write.written g.W.Write.passed g.W.Write.has_failed (flat_map judged_text (take l.judged-index l.all)) l.fn.out l.fn.printer l.out l.printer
+invariant-loop-judged g l = Sends g.W.Write (flat_map judged_text (take l.judged-index l.all)) l.fn.out l.fn.printer l.out l.printer

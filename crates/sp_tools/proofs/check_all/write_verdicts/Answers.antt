@@ -7,5 +7,5 @@ use Rattle.sp_tools.proofs.check_all.write_verdicts.Goals as goal
 pub returns : goal.returns
 returns g c =
     let start = c.args.out.now in
-    let none = unsent g.W.Write.written g.W.Write.passed g.W.Write.has_failed start c.new-printer.result c.new-printer.ensures.block c.new-printer.ensures.count c.new-printer.ensures.going in
+    let none = unsent g.W.Write start c.new-printer.result c.new-printer.ensures.block c.new-printer.ensures.count c.new-printer.ensures.going in
     c.finish.ensures.written (flat_map judged_text c.args.all.now) start (c.print_verdicts.ensures [] start none)
