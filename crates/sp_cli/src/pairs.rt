@@ -1,8 +1,8 @@
 //! The command `spt pairs`, which writes the distance from source to target for each pair of a list.
 ghost use denote.Param.Send.{IsSync};
-ghost use Rattle.std.specs.Prelude.{◌≡◌, ◌≤◌, ℕ, true, List, Option, Some, Ok, Err, IfOk, IfErr, MatchResult};
+ghost use Rattle.std.specs.Prelude.{◌≡◌, ℕ, true, List, Option, Some, Ok, Err, IfOk, IfErr, MatchResult};
 ghost use Rattle.sp_word.specs.Word.{is_layout};
-ghost use Rattle.sp_command.specs.Faults.{code_of, is_done, status_of};
+ghost use Rattle.sp_command.specs.Faults.{is_done, is_early};
 ghost use Rattle.sp_command.specs.Causes.{IsBorneOut};
 ghost use Rattle.sp_command.specs.Scene.{scene};
 ghost use Rattle.sp_cli.specs.Answers.{PairsAnswers, PairsTold, PairsOf, PairsOfSome, pairs_paths, pairs_faults};
@@ -180,8 +180,7 @@ impl PairsCommand<'_> {
             (pairs_paths self.now) (pairs_faults P self.now) (scene (F.files files.now)
             (W.written out.old) (W.written out.new) (W.has_failed out.new))) }
         ensures done { IfOk result (λ status. is_done status ≡ true) }
-        ensures unwritten { IfErr result
-            (λ fault. code_of (status_of fault) ≤ 2 → out.new ≡ out.old) }
+        ensures untouched { IfErr result (λ fault. is_early fault ≡ true → out.new ≡ out.old) }
     {
         let (gr, pairs) = FileKind::Pairs.open_with_graph(files, self.graph, self.pairs)?;
         let mut gr = Watched::new(gr, FileKind::Graph, settings.listener);

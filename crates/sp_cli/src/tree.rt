@@ -1,8 +1,8 @@
 //! The command `spt tree`, which writes the shortest-path tree of each source of a list.
 ghost use denote.Param.Send.{IsSync};
-ghost use Rattle.std.specs.Prelude.{◌≡◌, ◌≤◌, ℕ, true, List, Option, Some, Ok, Err, IfOk, IfErr, MatchResult};
+ghost use Rattle.std.specs.Prelude.{◌≡◌, ℕ, true, List, Option, Some, Ok, Err, IfOk, IfErr, MatchResult};
 ghost use Rattle.sp_word.specs.Word.{is_layout};
-ghost use Rattle.sp_command.specs.Faults.{code_of, is_done, status_of};
+ghost use Rattle.sp_command.specs.Faults.{is_done, is_early};
 ghost use Rattle.sp_command.specs.Causes.{IsBorneOut};
 ghost use Rattle.sp_command.specs.Scene.{scene};
 ghost use Rattle.sp_cli.specs.Answers.{TreeAnswers, TreesTold, InText, These, TreesOf, TreesOfFile, TreesOfGiven, TreesOfSome, InSome, tree_paths, tree_faults};
@@ -223,8 +223,7 @@ impl TreeCommand<'_> {
             (scene (F.files context.now.files.now)
             (W.written out.old) (W.written out.new) (W.has_failed out.new))) }
         ensures done { IfOk result (λ status. is_done status ≡ true) }
-        ensures unwritten { IfErr result
-            (λ fault. code_of (status_of fault) ≤ 2 → out.new ≡ out.old) }
+        ensures untouched { IfErr result (λ fault. is_early fault ≡ true → out.new ≡ out.old) }
     {
         let (files, settings) = (context.files, context.settings);
         let (gr, ss) = FileKind::Sources.open_with_graph(files, self.graph, list.path)?;
@@ -258,8 +257,7 @@ impl TreeCommand<'_> {
             (scene (F.files context.now.files.now)
             (W.written out.old) (W.written out.new) (W.has_failed out.new))) }
         ensures done { IfOk result (λ status. is_done status ≡ true) }
-        ensures unwritten { IfErr result
-            (λ fault. code_of (status_of fault) ≤ 2 → out.new ≡ out.old) }
+        ensures untouched { IfErr result (λ fault. is_early fault ≡ true → out.new ≡ out.old) }
     {
         let (files, settings) = (context.files, context.settings);
         let gr = FileKind::Graph.open(files, self.graph)?;
@@ -294,8 +292,7 @@ impl TreeCommand<'_> {
             (scene (F.files context.now.files.now)
             (W.written out.old) (W.written out.new) (W.has_failed out.new))) }
         ensures done { IfOk result (λ status. is_done status ≡ true) }
-        ensures unwritten { IfErr result
-            (λ fault. code_of (status_of fault) ≤ 2 → out.new ≡ out.old) }
+        ensures untouched { IfErr result (λ fault. is_early fault ≡ true → out.new ≡ out.old) }
     {
         match &self.sources {
             Sources::File(path) => {

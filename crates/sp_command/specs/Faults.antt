@@ -42,3 +42,9 @@ status_of fault.TooManySteps = status.Refused
 status_of fault.Memory = status.Memory
 status_of fault.WriteFailed = status.Failed
 status_of fault.CannotWrite = status.Failed
+
+-- The fault comes before anything is written: it is none of memory, or of the writer.
+abbrev pub is_early : Fault → Bool
+is_early fault.Memory = false
+is_early fault.WriteFailed = false
+is_early _ = true

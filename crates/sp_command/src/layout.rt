@@ -2,7 +2,7 @@
 ghost use denote.Param.Send.{IsSync};
 ghost use Rattle.std.specs.Prelude.{◌≡◌, ◌<◌, ◌≤◌, true, IfNone, IfOk, IfErr, IfSome};
 ghost use Rattle.sp_word.specs.Word.{max_dist, max_pred};
-ghost use Rattle.sp_command.specs.Faults.{code_of, is_done, status_of};
+ghost use Rattle.sp_command.specs.Faults.{is_done, is_early};
 ghost use Rattle.sp_command.specs.Layouts.{IsRunIn, Runs};
 ghost use Rattle.sp_command.specs.Scene.{scene};
 ghost use Rattle.sp_command.specs.Words.{ReadsSpelling, bits_in};
@@ -146,8 +146,7 @@ pub trait RunIn {
         ensures run { runs pred_bits self.now (scene (F.files files.now)
             (W.written out.old) (W.written out.new) (W.has_failed out.new)) result }
         ensures done { IfOk result (λ status. is_done status ≡ true) }
-        ensures unwritten { IfErr result
-            (λ fault. code_of (status_of fault) ≤ 2 → out.new ≡ out.old) };
+        ensures untouched { IfErr result (λ fault. is_early fault ≡ true → out.new ≡ out.old) };
 }
 
 impl<C: Run<20> + Run<24> + Run<28> + Run<32>> RunIn for C {

@@ -1,10 +1,10 @@
 //! The run of a command.
 ghost use denote.Param.Send.{IsSync};
-ghost use Rattle.std.specs.Prelude.{◌≡◌, ◌≤◌, true, IfOk, IfErr};
+ghost use Rattle.std.specs.Prelude.{◌≡◌, true, IfOk, IfErr};
 ghost use Rattle.sp_word.specs.Word.{is_layout};
 ghost use Rattle.sp_command.specs.declared.faults.Fault.{Fault};
 ghost use Rattle.sp_command.specs.Causes.{Paths, IsBorneOut};
-ghost use Rattle.sp_command.specs.Faults.{code_of, is_done, status_of};
+ghost use Rattle.sp_command.specs.Faults.{is_done, is_early};
 ghost use Rattle.sp_command.specs.Scene.{Meaning, scene};
 
 use crate::faults::{Fault, Status};
@@ -41,6 +41,5 @@ pub trait Run<const P: u32> {
             (scene (F.files files.now)
             (W.written out.old) (W.written out.new) (W.has_failed out.new))) }
         ensures done { IfOk result (λ status. is_done status ≡ true) }
-        ensures unwritten { IfErr result
-            (λ fault. code_of (status_of fault) ≤ 2 → out.new ≡ out.old) };
+        ensures untouched { IfErr result (λ fault. is_early fault ≡ true → out.new ≡ out.old) };
 }

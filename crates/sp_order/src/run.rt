@@ -1,6 +1,6 @@
 //! A whole run of the program.
 ghost use Rattle.std.specs.Prelude.{◌≡◌, ◌≤◌, true, IfOk, IfErr, MatchResult};
-ghost use Rattle.sp_command.specs.Faults.{code_of, is_done, status_of};
+ghost use Rattle.sp_command.specs.Faults.{is_done, is_early};
 ghost use Rattle.sp_command.specs.Scene.{scene};
 ghost use Rattle.sp_command.specs.declared.faults.Fault.TheVariants.{WriteFailed};
 ghost use Rattle.sp_order.specs.declared.hints.Telling.TheVariants.{Nothing};
@@ -68,8 +68,8 @@ fn obey<'a, C, R: Threads + Wait + Sync, F: Outputs, W: Write>(
 where
     C: Commands<'a> + RunIn,
     ensures done { IfOk result (λ status. is_done status ≡ true) }
-    ensures unwritten { IfErr result
-        (λ refusal. code_of (status_of refusal.fault) ≤ 2 → out.new ≡ out.old) }
+    ensures untouched { IfErr result
+        (λ refusal. is_early refusal.fault ≡ true → out.new ≡ out.old) }
     ensures unread { IfErr result
         (λ refusal. refusal.telling ≡ Nothing → refusal.fault ≡ WriteFailed) }
     ensures obeyed { let obeyed = IsObeyed C.runs
@@ -97,7 +97,7 @@ fn carry_out<C, R: Threads + Wait + Sync, F: Outputs, W: Write>(
 where
     C: RunIn,
     ensures done { IfOk result (λ status. is_done status ≡ true) }
-    ensures unwritten { IfErr result (λ fault. code_of (status_of fault) ≤ 2 → out.new ≡ out.old) }
+    ensures untouched { IfErr result (λ fault. is_early fault ≡ true → out.new ≡ out.old) }
     ensures elsewhere { names_output order.now ≡ true → out.new ≡ out.old }
     ensures carried { IsCarriedOut C.runs
         order.now (scene (F.files files.old)
