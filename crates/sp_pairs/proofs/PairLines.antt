@@ -1,6 +1,7 @@
 -- The lines of pairs, one after the other.
-use Rattle.std.proofs.Common.{◌≡◌, ℕ, Bool, Option, subst, ◌+◌, ◌<◌, List, [], ◌∷◌, ◌++◌, length, map, take, get_or, sym, ap, ◌∙◌, arith, zero, suc, append_assoc}
+use Rattle.std.proofs.Common.{◌≡◌, ℕ, subst, ◌+◌, ◌<◌, List, [], ◌∷◌, ◌++◌, length, map, take, get_or, sym, ap, ◌∙◌, arith, zero, suc, append_assoc}
 use Rattle.std.proofs.lemmas.List.{append-nil}
+use Rattle.sp_device.specs.declared.devices.Write.{Ghosts as Writer}
 use Rattle.sp_device.specs.declared.printing.Printer.{Printer}
 use Rattle.sp_device.specs.Printing.{IsSending}
 use Rattle.sp_pairs.specs.declared.asking.Slot.{Slot}
@@ -26,7 +27,7 @@ lines_more front pairs slots i d same low =
     ∙ ap (λ (l : List ℕ). front ++ l) (sym (lines_suc pairs slots i d same low)))
 
 -- They were sent.
-pub sent_more : {W : Type 0} (written : W → Option (List ℕ)) (passed : W → ℕ) (has_failed : W → Bool) (pairs : List (ℕ × ℕ)) (slots : List Slot) (i : ℕ) (d : Slot) (front : List ℕ) (start out : W) (printer : Printer) → length slots ≡ length pairs → i < length slots
-    → IsSending written passed has_failed ((front ++ pairs_text (take i pairs) (map answer_in (take i slots))) ++ pair_text (pair_at pairs i) (answer_in (get_or slots i d))) start out printer
-    → IsSending written passed has_failed (front ++ pairs_text (take (i + 1) pairs) (map answer_in (take (i + 1) slots))) start out printer
-sent_more written passed has_failed pairs slots i d front start out printer same low h = subst (λ (l : List ℕ). IsSending written passed has_failed l start out printer) (lines_more front pairs slots i d same low) h
+pub sent_more : {W : Type 0} (w : Writer W) (pairs : List (ℕ × ℕ)) (slots : List Slot) (i : ℕ) (d : Slot) (front : List ℕ) (start out : W) (printer : Printer) → length slots ≡ length pairs → i < length slots
+    → IsSending w ((front ++ pairs_text (take i pairs) (map answer_in (take i slots))) ++ pair_text (pair_at pairs i) (answer_in (get_or slots i d))) start out printer
+    → IsSending w (front ++ pairs_text (take (i + 1) pairs) (map answer_in (take (i + 1) slots))) start out printer
+sent_more w pairs slots i d front start out printer same low h = subst (λ (l : List ℕ). IsSending w l start out printer) (lines_more front pairs slots i d same low) h

@@ -65,8 +65,8 @@ fn push_line(block: &mut Block, pair: (u32, u32), slot: &Slot)
 
 fn send_line<W: Write>(out: &mut W, printer: &mut Printer, pair: (u32, u32), slot: &Slot)
     requires { IsClosed slot.now }
-    ensures { Sends W.written W.passed W.has_failed
-        (pair_text pair (answer_in slot.now)) out.old printer.old out.new printer.new }
+    ensures { Sends W.Write (pair_text pair (answer_in slot.now))
+        out.old printer.old out.new printer.new }
 {
     make_room(out, printer, LINE_ROOM);
     push_line(&mut printer.block, pair, slot);
@@ -75,8 +75,8 @@ fn send_line<W: Write>(out: &mut W, printer: &mut Printer, pair: (u32, u32), slo
 fn send_lines<W: Write>(out: &mut W, printer: &mut Printer, pairs: &[(u32, u32)], slots: &[Slot])
     requires size { length slots.now ≡ length pairs.now }
     requires closed { All IsClosed slots.now }
-    ensures { Sends W.written W.passed W.has_failed
-        (pairs_text pairs.now (map answer_in slots.now)) out.old printer.old out.new printer.new }
+    ensures { Sends W.Write (pairs_text pairs.now (map answer_in slots.now))
+        out.old printer.old out.new printer.new }
 {
     for (place, slot) in slots.iter().enumerate() {
         send_line(out, printer, pairs[place], slot);

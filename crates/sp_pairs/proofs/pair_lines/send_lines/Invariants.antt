@@ -5,4 +5,4 @@ use Rattle.sp_pairs.specs.Slots.{answer_in}
 use Rattle.sp_pairs.proofs.pair_lines.send_lines.Given as goal
 
 abbrev pub invariant-loop-place : goal.invariant-loop-place
-invariant-loop-place g l = Sends g.W.Write.written g.W.Write.passed g.W.Write.has_failed (pairs_text (take l.place l.pairs) (map answer_in (take l.place l.slots))) l.fn.out l.fn.printer l.out l.printer
+invariant-loop-place g l = Sends g.W.Write (pairs_text (take l.place l.pairs) (map answer_in (take l.place l.slots))) l.fn.out l.fn.printer l.out l.printer

@@ -8,7 +8,7 @@ pub returns-in-Ok : goal.returns-in-Ok
 returns-in-Ok g c =
     let start = c.args.out.now in
     let text = pairs_text c.args.pairs.now (map answer_in c.args.slots.now) in
-    let none = unsent g.W.Write.written g.W.Write.passed g.W.Write.has_failed start c.new-printer.result c.new-printer.ensures.block c.new-printer.ensures.count c.new-printer.ensures.going in
+    let none = unsent g.W.Write start c.new-printer.result c.new-printer.ensures.block c.new-printer.ensures.count c.new-printer.ensures.going in
     let done = c.in-Ok.ensures.written text start (c.send_lines.ensures [] start none) in
     (done.0, record { sources = refl; too_far = c.count_far.ensures; bytes = done.1 })
 
@@ -16,5 +16,5 @@ pub returns-in-Err : goal.returns-in-Err
 returns-in-Err g c =
     let start = c.args.out.now in
     let text = pairs_text c.args.pairs.now (map answer_in c.args.slots.now) in
-    let none = unsent g.W.Write.written g.W.Write.passed g.W.Write.has_failed start c.new-printer.result c.new-printer.ensures.block c.new-printer.ensures.count c.new-printer.ensures.going in
+    let none = unsent g.W.Write start c.new-printer.result c.new-printer.ensures.block c.new-printer.ensures.count c.new-printer.ensures.going in
     c.in-Err.ensures.written text start (c.send_lines.ensures [] start none)
