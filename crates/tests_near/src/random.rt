@@ -75,15 +75,15 @@ fn compare<const P: u32>(
 
 #[test]
 fn short_arcs(rt: HostRuntime) -> Result<(), Fail> {
-    compare::<28>(&rt, 1, 20, 3)
+    compare::<28>(&rt, 1, 6, 3)
 }
 
 #[test]
 fn middling_arcs(rt: HostRuntime) -> Result<(), Fail> {
-    compare::<28>(&rt, 2, 20, 20)
+    compare::<28>(&rt, 2, 6, 20)
 }
 
 #[test]
 fn sums_that_overflow(rt: HostRuntime) -> Result<(), Fail> {
-    compare::<32>(&rt, 3, 20, u32::MAX)
+    compare::<32>(&rt, 3, 6, u32::MAX)
 }
