@@ -77,7 +77,7 @@ def checked(crate, chosen):
         return True
     crate.allowed = ("Threads", "Wait")
     flags = ["--jobs", str(chosen.jobs)]
-    return not crate.verdict_on_tests(flags) and not (chosen.run and rt.run(crate, True))
+    return not crate.verdict_on_tests(flags) and not (chosen.run and crate.run(flags, [], tests=True))
 
 
 def main():

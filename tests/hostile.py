@@ -35,7 +35,7 @@ MOST_SPACE = 1 << 30
 SHORT = 64 * 1024
 # limits of address space that are tried for each command
 LIMITS = 60
-MEMORY = re.compile(r"spt: (memory|(gr|ss|pairs|tree|replay|offers): line [1-9][0-9]*: 8 Memory)\n")
+MEMORY = re.compile(r"spt: (memory|(gr|ss|targets|pairs|tree|replay|offers): line [1-9][0-9]*: 8 Memory)\n")
 # where the reader of the output is gone
 UNREAD = (6, "")
 
@@ -58,12 +58,14 @@ def cases(folder, vertices):
     block = trees.block(vertices, 1, words, far)
     sources, tree = put(f"{folder}/one.ss", "p aux sp ss 1\ns 1\n"), put(f"{folder}/roads.tree", block)
     asked = put(f"{folder}/all.pairs", f"p pairs {vertices}\n" + "".join(f"q 1 {it}\n" for it in rows))
+    targets = put(f"{folder}/all.ss", f"p aux sp ss {vertices}\n" + "".join(f"s {it}\n" for it in rows))
     told = "".join("d 1 {} {} {}\n".format(it, *words[it]) if it in words else f"n 1 {it}\n" for it in rows)
     for workers in ("1", "4"):
         crew = ("--delta", str(mean), "--workers", workers)
         named = "1 worker" if workers == "1" else f"{workers} workers"
         yield Case(f"tree, {named}", ("tree", graph, sources, *crew), block, 0, {"gr": graph, "ss": sources})
         yield Case(f"pairs, {named}", ("pairs", graph, asked, *crew), told, 0, {"gr": graph, "pairs": asked})
+        yield Case(f"matrix, {named}", ("matrix", graph, sources, targets, *crew), told, 0, {"gr": graph, "ss": sources, "targets": targets})
     yield Case("check", ("check", graph, tree), "yes\n", 0, {"gr": graph, "tree": tree})
     offers = "".join(f"o 1 {it} {it} 1\n" for it in rows)
     kept = "".join(f"w {it} {it} 1\n" for it in rows)

@@ -14,16 +14,9 @@ import tempfile
 
 sys.dont_write_bytecode = True
 from harness import Count, graphs  # noqa: E402
-from trees import MAX, dijkstra, run_spt  # noqa: E402
+from trees import MAX, dijkstra, line_of_pair, run_spt  # noqa: E402
 
 WORKERS = (1, 4, 64)
-
-
-def line(source, target, words, far):
-    if target in words:
-        distance, tail = words[target]
-        return f"d {source} {target} {distance} {tail}\n"
-    return f"n {source} {target}\n" if far is None else f"x {source} {far}\n"
 
 
 def drawn_pairs(chosen):
@@ -48,7 +41,7 @@ def compare(count, kind, chosen, folder):
         for tail, head, length in (map(int, row.split()[1:]) for row in it if row.startswith("a ")):
             rows[tail].append((head, length))
     answers = {source: dijkstra(rows, source) for source in {source for source, _ in pairs}}
-    wanted = "".join(line(source, target, *answers[source]) for source, target in pairs)
+    wanted = "".join(line_of_pair(source, target, *answers[source]) for source, target in pairs)
     status = 4 if "x " in wanted else 0
     mean = min(mean, MAX // 3)
     for delta in (max(1, mean // 3), mean, 3 * mean, MAX):

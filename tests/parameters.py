@@ -24,6 +24,8 @@ OF_C = "a C program calls it"
 SPECIFIED = "its parameters are specified, and the runtime's handle and the allocator stand before them"
 # what does the same for a listener
 LIKE_SPECIFIED = "it takes what run_batch takes, whose parameters are specified, and the places of the list"
+# what does the same for two lists
+LIKE_MATRIX = "it takes what run_batch_told or run_given_told takes, and the targets"
 EXCEPTIONS = {
     ("spt_c", "spt_tree"): OF_C,
     ("spt_c", "spt_trees"): OF_C,
@@ -33,6 +35,8 @@ EXCEPTIONS = {
     ("sp_batch", "run_batch"): SPECIFIED,
     ("sp_batch", "run_batch_told"): LIKE_SPECIFIED,
     ("sp_pairs", "run_pairs"): SPECIFIED,
+    ("sp_matrix", "run_matrix_told"): LIKE_MATRIX,
+    ("sp_matrix", "run_matrix_given_told"): LIKE_MATRIX,
 }
 # a comment, a string or a character, any of which may hold brackets; a lifetime has no closing quote
 PASSED_OVER = re.compile(r"//[^\n]*|/\*.*?\*/|\"(?:\\.|[^\"\\])*\"|b?'(?:\\[^\n]*?|[^'\\\n])'", re.S)

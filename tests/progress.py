@@ -23,6 +23,7 @@ sys.dont_write_bytecode = True
 from harness import HOME, SECONDS, put, run, try_all  # noqa: E402
 
 GRAPH, SOURCES, PAIRS = (f"{HOME}/examples/diamond.{ending}" for ending in ("gr", "ss", "pairs"))
+CORNERS = f"{HOME}/examples/corners.ss"
 PASSED = r"\d+:\d\d"
 # a pause between lines where standard error is no terminal, and some more
 PAUSE = 5.3
@@ -107,6 +108,7 @@ def last_lines(count, program, folder):
         ("a tree", ("tree", GRAPH, SOURCES, "--delta", "3"), r"1 of 1 sources, {} bytes written"),
         ("three sources", ("tree", GRAPH, "--source", "1", "--source", "4", "--source", "2", "--delta", "mean"), r"3 of 3 sources, {} bytes written"),
         ("three pairs", ("pairs", GRAPH, PAIRS, "--delta", "mean"), r"3 of 3 pairs"),
+        ("six lines of a matrix", ("matrix", GRAPH, CORNERS, "--source", "1", "--source", "4", "--source", "2"), r"6 of 6 lines, {} bytes written"),
     ]
     for name, words, line in cases:
         told, plain = run(program, *words, "--progress"), run(program, *words)
@@ -191,7 +193,7 @@ def long_tree(count, program, folder):
 
 def long_relaxing(count, program, folder):
     """While a tree is relaxed the line moves on, up to two thirds; percents never fall, and the last one is 100."""
-    graph, last = winding_path(folder, 2_000_000)
+    graph, last = winding_path(folder, 5_000_000)
     pair = put(f"{folder}/last.pairs", f"p pairs 1\nq 1 {last}\n")
     relaxing = "0 of 1 sources, 0 bytes written, relaxing"
     cases = [

@@ -30,7 +30,7 @@ OUTSIDE = 9
 
 FAULT = re.compile(r"(line [1-9][0-9]*: 8 Memory\n)?")
 MORE = "M of the line `p sp N M` is the number of `a` lines"
-MEMORY = re.compile(r"spt: (memory|(gr|ss|pairs|tree|replay|offers): line [1-9][0-9]*: 8 Memory)\n")
+MEMORY = re.compile(r"spt: (memory|(gr|ss|targets|pairs|tree|replay|offers): line [1-9][0-9]*: 8 Memory)\n")
 
 
 class Refuser:
@@ -125,6 +125,7 @@ def long_path():
     return {
         "long.gr": "p sp 18 17\n" + "".join(f"a {tail} {tail + 1} {length}\n" for tail, length in arcs),
         "long.ss": "p aux sp ss 1\ns 1\n",
+        "last.ss": "p aux sp ss 1\ns 18\n",
         "announced.gr": "p sp 268435454 1073741824\n",
         "long.pairs": "p pairs 2\nq 1 18\nq 17 17\n",
         "long.tree": f"p spt 18 1\nv 1 0 0\n{rows}e 17\n",
@@ -151,6 +152,10 @@ def commands(folder):
             (0, "d 1 4 5 2\nd 1 1 0 0\nn 4 1\n", ""), says_nothing_else)
         yield ["pairs", f"{folder}/long.gr", f"{folder}/long.pairs", "--delta", far, *crew], (
             (4, f"x 1 18\n{one}", ""), says_nothing_else)
+        yield ["matrix", "examples/diamond.gr", "examples/corners.ss", "examples/corners.ss", *crew], (
+            (0, "d 1 1 0 0\nd 1 4 5 2\nn 4 1\nd 4 4 0 0\n", ""), ends_short)
+        yield ["matrix", f"{folder}/long.gr", f"{folder}/last.ss", "--source", "1", "--source", "17", *crew], (
+            (4, "x 1 18\nd 17 18 15 17\n", ""), ends_short)
     # a reader takes no memory by what is announced
     yield ["tree", f"{folder}/announced.gr", f"{folder}/long.ss", "--delta", far], (
         (2, "", f"spt: gr: line 2: 7 TooFew\nspt: {folder}/announced.gr: {MORE}\n"), words_end_short)

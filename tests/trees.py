@@ -49,6 +49,14 @@ def dijkstra(rows, source):
     return words, far
 
 
+def line_of_pair(source, target, words, far):
+    """The line of a pair, by the words from its source and the vertex that is too far."""
+    if target in words:
+        distance, tail = words[target]
+        return f"d {source} {target} {distance} {tail}\n"
+    return f"n {source} {target}\n" if far is None else f"x {source} {far}\n"
+
+
 def block(n, source, words, far):
     if far is not None:
         return f"x {source} {far}\n"

@@ -15,8 +15,8 @@ use Rattle.sp_answer.specs.Table.{TreeTable, tree_of, table_of, rows_from, HasPr
 use Rattle.sp_answer.proofs.RisingRows.{tree_is_table, words_are}
 use Rattle.sp_answer.specs.Answer.{IsAnswer}
 use Rattle.sp_batch.specs.Batch.{Answer, TreeOf, FarFrom, IsAnswerTo, AreAnswers, batch_text, HasBegun}
-use Rattle.sp_batch.specs.Steps.{HasBegunFirst}
-use Rattle.sp_batch.proofs.AnswersInOrder.{answers_both, all_behind, text_both}
+use Rattle.sp_sources.proofs.ToldInOrder.{all_behind}
+use Rattle.sp_batch.proofs.AnswersInOrder.{HasBegunFirst, answers_both, text_both}
 
 -- ## The words of a table in a list
 

@@ -1,7 +1,7 @@
 -- The answers for a graph whose arcs were put in another order.
-use Rattle.std.proofs.Common.{◌≡◌, ℕ, ◌≤◌, true, List, [], ◌∷◌, Option, Some, None, Result, Ok, Err, ◌∙◌}
-use Rattle.std.proofs.lemmas.Bool.{false≢true}
-use Rattle.std.specs.Prelude.{IfErr, All}
+use Rattle.std.proofs.Common.{◌≡◌, ℕ, ◌≤◌, true, List, [], ◌∷◌, length, Option, Some, None, Result, Ok, Err, ap, ◌∙◌, subst}
+use Rattle.std.specs.Prelude.{All}
+use Rattle.std.specs.Io.KnownBytes.{Appends}
 use Rattle.sp_word.specs.Word.{max_dist, is_layout}
 use Rattle.sp_paths.specs.Paths.{Graph}
 use Rattle.sp_paths.specs.Bags.{AreSame}
@@ -11,13 +11,15 @@ use Rattle.sp_dimacs.specs.Graph.{graph_of, IsNetwork}
 use Rattle.sp_device.specs.declared.devices.Write.{Ghosts as Writer}
 use Rattle.sp_job.specs.declared.answers.Summary.{Summary}
 use Rattle.sp_job.specs.declared.answers.BatchError.{BatchError}
-use Rattle.sp_job.specs.declared.answers.BatchError.TheVariants.{Gr, Ss, Pairs, NoSuchVertex, Memory, Write}
+use Rattle.sp_job.specs.declared.answers.BatchError.TheVariants.{Gr, Ss, Targets, Pairs, NoSuchVertex, Memory, Write}
 use Rattle.sp_batch.specs.Batch.{Answer, TreeOf, FarFrom, IsAnswerTo, AreAnswers, HasBegun}
 use Rattle.sp_job.specs.Places.{AreNumbered}
-use Rattle.sp_batch.specs.Steps.{HasBegunFirst, AreAllAnswered}
-use Rattle.sp_job.specs.Answers.{is_early}
+use Rattle.sp_sources.specs.Told.{AreAllAnswered}
+use Rattle.sp_sources.specs.Told.{HasBegunFirst as HasToldFirst}
+use Rattle.sp_sources.proofs.ToldInOrder.{none_begun}
 use Rattle.sp_batch.specs.Answered.{IsBatch}
-use Rattle.sp_batch.proofs.AnswersInOrder.{none_begun}
+use Rattle.sp_batch.specs.Found.{IsTold}
+use Rattle.sp_batch.proofs.AnswersInOrder.{HasBegunFirst, answers_told, begun_told}
 use Rattle.sp_batch.proofs.AnswersExist.{begun_whole}
 
 same_answer : (P : ℕ) (g h : Graph) (s : ℕ) (answer : Answer) → AreSame g h → IsAnswerTo P g s answer → IsAnswerTo P h s answer
@@ -62,27 +64,31 @@ file_begun : (P : ℕ) (file : GrFile) (sources : List ℕ) (old new : Option (L
 file_begun P file sources old new ok begun =
     begun_whole P (graph_of file) ok.layout ok.network.most ok.network.arcs sources old new (λ i d less. (ok.numbered.named i d less, ok.within i d less)) begun
 
+-- So it is with what the answers tell of a graph with the same arcs.
+told_begun : (P : ℕ) (file : GrFile) (sources : List ℕ) (graph : Graph) (old new : Option (List ℕ)) → AreSame graph (graph_of file) → AreSources P file sources → HasToldFirst (λ s told. IsTold P graph s told) sources old new
+    → HasBegun P (graph_of file) sources old new
+told_begun P file sources graph old new same ok begun = file_begun P file sources old new ok (same_begun P graph (graph_of file) sources old new same (begun_told P graph sources old new begun))
+
 -- What was answered for the rows of a file's graph was answered for the file.
 pub of_file : {W : Type 0} (P : ℕ) (file : GrFile) (sources : List ℕ) (graph : Graph) (device : Writer W) (old new : W) (result : Result Summary BatchError) → AreSame graph (graph_of file) → AreSources P file sources
-    → AreAllAnswered P graph sources device old result new → IsBatch P file sources device old new result
-of_file P file sources graph device old new (Ok summary) same ok h = (h.answers, same_all P graph (graph_of file) sources h.answers same h.are, h.text.wrote, h.text.counted)
-of_file P file sources graph device old new (Err Memory) same ok begun = (ok.within, file_begun P file sources (device.written old) (device.written new) ok (same_begun P graph (graph_of file) sources (device.written old) (device.written new) same begun))
-of_file P file sources graph device old new (Err Write) same ok (begun, failed) = (ok.within, file_begun P file sources (device.written old) (device.written new) ok (same_begun P graph (graph_of file) sources (device.written old) (device.written new) same begun), failed)
+    → AreAllAnswered (λ s told. IsTold P graph s told) sources device old result new → IsBatch P file sources device old new result
+of_file P file sources graph device old new (Ok summary) same ok h =
+    let t = answers_told P graph sources h.all h.are in
+    let counted = h.text.counted in (
+      t.answers,
+      same_all P graph (graph_of file) sources t.answers same t.are,
+      subst (λ (l : List ℕ). Appends (device.written old) (device.written new) l) t.text h.text.wrote,
+      record { sources = counted.sources ∙ t.count; too_far = counted.too_far ∙ t.far; bytes = counted.bytes ∙ ap length t.text },
+    )
+of_file P file sources graph device old new (Err Memory) same ok begun = (ok.within, told_begun P file sources graph (device.written old) (device.written new) same ok begun)
+of_file P file sources graph device old new (Err Write) same ok (begun, failed) = (ok.within, told_begun P file sources graph (device.written old) (device.written new) same ok begun, failed)
 of_file P file sources graph device old new (Err (Gr e)) same ok is = absurd is
 of_file P file sources graph device old new (Err (Ss e)) same ok is = absurd is
+of_file P file sources graph device old new (Err (Targets e)) same ok is = absurd is
 of_file P file sources graph device old new (Err (Pairs e)) same ok is = absurd is
 of_file P file sources graph device old new (Err (NoSuchVertex v)) same ok is = absurd is
 
 -- Memory was refused before anything was written.
 pub refused_early : {W : Type 0} (P : ℕ) (file : GrFile) (sources : List ℕ) (device : Writer W) (old : W) → AreSources P file sources → IsBatch P file sources device old old (Err Memory)
-refused_early P file sources device old ok = (ok.within, file_begun P file sources (device.written old) (device.written old) ok (none_begun P (graph_of file) sources (device.written old)))
-
--- Once answers are written, no file is refused.
-pub not_early : {W : Type 0} (P : ℕ) (g : Graph) (sources : List ℕ) (device : Writer W) (old new : W) (result : Result Summary BatchError) (same : Type 0) → AreAllAnswered P g sources device old result new → IfErr result (λ e. is_early e ≡ true → same)
-not_early P g sources device old new (Ok summary) same is = tt
-not_early P g sources device old new (Err Memory) same is = λ early. absurd (false≢true early)
-not_early P g sources device old new (Err Write) same is = λ early. absurd (false≢true early)
-not_early P g sources device old new (Err (Gr e)) same is = absurd is
-not_early P g sources device old new (Err (Ss e)) same is = absurd is
-not_early P g sources device old new (Err (Pairs e)) same is = absurd is
-not_early P g sources device old new (Err (NoSuchVertex v)) same is = absurd is
+refused_early P file sources device old ok =
+    (ok.within, file_begun P file sources (device.written old) (device.written old) ok (begun_told P (graph_of file) sources (device.written old) (device.written old) (none_begun (λ s told. IsTold P (graph_of file) s told) sources (device.written old))))

@@ -10,7 +10,7 @@ use Rattle.sp_dimacs.specs.Graph.{SpellsGraph}
 use Rattle.sp_dimacs.specs.Sources.{SpellsSources}
 use Rattle.sp_job.specs.declared.answers.Summary.{Summary}
 use Rattle.sp_job.specs.declared.answers.BatchError.{BatchError}
-use Rattle.sp_job.specs.declared.answers.BatchError.TheVariants.{Gr, Ss, Pairs, NoSuchVertex, Memory, Write}
+use Rattle.sp_job.specs.declared.answers.BatchError.TheVariants.{Gr, Ss, Targets, Pairs, NoSuchVertex, Memory, Write}
 use Rattle.sp_job.specs.Places.{part_of}
 use Rattle.sp_batch.specs.Answered.{IsBatch, BatchAnswered, BatchOfSome, GivenAnswered, GivenOfSome, MayFail}
 
@@ -23,6 +23,7 @@ answered P places gr_text ss_text g gr s ss w old new file list (Err Memory) gra
 answered P places gr_text ss_text g gr s ss w old new file list (Err Write) graph sources is = (file, list, graph, sources, is)
 answered P places gr_text ss_text g gr s ss w old new file list (Err (Gr e)) graph sources is = absurd is
 answered P places gr_text ss_text g gr s ss w old new file list (Err (Ss e)) graph sources is = absurd is
+answered P places gr_text ss_text g gr s ss w old new file list (Err (Targets e)) graph sources is = absurd is
 answered P places gr_text ss_text g gr s ss w old new file list (Err (Pairs e)) graph sources is = absurd is
 
 pub of_some : {W : Type 0} (P : ℕ) (places : Option (ℕ × ℕ)) (gr_text ss_text : List ℕ) (w : Writer W) (old new : W) (file : GrFile) (list : SsFile) (result : Result Summary BatchError)
@@ -33,6 +34,7 @@ of_some P places gr_text ss_text w old new file list (Err Memory) graph sources 
 of_some P places gr_text ss_text w old new file list (Err Write) graph sources is = (gr_text, ss_text, file, list, graph, sources, is)
 of_some P places gr_text ss_text w old new file list (Err (Gr e)) graph sources is = absurd is
 of_some P places gr_text ss_text w old new file list (Err (Ss e)) graph sources is = absurd is
+of_some P places gr_text ss_text w old new file list (Err (Targets e)) graph sources is = absurd is
 of_some P places gr_text ss_text w old new file list (Err (Pairs e)) graph sources is = absurd is
 
 -- What was answered for a graph and given sources is the answer to a text that spells the graph.
@@ -44,6 +46,7 @@ given_answered P gr_text sources g gr w old new file (Err Memory) graph is = (fi
 given_answered P gr_text sources g gr w old new file (Err Write) graph is = (file, graph, is)
 given_answered P gr_text sources g gr w old new file (Err (Gr e)) graph is = absurd is
 given_answered P gr_text sources g gr w old new file (Err (Ss e)) graph is = absurd is
+given_answered P gr_text sources g gr w old new file (Err (Targets e)) graph is = absurd is
 given_answered P gr_text sources g gr w old new file (Err (Pairs e)) graph is = absurd is
 
 pub given_of_some : {W : Type 0} (P : ℕ) (gr_text sources : List ℕ) (w : Writer W) (old new : W) (file : GrFile) (result : Result Summary BatchError)
@@ -54,6 +57,7 @@ given_of_some P gr_text sources w old new file (Err Memory) graph is = (gr_text,
 given_of_some P gr_text sources w old new file (Err Write) graph is = (gr_text, file, graph, is)
 given_of_some P gr_text sources w old new file (Err (Gr e)) graph is = absurd is
 given_of_some P gr_text sources w old new file (Err (Ss e)) graph is = absurd is
+given_of_some P gr_text sources w old new file (Err (Targets e)) graph is = absurd is
 given_of_some P gr_text sources w old new file (Err (Pairs e)) graph is = absurd is
 
 -- What was answered for a graph tells of no device.
@@ -64,4 +68,5 @@ may_fail P sources gr ss w old new file (Err Memory) is = tt
 may_fail P sources gr ss w old new file (Err Write) is = tt
 may_fail P sources gr ss w old new file (Err (Gr e)) is = absurd is
 may_fail P sources gr ss w old new file (Err (Ss e)) is = absurd is
+may_fail P sources gr ss w old new file (Err (Targets e)) is = absurd is
 may_fail P sources gr ss w old new file (Err (Pairs e)) is = absurd is

@@ -11,9 +11,10 @@ use Rattle.sp_dimacs.specs.Sources.{SpellsSources, SourcesRead}
 use Rattle.sp_text.specs.declared.faults.Kind.TheVariants as kind
 use Rattle.sp_job.specs.declared.answers.Summary.{Summary}
 use Rattle.sp_job.specs.declared.answers.BatchError.{BatchError}
-use Rattle.sp_job.specs.declared.answers.BatchError.TheVariants.{Gr, Ss, Pairs, NoSuchVertex, Memory, Write}
+use Rattle.sp_job.specs.declared.answers.BatchError.TheVariants.{Gr, Ss, Targets, Pairs, NoSuchVertex, Memory, Write}
 use Rattle.sp_job.specs.Places.{part_of}
-use Rattle.sp_batch.specs.Batch.{Answer, AreAnswers, batch_text, IsSummary, HasBegun, IsFirstAbove}
+use Rattle.sp_job.specs.Vertices.{IsFirstAbove}
+use Rattle.sp_batch.specs.Batch.{Answer, AreAnswers, batch_text, IsSummary, HasBegun}
 
 -- For the sources of a graph exactly the text of their answers was written; or a source is no vertex, and nothing was
 -- written; or memory was refused or the writer failed, and a beginning of the text stands.
@@ -24,6 +25,7 @@ IsBatch P file sources w old new (Err Memory) = All (λ s. s ≤ file.n) sources
 IsBatch P file sources w old new (Err Write) = All (λ s. s ≤ file.n) sources × HasBegun P (graph_of file) sources (w.written old) (w.written new) × (w.has_failed new ≡ true)
 IsBatch P file sources w old new (Err (Gr e)) = ⊥
 IsBatch P file sources w old new (Err (Ss e)) = ⊥
+IsBatch P file sources w old new (Err (Targets e)) = ⊥
 IsBatch P file sources w old new (Err (Pairs e)) = ⊥
 
 -- ## Sources of a text

@@ -1,5 +1,5 @@
 -- What is written for a list of sources.
-use Rattle.std.specs.Prelude.{◌≡◌, ◌<◌, ◌≤◌, ℕ, Bool, true, false, List, [], ◌∷◌, length, slice_get, Option, Some}
+use Rattle.std.specs.Prelude.{◌≡◌, ℕ, Bool, true, false, List, [], ◌∷◌, length, Option, Some}
 use Rattle.std.specs.List.{flat_map, count_by}
 use Rattle.sp_word.specs.Word.{max_dist}
 use Rattle.sp_device.specs.Devices.{IsBegun}
@@ -47,10 +47,3 @@ pub record HasBegun (P : ℕ) (g : Graph) (sources : List ℕ) (old new : Option
   pub answers : List Answer
   pub are : AreAnswers P g sources answers
   pub begun : IsBegun (batch_text answers) old new
-
--- The source at some place is above n, and every source before it is not.
-pub record IsFirstAbove (n : ℕ) (sources : List ℕ) (s : ℕ) : Type 0 where
-  pub place : ℕ
-  pub there : slice_get sources place ≡ Some s
-  pub above : n < s
-  pub before : (k v : ℕ) → k < place → slice_get sources k ≡ Some v → v ≤ n

@@ -1,4 +1,3 @@
 pub mod Batch
 pub mod Found
-pub mod Steps
 pub mod Answered

@@ -1,50 +1,51 @@
 //! A batch of sources.
-ghost use Rattle.std.specs.Prelude.{◌≡◌, ◌≤◌, ℕ, true, List, length, All, Some, None, IfSome, IfNone, IfErr};
+ghost use Rattle.std.specs.Prelude.{◌≡◌, ℕ, true, List, Some, None, IfErr};
 ghost use Rattle.sp_word.specs.Word.{is_layout};
-ghost use Rattle.sp_paths.specs.Paths.{IsVertex, IsGraph};
 ghost use Rattle.sp_device.specs.Failing.{Anytime};
 ghost use Rattle.sp_dimacs.specs.Graph.{IsNetwork};
-ghost use Rattle.sp_batch.specs.Batch.{IsFirstAbove};
 ghost use Rattle.sp_job.specs.Places.{AreNumbered};
 ghost use Rattle.sp_job.specs.Answers.{is_early};
 ghost use Rattle.sp_batch.specs.Answered.{BatchAnswered, BatchOfSome, GivenAnswered, GivenOfSome, IsBatch, MayFail};
 
-use crate::answering::{Batch, answer_batch};
+use crate::finding::TreeQuestion;
 use crate::watch::{Unwatched, Watch};
 use sp_dimacs::{GrFile, Read, Write, read_gr, read_ss};
 use sp_graph::Graph;
 use sp_job::{
-    BatchError, BucketWidth, Job, Listener, Nobody, Places, Progress, Settings, Summary, chosen,
+    BatchError, BucketWidth, Listener, Nobody, Places, Progress, Settings, Summary, chosen,
+    first_above,
 };
+use sp_sources::{Asked, LEAST_ITEMS, answer_sources};
 use sp_word::{Meter, Workers};
 use std::alloc::Global;
 use std::sync::Wait;
 use std::thread::Threads;
 
-/// In a graph with fewer vertices and arcs in all, a thread takes longer to start than it saves.
-pub(crate) const LEAST_ITEMS: usize = 2000;
-
-// Returns the first source that isn't a vertex, if one isn't.
-fn first_above(sources: &[u32], n: u32) -> Option<u32>
-    ensures first { IfSome result (IsFirstAbove n sources.now) }
-    ensures none { IfNone result (All (λ s. s ≤ n) sources.now) }
-{
-    for vertex in sources {
-        if *vertex > n {
-            return Some(*vertex);
-        }
-    }
-    None
+/// The sources of a batch.
+#[derive(Drop)]
+pub(crate) struct Batch<'a, V> {
+    pub(crate) sources: &'a [u32],
+    /// How many vertices and arcs the graph must have in all for several sources to be answered at once.
+    pub(crate) least_items: usize,
+    /// Who hears of each source before its answer is found.
+    pub(crate) watch: &'a V,
 }
 
 /// Tests the sources of a batch, and then finds and writes their answers.
-#[tactic(auto, using(crate::proofs::OfFile::not_early))]
-pub(crate) fn answer_file<const P: u32, R: Threads + Wait + Sync + Watch, W: Write, L: Listener>(
+#[tactic(auto, using(sp_sources::proofs::ToldInOrder::not_early))]
+pub(crate) fn answer_file<
+    'a,
+    const P: u32,
+    R: Threads + Wait + Sync,
+    V: Watch + Sync,
+    W: Write,
+    L: Listener,
+>(
     rt: &R,
     alloc: Global,
     file: GrFile,
-    batch: &Batch,
-    settings: &Settings<P, L>,
+    batch: &Batch<'a, V>,
+    settings: &Settings<'a, P, L>,
     out: &mut W,
 ) -> Result<Summary, BatchError>
     requires layout { is_layout P ≡ true }
@@ -62,13 +63,22 @@ pub(crate) fn answer_file<const P: u32, R: Threads + Wait + Sync + Watch, W: Wri
         arcs: graph.m(),
     });
     let uncounted = Meter::new();
-    let job = Job {
+    let team = settings.team_for(&graph);
+    let question = TreeQuestion {
         graph: &graph,
-        team: settings.team_for(&graph),
+        delta: team.delta,
         meter: settings.listener.meter().unwrap_or(&uncounted),
+        watch: batch.watch,
+    };
+    let asked = Asked {
+        sources: batch.sources,
+        count: batch.sources.len(),
+        items: graph.m().saturating_add(graph.n() as usize),
+        least_items: batch.least_items,
+        workers: team.workers,
         listener: settings.listener,
     };
-    answer_batch::<P, R, W, L>(rt, alloc, &job, batch, out)
+    answer_sources::<TreeQuestion<P, V>, R, W, L>(rt, alloc, &question, &asked, out)
 }
 
 /// Reads a graph and a list of sources, and writes for each source, in the order of the list, its shortest-path tree,
@@ -96,6 +106,7 @@ pub fn run_batch<const P: u32, R: Threads + Wait + Sync, G: Read, S: Read, W: Wr
         W.Write out.old out.new result }
     ensures untouched { IfErr result (λ e. is_early e ≡ true → out.new ≡ out.old) }
     ensures found { BatchOfSome P None W.Write out.old out.new result }
+    ensures may_fail { IfErr result (MayFail (G.failing gr.old) (S.failing ss.old)) }
 {
     let settings = Settings {
         width,
@@ -144,9 +155,9 @@ pub fn run_batch_told<
     let batch = Batch {
         sources: chosen::<P>(places, &list),
         least_items: LEAST_ITEMS,
+        watch: &Unwatched,
     };
-    let rt = &(rt, Unwatched);
-    answer_file::<P, (&R, Unwatched), W, L>(rt, alloc, file, &batch, settings, out)
+    answer_file::<P, R, Unwatched, W, L>(rt, alloc, file, &batch, settings, out)
 }
 
 /// Does what `run_batch_told` does, for sources that are given in place of the text of a list.
@@ -169,12 +180,10 @@ pub fn run_given_told<const P: u32, R: Threads + Wait + Sync, G: Read, W: Write,
     let batch = Batch {
         sources,
         least_items: LEAST_ITEMS,
+        watch: &Unwatched,
     };
-    let rt = &(rt, Unwatched);
     match read_gr::<P, G>(alloc, gr) {
-        Ok(file) => {
-            answer_file::<P, (&R, Unwatched), W, L>(rt, alloc, file, &batch, settings, out)
-        }
+        Ok(file) => { answer_file::<P, R, Unwatched, W, L>(rt, alloc, file, &batch, settings, out) }
         Err(error) => Err(BatchError::Gr(error)),
     }
 }

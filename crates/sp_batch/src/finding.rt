@@ -1,18 +1,21 @@
-//! The answers for sources, found one after the other or side by side.
-ghost use Rattle.std.specs.Prelude.{◌≡◌, ◌++◌, All, IfOk};
+//! The question of a batch: what is the tree of a source.
+ghost use Rattle.std.specs.Prelude.{[], ◌∷◌, IfOk};
 ghost use denote.Param.Send.{IsSync};
-ghost use Rattle.sp_paths.specs.Paths.{IsVertex};
-ghost use Rattle.sp_job.specs.Ready.{IsReady};
-ghost use Rattle.sp_batch.specs.Found.{IsFound, AreFound};
+ghost use Rattle.sp_sources.specs.Told.{IsDue, AreWritten};
+ghost use Rattle.sp_batch.specs.Found.{answer_of, told_of, IsTold, CanFind};
 
 use crate::watch::Watch;
 use sp_answer::Tree;
+use sp_device::Write;
 use sp_graph::Graph;
+use sp_job::{BatchError, Progress, Summary};
 use sp_solve::{RunError, run_by_team, useful_team};
-use sp_word::{Meter, Team};
+use sp_sources::Question;
+use sp_tree::{write_far, write_tree_in_pages};
+use sp_word::{Delta, Meter, Team, Workers};
 use std::alloc::{AllocError, Global};
 use std::sync::Wait;
-use std::thread::{Threads, join};
+use std::thread::Threads;
 
 /// The answer for a source.
 #[derive(Drop)]
@@ -23,89 +26,77 @@ pub(crate) enum SourceAnswer<const P: u32> {
     TooFar { source: u32, vertex: u32 },
 }
 
-/// Finds the answer for a source.
-pub(crate) fn find_source<const P: u32, R: Threads + Wait + Sync + Watch>(
-    rt: &R,
-    alloc: Global,
-    graph: &Graph,
-    team: &Team<P>,
-    meter: &Meter,
-    source: u32,
-) -> Result<SourceAnswer<P>, AllocError>
-    requires ready { IsReady P graph.now }
-    requires vertex { IsVertex graph.now.n source }
-    ensures { IfOk result (IsFound graph.now source) }
-{
-    rt.before_source(source);
-    let team = useful_team(rt, graph.n(), team);
-    match run_by_team::<P, R>(rt, alloc, graph, team, meter, source) {
-        Ok(tree) => Ok(SourceAnswer::Tree(tree)),
-        Err(RunError::TooFar(vertex)) => Ok(SourceAnswer::TooFar { source, vertex }),
-        Err(RunError::NoSuchVertex) => unreachable!(),
-        Err(RunError::Memory) => Err(AllocError),
-    }
+/// The question of a batch: what is the tree of a source of the graph.
+#[derive(Drop)]
+pub(crate) struct TreeQuestion<'a, const P: u32, V> {
+    pub(crate) graph: &'a Graph,
+    /// The width of a bucket.
+    pub(crate) delta: Delta<P>,
+    /// The meter on which the workers count the vertices that they relax.
+    pub(crate) meter: &'a Meter,
+    /// Who hears of each source before its answer is found.
+    pub(crate) watch: &'a V,
 }
 
-// Finds the answers for sources, one after the other.
-fn find_in_turn<const P: u32, R: Threads + Wait + Sync + Watch>(
-    rt: &R,
-    alloc: Global,
-    graph: &Graph,
-    team: &Team<P>,
-    meter: &Meter,
-    sources: &[u32],
-) -> Result<Vec<SourceAnswer<P>>, AllocError>
-    requires ready { IsReady P graph.now }
-    requires vertices { All (IsVertex graph.now.n) sources.now }
-    ensures { IfOk result (λ group. AreFound graph.now sources.now group.items) }
-{
-    let mut group = Vec::new(alloc);
-    for source in sources {
-        group.push(find_source::<P, R>(rt, alloc, graph, team, meter, *source)?)?;
-    }
-    Ok(group)
-}
+impl<'a, const P: u32, V: Watch + Sync> Question for TreeQuestion<'a, P, V> {
+    type Found = SourceAnswer<P>;
 
-// Puts answers behind others.
-fn put_behind<const P: u32>(
-    mut first: Vec<SourceAnswer<P>>,
-    mut second: Vec<SourceAnswer<P>>,
-) -> Result<Vec<SourceAnswer<P>>, AllocError>
-    ensures { IfOk result (λ group. group.items ≡ first.entry.items ++ second.entry.items) }
-{
-    first.append(&mut second)?;
-    Ok(first)
-}
+    ghost told = { λ found. told_of (answer_of found) };
 
-/// Finds the answers for sources, in their order, each on a thread of its own by the workers of a team.
-///
-/// Where no thread can be had, this one finds the answers that are left.
-#[cycle(groups)]
-pub(crate) fn find_group<const P: u32, R: Threads + Wait + Sync + Watch>(
-    rt: &R,
-    alloc: Global,
-    graph: &Graph,
-    team: &Team<P>,
-    meter: &Meter,
-    sources: &[u32],
-) -> Result<Vec<SourceAnswer<P>>, AllocError>
-    requires ready { IsReady P graph.now }
-    requires vertices { All (IsVertex graph.now.n) sources.now }
-    ensures { IfOk result (λ group. AreFound graph.now sources.now group.items) }
-{
-    if sources.len() < 2 {
-        return find_in_turn(rt, alloc, graph, team, meter, sources);
+    ghost can_ask = { λ question s. CanFind P question.graph.now s };
+
+    ghost answers = { λ question s told. IsTold P question.graph.now s told };
+
+    fn progress(written: Summary, count: usize) -> Progress {
+        Progress::Sources { written, count }
     }
-    let half = sources.len() / 2;
-    let (left, right) = sources.split_at(half);
-    let back = move || -> Result<Vec<SourceAnswer<P>>, AllocError>
-        requires { IsSync R.row × IsReady P graph.now × All (IsVertex graph.now.n) right.now }
-        ensures { IfOk result (λ group. AreFound graph.entry.now right.entry.now group.items) }
-    { find_group(rt, alloc, graph, team, meter, right) };
-    let front = move || -> Result<Vec<SourceAnswer<P>>, AllocError>
-        requires { IsSync R.row × IsReady P graph.now × All (IsVertex graph.now.n) left.now }
-        ensures { IfOk result (λ group. AreFound graph.entry.now left.entry.now group.items) }
-    { find_group(rt, alloc, graph, team, meter, left) };
-    let (second, first) = join(rt, back, front);
-    put_behind(first?, second?)
+
+    fn find<R: Threads + Wait + Sync>(
+        &self,
+        rt: &R,
+        alloc: Global,
+        workers: Workers,
+        source: u32,
+    ) -> Result<SourceAnswer<P>, AllocError>
+        requires source { CanFind P self.now.graph.now source }
+        requires sync { IsSync R.row }
+        ensures { IfOk result (λ found. IsDue (λ s told. IsTold P self.now.graph.now s told)
+            source (told_of (answer_of found))) }
+    {
+        self.watch.before_source(source);
+        let asked = Team {
+            delta: self.delta,
+            workers,
+        };
+        let team = useful_team(rt, self.graph.n(), &asked);
+        match run_by_team::<P, R>(rt, alloc, self.graph, team, self.meter, source) {
+            Ok(tree) => Ok(SourceAnswer::Tree(tree)),
+            Err(RunError::TooFar(vertex)) => Ok(SourceAnswer::TooFar { source, vertex }),
+            Err(RunError::NoSuchVertex) => unreachable!(),
+            Err(RunError::Memory) => Err(AllocError),
+        }
+    }
+
+    fn write<W: Write>(
+        &self,
+        alloc: Global,
+        found: &SourceAnswer<P>,
+        out: &mut W,
+    ) -> Result<Summary, BatchError>
+        ensures { AreWritten W.Write (told_of (answer_of found.now) ∷ [])
+            out.old result out.new }
+    {
+        match found {
+            SourceAnswer::Tree(tree) => Ok(Summary {
+                sources: 1,
+                too_far: 0,
+                bytes: write_tree_in_pages(alloc, tree, out)?,
+            }),
+            SourceAnswer::TooFar { source, vertex } => Ok(Summary {
+                sources: 1,
+                too_far: 1,
+                bytes: write_far(*source, *vertex, out)?,
+            }),
+        }
+    }
 }

@@ -1,11 +1,9 @@
 //! From bytes to bytes: a graph and a list of sources are read, and for each source its shortest-path tree is written.
 #![tactic(auto)]
 
-mod answering;
 mod batch;
 mod finding;
 mod watch;
-mod writing;
 
 pub use batch::{run_batch, run_batch_told, run_given_told};
 pub use sp_job::{BatchError, BucketWidth, Listener, Nobody, Places, Progress, Settings, Summary};

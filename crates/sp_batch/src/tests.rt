@@ -8,8 +8,7 @@ mod groups;
 mod meeting;
 mod threads;
 
-use crate::answering::Batch;
-use crate::batch::answer_file;
+use crate::batch::{Batch, answer_file};
 use crate::watch::{Unwatched, Watch};
 use crate::{BatchError, BucketWidth, Nobody, Settings, Summary, run_batch};
 use sp_dimacs::{DimacsError, Kind, UpTo, UpToWriter, read_gr, read_ss};
@@ -88,12 +87,13 @@ pub fn run_in<const P: u32, R: Threads + Wait + Sync + Abort>(
 }
 
 /// Runs a batch with a watch, several sources at once where the graph has at least `least_items` vertices and arcs in all.
-pub fn run_watched<R: Threads + Wait + Sync + Watch>(
+pub fn run_watched<R: Threads + Wait + Sync, V: Watch + Sync>(
     rt: &R,
     alloc: Global,
     case: &Case,
     least_items: usize,
     workers: Workers,
+    watch: &V,
 ) -> Ran
     requires gr { length case.now.gr.now ≤ 2 ^ 62 }
     requires ss { length case.now.ss.now ≤ 2 ^ 62 }
@@ -122,8 +122,9 @@ pub fn run_watched<R: Threads + Wait + Sync + Watch>(
     let batch = Batch {
         sources: chosen::<28>(None, &list),
         least_items,
+        watch,
     };
-    let answer = answer_file::<28, R, _, _>(rt, alloc, file, &batch, &settings, &mut out);
+    let answer = answer_file::<28, R, V, _, _>(rt, alloc, file, &batch, &settings, &mut out);
     Ran { answer, out }
 }
 
@@ -138,8 +139,7 @@ pub fn run_groups<R: Threads + Wait + Sync + Abort>(
     requires ss { length case.now.ss.now ≤ 2 ^ 62 }
     requires room { case.now.room ≤ 2 ^ 62 }
 {
-    let watched = (rt, Unwatched);
-    run_watched(&watched, alloc, case, 0, crew(rt, workers))
+    run_watched(rt, alloc, case, 0, crew(rt, workers), &Unwatched)
 }
 
 /// Asserts what a batch answers and writes, for some widths and numbers of workers, and by groups.

@@ -12,10 +12,3 @@ pub(crate) struct Unwatched;
 impl Watch for Unwatched {
     fn before_source(&self, _source: u32) {}
 }
-
-/// A runtime's handle, and who hears beside it.
-impl<R, V: Watch> Watch for (R, V) {
-    fn before_source(&self, source: u32) {
-        self.1.before_source(source);
-    }
-}

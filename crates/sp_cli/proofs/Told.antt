@@ -6,7 +6,7 @@ use Rattle.sp_device.specs.declared.devices.Read.{Ghosts as Reader}
 use Rattle.sp_device.specs.declared.devices.Write.{Ghosts as Writer}
 use Rattle.sp_job.specs.declared.answers.Summary.{Summary}
 use Rattle.sp_job.specs.declared.answers.BatchError.{BatchError}
-use Rattle.sp_job.specs.declared.answers.BatchError.TheVariants.{Gr, Ss, Pairs, NoSuchVertex, Memory, Write}
+use Rattle.sp_job.specs.declared.answers.BatchError.TheVariants.{Gr, Ss, Targets, Pairs, NoSuchVertex, Memory, Write}
 use Rattle.sp_job.specs.Places.{part_of}
 use Rattle.sp_batch.specs.Answered.{BatchAnswered, BatchOfSome, GivenAnswered, GivenOfSome, MayFail}
 use Rattle.sp_pairs.specs.Pairs.{PairsAnswered, PairsOfSome as PairsOfSomeTexts, MayFail as PairsMayFail}
@@ -44,6 +44,7 @@ after_batch P far_ok places gr_text ss_text files g gr s ss w old new (Err Write
 after_batch P far_ok places gr_text ss_text files g gr s ss w old new (Err (Gr e)) (read, same) = ((g.left gr, g.has_failed gr, read), same)
 after_batch P far_ok places gr_text ss_text files g gr s ss w old new (Err (Ss e)) (graph, graph_is, read, same) = ((graph, graph_is), (s.left ss, s.has_failed ss, read), same)
 after_batch P far_ok places gr_text ss_text files g gr s ss w old new (Err (Pairs e)) (graph, list, graph_is, list_is, is) = absurd is
+after_batch P far_ok places gr_text ss_text files g gr s ss w old new (Err (Targets e)) (graph, list, graph_is, list_is, is) = absurd is
 
 -- What a batch of given sources answers to a text is what `tree` tells of it and them.
 pub after_given : {G W : Type 0} (P : ℕ) (far_ok : Bool) (gr_text sources : List ℕ) (files : Files) (g : Reader G) (gr : G) (w : Writer W) (old new : W) (answer : Result Summary BatchError)
@@ -58,6 +59,7 @@ after_given P far_ok gr_text sources files g gr w old new (Err Write) (graph, gr
     (failed, (record { graph = graph; sources = sources; graph_spelled = graph_is; are_asked = refl }, within, begun))
 after_given P far_ok gr_text sources files g gr w old new (Err (Gr e)) (read, same) = ((g.left gr, g.has_failed gr, read), same)
 after_given P far_ok gr_text sources files g gr w old new (Err (Ss e)) (graph, graph_is, is) = absurd is
+after_given P far_ok gr_text sources files g gr w old new (Err (Targets e)) (graph, graph_is, is) = absurd is
 after_given P far_ok gr_text sources files g gr w old new (Err (Pairs e)) (graph, graph_is, is) = absurd is
 
 -- What holds of what a batch answers holds of its command.
@@ -95,6 +97,7 @@ batch_borne_out P far_ok places paths own files graph path gr ss w old new (Err 
 batch_borne_out P far_ok places paths own files graph path gr ss w old new (Err (Gr e)) graph_is path_is gr_fails ss_fails vertex may is = (graph, graph_is, λ read never. may read (gr_fails ∙ never))
 batch_borne_out P far_ok places paths own files graph path gr ss w old new (Err (Ss e)) graph_is path_is gr_fails ss_fails vertex may is = (path, path_is, λ read never. may read (ss_fails ∙ never))
 batch_borne_out P far_ok places paths own files graph path gr ss w old new (Err (Pairs e)) graph_is path_is gr_fails ss_fails vertex may (_, _, _, _, _, _, is) = absurd is
+batch_borne_out P far_ok places paths own files graph path gr ss w old new (Err (Targets e)) graph_is path_is gr_fails ss_fails vertex may (_, _, _, _, _, _, is) = absurd is
 
 pub given_borne_out : {W : Type 0} (P : ℕ) (far_ok : Bool) (sources : List ℕ) (paths : Paths) (own : Fault → Type 0) (files : Files) (graph : List ℕ) (gr : Failing) (w : Writer W) (old new : W) (answer : Result Summary BatchError)
     → paths file.Graph ≡ Some graph → gr ≡ files.failing graph → ((v : ℕ) → own (fault.NoSuchVertex v))
@@ -105,6 +108,7 @@ given_borne_out P far_ok sources paths own files graph gr w old new (Err Memory)
 given_borne_out P far_ok sources paths own files graph gr w old new (Err Write) graph_is gr_fails vertex may (_, _, _, (within, begun, failed)) = failed
 given_borne_out P far_ok sources paths own files graph gr w old new (Err (Gr e)) graph_is gr_fails vertex may is = (graph, graph_is, λ read never. may read (gr_fails ∙ never))
 given_borne_out P far_ok sources paths own files graph gr w old new (Err (Ss e)) graph_is gr_fails vertex may (_, _, _, is) = absurd is
+given_borne_out P far_ok sources paths own files graph gr w old new (Err (Targets e)) graph_is gr_fails vertex may (_, _, _, is) = absurd is
 given_borne_out P far_ok sources paths own files graph gr w old new (Err (Pairs e)) graph_is gr_fails vertex may (_, _, _, is) = absurd is
 
 pub pairs_borne_out : {W : Type 0} (P : ℕ) (far_ok : Bool) (paths : Paths) (own : Fault → Type 0) (files : Files) (graph path : List ℕ) (gr pairs : Failing) (w : Writer W) (old new : W) (answer : Result Summary BatchError)
@@ -117,6 +121,7 @@ pairs_borne_out P far_ok paths own files graph path gr pairs w old new (Err Writ
 pairs_borne_out P far_ok paths own files graph path gr pairs w old new (Err (Gr e)) graph_is path_is gr_fails pairs_fail vertex may is = (graph, graph_is, λ read never. may read (gr_fails ∙ never))
 pairs_borne_out P far_ok paths own files graph path gr pairs w old new (Err (Pairs e)) graph_is path_is gr_fails pairs_fail vertex may is = (path, path_is, λ read never. may read (pairs_fail ∙ never))
 pairs_borne_out P far_ok paths own files graph path gr pairs w old new (Err (Ss e)) graph_is path_is gr_fails pairs_fail vertex may (_, _, _, _, _, _, is) = absurd is
+pairs_borne_out P far_ok paths own files graph path gr pairs w old new (Err (Targets e)) graph_is path_is gr_fails pairs_fail vertex may (_, _, _, _, _, _, is) = absurd is
 
 -- What a batch of pairs answers to two texts is what `pairs` tells of them.
 pub after_pairs : {G S W : Type 0} (P : ℕ) (far_ok : Bool) (gr_text list_text : List ℕ) (files : Files) (g : Reader G) (gr : G) (s : Reader S) (pairs : S) (w : Writer W) (old new : W) (answer : Result Summary BatchError)
@@ -132,3 +137,4 @@ after_pairs P far_ok gr_text list_text files g gr s pairs w old new (Err Write) 
 after_pairs P far_ok gr_text list_text files g gr s pairs w old new (Err (Gr e)) (read, same) = ((g.left gr, g.has_failed gr, read), same)
 after_pairs P far_ok gr_text list_text files g gr s pairs w old new (Err (Pairs e)) (graph, graph_is, read, same) = ((graph, graph_is), (s.left pairs, s.has_failed pairs, read), same)
 after_pairs P far_ok gr_text list_text files g gr s pairs w old new (Err (Ss e)) (graph, list, graph_is, list_is, is) = absurd is
+after_pairs P far_ok gr_text list_text files g gr s pairs w old new (Err (Targets e)) (graph, list, graph_is, list_is, is) = absurd is

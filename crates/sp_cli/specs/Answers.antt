@@ -10,8 +10,9 @@ use Rattle.sp_dimacs.specs.Graph.{graph_of, SpellsGraph}
 use Rattle.sp_dimacs.specs.Sources.{SpellsSources, SourcesRead}
 use Rattle.sp_dimacs.specs.Pairs.{SpellsPairs, PairsRead}
 use Rattle.sp_job.specs.declared.answers.Summary.{Summary}
-use Rattle.sp_batch.specs.Batch.{Answer, AreAnswers, batch_text, IsSummary, HasBegun, IsFirstAbove}
+use Rattle.sp_batch.specs.Batch.{Answer, AreAnswers, batch_text, IsSummary, HasBegun}
 use Rattle.sp_job.specs.Places.{part_of}
+use Rattle.sp_job.specs.Vertices.{IsFirstAbove}
 use Rattle.sp_pairs.specs.Pairs.{ArePairAnswers, pairs_text, IsPairsSummary, HasBegunPairs, IsPairUpTo, IsFirstPairAbove}
 use Rattle.sp_command.specs.declared.faults.FileKind.TheVariants as file
 use Rattle.sp_command.specs.Causes.{Paths}

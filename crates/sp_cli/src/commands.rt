@@ -2,6 +2,7 @@
 //!
 //! Each command is a type in a file of its own, in this crate or in one below, with its arguments, its help and what it does. To add a
 //! command, write such a file, and put its type into `AnyCommand`.
+use crate::matrix::MatrixCommand;
 use crate::pairs::PairsCommand;
 use crate::tree::TreeCommand;
 use sp_command::OneOf;
@@ -10,5 +11,11 @@ use sp_tools::{CheckCommand, OffersCommand, ReplayCommand};
 /// A command of the program, with its options and the paths of its files. The commands stand in the order of the help.
 pub type AnyCommand<'a> = OneOf<
     TreeCommand<'a>,
-    OneOf<PairsCommand<'a>, OneOf<CheckCommand<'a>, OneOf<ReplayCommand<'a>, OffersCommand<'a>>>>,
+    OneOf<
+        PairsCommand<'a>,
+        OneOf<
+            MatrixCommand<'a>,
+            OneOf<CheckCommand<'a>, OneOf<ReplayCommand<'a>, OffersCommand<'a>>>,
+        >,
+    >,
 >;

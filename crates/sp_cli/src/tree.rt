@@ -9,13 +9,14 @@ ghost use Rattle.sp_cli.specs.Answers.{TreeAnswers, TreesTold, InText, These, Tr
 ghost use Rattle.sp_options.specs.Sources.{path_of};
 ghost use Rattle.sp_options.specs.Ends.{end_of, fault_of};
 
+use crate::context::{Context, SourceFile};
 use clap::{ArgMatches, Error};
 use sp_batch::{run_batch_told, run_given_told};
 use sp_command::{
     BuiltCommand, Command, Fault, FileKind, GRAPH_FILE, Inputs, Run, Status, after_help, file,
 };
 use sp_device::Write;
-use sp_job::{BatchError, Listener, Places, Progress, Settings, Summary};
+use sp_job::{BatchError, Listener, Progress, Summary};
 use sp_options::{Given, RunOptions, Sources, Teller, Watched};
 use std::alloc::Global;
 use std::sync::Wait;
@@ -158,28 +159,6 @@ Others are
             _ => None,
         }
     }
-}
-
-// The files of the command line, and the settings of the job.
-struct Context<'a, const P: u32, F> {
-    files: &'a F,
-    settings: &'a Settings<'a, P, Teller<'a, F>>,
-}
-
-impl<const P: u32, F> Drop for Context<'_, P, F> {
-    fn drop(self) {
-        let Context {
-            files: _,
-            settings: _,
-        } = self;
-    }
-}
-
-// A file of sources, and the places of it whose sources have a tree; all of its sources have one if no places are given.
-#[derive(Clone, Copy)]
-struct SourceFile<'a> {
-    path: &'a str,
-    places: Option<Places>,
 }
 
 impl TreeCommand<'_> {

@@ -22,6 +22,7 @@ newline = 10 ∷ []
 abbrev pub word_of : FileKind → List ℕ
 word_of file.Graph = codes "gr"
 word_of file.Sources = codes "ss"
+word_of file.Targets = codes "targets"
 word_of file.Pairs = codes "pairs"
 word_of file.Tree = codes "tree"
 word_of file.Replay = codes "replay"

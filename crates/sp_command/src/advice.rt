@@ -117,7 +117,7 @@ impl Advice<'_> {
 fn of_kind(file: FileKind) -> &'static str {
     match file {
         FileKind::Graph => "a .gr file",
-        FileKind::Sources => "a .ss file",
+        FileKind::Sources | FileKind::Targets => "a .ss file",
         FileKind::Pairs => "a file of pairs",
         FileKind::Tree => "a tree file",
         FileKind::Replay => "a replay file",
@@ -129,7 +129,7 @@ fn of_kind(file: FileKind) -> &'static str {
 fn problem(file: FileKind) -> &'static str {
     match file {
         FileKind::Graph => "`p sp N M`",
-        FileKind::Sources => "`p aux sp ss K`",
+        FileKind::Sources | FileKind::Targets => "`p aux sp ss K`",
         FileKind::Pairs => "`p pairs K`",
         FileKind::Tree => "`p spt N S`",
         FileKind::Replay => "`p rep N K`",
@@ -141,7 +141,9 @@ fn problem(file: FileKind) -> &'static str {
 fn count(file: FileKind) -> &'static str {
     match file {
         FileKind::Graph => "M of the line `p sp N M` is the number of `a` lines",
-        FileKind::Sources => "K of the line `p aux sp ss K` is the number of `s` lines",
+        FileKind::Sources | FileKind::Targets => {
+            "K of the line `p aux sp ss K` is the number of `s` lines"
+        }
         FileKind::Pairs => "K of the line `p pairs K` is the number of `q` lines",
         FileKind::Tree | FileKind::Replay | FileKind::Offers => "the file has too many lines",
     }
@@ -157,6 +159,7 @@ impl fmt::Display for Lines {
         let rest = match file {
             FileKind::Graph => "and `a U V W` for each of its M arcs",
             FileKind::Sources => "and `s V` for each of its K sources",
+            FileKind::Targets => "and `s V` for each of its K targets",
             FileKind::Pairs => "and `q S T` for each of its K pairs",
             FileKind::Tree => "`v V D P` for each vertex, and `e R`, parted by one space",
             FileKind::Replay => "and lines i, o, r, a and s: see spt replay --help",

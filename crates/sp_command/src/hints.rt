@@ -106,10 +106,10 @@ pub enum Hint<'a> {
         name: &'a str,
         reason: io::Error,
     },
-    /// The program that makes plain text of a command's file.
+    /// The program that makes plain text of a command's file, and the place of that file in the command's words.
     Encoding {
         command: &'a str,
-        file: FileKind,
+        place: &'a str,
         path: &'a str,
         encoding: Encoding,
     },
@@ -150,10 +150,10 @@ impl fmt::Display for Hint<'_> {
             Hint::Reason { name, reason } => write!(f, "{}: {reason}", Shown(name))?,
             Hint::Encoding {
                 command,
-                file,
+                place,
                 path,
                 encoding,
-            } => write_encoding(f, command, *file, path, *encoding)?,
+            } => write_encoding(f, command, place, path, *encoding)?,
             Hint::Layout {
                 path,
                 vertices,
@@ -192,7 +192,7 @@ impl fmt::Display for Hint<'_> {
 fn write_encoding<W: fmt::Write>(
     f: &mut fmt::Formatter<W>,
     command: &str,
-    file: FileKind,
+    place: &str,
     path: &str,
     encoding: Encoding,
 ) -> fmt::Result {
@@ -203,7 +203,6 @@ fn write_encoding<W: fmt::Write>(
     {
         write!(f, " {word}")?;
     }
-    let place = file.place();
     write!(f, " | spt {command} {place}")
 }
 
@@ -267,10 +266,18 @@ fn input_hint<'a, C: Commands<'a>, F: Inputs>(
         Kind::Read => reason_of(name_of(path), files),
         _ => Some(Hint::Encoding {
             command: command.name(),
-            file,
+            place: place_of(file, command),
             path,
             encoding: files.encoding()?,
         }),
+    }
+}
+
+// Returns where standard input appears in the words of a command if it is its file of this kind.
+fn place_of<'a, C: Commands<'a>>(file: FileKind, command: &C) -> &'a str {
+    match file {
+        FileKind::Sources if command.path(FileKind::Targets).is_some() => ".. - ..",
+        _ => file.place(),
     }
 }
 

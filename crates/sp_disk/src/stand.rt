@@ -111,11 +111,20 @@ impl Stand {
 
     /// Once these bytes of the output were written.
     pub fn with_written(self, written: &[u8]) -> Self {
-        let Report::Sources { done, count, bytes } = self.report else {
-            return self;
+        let more = written.len() as u64;
+        let report = match self.report {
+            Report::Sources { done, count, bytes } => Report::Sources {
+                done,
+                count,
+                bytes: bytes.saturating_add(more),
+            },
+            Report::Lines { done, count, bytes } => Report::Lines {
+                done,
+                count,
+                bytes: bytes.saturating_add(more),
+            },
+            _ => return self,
         };
-        let bytes = bytes.saturating_add(written.len() as u64);
-        let report = Report::Sources { done, count, bytes };
         let Some(vertex) = last_vertex(written) else {
             return Stand { report, ..self };
         };
@@ -158,6 +167,7 @@ impl Stand {
         match self.report {
             Report::Read { bytes, .. } => self.size.map(|all| Share { done: bytes, all }),
             Report::Graph { .. } => None,
+            Report::Lines { done, count, .. } => Some(Share { done, all: count }),
             Report::Sources { done, count, .. } | Report::Pairs { done, count } => {
                 Some(self.share_of_runs(done, count))
             }

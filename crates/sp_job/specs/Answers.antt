@@ -2,7 +2,7 @@
 use Rattle.std.specs.Prelude.{◌≡◌, ℕ, Bool, true, false, List, length}
 use Rattle.sp_job.specs.declared.answers.Summary.{Summary}
 use Rattle.sp_job.specs.declared.answers.BatchError.{BatchError}
-use Rattle.sp_job.specs.declared.answers.BatchError.TheVariants.{Gr, Ss, Pairs, NoSuchVertex, Memory, Write}
+use Rattle.sp_job.specs.declared.answers.BatchError.TheVariants.{Gr, Ss, Targets, Pairs, NoSuchVertex, Memory, Write}
 
 -- how many there were, how many of them with a vertex that is too far, and how many bytes were written
 pub record IsCount (count far : ℕ) (text : List ℕ) (summary : Summary) : Type 0 where
@@ -14,6 +14,7 @@ pub record IsCount (count far : ℕ) (text : List ℕ) (summary : Summary) : Typ
 abbrev pub is_early : BatchError → Bool
 is_early (Gr e) = true
 is_early (Ss e) = true
+is_early (Targets e) = true
 is_early (Pairs e) = true
 is_early (NoSuchVertex s) = true
 is_early Memory = false

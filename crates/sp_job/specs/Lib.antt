@@ -1,4 +1,5 @@
 pub mod Width
 pub mod Places
+pub mod Vertices
 pub mod Ready
 pub mod Answers

@@ -1,4 +1,4 @@
-//! The answer of a batch of sources or of pairs.
+//! The answer of a batch of sources or of pairs, and of a matrix.
 ghost use Rattle.std.specs.Prelude.{◌≡◌};
 ghost use Rattle.sp_job.specs.declared.answers.BatchError.TheVariants.{Memory, Write};
 
@@ -26,6 +26,9 @@ pub enum BatchError {
     /// The text of the sources has a fault. This is its first one.
     #[error("ss: {0}")]
     Ss(DimacsError),
+    /// The text of the targets has a fault. This is its first one.
+    #[error("targets: {0}")]
+    Targets(DimacsError),
     /// The text of the pairs has a fault. This is its first one.
     #[error("pairs: {0}")]
     Pairs(DimacsError),

@@ -17,6 +17,7 @@ end_of false summary = if summary.too_far == 0 then status.Done else status.TooF
 abbrev pub fault_of : BatchError → Fault
 fault_of (batch.Gr error) = fault.Input file.Graph error
 fault_of (batch.Ss error) = fault.Input file.Sources error
+fault_of (batch.Targets error) = fault.Input file.Targets error
 fault_of (batch.Pairs error) = fault.Input file.Pairs error
 fault_of (batch.NoSuchVertex source) = fault.NoSuchVertex source
 fault_of batch.Memory = fault.Memory

@@ -1,5 +1,6 @@
 pub mod Ends
 pub mod Given
+pub mod Lists
 pub mod Numbers
 pub mod Places
 pub mod Running

@@ -1,8 +1,9 @@
-//! The options that `tree` and `pairs` share, the sources of `tree`, reports of a command's progress, and the way in which a run
-//! from sources ends.
+//! The options that `tree`, `pairs` and `matrix` share, the sources of `tree`, the lists of `matrix`, reports of a command's
+//! progress, and the way in which a run from sources ends.
 #![tactic(auto)]
 
 mod given;
+mod lists;
 mod places;
 mod reading;
 mod running;
@@ -11,6 +12,7 @@ mod width;
 mod workers;
 
 pub use given::Given;
+pub use lists::Lists;
 pub use reading::Watched;
 pub use running::{RunOptions, Teller};
 pub use sources::Sources;

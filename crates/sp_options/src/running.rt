@@ -34,8 +34,21 @@ pub struct RunOptions {
 impl RunOptions {
     /// Adds these options to a command. `workers` is the text that its help adds on the number of threads.
     pub fn add_to<'a>(command: Command<'a>, alloc: Global, workers: &'a str) -> BuiltCommand<'a> {
+        Self::add_rest(command.arg(Width::option(alloc))?, alloc, workers)
+    }
+
+    /// Adds the same options to a command whose width is the mean length where none is given.
+    pub fn add_with_mean<'a>(
+        command: Command<'a>,
+        alloc: Global,
+        workers: &'a str,
+    ) -> BuiltCommand<'a> {
+        Self::add_rest(command.arg(Width::option_or_mean(alloc))?, alloc, workers)
+    }
+
+    // Adds the options behind the width.
+    fn add_rest<'a>(command: Command<'a>, alloc: Global, workers: &'a str) -> BuiltCommand<'a> {
         command
-            .arg(Width::option(alloc))?
             .arg(workers_option(alloc, workers))?
             .arg(Self::far_ok(alloc))?
             .arg(Self::progress(alloc))
@@ -175,6 +188,11 @@ fn report_of(progress: Progress) -> Report {
             count: count as u64,
             bytes: written.bytes,
         },
+        Progress::Lines { written, count } => Report::Lines {
+            done: written.sources,
+            count: count as u64,
+            bytes: written.bytes,
+        },
         Progress::Pairs { found, count } => Report::Pairs {
             done: found as u64,
             count: count as u64,
@@ -200,6 +218,7 @@ fn fault_of(error: BatchError) -> Fault
     match error {
         BatchError::Gr(error) => FileKind::Graph.fault(error),
         BatchError::Ss(error) => FileKind::Sources.fault(error),
+        BatchError::Targets(error) => FileKind::Targets.fault(error),
         BatchError::Pairs(error) => FileKind::Pairs.fault(error),
         BatchError::NoSuchVertex(vertex) => Fault::NoSuchVertex(vertex),
         BatchError::Memory => Fault::Memory,

@@ -43,6 +43,12 @@ impl Width {
         valued(alloc, Self::ID, "D", about, LONG).required(true)
     }
 
+    /// Returns the same option with `mean` for its value where it isn't given.
+    pub fn option_or_mean<'a>(alloc: Global) -> Arg<'a> {
+        let about = "The width of a bucket of distances";
+        valued(alloc, Self::ID, "D", about, LONG).default_value(MEAN)
+    }
+
     /// Reads a width from the option's text.
     ///
     /// A text that spells a width is read. Any other text is refused, by the error with which `clap` refuses a number out of

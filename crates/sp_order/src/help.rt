@@ -18,7 +18,7 @@ system's reason or what makes plain text of a file, a second line says it.
         1 "the command line is wrong"
         2 "a file is refused"
         3 "check: the tree is not the one of its source"
-        4 "tree, pairs: a vertex is too far, without --far-ok; all else is written";
+        4 "tree, pairs, matrix: a vertex is too far, without --far-ok; all else is\n     written";
         "a file" "the output",
     example: "
 

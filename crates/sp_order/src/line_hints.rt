@@ -122,18 +122,24 @@ fn is_foreign_comment(line: &[u8]) -> bool {
     }
 }
 
-// Returns the kind of file that has a line like this, if it is known. Steps and offers share letters with other files.
+// Returns the kind of file that has a line like this, if it is known. Steps and offers share letters with other files, and targets
+// have the lines of sources.
 fn kind_of(fields: Fields<'_>, wanted: FileKind) -> Option<FileKind> {
     let is_run = wanted == FileKind::Replay || wanted == FileKind::Offers;
+    let list = if wanted == FileKind::Targets {
+        wanted
+    } else {
+        FileKind::Sources
+    };
     match (fields.at(0), fields.at(1), fields.count) {
         ("p", "sp", _) => Some(FileKind::Graph),
-        ("p", "aux", _) if fields.at(3) == "ss" => Some(FileKind::Sources),
+        ("p", "aux", _) if fields.at(3) == "ss" => Some(list),
         ("p", "pairs", _) => Some(FileKind::Pairs),
         ("p", "spt", _) => Some(FileKind::Tree),
         ("p", "rep", _) => Some(FileKind::Replay),
         ("p", "off", _) => Some(FileKind::Offers),
         ("a", _, 4) if !is_run => Some(FileKind::Graph),
-        ("s", _, 2) if !is_run => Some(FileKind::Sources),
+        ("s", _, 2) if !is_run => Some(list),
         ("q", _, 3) if !is_run => Some(FileKind::Pairs),
         ("v", _, 4) | ("e", _, 2) if !is_run => Some(FileKind::Tree),
         _ => None,
@@ -164,12 +170,13 @@ fn misspelled(fields: Fields<'_>, file: FileKind) -> Option<usize> {
 // Returns where the numbers begin on a line with this first field, and how many fields the line has.
 fn numbers_on(word: &str, file: FileKind) -> Option<(usize, usize)> {
     match (file, word) {
-        (FileKind::Sources, "p") => Some((4, 5)),
+        (FileKind::Sources | FileKind::Targets, "p") => Some((4, 5)),
         (FileKind::Pairs, "p") => Some((2, 3)),
         (_, "p") => Some((2, 4)),
         (FileKind::Graph, "a") | (FileKind::Tree, "v") | (FileKind::Replay, "i") => Some((1, 4)),
         (FileKind::Pairs, "q") | (FileKind::Replay, "r") => Some((1, 3)),
-        (FileKind::Sources | FileKind::Replay, "s") | (FileKind::Tree, "e") => Some((1, 2)),
+        (FileKind::Sources | FileKind::Targets | FileKind::Replay, "s") | (FileKind::Tree, "e") =>
+            Some((1, 2)),
         (FileKind::Replay | FileKind::Offers, "o") | (FileKind::Replay, "a") => Some((1, 5)),
         _ => None,
     }
@@ -195,7 +202,9 @@ fn advice_on_number<'a>(refused: Refused<'a>, fields: Fields<'_>, place: usize) 
         },
         (FileKind::Graph, "a", 3) => Advice::Length,
         (FileKind::Graph, "a", _) => Advice::Vertex(refused.vertices),
-        (FileKind::Sources, "s", _) | (FileKind::Pairs, "q", _) => Advice::Vertex(None),
+        (FileKind::Sources | FileKind::Targets, "s", _) | (FileKind::Pairs, "q", _) => {
+            Advice::Vertex(None)
+        }
         _ => Advice::Spelling,
     }
 }
@@ -219,8 +228,10 @@ fn range_of(refused: Refused<'_>, field: u8) -> Advice<'_> {
         (FileKind::Graph, b'W') | (FileKind::Replay, b'L') => return Advice::Length,
         (FileKind::Graph | FileKind::Tree, b'N') => (1, pred),
         (FileKind::Graph, b'M') => (0, 1_073_741_824),
-        (FileKind::Sources | FileKind::Pairs, b'K') => (0, 1_048_576),
-        (FileKind::Sources | FileKind::Pairs, _) => return Advice::Vertex(Some(pred)),
+        (FileKind::Sources | FileKind::Targets | FileKind::Pairs, b'K') => (0, 1_048_576),
+        (FileKind::Sources | FileKind::Targets | FileKind::Pairs, _) => {
+            return Advice::Vertex(Some(pred));
+        }
         (FileKind::Tree, b'V') => return Advice::Rising,
         (FileKind::Tree, b'R') => return Advice::Rows,
         (_, b'N') => (1, 65_536),

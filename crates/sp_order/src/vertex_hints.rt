@@ -43,11 +43,20 @@ fn naming_of<'a, C: Commands<'a>, F: Inputs>(
     if let Some(path) = command.path(FileKind::Pairs) {
         return naming_pair(vertex, path, files).unwrap_or(Naming::Unseen);
     }
-    match command.path(FileKind::Sources) {
-        Some(path) => {
-            let first = places.and_then(first_place).unwrap_or(1);
-            naming_source(vertex, path, first, files).unwrap_or(Naming::Unseen)
-        }
+    let sources = command.path(FileKind::Sources);
+    let first = places.and_then(first_place).unwrap_or(1);
+    if let Some(path) = sources
+        && let Some(line) = line_of(vertex, path, first, files)
+    {
+        return Naming::Source { path, line };
+    }
+    if let Some(path) = command.path(FileKind::Targets)
+        && let Some(line) = line_of(vertex, path, 1, files)
+    {
+        return Naming::Target { path, line };
+    }
+    match sources {
+        Some(_) => Naming::Unseen,
         None => Naming::Option,
     }
 }
@@ -76,13 +85,8 @@ fn naming_pair<'a, F: Inputs>(vertex: u32, path: &'a str, files: &F) -> Option<N
     None
 }
 
-// Finds the first line of a file of sources that names the number, from this place of the list on.
-fn naming_source<'a, F: Inputs>(
-    vertex: u32,
-    path: &'a str,
-    first: u64,
-    files: &F,
-) -> Option<Naming<'a>> {
+// Finds the first line of a list of sources, or of targets, that names the number, from this place of the list on.
+fn line_of<F: Inputs>(vertex: u32, path: &str, first: u64, files: &F) -> Option<u64> {
     let mut lines = Lines::new(files.open_again(path)?);
     let mut place = 0u64;
     for line in 1..u64::MAX {
@@ -92,7 +96,7 @@ fn naming_source<'a, F: Inputs>(
         }
         place = place.saturating_add(1);
         if place >= first && fields.number(1) == Some(u64::from(vertex)) {
-            return Some(Naming::Source { path, line });
+            return Some(line);
         }
     }
     None

@@ -12,7 +12,7 @@ use Rattle.sp_dimacs.specs.declared.pairs.PairsFile.{PairsFile}
 use Rattle.sp_dimacs.specs.Graph.{graph_of}
 use Rattle.sp_job.specs.declared.answers.Summary.{Summary}
 use Rattle.sp_job.specs.declared.answers.BatchError.{BatchError}
-use Rattle.sp_job.specs.declared.answers.BatchError.TheVariants.{Gr, Ss, Pairs, NoSuchVertex, Memory, Write}
+use Rattle.sp_job.specs.declared.answers.BatchError.TheVariants.{Gr, Ss, Targets, Pairs, NoSuchVertex, Memory, Write}
 use Rattle.sp_pairs.specs.declared.asking.Slot.{Slot}
 use Rattle.sp_job.specs.Answers.{is_early}
 use Rattle.sp_pairs.specs.Pairs.{IsAnswerToPair, ArePairAnswers, IsPairUpTo, ArePairsDone}
@@ -42,6 +42,7 @@ pairs_done P file list graph device old new slots (Err Write) same most held clo
 pairs_done P file list graph device old new slots (Err Memory) same most held closed h = absurd h
 pairs_done P file list graph device old new slots (Err (Gr e)) same most held closed h = absurd h
 pairs_done P file list graph device old new slots (Err (Ss e)) same most held closed h = absurd h
+pairs_done P file list graph device old new slots (Err (Targets e)) same most held closed h = absurd h
 pairs_done P file list graph device old new slots (Err (Pairs e)) same most held closed h = absurd h
 pairs_done P file list graph device old new slots (Err (NoSuchVertex v)) same most held closed h = absurd h
 
@@ -52,5 +53,6 @@ pairs_not_early device pairs slots old new (Err Write) same is = λ early. absur
 pairs_not_early device pairs slots old new (Err Memory) same is = absurd is
 pairs_not_early device pairs slots old new (Err (Gr e)) same is = absurd is
 pairs_not_early device pairs slots old new (Err (Ss e)) same is = absurd is
+pairs_not_early device pairs slots old new (Err (Targets e)) same is = absurd is
 pairs_not_early device pairs slots old new (Err (Pairs e)) same is = absurd is
 pairs_not_early device pairs slots old new (Err (NoSuchVertex v)) same is = absurd is

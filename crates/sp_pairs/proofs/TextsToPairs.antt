@@ -10,7 +10,7 @@ use Rattle.sp_dimacs.specs.Graph.{SpellsGraph}
 use Rattle.sp_dimacs.specs.Pairs.{SpellsPairs}
 use Rattle.sp_job.specs.declared.answers.Summary.{Summary}
 use Rattle.sp_job.specs.declared.answers.BatchError.{BatchError}
-use Rattle.sp_job.specs.declared.answers.BatchError.TheVariants.{Gr, Ss, Pairs, NoSuchVertex, Memory, Write}
+use Rattle.sp_job.specs.declared.answers.BatchError.TheVariants.{Gr, Ss, Targets, Pairs, NoSuchVertex, Memory, Write}
 use Rattle.sp_pairs.specs.Pairs.{ArePairsDone, PairsAnswered, PairsOfSome, MayFail}
 
 -- What was answered for a graph and pairs is the answer to texts that spell them.
@@ -22,6 +22,7 @@ pairs_answered P gr_text list_text g graph s named w old new file list (Err Memo
 pairs_answered P gr_text list_text g graph s named w old new file list (Err Write) spelled within is = (file, list, spelled, within, is)
 pairs_answered P gr_text list_text g graph s named w old new file list (Err (Gr e)) spelled within is = absurd is
 pairs_answered P gr_text list_text g graph s named w old new file list (Err (Ss e)) spelled within is = absurd is
+pairs_answered P gr_text list_text g graph s named w old new file list (Err (Targets e)) spelled within is = absurd is
 pairs_answered P gr_text list_text g graph s named w old new file list (Err (Pairs e)) spelled within is = absurd is
 
 pub pairs_of_some : {W : Type 0} (P : ℕ) (gr_text list_text : List ℕ) (w : Writer W) (old new : W) (file : GrFile) (list : PairsFile) (result : Result Summary BatchError)
@@ -32,6 +33,7 @@ pairs_of_some P gr_text list_text w old new file list (Err Memory) spelled withi
 pairs_of_some P gr_text list_text w old new file list (Err Write) spelled within is = (gr_text, list_text, file, list, spelled, within, is)
 pairs_of_some P gr_text list_text w old new file list (Err (Gr e)) spelled within is = absurd is
 pairs_of_some P gr_text list_text w old new file list (Err (Ss e)) spelled within is = absurd is
+pairs_of_some P gr_text list_text w old new file list (Err (Targets e)) spelled within is = absurd is
 pairs_of_some P gr_text list_text w old new file list (Err (Pairs e)) spelled within is = absurd is
 
 -- What was answered for a graph and pairs tells of no device.
@@ -42,4 +44,5 @@ may_fail P gr pairs w old new file list (Err Memory) is = tt
 may_fail P gr pairs w old new file list (Err Write) is = tt
 may_fail P gr pairs w old new file list (Err (Gr e)) is = absurd is
 may_fail P gr pairs w old new file list (Err (Ss e)) is = absurd is
+may_fail P gr pairs w old new file list (Err (Targets e)) is = absurd is
 may_fail P gr pairs w old new file list (Err (Pairs e)) is = absurd is

@@ -17,7 +17,7 @@ use Rattle.sp_dimacs.specs.Graph.{graph_of, SpellsGraph, GraphRead}
 use Rattle.sp_dimacs.specs.Pairs.{SpellsPairs, PairsRead}
 use Rattle.sp_job.specs.declared.answers.Summary.{Summary}
 use Rattle.sp_job.specs.declared.answers.BatchError.{BatchError}
-use Rattle.sp_job.specs.declared.answers.BatchError.TheVariants.{Gr, Ss, Pairs, NoSuchVertex, Memory, Write}
+use Rattle.sp_job.specs.declared.answers.BatchError.TheVariants.{Gr, Ss, Targets, Pairs, NoSuchVertex, Memory, Write}
 use Rattle.sp_job.specs.Answers.{IsCount}
 
 -- ## Texts
@@ -92,6 +92,7 @@ ArePairsDone P file list w old new (Err Memory) = All (IsPairUpTo file.n) list.p
 ArePairsDone P file list w old new (Err Write) = All (IsPairUpTo file.n) list.pairs.items × HasBegunPairs P (graph_of file) list.pairs.items (w.written old) (w.written new) × (w.has_failed new ≡ true)
 ArePairsDone P file list w old new (Err (Gr e)) = ⊥
 ArePairsDone P file list w old new (Err (Ss e)) = ⊥
+ArePairsDone P file list w old new (Err (Targets e)) = ⊥
 ArePairsDone P file list w old new (Err (Pairs e)) = ⊥
 
 -- The answer to two texts: a fault of the first, with nothing written; a fault of the second, where the first spells a

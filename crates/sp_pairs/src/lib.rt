@@ -5,6 +5,7 @@ mod asking;
 mod pair_lines;
 mod pairs;
 
+pub use pair_lines::send_pair;
 pub use pairs::{run_pairs, run_pairs_told};
 pub use sp_job::{BatchError, BucketWidth, Listener, Nobody, Progress, Settings, Summary};
 

@@ -2,11 +2,13 @@
 ghost use Rattle.std.specs.Prelude.{◌≡◌, ◌+◌, ◌≤◌, ◌++◌, length, map, All};
 ghost use Rattle.std.specs.List.{count_by};
 ghost use Rattle.sp_device.specs.Printing.{Sends};
+ghost use Rattle.sp_answer.specs.Pair.{answer_of};
 ghost use Rattle.sp_tree.specs.TreeText.{far_text};
 ghost use Rattle.sp_pairs.specs.Pairs.{found_text, none_text, pair_text, pairs_text, is_too_far};
 ghost use Rattle.sp_pairs.specs.Slots.{IsClosed, answer_in, ArePairsWritten};
 
 use crate::asking::Slot;
+use sp_answer::PairAnswer;
 use sp_device::{Block, Printer, Write, finish, make_room};
 use sp_job::{BatchError, Summary};
 use sp_text::push_number;
@@ -49,17 +51,40 @@ fn push_none(block: &mut Block, source: u32, target: u32)
     block.push(b"\n");
 }
 
-fn push_line(block: &mut Block, pair: (u32, u32), slot: &Slot)
-    requires room { length block.old + LINE_ROOM ≤ 8192 }
-    requires closed { IsClosed slot.now }
-    ensures { block.new ≡ block.old ++ pair_text pair (answer_in slot.now) }
+fn push_pair(block: &mut Block, pair: (u32, u32), answer: PairAnswer)
+    requires { length block.old + LINE_ROOM ≤ 8192 }
+    ensures { block.new ≡ block.old ++ pair_text pair (answer_of answer) }
 {
     let (source, target) = pair;
+    match answer {
+        PairAnswer::Found { dist, pred } => push_found(block, source, target, dist, pred),
+        PairAnswer::TooFar(vertex) => push_far(block, source, vertex),
+        PairAnswer::NoWalk => push_none(block, source, target),
+    }
+}
+
+/// Sends the line of a pair, a source and a target, with its answer.
+pub fn send_pair<W: Write>(out: &mut W, printer: &mut Printer, pair: (u32, u32), answer: PairAnswer)
+    ensures { Sends W.Write (pair_text pair (answer_of answer))
+        out.old printer.old out.new printer.new }
+{
+    make_room(out, printer, LINE_ROOM);
+    push_pair(&mut printer.block, pair, answer);
+}
+
+// Returns the answer that is known.
+fn answer_in(slot: &Slot) -> PairAnswer
+    requires { IsClosed slot.now }
+    ensures { answer_of result ≡ answer_in slot.now }
+{
     match slot {
         Slot::Open { .. } => unreachable!(),
-        Slot::Found { pred, dist } => push_found(block, source, target, *dist, *pred),
-        Slot::TooFar(vertex) => push_far(block, source, *vertex),
-        Slot::NoWalk => push_none(block, source, target),
+        Slot::Found { pred, dist } => PairAnswer::Found {
+            dist: *dist,
+            pred: *pred,
+        },
+        Slot::TooFar(vertex) => PairAnswer::TooFar(*vertex),
+        Slot::NoWalk => PairAnswer::NoWalk,
     }
 }
 
@@ -68,8 +93,7 @@ fn send_line<W: Write>(out: &mut W, printer: &mut Printer, pair: (u32, u32), slo
     ensures { Sends W.Write (pair_text pair (answer_in slot.now))
         out.old printer.old out.new printer.new }
 {
-    make_room(out, printer, LINE_ROOM);
-    push_line(&mut printer.block, pair, slot);
+    send_pair(out, printer, pair, answer_in(slot));
 }
 
 fn send_lines<W: Write>(out: &mut W, printer: &mut Printer, pairs: &[(u32, u32)], slots: &[Slot])

@@ -1,3 +1,4 @@
+pub mod Opening
 pub mod Judging
 pub mod VerdictTexts
 pub mod SameVerdicts

@@ -82,6 +82,7 @@ trees_refused P gr_text text g failed graph fault.NoPlaces is = absurd is
 trees_refused P gr_text text g failed graph (fault.CannotOpen file) is = absurd is
 trees_refused P gr_text text g failed graph (fault.Input kind.Graph e) is = absurd is
 trees_refused P gr_text text g failed graph (fault.Input kind.Sources e) is = absurd is
+trees_refused P gr_text text g failed graph (fault.Input kind.Targets e) is = absurd is
 trees_refused P gr_text text g failed graph (fault.Input kind.Pairs e) is = absurd is
 trees_refused P gr_text text g failed graph (fault.Input kind.Tree e) is = (graph.0, graph.1, (failed, is))
 trees_refused P gr_text text g failed graph (fault.Input kind.Replay e) is = absurd is

@@ -15,9 +15,10 @@ use tests_samples::FROM_ONE;
 fn is_memory(error: BatchError) -> bool {
     match error {
         BatchError::Memory => true,
-        BatchError::Gr(fault) | BatchError::Ss(fault) | BatchError::Pairs(fault) => {
-            matches!(fault.kind, Kind::Memory)
-        }
+        BatchError::Gr(fault)
+        | BatchError::Ss(fault)
+        | BatchError::Targets(fault)
+        | BatchError::Pairs(fault) => matches!(fault.kind, Kind::Memory),
         _ => false,
     }
 }

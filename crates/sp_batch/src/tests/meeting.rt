@@ -2,8 +2,8 @@
 use super::graphs::{DIAMOND, TWO, TWO_TEXT};
 use super::groups::{NINE, town};
 use super::{AMPLE, Case, count_processors, crew, run_into, run_watched, summary};
-use crate::batch::LEAST_ITEMS;
 use crate::watch::Watch;
+use sp_sources::LEAST_ITEMS;
 use std::sync::atomic::{AtomicU64, Ordering};
 use std::test::Fail;
 use std::thread::Threads;
@@ -57,16 +57,16 @@ fn count_at_once(rt: &impl Threads, workers: u32, sources: u64) -> u64 {
 fn workers_meet_at_two_sources(rt: HostRuntime) -> Result<(), Fail> {
     for workers in [2, 64] {
         let wanted = count_at_once(&rt, workers, 2);
-        let watched = (&rt, Meeting::new(wanted));
+        let meeting = Meeting::new(wanted);
         let case = Case {
             gr: DIAMOND,
             ss: TWO,
             room: AMPLE,
         };
-        let ran = run_watched(&watched, rt.alloc(), &case, 0, crew(&rt, workers));
+        let ran = run_watched(&rt, rt.alloc(), &case, 0, crew(&rt, workers), &meeting);
         assert_eq!(rt; ran.answer, summary(2, 0, 68));
         assert_eq!(rt; ran.out.taken(), TWO_TEXT);
-        assert_eq!(rt; watched.1.met(), wanted, "{workers} workers did not meet");
+        assert_eq!(rt; meeting.met(), wanted, "{workers} workers did not meet");
     }
     Ok(())
 }
@@ -86,11 +86,11 @@ fn workers_meet_at_nine_sources(rt: HostRuntime) -> Result<(), Fail> {
     let alone = run_into::<28, _>(&rt, alloc, &case, 2, 1);
     for workers in [2, 64] {
         let wanted = count_at_once(&rt, workers, 9);
-        let watched = (&rt, Meeting::new(wanted));
-        let ran = run_watched(&watched, alloc, &case, LEAST_ITEMS, crew(&rt, workers));
+        let meeting = Meeting::new(wanted);
+        let ran = run_watched(&rt, alloc, &case, LEAST_ITEMS, crew(&rt, workers), &meeting);
         assert_eq!(rt; ran.answer, alone.answer);
         assert_eq!(rt; ran.out.taken(), alone.out.taken());
-        assert_eq!(rt; watched.1.met(), wanted, "{workers} workers did not meet");
+        assert_eq!(rt; meeting.met(), wanted, "{workers} workers did not meet");
     }
     Ok(())
 }

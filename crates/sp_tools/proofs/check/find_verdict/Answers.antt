@@ -1,3 +1,5 @@
+use Rattle.std.proofs.Common.{◌≡◌, Err, rules}
+use Rattle.sp_tools.proofs.Opening.{early_answer}
 use Rattle.sp_tools.proofs.Texts.{tree_judged, some_tree_judged}
 use Rattle.sp_tools.proofs.check.find_verdict.Goals as goal
 
@@ -14,3 +16,8 @@ returns-clause-judged g c = λ gr tree texts.
 pub returns-clause-found : goal.returns-clause-found
 returns-clause-found g c =
     some_tree_judged g.row.P c.in_ok-graph.graph c.in-Ok.tree c.in_ok-judge.field-0 c.in_ok-graph.ensures.found c.in-Ok.ensures.found c.in_ok-judge.ensures
+
+pub returns-in_err-gr-clause-early : goal.returns-in_err-gr-clause-early
+returns-in_err-gr-clause-early g c =
+    let is : c.from_residual.result ≡ Err c.in_err-gr.field-0.0 = search rules in
+    early_answer c.args.given.now (g.F.Inputs.files c.args.files.now) c.in_err-gr.field-0.0 c.from_residual.result is c.in_err-gr.ensures.once c.in_err-gr.ensures.closed

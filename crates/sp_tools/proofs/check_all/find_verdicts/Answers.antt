@@ -1,7 +1,8 @@
-use Rattle.std.proofs.Common.{ℕ, List}
+use Rattle.std.proofs.Common.{◌≡◌, ℕ, List, Err, rules}
 use Rattle.sp_command.specs.Answers.{Hinders}
 use Rattle.sp_tools.specs.Verdicts.{FileJudged, TellsFault}
 use Rattle.sp_tools.specs.CheckAnswers.{TreesJudged, AreTreesRefused}
+use Rattle.sp_tools.proofs.Opening.{early_answer}
 use Rattle.sp_tools.proofs.Texts.{ok_as, err_as, trees_judged, trees_refused}
 use Rattle.sp_tools.proofs.check_all.find_verdicts.Goals as goal
 
@@ -23,3 +24,8 @@ returns-clause-found g c =
     let graph = c.in_ok-graph.ensures.found in
     ok_as (λ all. (text : List ℕ) × FileJudged g.row.P c.in_ok-graph.graph text all.items) (λ all. (gr trees : List ℕ) × TreesJudged g.row.P gr trees all.items) c.judge_blocks.result
     (λ all is. (graph.0, is.0, trees_judged g.row.P graph.0 is.0 c.in_ok-graph.graph all.items graph.1 is.1)) c.judge_blocks.ensures.found
+
+pub returns-in_err-gr-clause-early : goal.returns-in_err-gr-clause-early
+returns-in_err-gr-clause-early g c =
+    let is : c.from_residual.result ≡ Err c.in_err-gr.field-0.0 = search rules in
+    early_answer c.args.given.now (g.F.Inputs.files c.args.files.now) c.in_err-gr.field-0.0 c.from_residual.result is c.in_err-gr.ensures.once c.in_err-gr.ensures.closed

@@ -1,7 +1,9 @@
-use Rattle.std.proofs.Common.{◌∙◌, refl, IfOk, IfErr}
+use Rattle.std.proofs.Common.{◌≡◌, ◌∙◌, refl, Err, IfOk, IfErr, rules}
 use Rattle.sp_command.specs.Causes.{IsBorneOut}
+use Rattle.sp_command.specs.declared.faults.FileKind.TheVariants as file
 use Rattle.sp_command.specs.Scene.{scene}
 use Rattle.sp_cli.specs.Answers.{InText, TreesTold, InSome, tree_paths, tree_faults}
+use Rattle.sp_cli.proofs.Opening.{no_sources, two_borne_out}
 use Rattle.sp_cli.proofs.Told.{after_batch, after_end, batch_of_some, batch_borne_out}
 use Rattle.sp_cli.proofs.tree.TreeCommand.run_file.Goals as goal
 
@@ -27,3 +29,9 @@ returns-clause-borne_out g c =
     after_end c.args.self.now.options.far_ok (λ r. IfErr r (IsBorneOut (tree_paths c.args.self.now) (tree_faults g.row.P c.args.self.now) (scene files (g.W.Write.written c.args.out.now) (g.W.Write.written ran.new.out) (g.W.Write.has_failed ran.new.out)))) ran.result c.end.result c.end.ensures
     (batch_borne_out g.row.P c.args.self.now.options.far_ok c.args.list.now.places (tree_paths c.args.self.now) (tree_faults g.row.P c.args.self.now) files c.args.self.now.graph.now c.args.list.now.path.now _ _ g.W.Write c.args.out.now ran.new.out ran.result
     refl c.requires.path (c.new-gr.ensures.failing ∙ c.in_ok-gr.ensures.graph.failing) (c.new-ss.ensures.failing ∙ c.in_ok-gr.ensures.file.failing) (λ v. tt) ran.ensures.may_fail ran.ensures.found)
+
+pub returns-in_err-gr-clause-borne_out : goal.returns-in_err-gr-clause-borne_out
+returns-in_err-gr-clause-borne_out g c =
+    let is : c.from_residual.result ≡ Err c.in_err-gr.field-0.0 = search rules in
+    two_borne_out (tree_paths c.args.self.now) (tree_faults g.row.P c.args.self.now) (g.F.Inputs.files c.args.context.now.files.now) (g.W.Write.written c.args.out.now) (g.W.Write.written c.args.out.now) (g.W.Write.has_failed c.args.out.now) file.Sources c.args.self.now.graph.now c.args.list.now.path.now c.in_err-gr.field-0.0 c.from_residual.result
+    no_sources refl c.requires.path is c.in_err-gr.ensures.once c.in_err-gr.ensures.closed

@@ -1,0 +1,339 @@
+//! The command `spt matrix`, which writes the distance from each source of a list to each target of another.
+ghost use denote.Param.Send.{IsSync};
+ghost use Rattle.std.specs.Prelude.{◌≡◌, ℕ, true, List, Option, Some, Ok, Err, IfOk, IfErr, MatchResult};
+ghost use Rattle.sp_word.specs.Word.{is_layout};
+ghost use Rattle.sp_command.specs.Faults.{is_done, is_early};
+ghost use Rattle.sp_command.specs.Causes.{IsBorneOut};
+ghost use Rattle.sp_command.specs.Scene.{scene};
+ghost use Rattle.sp_cli.specs.Answers.{InText, These};
+ghost use Rattle.sp_cli.specs.MatrixAnswers.{MatrixAnswers, MatrixOf, MatrixOfFile, MatrixOfGiven, MatrixOfSome, MatrixInSome, matrix_paths, matrix_faults};
+ghost use Rattle.sp_options.specs.Sources.{path_of};
+ghost use Rattle.sp_options.specs.Ends.{end_of, fault_of};
+
+use crate::context::{Context, SourceFile};
+use clap::{ArgMatches, Error};
+use sp_command::{
+    BuiltCommand, Command, Fault, FileKind, GRAPH_FILE, Inputs, Run, Status, after_help, file,
+};
+use sp_device::Write;
+use sp_job::{BatchError, Listener, Progress, Summary};
+use sp_matrix::{run_matrix_given_told, run_matrix_told};
+use sp_options::{Given, Lists, RunOptions, Sources, Teller, Watched};
+use std::alloc::Global;
+use std::sync::Wait;
+use std::thread::Threads;
+
+const WORKERS_LONG: &str = "\
+Threads that may work at once, from 1 to 64, the main thread counted,
+or `all` for as many as there are processors, at most 64: a good
+choice where they are free. Each finds the lines of another source. No
+more threads are started than there are processors, nor any for a
+small graph. Any number gives the same bytes";
+
+/// The command `matrix`, with its options and the paths of its files.
+#[derive(Drop)]
+pub struct MatrixCommand<'a> {
+    /// The path of the graph.
+    pub graph: &'a str,
+    /// The sources and the targets.
+    pub lists: Lists<'a>,
+    /// The options that say how runs are made.
+    pub options: RunOptions,
+}
+
+impl<'a> Command<'a> for MatrixCommand<'a> {
+    const NAME: &'static str = "matrix";
+
+    const ABOUT: &'static str = "Write the distance from each source to each target";
+
+    const LONG_ABOUT: &'static str = "\
+Write the distance from each source to each target
+
+A distance is the least length of a walk from the source to the target. The
+predecessor is the vertex before the target on a shortest walk, the one with the
+smallest number where there are several. No run from a source goes further than
+the targets ask for. The same bytes are written for each delta and each number
+of workers.";
+
+    const AFTER_HELP: &'static str = after_help!(
+        "\
+The graph and the sources are files as `spt tree --help` tells, and the targets
+are a file like that of the sources. With --source there is no file of sources:
+spt matrix GR TARGETS --source V. The files are read in the order of the words,
+all sources are tested, and then all targets, before anything is written.
+
+For each source, in the order of its file, and for each target, in the order of
+its file, one line is written, as `spt pairs` writes it for the two:
+  d S T D P     target T has distance D and predecessor P from source S; S
+                itself has 0 and 0
+  x S V         T has no distance within the greatest of a word, and V is the
+                smallest vertex beyond that with an arc from one within it (exit
+                status 4 at the end)
+  n S T         T has no distance, and there is no such V: no walk leads from S
+                to T
+The lines of a source are written as soon as they and those before them are
+known.
+
+It takes as much memory as `spt tree` does, 8 bytes a target, and 28 bytes for
+each target of the rows that the workers are at: the number of lines plays no
+part.
+
+Example: where diamond.gr is the graph of the example of `spt tree --help`, and
+some.ss and all.ss have the lines
+  p aux sp ss 2
+  s 1
+  s 4
+and
+  p aux sp ss 3
+  s 4
+  s 1
+  s 4
+the output of `spt matrix diamond.gr some.ss all.ss` is
+  d 1 4 5 2
+  d 1 1 0 0
+  d 1 4 5 2
+  d 4 4 0 0
+  n 4 1
+  d 4 4 0 0
+
+A fault of a file is told with its line, as in `spt: targets: line 2: 7 TooFew`;
+FILE is gr, ss or targets:
+",
+        faults: "  6 TooMany        more than M arcs or K sources or targets
+  7 TooFew         fewer than M arcs or K sources or targets
+",
+        others: "\
+Others are
+  spt: FILE: cannot open             (exit status 6)
+  spt: delta out of range            a word of this layout has no such distance
+                                     (exit status 1)
+  spt: standard input twice          two of the files are `-` (exit status 1)
+  spt: sources are not A-B           two numbers, the first at least 1
+                                     (exit status 1)
+  spt: source V: no such vertex      the first source above N, else the first
+                                     target; nothing is written (exit status 2)
+  spt: memory                        a beginning of the output may stand
+                                     (exit status 5)
+  spt: write failed                  a beginning of the output may stand
+                                     (exit status 6)
+",
+        statuses:
+            0 "done"
+            1 "the command line is wrong, or delta is out of range"
+            2 "a file is refused, or a source or a target is no vertex"
+            4 "for some line a vertex is too far, without --far-ok; all is written";
+            "a file" "the output"
+    );
+
+    fn build(alloc: Global) -> BuiltCommand<'a> {
+        let command = clap::Command::new(alloc, Self::NAME).arg(file(alloc, "GR", GRAPH_FILE))?;
+        RunOptions::add_with_mean(Lists::add_to(command, alloc)?, alloc, WORKERS_LONG)
+    }
+
+    fn read(alloc: Global, given: &ArgMatches<'a>) -> Result<Option<Self>, Error> {
+        let (Some(graph), Some(options)) = (given.get_str("GR"), RunOptions::read(alloc, given)?)
+        else {
+            return Ok(None);
+        };
+        let Some(lists) = Lists::read(alloc, given)? else {
+            return Ok(None);
+        };
+        Ok(Some(MatrixCommand {
+            graph,
+            lists,
+            options,
+        }))
+    }
+
+    fn path_of(&self, file: FileKind) -> Option<&'a str> {
+        match file {
+            FileKind::Graph => Some(self.graph),
+            FileKind::Sources => self.lists.sources.path(),
+            FileKind::Targets => Some(self.lists.targets),
+            _ => None,
+        }
+    }
+}
+
+impl MatrixCommand<'_> {
+    // Reports that everything is written, if it is, and returns how the command ends.
+    fn end<F: Inputs>(
+        &self,
+        answer: Result<Summary, BatchError>,
+        teller: &Teller<'_, F>,
+    ) -> Result<Status, Fault>
+        ensures { MatchResult answer
+            (λ summary. result ≡ Ok (end_of self.now.options.far_ok summary))
+            (λ error. result ≡ Err (fault_of error)) }
+    {
+        if let Ok(written) = answer {
+            teller.hear(Progress::Lines {
+                written,
+                count: written.sources as usize,
+            });
+        }
+        self.options.end_of(answer)
+    }
+
+    // Runs from the sources of a file, or from those at some of its places.
+    fn run_file<const P: u32, R: Threads + Wait + Sync, F: Inputs, W: Write>(
+        &self,
+        rt: &R,
+        alloc: Global,
+        context: &Context<'_, P, F>,
+        list: &SourceFile<'_>,
+        out: &mut W,
+    ) -> Result<Status, Fault>
+        requires run { (is_layout P ≡ true) × IsSync R.row }
+        requires path { path_of self.now.lists.sources ≡ Some list.now.path.now }
+        ensures answered { MatrixOfFile P self.now list.now.path.now list.now.places
+            (scene (F.files context.now.files.now)
+            (W.written out.old) (W.written out.new) (W.has_failed out.new)) result }
+        ensures of_some { IfOk result
+            (MatrixInSome P self.now.options.far_ok (InText list.now.places)
+            (scene (F.files context.now.files.now)
+            (W.written out.old) (W.written out.new) (W.has_failed out.new))) }
+        ensures borne_out { IfErr result
+            (IsBorneOut (matrix_paths self.now) (matrix_faults P self.now)
+            (scene (F.files context.now.files.now)
+            (W.written out.old) (W.written out.new) (W.has_failed out.new))) }
+        ensures done { IfOk result (λ status. is_done status ≡ true) }
+        ensures untouched { IfErr result (λ fault. is_early fault ≡ true → out.new ≡ out.old) }
+    {
+        let (files, settings) = (context.files, context.settings);
+        let (gr, ss, targets) = FileKind::open_graph_and_lists(
+            files,
+            self.graph,
+            list.path,
+            self.lists.targets,
+        )?;
+        let mut gr = Watched::new(gr, FileKind::Graph, settings.listener);
+        let mut ss = Watched::new(ss, FileKind::Sources, settings.listener);
+        let mut targets = Watched::new(targets, FileKind::Targets, settings.listener);
+        let places = list.places;
+        let answer = run_matrix_told::<P, R, _, _, _, W, _>(
+            rt,
+            alloc,
+            &mut gr,
+            &mut ss,
+            &mut targets,
+            places,
+            out,
+            settings,
+        );
+        self.end(answer, settings.listener)
+    }
+
+    // Runs from the sources that the command line gives.
+    fn run_given<const P: u32, R: Threads + Wait + Sync, F: Inputs, W: Write>(
+        &self,
+        rt: &R,
+        alloc: Global,
+        context: &Context<'_, P, F>,
+        given: &Given,
+        out: &mut W,
+    ) -> Result<Status, Fault>
+        requires { (is_layout P ≡ true) × IsSync R.row }
+        ensures answered { MatrixOfGiven P self.now given.now.list.items
+            (scene (F.files context.now.files.now)
+            (W.written out.old) (W.written out.new) (W.has_failed out.new)) result }
+        ensures of_some { IfOk result
+            (MatrixInSome P self.now.options.far_ok (λ _. These given.now.list.items)
+            (scene (F.files context.now.files.now)
+            (W.written out.old) (W.written out.new) (W.has_failed out.new))) }
+        ensures borne_out { IfErr result
+            (IsBorneOut (matrix_paths self.now) (matrix_faults P self.now)
+            (scene (F.files context.now.files.now)
+            (W.written out.old) (W.written out.new) (W.has_failed out.new))) }
+        ensures done { IfOk result (λ status. is_done status ≡ true) }
+        ensures untouched { IfErr result (λ fault. is_early fault ≡ true → out.new ≡ out.old) }
+    {
+        let (files, settings) = (context.files, context.settings);
+        let (gr, targets) = FileKind::Targets.open_with_graph(
+            files,
+            self.graph,
+            self.lists.targets,
+        )?;
+        let mut gr = Watched::new(gr, FileKind::Graph, settings.listener);
+        let mut targets = Watched::new(targets, FileKind::Targets, settings.listener);
+        let answer = run_matrix_given_told::<P, R, _, _, W, _>(
+            rt,
+            alloc,
+            &mut gr,
+            &given.list,
+            &mut targets,
+            out,
+            settings,
+        );
+        self.end(answer, settings.listener)
+    }
+
+    // Runs from the sources, wherever they stand.
+    fn run_all<const P: u32, R: Threads + Wait + Sync, F: Inputs, W: Write>(
+        &self,
+        rt: &R,
+        alloc: Global,
+        context: &Context<'_, P, F>,
+        out: &mut W,
+    ) -> Result<Status, Fault>
+        requires { (is_layout P ≡ true) × IsSync R.row }
+        ensures answered { MatrixOf P self.now self.now.lists.sources
+            (scene (F.files context.now.files.now)
+            (W.written out.old) (W.written out.new) (W.has_failed out.new)) result }
+        ensures of_some { IfOk result
+            (MatrixOfSome P self.now.options.far_ok self.now.lists.sources
+            (scene (F.files context.now.files.now)
+            (W.written out.old) (W.written out.new) (W.has_failed out.new))) }
+        ensures borne_out { IfErr result
+            (IsBorneOut (matrix_paths self.now) (matrix_faults P self.now)
+            (scene (F.files context.now.files.now)
+            (W.written out.old) (W.written out.new) (W.has_failed out.new))) }
+        ensures done { IfOk result (λ status. is_done status ≡ true) }
+        ensures untouched { IfErr result (λ fault. is_early fault ≡ true → out.new ≡ out.old) }
+    {
+        match &self.lists.sources {
+            Sources::File(path) => {
+                let list = SourceFile { path, places: None };
+                self.run_file::<P, R, F, W>(rt, alloc, context, &list, out)
+            }
+            Sources::Part(path, places) => {
+                if places.is_none() {
+                    return Err(Fault::NoPlaces);
+                }
+                let list = SourceFile {
+                    path,
+                    places: *places,
+                };
+                self.run_file::<P, R, F, W>(rt, alloc, context, &list, out)
+            }
+            Sources::Given(given) => {
+                self.run_given::<P, R, F, W>(rt, alloc, context, given, out)
+            }
+        }
+    }
+}
+
+// Writes the line of each source and each target.
+impl<const P: u32> Run<P> for MatrixCommand<'_> {
+    ghost answers = { MatrixAnswers P };
+
+    ghost paths = { matrix_paths };
+
+    ghost own_faults = { matrix_faults P };
+
+    fn run<R: Threads + Wait + Sync, F: Inputs, W: Write>(
+        &self,
+        rt: &R,
+        alloc: Global,
+        files: &F,
+        out: &mut W,
+    ) -> Result<Status, Fault> {
+        let teller = self.options.teller(files);
+        let settings = self.options.settings::<P, _>(&teller)?;
+        let context = Context {
+            files,
+            settings: &settings,
+        };
+        self.run_all::<P, R, F, W>(rt, alloc, &context, out)
+    }
+}

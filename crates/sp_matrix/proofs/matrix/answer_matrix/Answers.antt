@@ -1,0 +1,25 @@
+use Rattle.std.proofs.lemmas.Result.{err_from_is_err_and}
+use Rattle.sp_job.proofs.Files.{same_graph}
+use Rattle.sp_matrix.proofs.OfFile.{AreLists, of_file, refused_early}
+use Rattle.sp_matrix.proofs.matrix.answer_matrix.Goals as goal
+
+pub returns-in_err-graph-clause-matrix : goal.returns-in_err-graph-clause-matrix
+returns-in_err-graph-clause-matrix g c =
+    let p = err_from_is_err_and c.from_residual.result c.from_residual.ensures.1 in
+    let file = c.args.asking.file in
+    let sources = c.args.starts.now.sources.now in
+    let targets = c.args.asking.targets.items in
+    let second = rw c.deref.ensures.value at c.in_default-first_above.ensures.none in
+    let ok : AreLists g.row.P file sources targets = record { layout = c.requires.layout; network = c.requires.network; numbered_sources = c.requires.sources; numbered_targets = c.requires.targets; within = record { each_source = c.in_default.ensures.none; each_target = second } } in
+    rw (p.1, p.2) (refused_early g.row.P file sources targets g.W.Write c.args.out.now ok)
+
+pub returns-clause-matrix : goal.returns-clause-matrix
+returns-clause-matrix g c =
+    let file = c.args.asking.file in
+    let sources = c.args.starts.now.sources.now in
+    let targets = c.args.asking.targets.items in
+    let second = rw c.deref.ensures.value at c.in_default-first_above.ensures.none in
+    let ok : AreLists g.row.P file sources targets = record { layout = c.requires.layout; network = c.requires.network; numbered_sources = c.requires.sources; numbered_targets = c.requires.targets; within = record { each_source = c.in_default.ensures.none; each_target = second } } in
+    let answers = rw c.deref-2.ensures.value at c.answer_sources.ensures in
+    of_file g.row.P file sources targets g.W.Write c.in_ok-graph.graph c.args.out.now c.answer_sources.new.out c.answer_sources.result
+    (same_graph file c.in_ok-graph.graph c.in_ok-graph.ensures.n c.in_ok-graph.ensures.arcs) ok answers

@@ -1,0 +1,51 @@
+//! What is asked of each source.
+ghost use Rattle.std.specs.Prelude.{ℕ, [], ◌∷◌, IfOk};
+ghost use denote.Param.Send.{IsSync};
+ghost use Rattle.sp_sources.specs.Told.{Told, IsDue, AreWritten};
+
+use sp_device::Write;
+use sp_job::{BatchError, Progress, Summary};
+use sp_word::Workers;
+use std::alloc::{AllocError, Global};
+use std::marker::{Send, Sync};
+use std::sync::Wait;
+use std::thread::Threads;
+
+/// A question that is asked of each source of a list.
+pub trait Question: Sync {
+    /// The answer of one source, as it is found.
+    type Found: Drop + Send;
+
+    /// What an answer tells: how much it counts, and its text.
+    ghost told: { Self.Found → Told };
+
+    /// The source may be asked.
+    ghost can_ask: { Self → ℕ → Type 0 };
+
+    /// What is told answers the source.
+    ghost answers: { Self → ℕ → Told → Type 0 };
+
+    /// Returns what a listener hears where these answers are written, of so many in all.
+    fn progress(written: Summary, count: usize) -> Progress;
+
+    /// Finds the answer of a source, by so many workers.
+    fn find<R: Threads + Wait + Sync>(
+        &self,
+        rt: &R,
+        alloc: Global,
+        workers: Workers,
+        source: u32,
+    ) -> Result<Self::Found, AllocError>
+        requires source { can_ask self.now source }
+        requires sync { IsSync R.row }
+        ensures { IfOk result (λ found. IsDue (answers self.now) source (told found)) };
+
+    /// Writes the answer of one source, and counts it.
+    fn write<W: Write>(
+        &self,
+        alloc: Global,
+        found: &Self::Found,
+        out: &mut W,
+    ) -> Result<Summary, BatchError>
+        ensures { AreWritten W.Write (told found.now ∷ []) out.old result out.new };
+}
