@@ -121,25 +121,26 @@ static uint32_t a_kept_pair(int *right) {
     return status;
 }
 
-/* On a path with a bucket for each vertex a tree takes a block for each; a target that lies near, few. */
+/* Fans in a chain: each bucket has the FAN heads of one vertex, which take blocks of their own. A target that lies near takes few. */
 static void near_targets(void) {
-    enum { FEW = 50 };
-    static spt_arc path[N - 1];
-    for (uint32_t v = 1; v < N; v++) path[v - 1] = (spt_arc){v, v + 1, 1000};
+    enum { FAN = 9, FEW = 50 };
+    static spt_arc fans[N - 1];
+    for (uint32_t v = 2; v <= N; v++) fans[v - 2] = (spt_arc){(v - 2) / FAN * FAN + 1, v, 1000};
+    uint64_t farthest = ((N - 2) / FAN + 1) * 1000;
     spt_graph graph = {0};
-    count("a path", spt_graph_new(path, N - 1, N, &graph).status == SPT_OK);
+    count("fans in a chain", spt_graph_new(fans, N - 1, N, &graph).status == SPT_OK);
     long start = requests;
     spt_batch tree = spt_graph_trees(&graph, sources, 1, 1, dist, N, pred, N);
-    count("a block for each vertex", tree.status == SPT_OK && requests - start >= N);
+    count("a block for each bucket", tree.status == SPT_OK && requests - start >= N / FAN);
     start = requests;
     spt_found near = spt_graph_pair(&graph, 1, 3, 1);
-    count("few for a near target of a kept graph", near.dist == 2000 && near.pred == 2 && requests - start < FEW);
+    count("few for a near target of a kept graph", near.dist == 1000 && near.pred == 1 && requests - start < FEW);
     start = requests;
-    near = spt_pair(path, N - 1, N, 1, 3, 1);
-    count("few for a near target", near.dist == 2000 && near.pred == 2 && requests - start < FEW);
+    near = spt_pair(fans, N - 1, N, 1, 3, 1);
+    count("few for a near target", near.dist == 1000 && near.pred == 1 && requests - start < FEW);
     start = requests;
     spt_found last = spt_graph_pair(&graph, 1, N, 1);
-    count("all for the last", last.dist == (N - 1) * 1000 && last.pred == N - 1 && requests - start >= N);
+    count("all for the last", last.dist == farthest && last.pred == (N - 2) / FAN * FAN + 1 && requests - start >= N / FAN);
     spt_graph_free(&graph);
 }
 
