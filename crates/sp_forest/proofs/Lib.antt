@@ -5,3 +5,5 @@ pub mod Existence
 pub mod OneForest
 pub mod SameSources
 pub mod Chains
+pub mod RootSteps
+pub mod RisingRows

@@ -1,3 +1,6 @@
 pub mod Forests
 pub mod Roots
 pub mod Laws
+pub mod ForestTable
+pub mod Rooted
+pub mod Nearest

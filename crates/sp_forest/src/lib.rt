@@ -1,7 +1,12 @@
-//! Forests of shortest paths: the least distance of each vertex from any of several sources, and the theorems about tables
-//! of words that a run from several sources stands on.
+//! Forests of shortest paths: the least distance of each vertex from any of several sources, the forest as a table of rows with
+//! the root of each vertex, and the theorems about tables of words that a run from several sources stands on.
 #![tactic(auto)]
 
+mod forest;
 mod laws;
+mod roots;
+mod rows;
 
+pub use forest::Forest;
 pub use laws::{closed_table, finished_table, meanings, roots};
+pub use roots::roots_of;

@@ -8,10 +8,10 @@ use Rattle.sp_forest.specs.Forests.{IsForestWord}
 use Rattle.sp_forest.specs.Roots.{IsRoot}
 use Rattle.sp_forest.specs.Laws.{HasRoots as HasRootsByLaw, ForestHasRoots, PartHasRoots}
 use Rattle.sp_forest.proofs.Walks.{any_vertex}
-use Rattle.sp_near.specs.ForestTable.{ForestTable, table_of}
-use Rattle.sp_near.specs.Rooted.{HoldsWords, HoldsRoots}
-use Rattle.sp_near.specs.Nearest.{IsForestUpTo, HasRoots, IsForestAnswer}
-use Rattle.sp_near.proofs.Chains.{leads_same}
+use Rattle.sp_forest.specs.ForestTable.{ForestTable, table_of}
+use Rattle.sp_forest.specs.Rooted.{HoldsWords, HoldsRoots}
+use Rattle.sp_forest.specs.Nearest.{IsForestUpTo, HasRoots, IsForestAnswer}
+use Rattle.sp_forest.proofs.RootSteps.{leads_same}
 
 module _ (P : ℕ) (g : Graph) (graph : IsGraph g) (sources : List ℕ) (vertices : All (IsVertex g.n) sources) where
   -- a table with the same words is the same forest

@@ -1,5 +1,2 @@
 pub mod Sources
-pub mod ForestTable
-pub mod Rooted
-pub mod Nearest
 pub mod NearRun

@@ -5,7 +5,7 @@ use Rattle.sp_paths.specs.Paths.{IsGraph, IsVertex, IsWithin, word_at}
 use Rattle.sp_forest.specs.Forests.{IsTableFrom, IsFinished}
 use Rattle.sp_offer.specs.Story.{Knowledge, known_table}
 use Rattle.sp_near.specs.Sources.{Sources}
-use Rattle.sp_near.specs.Nearest.{IsForestUpTo}
+use Rattle.sp_forest.specs.Nearest.{IsForestUpTo}
 
 -- Sources in a graph, in the ranges of words with P bits of predecessor.
 pub record IsPlace (P : ℕ) (run : Sources) : Type 0 where

@@ -3,13 +3,12 @@ ghost use Rattle.std.specs.Prelude.{◌≡◌, ◌≤◌, true, All, Any, None, 
 ghost use Rattle.sp_word.specs.Word.{is_layout, max_dist, max_pred};
 ghost use Rattle.sp_paths.specs.Paths.{IsVertex, word_at};
 ghost use Rattle.sp_graph.specs.LeftOut.{IsLeastLeftOut};
-ghost use Rattle.sp_near.specs.Nearest.{IsForestAnswer, IsRefusal};
+ghost use Rattle.sp_forest.specs.Nearest.{IsForestAnswer, IsRefusal};
 ghost use Rattle.sp_near.specs.NearRun.{IsRelaxedCopy, AreWords};
 
-use crate::forest::Forest;
 use crate::run::NearRun;
 use sp_answer::RunError;
-use sp_forest::{closed_table, finished_table, roots};
+use sp_forest::{Forest, closed_table, finished_table, roots};
 use sp_graph::Graph;
 use sp_solve::cut;
 use sp_word::{Meter, Team, Word};

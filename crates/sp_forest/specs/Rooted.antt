@@ -4,7 +4,7 @@ use Rattle.sp_word.specs.Word.{Word, Pair}
 use Rattle.sp_word.specs.History.{Table}
 use Rattle.sp_paths.specs.Paths.{IsVertex, word_at}
 use Rattle.sp_forest.specs.Roots.{IsRoot, IsRootOrNone}
-use Rattle.sp_near.specs.ForestTable.{ForestTable, table_of, root_of}
+use Rattle.sp_forest.specs.ForestTable.{ForestTable, table_of, root_of}
 
 -- Vertex v has the number at index v - 1.
 abbrev pub root_at : List ℕ → (v : ℕ) → ℕ

@@ -3,8 +3,8 @@ ghost use Rattle.std.specs.Prelude.{◌≡◌, ◌≤◌, length, true, None, So
 ghost use Rattle.sp_word.specs.Word.{is_layout, max_pred};
 ghost use Rattle.sp_paths.specs.Paths.{IsVertex, word_at};
 ghost use Rattle.sp_forest.specs.Roots.{FallsBack};
-ghost use Rattle.sp_near.specs.ForestTable.{IsForestTable, row_in, root_of, table_of};
-ghost use Rattle.sp_near.specs.Rooted.{HoldsWords, HoldsRoots};
+ghost use Rattle.sp_forest.specs.ForestTable.{IsForestTable, row_in, root_of, table_of};
+ghost use Rattle.sp_forest.specs.Rooted.{HoldsWords, HoldsRoots};
 
 use crate::roots::roots_of;
 use crate::rows::rows_of;
@@ -21,7 +21,7 @@ pub struct Forest<const P: u32> {
 }
 
 impl<const P: u32> Model for Forest<P> {
-    ghost use Rattle.sp_near.specs.ForestTable.{ForestTable, IsForestTable};
+    ghost use Rattle.sp_forest.specs.ForestTable.{ForestTable, IsForestTable};
 
     ghost Value = { ForestTable };
 
@@ -32,7 +32,7 @@ impl<const P: u32> Model for Forest<P> {
 
 impl<const P: u32> Forest<P> {
     /// Makes the forest in which the vertices have these words. Their chains of predecessors end.
-    pub(crate) fn of_words(alloc: Global, words: &[Word<P>]) -> Result<Forest<P>, AllocError>
+    pub fn of_words(alloc: Global, words: &[Word<P>]) -> Result<Forest<P>, AllocError>
         requires layout { is_layout P ≡ true }
         requires most { length words.now ≤ max_pred P }
         requires falls { FallsBack (length words.now) (word_at words.now) }

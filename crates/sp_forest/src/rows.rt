@@ -2,8 +2,8 @@
 ghost use Rattle.std.specs.Prelude.{◌≡◌, ◌^◌, ◌<◌, length, IfOk, All};
 ghost use Rattle.std.specs.Option.{is_some};
 ghost use Rattle.sp_word.specs.Word.{Fits, dist_of};
-ghost use Rattle.sp_near.specs.ForestTable.{rows_from};
-ghost use Rattle.sp_near.specs.Rooted.{root_at};
+ghost use Rattle.sp_forest.specs.ForestTable.{rows_from};
+ghost use Rattle.sp_forest.specs.Rooted.{root_at};
 
 use crate::roots::root_of;
 use sp_word::Word;

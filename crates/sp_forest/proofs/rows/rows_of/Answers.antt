@@ -1,9 +1,9 @@
 use Rattle.std.proofs.Common.{refl}
 use Rattle.sp_word.specs.Word.{dist_of}
-use Rattle.sp_near.specs.Rooted.{root_at}
-use Rattle.sp_near.proofs.RisingRows.{row_pushed, row_passed}
-use Rattle.sp_near.proofs.rows.rows_of.Goals as goal
-use Rattle.sp_near.proofs.rows.rows_of.Goals.{then-is_reached+in_ok-push, else-is_reached}
+use Rattle.sp_forest.specs.Rooted.{root_at}
+use Rattle.sp_forest.proofs.RisingRows.{row_pushed, row_passed}
+use Rattle.sp_forest.proofs.rows.rows_of.Goals as goal
+use Rattle.sp_forest.proofs.rows.rows_of.Goals.{then-is_reached+in_ok-push, else-is_reached}
 
 pub loop-place-preserved : goal.loop-place-preserved
 loop-place-preserved g c =

@@ -1,8 +1,8 @@
 use Rattle.std.proofs.Common.{rules}
 use Rattle.std.proofs.lemmas.List.Sorted.{answers_always}
 use Rattle.sp_word.specs.Word.{max_dist}
-use Rattle.sp_near.proofs.RisingRows.{row_found, row_missing}
-use Rattle.sp_near.proofs.forest.Forest.row.Goals as goal
+use Rattle.sp_forest.proofs.RisingRows.{row_found, row_missing}
+use Rattle.sp_forest.proofs.forest.Forest.row.Goals as goal
 
 pub returns-in-Ok : goal.returns-in-Ok
 returns-in-Ok g c =

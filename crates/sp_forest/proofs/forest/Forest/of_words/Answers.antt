@@ -1,8 +1,8 @@
 use Rattle.std.proofs.Common.{◌≡◌, ℕ, List, refl, length, subst}
-use Rattle.sp_near.specs.ForestTable.{rows_from}
-use Rattle.sp_near.specs.Rooted.{root_at}
-use Rattle.sp_near.proofs.RisingRows.{forest_is_table, holds_words, holds_roots}
-use Rattle.sp_near.proofs.forest.Forest.of_words.Goals as goal
+use Rattle.sp_forest.specs.ForestTable.{rows_from}
+use Rattle.sp_forest.specs.Rooted.{root_at}
+use Rattle.sp_forest.proofs.RisingRows.{forest_is_table, holds_words, holds_roots}
+use Rattle.sp_forest.proofs.forest.Forest.of_words.Goals as goal
 
 pub invariant_of-result : goal.invariant_of-result
 invariant_of-result g c =

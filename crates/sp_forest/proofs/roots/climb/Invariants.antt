@@ -1,18 +1,14 @@
-use Rattle.std.proofs.Common.{◌≡◌, length}
+use Rattle.std.proofs.Common.{◌≡◌, ℕ, length}
 use Rattle.sp_word.specs.Word.{Pair}
 use Rattle.sp_paths.specs.Paths.{IsVertex, word_at}
 use Rattle.sp_forest.specs.Roots.{IsRoot}
-use Rattle.sp_near.specs.Rooted.{AreKnown, StayKnown}
-use Rattle.sp_near.proofs.roots.mark.Given as goal
+use Rattle.sp_forest.proofs.roots.climb.Given as goal
 
 abbrev pub invariant-steps : goal.invariant-steps
 invariant-steps g l = record {
   here : IsVertex (length l.words) l.at.vertex;
   word : word_at l.words l.at.vertex ≡ Pair l.at.dist l.at.pred;
-  root : IsRoot (word_at l.words) l.at.vertex l.root;
-  size : length l.roots ≡ length l.words;
-  known : AreKnown l.words l.roots;
-  stays : StayKnown (length l.words) l.initial.roots l.roots;
+  roots : (r : ℕ) → IsRoot (word_at l.words) l.at.vertex r → IsRoot (word_at l.words) l.vertex r;
 }
 
 abbrev pub decreases-steps : goal.decreases-steps

@@ -10,7 +10,7 @@ use Rattle.sp_paths.specs.Paths.{IsVertex, word_at}
 use Rattle.sp_paths.proofs.Core.{pair_dist, pair_pred}
 use Rattle.sp_paths.proofs.Run.{not_both}
 use Rattle.sp_forest.specs.Roots.{LeadsBack, IsRoot, IsRootOrNone, IsBackStep, FallsBack}
-use Rattle.sp_near.specs.Rooted.{AreRoots, IsReached, AreKnown, StayKnown, AreFound, root_at}
+use Rattle.sp_forest.specs.Rooted.{AreRoots, IsReached, AreKnown, StayKnown, AreFound, root_at}
 
 -- ## Chains
 

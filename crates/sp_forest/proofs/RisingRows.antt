@@ -12,9 +12,9 @@ use Rattle.sp_word.specs.Word.{Word, Unreached, Pair, Fits, dist_of, max_dist, m
 use Rattle.sp_paths.specs.Paths.{IsVertex, word_at}
 use Rattle.sp_forest.specs.Roots.{IsRoot, IsRootOrNone, FallsBack, IsBackStep}
 use Rattle.sp_answer.specs.Table.{HasPredWithin}
-use Rattle.sp_near.specs.ForestTable.{Row, row_in, word_of, root_in, AreRows, IsForestTable, row_of, rows_from}
-use Rattle.sp_near.specs.Rooted.{AreRoots, HoldsWords, HoldsRoots, root_at}
-use Rattle.sp_near.proofs.Chains.{root_vertex}
+use Rattle.sp_forest.specs.ForestTable.{Row, row_in, word_of, root_in, AreRows, IsForestTable, row_of, rows_from}
+use Rattle.sp_forest.specs.Rooted.{AreRoots, HoldsWords, HoldsRoots, root_at}
+use Rattle.sp_forest.proofs.RootSteps.{root_vertex}
 
 -- ## Looking a vertex up
 

@@ -3,7 +3,7 @@ ghost use Rattle.std.specs.Prelude.{◌≡◌, ◌<◌, ◌≤◌, ◌^◌, leng
 ghost use Rattle.sp_paths.specs.Paths.{IsVertex, word_at};
 ghost use Rattle.sp_word.specs.Word.{Pair};
 ghost use Rattle.sp_forest.specs.Roots.{IsRoot, FallsBack};
-ghost use Rattle.sp_near.specs.Rooted.{AreRoots, IsReached, AreKnown, StayKnown, AreFound, root_at};
+ghost use Rattle.sp_forest.specs.Rooted.{AreRoots, IsReached, AreKnown, StayKnown, AreFound, root_at};
 
 use sp_graph::look_up;
 use sp_word::Word;

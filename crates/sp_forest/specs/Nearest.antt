@@ -7,7 +7,7 @@ use Rattle.sp_forest.specs.Forests.{IsForest, IsFar, IsForestWithin}
 use Rattle.sp_forest.specs.Roots.{IsRoot}
 use Rattle.sp_answer.specs.declared.answer.RunError.{RunError}
 use Rattle.sp_answer.specs.declared.answer.RunError.TheVariants.{Memory, TooFar, NoSuchVertex}
-use Rattle.sp_near.specs.ForestTable.{ForestTable, table_of, root_of}
+use Rattle.sp_forest.specs.ForestTable.{ForestTable, table_of, root_of}
 
 -- The table is the forest of the sources, where no vertex is too far for a word with P bits of predecessor; with a limit, it
 -- is the part of the forest within the limit.
