@@ -6,7 +6,7 @@ ghost use Rattle.sp_forest.specs.Roots.{FallsBack};
 ghost use Rattle.sp_forest.specs.ForestTable.{IsForestTable, row_in, root_of, table_of};
 ghost use Rattle.sp_forest.specs.Rooted.{HoldsWords, HoldsRoots};
 
-use crate::roots::roots_of;
+use crate::rooting::roots_of;
 use crate::rows::rows_of;
 use sp_word::Word;
 use std::alloc::{AllocError, Global};

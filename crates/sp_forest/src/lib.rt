@@ -4,9 +4,9 @@
 
 mod forest;
 mod laws;
-mod roots;
+mod rooting;
 mod rows;
 
 pub use forest::Forest;
 pub use laws::{closed_table, finished_table, meanings, roots};
-pub use roots::roots_of;
+pub use rooting::roots_of;

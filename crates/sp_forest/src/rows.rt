@@ -5,7 +5,7 @@ ghost use Rattle.sp_word.specs.Word.{Fits, dist_of};
 ghost use Rattle.sp_forest.specs.ForestTable.{rows_from};
 ghost use Rattle.sp_forest.specs.Rooted.{root_at};
 
-use crate::roots::root_of;
+use crate::rooting::root_of;
 use sp_word::Word;
 use std::alloc::{AllocError, Global};
 

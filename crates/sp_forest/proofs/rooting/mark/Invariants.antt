@@ -3,7 +3,7 @@ use Rattle.sp_word.specs.Word.{Pair}
 use Rattle.sp_paths.specs.Paths.{IsVertex, word_at}
 use Rattle.sp_forest.specs.Roots.{IsRoot}
 use Rattle.sp_forest.specs.Rooted.{AreKnown, StayKnown}
-use Rattle.sp_forest.proofs.roots.mark.Given as goal
+use Rattle.sp_forest.proofs.rooting.mark.Given as goal
 
 abbrev pub invariant-steps : goal.invariant-steps
 invariant-steps g l = record {

@@ -1,6 +1,6 @@
 use Rattle.std.proofs.Common.{◌≡◌, length}
 use Rattle.sp_forest.specs.Rooted.{AreKnown, AreFound}
-use Rattle.sp_forest.proofs.roots.fill_roots.Given as goal
+use Rattle.sp_forest.proofs.rooting.fill_roots.Given as goal
 
 abbrev pub invariant-loop-place : goal.invariant-loop-place
 invariant-loop-place g l = record {

@@ -1,7 +1,7 @@
 use Rattle.std.proofs.Common.{◌≡◌, length, subst, arith}
 use Rattle.sp_forest.specs.Rooted.{AreFound}
 use Rattle.sp_forest.proofs.RootSteps.{are_roots}
-use Rattle.sp_forest.proofs.roots.fill_roots.Goals as goal
+use Rattle.sp_forest.proofs.rooting.fill_roots.Goals as goal
 
 pub returns : goal.returns
 returns g c =

@@ -2,7 +2,7 @@ use Rattle.std.proofs.Common.{◌≡◌, ℕ, length}
 use Rattle.sp_word.specs.Word.{Pair}
 use Rattle.sp_paths.specs.Paths.{IsVertex, word_at}
 use Rattle.sp_forest.specs.Roots.{IsRoot}
-use Rattle.sp_forest.proofs.roots.climb.Given as goal
+use Rattle.sp_forest.proofs.rooting.climb.Given as goal
 
 abbrev pub invariant-steps : goal.invariant-steps
 invariant-steps g l = record {

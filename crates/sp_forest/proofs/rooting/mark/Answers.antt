@@ -4,7 +4,7 @@ use Rattle.sp_word.specs.Word.{Pair}
 use Rattle.sp_paths.specs.Paths.{IsVertex, word_at}
 use Rattle.sp_forest.specs.Roots.{IsRoot}
 use Rattle.sp_forest.proofs.RootSteps.{root_back, next_there, set_known, set_stays}
-use Rattle.sp_forest.proofs.roots.mark.Goals as goal
+use Rattle.sp_forest.proofs.rooting.mark.Goals as goal
 
 pub steps-preserved : goal.steps-preserved
 steps-preserved g c =

@@ -3,7 +3,7 @@ use Rattle.sp_word.specs.Word.{Pair}
 use Rattle.sp_paths.specs.Paths.{IsVertex, word_at}
 use Rattle.sp_forest.specs.Roots.{IsRoot}
 use Rattle.sp_forest.proofs.RootSteps.{root_on, next_there}
-use Rattle.sp_forest.proofs.roots.climb.Goals as goal
+use Rattle.sp_forest.proofs.rooting.climb.Goals as goal
 
 pub steps-preserved : goal.steps-preserved
 steps-preserved g c =
