@@ -26,6 +26,8 @@ SPECIFIED = "its parameters are specified, and the runtime's handle and the allo
 LIKE_SPECIFIED = "it takes what run_batch takes, whose parameters are specified, and the places of the list"
 # what does the same for two lists
 LIKE_MATRIX = "it takes what run_batch_told or run_given_told takes, and the targets"
+# what does the same for one forest
+LIKE_NEAREST = "it takes what run_batch_told or run_given_told takes, and the limit"
 EXCEPTIONS = {
     ("spt_c", "spt_tree"): OF_C,
     ("spt_c", "spt_trees"): OF_C,
@@ -37,6 +39,8 @@ EXCEPTIONS = {
     ("sp_pairs", "run_pairs"): SPECIFIED,
     ("sp_matrix", "run_matrix_told"): LIKE_MATRIX,
     ("sp_matrix", "run_matrix_given_told"): LIKE_MATRIX,
+    ("sp_nearest", "run_nearest_told"): LIKE_NEAREST,
+    ("sp_nearest", "run_nearest_given_told"): LIKE_NEAREST,
 }
 # a comment, a string or a character, any of which may hold brackets; a lifetime has no closing quote
 PASSED_OVER = re.compile(r"//[^\n]*|/\*.*?\*/|\"(?:\\.|[^\"\\])*\"|b?'(?:\\[^\n]*?|[^'\\\n])'", re.S)

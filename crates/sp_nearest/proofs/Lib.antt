@@ -1,0 +1,3 @@
+pub mod SameForests
+pub mod OfFile
+pub mod TextsToAnswers

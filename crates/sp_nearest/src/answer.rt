@@ -1,0 +1,75 @@
+//! The answer for several sources: how it is found and written.
+ghost use Rattle.std.specs.Prelude.{◌≤◌, All, IfOk, IfSome};
+ghost use Rattle.sp_word.specs.Word.{max_dist};
+ghost use Rattle.sp_paths.specs.Paths.{IsVertex};
+ghost use Rattle.sp_job.specs.Ready.{IsReady};
+ghost use Rattle.sp_nearest.specs.Nearest.{IsAnswerTo};
+ghost use Rattle.sp_nearest.specs.Found.{answer_of, IsWritten};
+
+use sp_device::Write;
+use sp_forest_file::{Forest, write_forest, write_no_forest};
+use sp_graph::Graph;
+use sp_job::{BatchError, Listener, Settings, Summary};
+use sp_near::{Nearest, RunError, run_nearest_metered};
+use sp_solve::useful_team;
+use sp_word::Meter;
+use std::alloc::{AllocError, Global};
+use std::sync::Wait;
+use std::thread::Threads;
+
+/// The answer for several sources.
+#[derive(Drop)]
+pub(crate) enum NearestAnswer<const P: u32> {
+    /// The forest of the sources.
+    Forest(Forest<P>),
+    /// The smallest vertex that is too far from all of them.
+    TooFar(u32),
+}
+
+/// Finds the answer, by one run.
+pub(crate) fn find_answer<const P: u32, R: Threads + Wait + Sync, L: Listener>(
+    rt: &R,
+    alloc: Global,
+    graph: &Graph,
+    asked: Nearest,
+    settings: &Settings<P, L>,
+) -> Result<NearestAnswer<P>, AllocError>
+    requires ready { IsReady P graph.now }
+    requires vertices { All (IsVertex graph.now.n) asked.sources.now }
+    requires limit { IfSome asked.limit (λ limit. limit ≤ max_dist P) }
+    ensures { IfOk result (λ found. IsAnswerTo P graph.now
+        asked.entry.sources.now asked.entry.limit (answer_of found)) }
+{
+    let uncounted = Meter::new();
+    let meter = settings.listener.meter().unwrap_or(&uncounted);
+    let team = useful_team(rt, graph.n(), &settings.team_for(graph));
+    match run_nearest_metered::<P, R>(rt, alloc, graph, team, meter, asked) {
+        Ok(forest) => Ok(NearestAnswer::Forest(forest)),
+        Err(RunError::TooFar(vertex)) => Ok(NearestAnswer::TooFar(vertex)),
+        Err(RunError::NoSuchVertex) => unreachable!(),
+        Err(RunError::Memory) => Err(AllocError),
+    }
+}
+
+/// Writes an answer and counts it.
+///
+/// It takes no memory. Where the writer fails, a beginning of the answer's text stands.
+pub(crate) fn write_answer<const P: u32, W: Write>(
+    answer: &NearestAnswer<P>,
+    out: &mut W,
+) -> Result<Summary, BatchError>
+    ensures { IsWritten W.Write (answer_of answer.now) out.old result out.new }
+{
+    match answer {
+        NearestAnswer::Forest(forest) => Ok(Summary {
+            sources: 1,
+            too_far: 0,
+            bytes: write_forest(forest, out)?,
+        }),
+        NearestAnswer::TooFar(vertex) => Ok(Summary {
+            sources: 1,
+            too_far: 1,
+            bytes: write_no_forest(*vertex, out)?,
+        }),
+    }
+}
