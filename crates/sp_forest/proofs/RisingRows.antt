@@ -12,7 +12,7 @@ use Rattle.sp_word.specs.Word.{Word, Unreached, Pair, Fits, dist_of, max_dist, m
 use Rattle.sp_paths.specs.Paths.{IsVertex, word_at}
 use Rattle.sp_forest.specs.Roots.{IsRoot, IsRootOrNone, FallsBack, IsBackStep}
 use Rattle.sp_answer.specs.Table.{HasPredWithin}
-use Rattle.sp_forest.specs.ForestTable.{Row, row_in, word_of, root_in, AreRows, IsForestTable, row_of, rows_from}
+use Rattle.sp_forest.specs.ForestTable.{Row, row_in, word_of, root_in, AreRows, IsForestTable, row_of, rows_from, last_after}
 use Rattle.sp_forest.specs.Rooted.{AreRoots, HoldsWords, HoldsRoots, root_at}
 use Rattle.sp_forest.proofs.RootSteps.{root_vertex}
 
@@ -65,6 +65,32 @@ row_missing max n rows v i are searched =
     (λ (l : k < i). omega (arith, less_is (get_or rows k (0, Unreached, 0)).0 v (parted.0 k (0, Unreached, 0) (omega arith) l), e))
     (λ (l : i ≤ k). omega (arith, greater_is (get_or rows k (0, Unreached, 0)).0 v (parted.1 k (0, Unreached, 0) l h), e))
     (cases_lt k i))
+
+-- ## One row more
+
+more_rows : (max n last : ℕ) (rows : List Row) (v d p r : ℕ) → AreRows max n last rows → last_after last rows < v → v ≤ n → d ≤ max → p ≤ n → IsVertex n r → AreRows max n last (rows ++ (v, Pair d p, r) ∷ [])
+more_rows max n last [] v d p r are higher most dist pred root = (higher, most, (dist, pred), root, tt)
+more_rows max n last (row ∷ more) v d p r are higher most dist pred root = (are.0, are.1, are.2, are.3, more_rows max n row.0 more v d p r are.4 higher most dist pred root)
+
+pub row_added : (P n : ℕ) (rows new : List Row) (v d p r : ℕ) (word : Word) → IsForestTable P (record { n = n; rows = rows }) → last_after 0 rows < v → v ≤ n → d ≤ max_dist P → p ≤ n → IsVertex n r → word ≡ Pair d p → new ≡ rows ++ (v, word, r) ∷ []
+    → IsForestTable P (record { n = n; rows = new })
+row_added P n rows new v d p r word h higher most dist pred root is pushed = record {
+  layout = h.layout;
+  most = h.most;
+  rows = rw (pushed, is) (more_rows (max_dist P) n 0 rows v d p r h.rows higher most dist pred root);
+}
+
+pub last_is : (last : ℕ) (rows : List Row) (row : Row) → 0 < length rows → row ≡ get_or rows (length rows - 1) row → row.0 ≡ last_after last rows
+last_is last [] row some is = absurd (omega arith)
+last_is last (x ∷ []) row some is = ap (λ (r : Row). r.0) is
+last_is last (x ∷ y ∷ more) row some is =
+    let at : length (x ∷ y ∷ more) - 1 ≡ suc (length (y ∷ more) - 1) = omega arith in
+    last_is x.0 (y ∷ more) row (omega arith) (is ∙ ap (λ (i : ℕ). get_or (x ∷ y ∷ more) i row) at)
+
+-- No more rows than vertices.
+pub few_rows : (max n last : ℕ) (rows : List Row) → last ≤ n → AreRows max n last rows → length rows + last ≤ n
+few_rows max n last [] le are = omega arith
+few_rows max n last (row ∷ more) le are = omega (arith, are.0, few_rows max n row.0 more are.1 are.4)
 
 -- ## The rows of words
 

@@ -42,6 +42,18 @@ abbrev pub AreRows : (max n last : ℕ) → List Row → Type 0
 AreRows max n last [] = Unit {0}
 AreRows max n last (row ∷ more) = (last < row.0) × (row.0 ≤ n) × IsPairWithin max n row.1 × IsVertex n row.2 × AreRows max n row.0 more
 
+-- The forest with one row more.
+abbrev pub with_row : ForestTable → (vertex dist pred root : ℕ) → ForestTable
+with_row f vertex dist pred root = record { n = f.n; rows = f.rows ++ (vertex, Pair dist pred, root) ∷ [] }
+
+-- The vertex of the last row, or `last` where there is none.
+abbrev pub last_after : (last : ℕ) → List Row → ℕ
+last_after last [] = last
+last_after last (row ∷ more) = last_after row.0 more
+
+abbrev pub last_vertex : List Row → ℕ
+last_vertex rows = last_after 0 rows
+
 -- A table within the limits of words with P bits for the predecessor.
 pub record IsForestTable (P : ℕ) (f : ForestTable) : Type 0 where
   pub layout : is_layout P ≡ true

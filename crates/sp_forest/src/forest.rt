@@ -1,9 +1,9 @@
 //! Forests as tables of rows.
-ghost use Rattle.std.specs.Prelude.{◌≡◌, ◌≤◌, length, true, None, Some, IfOk, MatchOption};
-ghost use Rattle.sp_word.specs.Word.{is_layout, max_pred};
+ghost use Rattle.std.specs.Prelude.{◌≡◌, ◌<◌, ◌≤◌, [], length, true, None, Some, IfOk, MatchOption};
+ghost use Rattle.sp_word.specs.Word.{is_layout, max_dist, max_pred};
 ghost use Rattle.sp_paths.specs.Paths.{IsVertex, word_at};
 ghost use Rattle.sp_forest.specs.Roots.{FallsBack};
-ghost use Rattle.sp_forest.specs.ForestTable.{IsForestTable, row_in, root_of, table_of};
+ghost use Rattle.sp_forest.specs.ForestTable.{IsForestTable, last_vertex, row_in, root_of, table_of, with_row};
 ghost use Rattle.sp_forest.specs.Rooted.{HoldsWords, HoldsRoots};
 
 use crate::rooting::roots_of;
@@ -46,6 +46,49 @@ impl<const P: u32> Forest<P> {
             n: words.len() as u32,
             rows,
         })
+    }
+
+    /// Returns a forest that has no rows yet.
+    pub fn bare(alloc: Global, n: u32) -> Forest<P>
+        requires layout { is_layout P ≡ true }
+        requires most { n ≤ max_pred P }
+        ensures forest { result ≡ record { n = n; rows = [] } }
+        ensures table { IsForestTable P result }
+    {
+        Forest {
+            n,
+            rows: Vec::new(alloc),
+        }
+    }
+
+    /// Appends a row, whose vertex has a greater number than the vertices of the other rows.
+    pub fn push_row(
+        &mut self,
+        vertex: u32,
+        dist: u64,
+        pred: u32,
+        root: u32,
+    ) -> Result<(), AllocError>
+        requires above { last_vertex self.old.rows < vertex }
+        requires most { vertex ≤ self.old.n }
+        requires dist { dist ≤ max_dist P }
+        requires pred { pred ≤ self.old.n }
+        requires root { IsVertex self.old.n root }
+        ensures forest { IfOk result (λ u. self.new ≡ with_row self.old vertex dist pred root) }
+        ensures table { IfOk result (λ u. IsForestTable P self.new) }
+    {
+        self.rows.push((vertex, Word::pack(dist, pred), root))?;
+        Ok(())
+    }
+
+    /// Returns the vertex of the last row, or 0 if there are no rows.
+    pub fn last(&self) -> u32
+        ensures { result ≡ last_vertex self.now.rows }
+    {
+        match self.rows.last() {
+            Some(row) => row.0,
+            None => 0,
+        }
     }
 
     /// Returns the number of vertices.
