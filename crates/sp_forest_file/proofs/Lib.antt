@@ -1,1 +1,7 @@
 pub mod ForestPieces
+pub mod CappedNumbers
+pub mod Canonical
+pub mod ForestTexts
+pub mod SpelledForests
+pub mod FileEnds
+pub mod OwnTexts

@@ -1,1 +1,6 @@
 pub mod ForestText
+pub mod Spelling
+pub mod Fields
+pub mod Taking
+pub mod Silence
+pub mod Reading
