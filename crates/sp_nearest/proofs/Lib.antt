@@ -1,3 +1,4 @@
 pub mod SameForests
+pub mod CountedSources
 pub mod OfFile
 pub mod TextsToAnswers

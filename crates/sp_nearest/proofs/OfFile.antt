@@ -27,7 +27,7 @@ pub far_answer : {T : Type 0} (P : ℕ) (g : Graph) (sources : List ℕ) (limit 
 far_answer P g sources limit v result told refused = far_of P g sources limit v (subst (λ r. IfErr r (IsRefusal P g sources limit)) told refused)
 
 same_answer : (P : ℕ) (g h : Graph) (sources : List ℕ) (limit : Option ℕ) (answer : Answer) → AreSame g h → IsAnswerTo P g sources limit answer → IsAnswerTo P h sources limit answer
-same_answer P g h sources limit (ForestOf f) same is = (is.0, same_forest_answer P g h same sources limit f is.1)
+same_answer P g h sources limit (ForestOf f) same is = (is.0, same_forest_answer P g h same sources limit f is.1, is.2)
 same_answer P g h sources None (FarFromAll v) same is = same_far g h same sources (max_dist P) (Some v) is
 same_answer P g h sources (Some limit) (FarFromAll v) same is = absurd is
 

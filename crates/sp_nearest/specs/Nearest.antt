@@ -1,12 +1,13 @@
 -- What is written for several sources.
-use Rattle.std.specs.Prelude.{ℕ, List, Option, None, Some}
+use Rattle.std.specs.Prelude.{◌≡◌, ℕ, nat_eq, List, Option, None, Some}
+use Rattle.std.specs.Set.{distinct_count}
 use Rattle.sp_word.specs.Word.{max_dist}
 use Rattle.sp_device.specs.Devices.{IsBegun}
 use Rattle.sp_paths.specs.Paths.{Graph}
 use Rattle.sp_forest.specs.Forests.{IsFar}
 use Rattle.sp_forest.specs.ForestTable.{ForestTable, IsForestTable}
 use Rattle.sp_forest.specs.Nearest.{IsForestAnswer}
-use Rattle.sp_forest_file.specs.ForestText.{forest_text, no_forest_text}
+use Rattle.sp_forest_file.specs.ForestText.{source_count, forest_text, no_forest_text}
 use Rattle.sp_job.specs.declared.answers.Summary.{Summary}
 use Rattle.sp_job.specs.Answers.{IsCount}
 
@@ -15,9 +16,9 @@ pub data Answer : Type 0 where
   ForestOf : ForestTable → Answer
   FarFromAll : (vertex : ℕ) → Answer
 
--- The forest goes up to the limit if there is one; a vertex is too far only where there is none.
+-- The forest goes up to the limit if there is one, and counts each source once; a vertex is too far only where there is no limit.
 abbrev pub IsAnswerTo : (P : ℕ) → Graph → (sources : List ℕ) → (limit : Option ℕ) → Answer → Type 0
-IsAnswerTo P g sources limit (ForestOf f) = IsForestTable P f × IsForestAnswer P g sources limit f
+IsAnswerTo P g sources limit (ForestOf f) = IsForestTable P f × IsForestAnswer P g sources limit f × (source_count f.rows ≡ distinct_count nat_eq sources)
 IsAnswerTo P g sources None (FarFromAll v) = IsFar g sources (max_dist P) (Some v)
 IsAnswerTo P g sources (Some limit) (FarFromAll v) = ⊥
 
