@@ -33,6 +33,7 @@ status_of_kind _ = status.Refused
 abbrev pub status_of : Fault → Status
 status_of (fault.Usage error) = status.Usage
 status_of fault.DeltaOutOfRange = status.Usage
+status_of fault.LimitOutOfRange = status.Usage
 status_of fault.InputTwice = status.Usage
 status_of fault.NoPlaces = status.Usage
 status_of (fault.CannotOpen file) = status.Failed

@@ -53,6 +53,7 @@ input_line file error = concat (codes "spt: " ∷ word_of file ∷ codes ": line
 abbrev pub line_of : Fault → Option (List ℕ)
 line_of (fault.Usage error) = None
 line_of fault.DeltaOutOfRange = Some (codes "spt: delta out of range" ++ newline)
+line_of fault.LimitOutOfRange = Some (codes "spt: limit out of range" ++ newline)
 line_of fault.InputTwice = Some (codes "spt: standard input twice" ++ newline)
 line_of fault.NoPlaces = Some (codes "spt: sources are not A-B" ++ newline)
 line_of (fault.CannotOpen file) = Some (concat (codes "spt: " ∷ word_of file ∷ codes ": cannot open" ∷ newline ∷ []))

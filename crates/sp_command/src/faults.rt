@@ -162,6 +162,8 @@ pub enum Fault {
     Usage(clap::Error),
     /// The delta is greater than the greatest distance of the words.
     DeltaOutOfRange,
+    /// The distance within which answers are wanted is greater than the greatest distance of the words.
+    LimitOutOfRange,
     /// Standard input was named for both files.
     InputTwice,
     /// The places of sources aren't spelled as two numbers.
@@ -190,7 +192,8 @@ impl Fault {
     {
         match self {
             Fault::Usage(_) => Status::Usage,
-            Fault::DeltaOutOfRange | Fault::InputTwice | Fault::NoPlaces => Status::Usage,
+            Fault::DeltaOutOfRange | Fault::LimitOutOfRange => Status::Usage,
+            Fault::InputTwice | Fault::NoPlaces => Status::Usage,
             Fault::CannotOpen(_) | Fault::WriteFailed | Fault::CannotWrite => Status::Failed,
             Fault::Input { error, .. } => match error.kind {
                 Kind::Memory => Status::Memory,

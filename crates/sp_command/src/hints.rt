@@ -139,6 +139,10 @@ pub enum Hint<'a> {
     Delta(PredBits),
     /// The range of delta in general.
     AnyDelta,
+    /// The range of the limit for a layout.
+    Limit(PredBits),
+    /// The range of the limit in general.
+    AnyLimit,
     /// What can take the place of a file of sources.
     NoSources,
 }
@@ -180,6 +184,17 @@ impl fmt::Display for Hint<'_> {
             Hint::AnyDelta => {
                 let most = PredBits::Bits20.max_dist();
                 write!(f, "D is a whole number from 1 to {most}, or mean")?;
+            }
+            Hint::Limit(pred_bits) => {
+                let most = pred_bits.max_dist();
+                write!(
+                    f,
+                    "with --pred-bits {pred_bits} the limit is from 0 to {most}"
+                )?;
+            }
+            Hint::AnyLimit => {
+                let most = PredBits::Bits20.max_dist();
+                write!(f, "L is a whole number from 0 to {most}")?;
             }
             Hint::NoSources => f.write_str("SS, or --source V, says where trees begin")?,
         }

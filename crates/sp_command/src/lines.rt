@@ -17,6 +17,7 @@ impl Fault {
         match self {
             Fault::Usage(error) => print(out, error),
             Fault::DeltaOutOfRange => write_all(out, b"spt: delta out of range\n"),
+            Fault::LimitOutOfRange => write_all(out, b"spt: limit out of range\n"),
             Fault::InputTwice => write_all(out, b"spt: standard input twice\n"),
             Fault::NoPlaces => write_all(out, b"spt: sources are not A-B\n"),
             Fault::CannotOpen(file) => {

@@ -6,4 +6,5 @@ pub mod Places
 pub mod Running
 pub mod Sources
 pub mod Width
+pub mod Within
 pub mod Workers

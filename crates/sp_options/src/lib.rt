@@ -9,6 +9,7 @@ mod reading;
 mod running;
 mod sources;
 mod width;
+mod within;
 mod workers;
 
 pub use given::Given;
@@ -17,3 +18,4 @@ pub use reading::Watched;
 pub use running::{RunOptions, Teller};
 pub use sources::Sources;
 pub use width::Width;
+pub use within::Within;

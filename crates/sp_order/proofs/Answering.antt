@@ -37,6 +37,7 @@ done_apart status.Failed done some few = false≢true done
 early : (why : Fault) → code_of (status_of why) ≤ 2 → is_early why ≡ true
 early (fault.Usage error) few = refl
 early fault.DeltaOutOfRange few = refl
+early fault.LimitOutOfRange few = refl
 early fault.InputTwice few = refl
 early fault.NoPlaces few = refl
 early (fault.CannotOpen file) few = refl

@@ -115,6 +115,7 @@ fn second_line<'a, C: Commands<'a>, F: Inputs>(
     };
     match fault {
         Fault::DeltaOutOfRange => Some(Hint::Delta(*pred_bits)),
+        Fault::LimitOutOfRange => Some(Hint::Limit(*pred_bits)),
         Fault::NoPlaces => Some(places_hint((*places)?)),
         Fault::NoSuchVertex(vertex) => Some(vertex_hint(*vertex, command, *places, files)),
         Fault::Input { file, error } => input_hint(

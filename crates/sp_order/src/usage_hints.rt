@@ -9,6 +9,7 @@ use std::fmt::Write as _;
 pub fn usage_hint<'a>(error: &Error) -> Option<Hint<'a>> {
     match error.kind() {
         ErrorKind::ValueValidation if tells(error, "for '--delta <D>'") => Some(Hint::AnyDelta),
+        ErrorKind::ValueValidation if tells(error, "for '--within <L>'") => Some(Hint::AnyLimit),
         ErrorKind::MissingRequiredArgument if tells(error, "\n  <SS>\n") => Some(Hint::NoSources),
         _ => None,
     }

@@ -77,6 +77,7 @@ err_as Before After (Err e) more is = more e is
 pub trees_refused : (P : ℕ) (gr_text text : List ℕ) (g : Graph) (failed : Bool) → IsGraphIn P gr_text g → (why : Fault) → TellsFault P text failed why → Hinders (AreTreesRefused P gr_text text) why
 trees_refused P gr_text text g failed graph (fault.Usage e) is = absurd is
 trees_refused P gr_text text g failed graph fault.DeltaOutOfRange is = absurd is
+trees_refused P gr_text text g failed graph fault.LimitOutOfRange is = absurd is
 trees_refused P gr_text text g failed graph fault.InputTwice is = absurd is
 trees_refused P gr_text text g failed graph fault.NoPlaces is = absurd is
 trees_refused P gr_text text g failed graph (fault.CannotOpen file) is = absurd is

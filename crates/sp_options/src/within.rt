@@ -1,0 +1,110 @@
+//! The distance within which answers are wanted.
+ghost use Rattle.std.specs.Prelude.{◌≡◌, ℕ, true, Ok, Some, IfOk, IfErr, IfSome, IsNone, MatchOption, MatchResult};
+ghost use Rattle.sp_word.specs.Word.{is_layout};
+ghost use Rattle.clap.specs.Matches.{found_of};
+ghost use Rattle.sp_options.specs.Within.{HasLimit, IsLimit, LacksLimit, SpellsLimit};
+ghost use Rattle.sp_command.specs.declared.faults.Fault.TheVariants.{LimitOutOfRange};
+
+use clap::{Arg, ArgMatches, Command, Error, value_parser};
+use sp_command::{Fault, valued};
+use sp_word::Word;
+use std::alloc::Global;
+
+// The greatest distance in any layout of a word.
+const MAX_LIMIT: u64 = 17_592_186_044_414;
+
+const LONG: &str = "\
+The greatest distance that is told, a number from 0 to the greatest
+distance of a word. A vertex beyond L has no line, however far it is;
+and the run goes no farther, so that a small part of a large graph
+takes little time";
+
+/// The greatest distance that is told, as the command line gives it, if it gives one. It may be greater than the greatest
+/// distance of the layout in which the command runs.
+#[derive(Clone, Copy, Debug, PartialEq, Eq)]
+pub struct Within {
+    limit: Option<u64>,
+}
+
+impl Within {
+    /// The identifier of the option for `clap`.
+    pub const ID: &'static str = "within";
+
+    /// Returns the option, which takes any text as its value.
+    pub fn option<'a>(alloc: Global) -> Arg<'a> {
+        let about = "The greatest distance that is told";
+        valued(alloc, Self::ID, "L", about, LONG)
+    }
+
+    /// Reads the limit from what `clap` has found, if the option was given.
+    ///
+    /// A text that spells a limit is read. Any other text is refused, by the error with which `clap` refuses a number out of
+    /// range or a text that is no number; if `clap` took it, the result would be `None`.
+    pub fn read(alloc: Global, given: &ArgMatches<'_>) -> Result<Option<Within>, Error>
+        ensures read { IfOk result (λ found. MatchOption found
+            (LacksLimit (found_of given.now))
+            (λ within. HasLimit (found_of given.now) within.limit)) }
+        ensures refused { IfErr result (λ _. LacksLimit (found_of given.now)) }
+    {
+        let Some(text) = given.get_str(Self::ID) else {
+            return Ok(Some(Within { limit: None }));
+        };
+        Ok(match read_limit(alloc, text)? {
+            Some(limit) => Some(Within { limit: Some(limit) }),
+            None => None,
+        })
+    }
+
+    /// Returns the limit of answers in words with `P` bits of predecessor, if there is one, or a fault if these have no such
+    /// distance.
+    pub fn limit_for<const P: u32>(self) -> Result<Option<u64>, Fault>
+        requires { is_layout P ≡ true }
+        ensures exactly { MatchResult result (λ _. IsLimit P self.limit)
+            (λ fault. ¬ (IsLimit P self.limit) × (fault ≡ LimitOutOfRange)) }
+        ensures limit { IfOk result (λ limit. limit ≡ self.limit) }
+    {
+        match self.limit {
+            Some(limit) if limit > Word::<P>::max_dist() => Err(Fault::LimitOutOfRange),
+            limit => Ok(limit),
+        }
+    }
+}
+
+// Reads a limit from the option's text, or returns the error with which `clap` refuses the text.
+fn read_limit(alloc: Global, text: &str) -> Result<Option<u64>, Error>
+    ensures spelled { IfOk result (λ found. IfSome found (SpellsLimit text.now)) }
+    ensures exactly { (limit : ℕ) → SpellsLimit text.now limit → result ≡ Ok (Some limit) }
+{
+    match number_in(text) {
+        Some(limit) => Ok(Some(limit)),
+        None => refuse(alloc, text),
+    }
+}
+
+// Returns the number that a text spells, if it is at most the greatest distance of any word.
+fn number_in(text: &str) -> Option<u64>
+    ensures { MatchOption result ((limit : ℕ) → SpellsLimit text.now limit → ⊥)
+        (SpellsLimit text.now) }
+{
+    let number = text.parse().ok()?;
+    if number > MAX_LIMIT {
+        return None;
+    }
+    Some(number)
+}
+
+// Returns the error with which `clap` refuses a text that is no number in range, or `None` if `clap` takes the text.
+fn refuse(alloc: Global, text: &str) -> Result<Option<u64>, Error>
+    ensures { IfOk result IsNone }
+{
+    let word = format!(in alloc; "--within={text}")?;
+    Command::new(alloc, "spt")
+        .arg(number_option(alloc))?
+        .try_get_matches_from(&["spt", word.as_str()])?;
+    Ok(None)
+}
+
+// Returns the option, which takes a number in range as its value.
+fn number_option<'a>(alloc: Global) -> Arg<'a> {
+    Within::option(alloc).value_parser(value_parser!(u64).range(0..=MAX_LIMIT as i64))
+}
