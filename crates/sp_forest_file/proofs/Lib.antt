@@ -5,3 +5,5 @@ pub mod ForestTexts
 pub mod SpelledForests
 pub mod FileEnds
 pub mod OwnTexts
+pub mod FirstBytes
+pub mod FirstLines

@@ -4,3 +4,5 @@ pub mod Fields
 pub mod Taking
 pub mod Silence
 pub mod Reading
+pub mod TreeOrForest
+pub mod Beginning

@@ -1,10 +1,13 @@
 //! Laws of the definitions.
-ghost use Rattle.std.specs.Prelude.{◌≡◌, ◌≤◌, ℕ, List, true, None, ◌↔◌};
+ghost use Rattle.std.specs.Prelude.{◌≡◌, ◌≤◌, ℕ, List, true, false, None, ◌↔◌};
 ghost use Rattle.sp_word.specs.Word.{is_layout};
 ghost use Rattle.sp_text.specs.First.{fault_at_end};
+ghost use Rattle.sp_answer.specs.Table.{TreeTable};
+ghost use Rattle.sp_tree.specs.TreeText.{tree_text};
 ghost use Rattle.sp_forest.specs.ForestTable.{ForestTable, IsForestTable};
 ghost use Rattle.sp_forest_file.specs.ForestText.{forest_text, source_count};
 ghost use Rattle.sp_forest_file.specs.Spelling.{IsFile, file_text, forest_judge};
+ghost use Rattle.sp_forest_file.specs.TreeOrForest.{is_near};
 
 /// Proves that the texts without a fault are exactly the texts of files, and that no two files have the same text.
 pub fn forest_texts_are_accepted()
@@ -23,4 +26,11 @@ pub fn forest_text_is_read()
     ensures own { (f : ForestTable) → forest_text f ≡ file_text (source_count f.rows) f }
     ensures exact { (P k : ℕ) (e f : ForestTable) → IsForestTable P f → 1 ≤ f.n → IsFile P k e
         → forest_text f ≡ file_text k e → (k ≡ source_count f.rows) × (e ≡ f) }
+{}
+
+/// Proves that the first line of a text tells whether it is that of a forest or of a tree.
+#[tactic(auto, unfolding(crate::specs::Spelling::file_text, sp_tree::specs::TreeText::tree_text))]
+pub fn first_line_tells()
+    ensures forest { (k : ℕ) (f : ForestTable) → is_near (file_text k f) ≡ true }
+    ensures tree { (t : TreeTable) → is_near (tree_text t) ≡ false }
 {}
