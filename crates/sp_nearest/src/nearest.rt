@@ -16,6 +16,13 @@ use std::alloc::Global;
 use std::sync::Wait;
 use std::thread::Threads;
 
+// What is written before the one answer is found.
+const NOTHING: Summary = Summary {
+    sources: 0,
+    too_far: 0,
+    bytes: 0,
+};
+
 // Tests the sources, and then finds and writes their answer.
 fn answer_file<const P: u32, R: Threads + Wait + Sync, W: Write, L: Listener>(
     rt: &R,
@@ -41,6 +48,10 @@ fn answer_file<const P: u32, R: Threads + Wait + Sync, W: Write, L: Listener>(
         vertices: graph.n(),
         arcs: graph.m(),
     });
+    settings.listener.hear(Progress::Sources {
+        written: NOTHING,
+        count: 1,
+    });
     let found = find_answer::<P, R, L>(rt, alloc, &graph, asked, settings)?;
     write_answer(&found, out)
 }
@@ -54,7 +65,8 @@ fn answer_file<const P: u32, R: Threads + Wait + Sync, W: Write, L: Listener>(
 /// the forest is that of the sources at these places of their list. What is written is the same for all widths of buckets and
 /// numbers of workers. Where memory is refused, nothing is written; where the writer fails, a beginning of the text stands.
 ///
-/// It makes one run, with all workers. The listener hears when the graph stands. The summary counts one answer.
+/// It makes one run, with all workers. The listener hears when the graph stands, and before the run. The summary counts one
+/// answer.
 pub fn run_nearest_told<
     const P: u32,
     R: Threads + Wait + Sync,

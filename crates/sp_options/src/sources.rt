@@ -1,4 +1,4 @@
-//! The sources of `spt tree`, which stand in a file or on the command line.
+//! The sources of a command, which stand in a file or on the command line.
 use crate::given::Given;
 use crate::places::places_of;
 use clap::{Arg, ArgMatches, Command};
@@ -10,7 +10,11 @@ const PART_LONG: &str = "\
 Write the trees of the sources at the places from A to B of the file
 alone, counted from 1. Places beyond its end have no tree";
 
-/// The sources whose trees are written.
+const TAKEN_LONG: &str = "\
+Take the sources at the places from A to B of the file alone, counted
+from 1. Places beyond its end are passed over";
+
+/// The sources of a command that runs from them.
 #[derive(Drop)]
 pub enum Sources<'a> {
     /// All sources of the file with this path.
@@ -29,10 +33,27 @@ impl<'a> Sources<'a> {
 
     /// Adds the argument for the file to a command, and the options for a part of it or for sources in its place.
     pub fn add_to(command: Command<'a>, alloc: Global) -> BuiltCommand<'a> {
+        let about = "The places of the file whose sources have a tree";
+        Self::add_with_part(command, alloc, about, PART_LONG)
+    }
+
+    /// Adds the same to a command that answers all sources at once.
+    pub fn add_all_to(command: Command<'a>, alloc: Global) -> BuiltCommand<'a> {
+        let about = "The places of the file whose sources are taken";
+        Self::add_with_part(command, alloc, about, TAKEN_LONG)
+    }
+
+    // Adds these, with the texts of the option for a part.
+    fn add_with_part(
+        command: Command<'a>,
+        alloc: Global,
+        about: &'a str,
+        long: &'a str,
+    ) -> BuiltCommand<'a> {
         command
             .arg(Self::file(alloc)?)?
             .arg(Given::option(alloc))?
-            .arg(Self::part(alloc)?)
+            .arg(valued(alloc, PLACES, "A-B", about, long).conflicts_with("source")?)
     }
 
     fn file(alloc: Global) -> Result<Arg<'a>, AllocError> {
@@ -40,11 +61,6 @@ impl<'a> Sources<'a> {
             .help("The sources, a .ss file")
             .required_unless_present("source")?
             .conflicts_with("source")
-    }
-
-    fn part(alloc: Global) -> Result<Arg<'a>, AllocError> {
-        let about = "The places of the file whose sources have a tree";
-        valued(alloc, PLACES, "A-B", about, PART_LONG).conflicts_with("source")
     }
 
     /// Reads the sources from what `clap` has found, or returns `None` if there are none.
