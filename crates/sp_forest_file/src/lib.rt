@@ -8,6 +8,8 @@ mod laws;
 mod lines;
 mod reading;
 mod taking;
+#[cfg(test)]
+mod tests;
 mod tree_or_forest;
 mod writing;
 
