@@ -10,6 +10,7 @@ _spt() {
         --pred-bits) words='20 24 28 32' ;;
         --source) words='' ;;
         --sources) words='' ;;
+        --within) words='' ;;
         --workers) words='all' ;;
         *) words=none ;;
     esac
@@ -18,7 +19,7 @@ _spt() {
         return
     fi
     case ${COMP_WORDS[1]} in
-        tree) words='--source --sources --delta --workers --far-ok --progress --pred-bits --output --help' ;;
+        tree) words='--source --sources --within --delta --workers --far-ok --progress --pred-bits --output --help' ;;
         pairs) words='--delta --workers --far-ok --progress --pred-bits --output --help' ;;
         matrix) words='--source --sources --delta --workers --far-ok --progress --pred-bits --output --help' ;;
         check) words='--all --pred-bits --output --help' ;;

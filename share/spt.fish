@@ -7,6 +7,7 @@ complete -c spt -n __fish_use_subcommand -f -a replay -d 'Run the steps of sever
 complete -c spt -n __fish_use_subcommand -f -a offers -d 'Make the offers of several actors at once, and write the words left'
 complete -c spt -n '__fish_seen_subcommand_from tree' -l source -x -a '' -d 'A source'
 complete -c spt -n '__fish_seen_subcommand_from tree' -l sources -x -a '' -d 'Write the trees of the sources at the places from A to B of the file alone'
+complete -c spt -n '__fish_seen_subcommand_from tree' -l within -x -a '' -d 'The greatest distance that is told'
 complete -c spt -n '__fish_seen_subcommand_from tree' -l delta -x -a 'mean' -d 'The width of a bucket of tentative distances'
 complete -c spt -n '__fish_seen_subcommand_from tree' -l workers -x -a 'all' -d 'Threads that may work at once'
 complete -c spt -n '__fish_seen_subcommand_from tree' -l far-ok -d 'End with exit status 0 where a vertex is too far'

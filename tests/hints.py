@@ -5,7 +5,7 @@ Usage: python3 tests/hints.py [--program PROGRAM]
 
 Files that aren't there, files in other forms than plain text, from a path and from standard input, and what they are told to be read
 by, which is then done where that program is there, whatever their names; graphs with too many vertices for the layout; numbers that are
-no vertices, with their lines; the mistakes that lines have most often; words that name no places and no delta; a reader that is gone.
+no vertices, with their lines; the mistakes that lines have most often; words that name no places, no delta and no limit; a reader that is gone.
 The last line is 'N passed, M failed'.
 """
 
@@ -306,6 +306,9 @@ def words(count, program, folder):
             told = run(program, command, GRAPH, SOURCES, "--delta", str(most + 1), "--pred-bits", layout)
             wanted = f"spt: delta out of range\nspt: with --pred-bits {layout} delta is from 1 to {most}, or mean\n"
             count.of(f"delta {most + 1} in layout {layout}: {told}", told == (1, "", wanted))
+        told = run(program, "tree", GRAPH, SOURCES, "--delta", "mean", "--within", str(most + 1), "--pred-bits", layout)
+        wanted = f"spt: limit out of range\nspt: with --pred-bits {layout} the limit is from 0 to {most}\n"
+        count.of(f"limit {most + 1} in layout {layout}: {told}", told == (1, "", wanted))
 
 
 # a name, how a line shows it, and how the shell has it

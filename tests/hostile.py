@@ -56,6 +56,7 @@ def cases(folder, vertices):
             rows[tail].append((head, length))
     words, far = trees.dijkstra(rows, 1)
     block = trees.block(vertices, 1, words, far)
+    limit, near = trees.halfway(words)
     sources, tree = put(f"{folder}/one.ss", "p aux sp ss 1\ns 1\n"), put(f"{folder}/roads.tree", block)
     asked = put(f"{folder}/all.pairs", f"p pairs {vertices}\n" + "".join(f"q 1 {it}\n" for it in rows))
     targets = put(f"{folder}/all.ss", f"p aux sp ss {vertices}\n" + "".join(f"s {it}\n" for it in rows))
@@ -64,6 +65,8 @@ def cases(folder, vertices):
         crew = ("--delta", str(mean), "--workers", workers)
         named = "1 worker" if workers == "1" else f"{workers} workers"
         yield Case(f"tree, {named}", ("tree", graph, sources, *crew), block, 0, {"gr": graph, "ss": sources})
+        within = ("tree", graph, sources, "--within", str(limit), *crew)
+        yield Case(f"tree within a distance, {named}", within, trees.block(vertices, 1, near, None), 0, {"gr": graph, "ss": sources})
         yield Case(f"pairs, {named}", ("pairs", graph, asked, *crew), told, 0, {"gr": graph, "pairs": asked})
         yield Case(f"matrix, {named}", ("matrix", graph, sources, targets, *crew), told, 0, {"gr": graph, "ss": sources, "targets": targets})
     yield Case("check", ("check", graph, tree), "yes\n", 0, {"gr": graph, "tree": tree})

@@ -23,7 +23,7 @@ OF_C = "a C program calls it"
 # what is specified with these parameters, before which the runtime's handle and the allocator stand
 SPECIFIED = "its parameters are specified, and the runtime's handle and the allocator stand before them"
 # what does the same for a listener
-LIKE_SPECIFIED = "it takes what run_batch takes, whose parameters are specified, and the places of the list"
+LIKE_SPECIFIED = "it takes what run_batch takes, whose parameters are specified, and the places of the list and a limit"
 # what does the same for two lists
 LIKE_MATRIX = "it takes what run_batch_told or run_given_told takes, and the targets"
 # what does the same for one forest
@@ -36,6 +36,7 @@ EXCEPTIONS = {
     ("sp_phase", "run_pair_with"): SPECIFIED,
     ("sp_batch", "run_batch"): SPECIFIED,
     ("sp_batch", "run_batch_told"): LIKE_SPECIFIED,
+    ("sp_batch", "run_given_told"): LIKE_SPECIFIED,
     ("sp_pairs", "run_pairs"): SPECIFIED,
     ("sp_matrix", "run_matrix_told"): LIKE_MATRIX,
     ("sp_matrix", "run_matrix_given_told"): LIKE_MATRIX,

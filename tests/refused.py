@@ -148,6 +148,8 @@ def commands(folder):
         yield ["tree", "examples/diamond.gr", "examples/diamond.ss", "--delta", "3", *crew], (
             (0, example("diamond.tree"), ""), ends_short)
         yield ["tree", f"{folder}/long.gr", f"{folder}/long.ss", "--delta", far, *crew], ((4, "x 1 18\n", ""), ends_short)
+        yield ["tree", f"{folder}/long.gr", f"{folder}/long.ss", "--delta", far, "--within", far, *crew], (
+            (0, f"p spt 18 1\nv 1 0 0\nv 2 {far} 1\ne 2\n", ""), ends_short)
         yield ["pairs", "examples/diamond.gr", "examples/diamond.pairs", "--delta", "3", *crew], (
             (0, "d 1 4 5 2\nd 1 1 0 0\nn 4 1\n", ""), says_nothing_else)
         yield ["pairs", f"{folder}/long.gr", f"{folder}/long.pairs", "--delta", far, *crew], (

@@ -1,10 +1,10 @@
 #!/usr/bin/env python3
-"""Compares `spt tree` and `spt check` with a plain Dijkstra and a plain checker, on graphs of each kind of bench/graphs.py.
+"""Compares `spt tree`, also within a distance, and `spt check` with a plain Dijkstra and a plain checker, on graphs of each kind of bench/graphs.py.
 
 Usage: python3 tests/trees.py [--vertices N] [--sources K] [--seed S]
 
 For each kind, each width of a bucket and each number of workers the program must write the bytes that Dijkstra's
-algorithm gives. For each block that it writes, `spt check` must say yes, and no with the least vertex and rule once
+algorithm gives, and with a limit those of its words up to that distance. For each block that it writes, `spt check` must say yes, and no with the least vertex and rule once
 a digit is edited; `spt check --all` must say so of all blocks in one file. On a greater graph several workers must be seen at work, for one source and for several, and one
 alone where one is asked for. The last line is 'N passed, M failed'.
 """
@@ -64,6 +64,18 @@ def block(n, source, words, far):
     return f"p spt {n} {source}\n{rows}e {len(words)}\n"
 
 
+def part(words, limit):
+    """The words at distances up to the limit."""
+    return {vertex: word for vertex, word in words.items() if word[0] <= limit}
+
+
+def halfway(words):
+    """The distance that half of the vertices are at or within, and their words."""
+    distances = sorted(distance for distance, _ in words.values())
+    limit = distances[(len(distances) - 1) // 2]
+    return limit, part(words, limit)
+
+
 def fault(arcs, source, words):
     """The lowest vertex at which a rule of the checker fails, and its lowest such rule."""
     faults, held = [], {}
@@ -111,6 +123,16 @@ def compare_trees(count, kind, files, mean, wanted, status):
         for workers in WORKERS:
             told = run_spt("tree", *files, "--delta", str(delta), "--workers", str(workers))
             count.of(f"tree of {kind}, delta {delta}, {workers} workers", told == (status, wanted, ""))
+
+
+def compare_parts(count, kind, files, mean, n, trees):
+    """The parts of the trees within nothing, half of the first tree, one less, and every distance of a word."""
+    limit, _ = halfway(trees[0][1])
+    for most in (0, max(0, limit - 1), limit, MAX):
+        wanted = "".join(block(n, source, part(words, most), None) for source, words, _ in trees)
+        for workers in WORKERS:
+            told = run_spt("tree", *files, "--within", str(most), "--delta", str(mean), "--workers", str(workers))
+            count.of(f"tree of {kind} within {most}, {workers} workers", told == (0, wanted, ""))
 
 
 def compare_checks(count, kind, folder, graph, arcs, n, source, words, draw):
@@ -168,6 +190,7 @@ def compare(count, kind, chosen, folder):
     wanted = "".join(block(chosen.vertices, source, words, far) for source, words, far in trees)
     status = 4 if any(far for _, _, far in trees) else 0
     compare_trees(count, kind, (graph, list_of_sources), min(mean, MAX // 3), wanted, status)
+    compare_parts(count, kind, (graph, list_of_sources), min(mean, MAX // 3), chosen.vertices, trees)
     draw = random.Random(chosen.seed)
     for source, words, far in trees:
         if far is None:

@@ -1,6 +1,6 @@
 """`spt tree`."""
 
-from .shared import ALONE, ALONE_TREE, DIAMOND, DIAMOND_TREE, FROM_1, FROM_NONE, GREATEST, Case, by_teams, path, path_tree
+from .shared import ALONE, ALONE_TREE, DIAMOND, DIAMOND_TREE, FROM_1, FROM_NONE, GREATEST, LONGEST, Case, by_teams, path, path_tree
 
 FAR = path(17, "15\n")
 FIVE = "p spt 2 1\nv 1 0 0\nv 2 5 1\ne 2\n"
@@ -159,7 +159,44 @@ REFUSED_CHOICES = [
     ("g.gr g.ss --sources 2-0", 1, "sources are not A-B"),
 ]
 
+# The part of a tree within a distance: the limit and other words, graph, sources, trees. No vertex is too far.
+NEAR = "p spt 4 1\nv 1 0 0\nv 2 3 1\nv 3 3 1\ne 3\n"
+WITHIN = [
+    ("--within 0", DIAMOND, FROM_1, "p spt 4 1\nv 1 0 0\ne 1\n"),
+    ("--within 2", DIAMOND, FROM_1, "p spt 4 1\nv 1 0 0\ne 1\n"),
+    ("--within 3", DIAMOND, FROM_1, NEAR),
+    ("--within=4 --far-ok", DIAMOND, FROM_1, NEAR),
+    ("--within 5", DIAMOND, FROM_1, DIAMOND_TREE),
+    ("--within +6", DIAMOND, FROM_1, DIAMOND_TREE),
+    ("--within 17592186044414 --pred-bits 20", DIAMOND, FROM_1, DIAMOND_TREE),
+    ("--within 4294967294 --pred-bits 32", DIAMOND, FROM_1, DIAMOND_TREE),
+    ("--within 3", DIAMOND, "p aux sp ss 3\ns 4\ns 1\ns 1\n", "p spt 4 4\nv 4 0 0\ne 1\n" + NEAR + NEAR),
+    ("--within 3 --sources 2-2", DIAMOND, "p aux sp ss 3\ns 4\ns 1\ns 4\n", NEAR),
+    ("--within 3", DIAMOND, FROM_NONE, ""),
+    # a vertex beyond the limit is relaxed from within it alone
+    ("--within 5", "p sp 4 4\na 1 2 5\na 1 3 6\na 3 4 1\na 2 4 9\n", FROM_1, "p spt 4 1\nv 1 0 0\nv 2 5 1\ne 2\n"),
+    ("--within 68719476734", path(17, f"{LONGEST}\n"), FROM_1, path_tree("e 17\n")),
+    ("--within 68719476734", FAR, "p aux sp ss 2\ns 1\ns 17\n", path_tree("e 17\n") + "p spt 18 17\nv 17 0 0\nv 18 15 17\ne 2\n"),
+    ("--within 4294967295", FAR, FROM_1, f"p spt 18 1\nv 1 0 0\nv 2 {LONGEST} 1\ne 2\n"),
+    ("--within 4294967294", FAR, FROM_1, "p spt 18 1\nv 1 0 0\ne 1\n"),
+]
+FAULTS_WITHIN = [
+    ("g.gr --source 4 --source 5", 2, "source 5: no such vertex"),
+    ("no.gr g.ss", 6, "gr: cannot open"),
+    ("g.gr bad.ss", 2, "ss: line 4: 7 TooFew"),
+    ("g.gr g.ss --sources 0-1", 1, "sources are not A-B"),
+]
+
 # no file is opened: there is none
+LIMIT_OUT_OF_RANGE = [
+    "tree no no --delta 3 --within 1099511627775 --pred-bits 24",
+    "tree no no --delta mean --within 68719476735",
+    "tree no no --delta 68719476734 --within 17592186044414",
+    "tree no no --delta 3 --within 4294967295 --pred-bits 32",
+    "tree no --source 1 --delta 3 --within 4294967295 --pred-bits 32",
+    "tree - - --delta 3 --within 68719476735",
+    "tree no no --sources 2-1 --delta 3 --within 68719476735",
+]
 DELTA_OUT_OF_RANGE = [
     "tree no no --delta 1099511627775 --pred-bits 24",
     "tree no no --delta 17592186044414 --pred-bits 24",
@@ -168,6 +205,7 @@ DELTA_OUT_OF_RANGE = [
     "tree no no --delta 4294967295 --pred-bits 32",
     "tree no no --delta 17592186044414 --pred-bits 32",
     "pairs no no --delta 68719476735",
+    "tree no no --delta 68719476735 --within 68719476735",
 ]
 
 
@@ -205,6 +243,8 @@ def cases():
     made += [Case(name, "tree g.gr g.ss", {"g.gr": gr, "g.ss": ""}, 2, f"gr: {fault}") for name, gr, fault in REFUSED_GRAPHS]
     made += [Case("refused sources", "tree g.gr g.ss", {"g.gr": ALONE, "g.ss": ss}, 2, fault) for ss, fault in REFUSED_SOURCES]
     made += [Case("sources by hand and by place", f"tree {line}", CHOSEN, 0, text) for line, text in SOURCES_BY_HAND_AND_BY_PLACE]
+    made += [Case("within a distance", f"tree g.gr g.ss {line}", {"g.gr": gr, "g.ss": ss}, 0, text) for line, gr, ss, text in WITHIN]
+    made.append(Case("within a distance", "tree g.gr --source 1 --within 3", {"g.gr": DIAMOND}, 0, NEAR))
     made = by_teams(made)
     made += [Case(name, "tree g.gr g.ss --delta 1", {"g.gr": gr, "g.ss": FROM_NONE}, 0, "") for name, gr in TAKEN_GRAPHS]
     made += [
@@ -219,6 +259,8 @@ def cases():
     ]
     made += [Case("refused choices", f"tree --delta 1 {line}", FAULTY, status, fault) for line, status, fault in REFUSED_CHOICES]
     made += [Case("delta out of range", line, {}, 1, "delta out of range") for line in DELTA_OUT_OF_RANGE]
+    made += [Case("faults within a distance", f"tree --delta 1 --within 3 {line}", FAULTY, status, fault) for line, status, fault in FAULTS_WITHIN]
+    made += [Case("limit out of range", line, {}, 1, "limit out of range") for line in LIMIT_OUT_OF_RANGE]
     made += greatest()
     far = {"g.gr": FAR, "g.ss": FROM_1}
     made += [

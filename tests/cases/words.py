@@ -6,6 +6,7 @@ REPLAY = {"f.rep": "p rep 1 1\n"}
 HELP = "\nFor more information, try '--help'.\n"
 BITS = f"  [possible values: {', '.join(LAYOUTS)}]\n"
 
+LIMIT = "spt: L is a whole number from 0 to 17592186044414\n"
 DELTA = "spt: D is a whole number from 1 to 17592186044414, or mean\n"
 
 # name, line, text on standard error, what stands below the line on help
@@ -45,6 +46,48 @@ TOLD = [
         "tree f.rep f.rep --delta 18446744073709551616",
         "error: invalid value '18446744073709551616' for '--delta <D>': number too large to fit in target type\n",
         DELTA,
+    ),
+    (
+        "limit beyond every layout",
+        "tree f.rep f.rep --delta 3 --within 17592186044415 --pred-bits=20",
+        "error: invalid value '17592186044415' for '--within <L>': 17592186044415 is not in 0..=17592186044414\n",
+        LIMIT,
+    ),
+    (
+        "limit that is no number",
+        "tree f.rep f.rep --delta 3 --within far",
+        "error: invalid value 'far' for '--within <L>': invalid digit found in string\n",
+        LIMIT,
+    ),
+    (
+        "limit below 0",
+        "tree f.rep f.rep --delta 3 --within=-1",
+        "error: invalid value '-1' for '--within <L>': invalid digit found in string\n",
+        LIMIT,
+    ),
+    (
+        "limit beyond every number",
+        "tree f.rep f.rep --delta 3 --within 18446744073709551616",
+        "error: invalid value '18446744073709551616' for '--within <L>': number too large to fit in target type\n",
+        LIMIT,
+    ),
+    (
+        "limit of nothing",
+        "tree f.rep f.rep --delta 3 --within=",
+        "error: a value is required for '--within <L>' but none was supplied\n",
+        "",
+    ),
+    (
+        "two limits",
+        "tree f.rep f.rep --delta 3 --within 3 --within 3",
+        "error: the argument '--within <L>' cannot be used multiple times\n\nUsage: spt tree [OPTIONS] --delta <D> <GR> [SS]\n",
+        "",
+    ),
+    (
+        "limit of pairs",
+        "pairs f.rep f.rep --delta 3 --within 3",
+        "error: unexpected argument '--within' found\n\nUsage: spt pairs [OPTIONS] --delta <D> <GR> <PAIRS>\n",
+        "",
     ),
     (
         "no sources",

@@ -1,4 +1,5 @@
 pub mod AnswersInOrder
+pub mod PartsExist
 pub mod AnswersExist
 pub mod OfFile
 pub mod TextsToAnswers

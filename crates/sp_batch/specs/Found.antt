@@ -1,6 +1,10 @@
 -- What was found for sources, before it is written.
-use Rattle.std.specs.Prelude.{◌≡◌, ℕ, cond}
+use Rattle.std.specs.Prelude.{◌≡◌, ◌≤◌, ℕ, cond, Option, None, Some, IfSome}
+use Rattle.sp_word.specs.Word.{max_dist}
 use Rattle.sp_paths.specs.Paths.{Graph, IsVertex}
+use Rattle.sp_answer.specs.Answer.{IsRefusal}
+use Rattle.sp_answer.specs.declared.answer.RunError.{RunError}
+use Rattle.sp_solve.specs.Within.{IsRefusalWithin}
 use Rattle.sp_job.specs.Ready.{IsReady}
 use Rattle.sp_sources.specs.Told.{Told}
 use Rattle.sp_batch.specs.declared.finding.SourceAnswer.{SourceAnswer}
@@ -17,12 +21,18 @@ abbrev pub told_of : Answer → Told
 told_of answer = record { count = 1; far = cond (is_far answer) 1 0; text = answer_text answer }
 
 -- An answer to the source tells that.
-pub record IsTold (P : ℕ) (g : Graph) (s : ℕ) (told : Told) : Type 0 where
+pub record IsTold (P : ℕ) (limit : Option ℕ) (g : Graph) (s : ℕ) (told : Told) : Type 0 where
   pub answer : Answer
-  pub is : IsAnswerTo P g s answer
+  pub is : IsAnswerTo P limit g s answer
   pub tells : told ≡ told_of answer
 
--- The source is a vertex, and the graph within the limits of a run.
-pub record CanFind (P : ℕ) (g : Graph) (s : ℕ) : Type 0 where
+-- Why a run up to the limit, or with none, has no tree.
+abbrev pub IsRefusalUpTo : (P : ℕ) → (limit : Option ℕ) → Graph → (s : ℕ) → RunError → Type 0
+IsRefusalUpTo P None g s error = IsRefusal P g s error
+IsRefusalUpTo P (Some limit) g s error = IsRefusalWithin g s error
+
+-- The source is a vertex, the graph within the limits of a run, and the limit a distance.
+pub record CanFind (P : ℕ) (limit : Option ℕ) (g : Graph) (s : ℕ) : Type 0 where
+  pub limit_within : IfSome limit (λ l. l ≤ max_dist P)
   pub ready : IsReady P g
   pub vertex : IsVertex g.n s

@@ -1,6 +1,6 @@
 //! A batch of sources.
-ghost use Rattle.std.specs.Prelude.{◌≡◌, ℕ, true, List, Some, None, IfErr};
-ghost use Rattle.sp_word.specs.Word.{is_layout};
+ghost use Rattle.std.specs.Prelude.{◌≡◌, ◌≤◌, ℕ, true, List, Some, None, IfSome, IfErr};
+ghost use Rattle.sp_word.specs.Word.{is_layout, max_dist};
 ghost use Rattle.sp_device.specs.Failing.{Anytime};
 ghost use Rattle.sp_dimacs.specs.Graph.{IsNetwork};
 ghost use Rattle.sp_job.specs.Places.{AreNumbered};
@@ -25,6 +25,8 @@ use std::thread::Threads;
 #[derive(Drop)]
 pub(crate) struct Batch<'a, V> {
     pub(crate) sources: &'a [u32],
+    /// The greatest distance that is told, if there is a limit.
+    pub(crate) limit: Option<u64>,
     /// How many vertices and arcs the graph must have in all for several sources to be answered at once.
     pub(crate) least_items: usize,
     /// Who hears of each source before its answer is found.
@@ -51,7 +53,9 @@ pub(crate) fn answer_file<
     requires layout { is_layout P ≡ true }
     requires network { IsNetwork P file }
     requires sources { AreNumbered batch.now.sources.now }
-    ensures batch { IsBatch P file batch.now.sources.now W.Write out.old out.new result }
+    requires limit { IfSome batch.now.limit (λ l. l ≤ max_dist P) }
+    ensures batch { IsBatch P batch.now.limit file batch.now.sources.now
+        W.Write out.old out.new result }
     ensures untouched { IfErr result (λ e. is_early e ≡ true → out.new ≡ out.old) }
 {
     if let Some(source) = first_above(batch.sources, file.n) {
@@ -67,6 +71,7 @@ pub(crate) fn answer_file<
     let question = TreeQuestion {
         graph: &graph,
         delta: team.delta,
+        limit: batch.limit,
         meter: settings.listener.meter().unwrap_or(&uncounted),
         watch: batch.watch,
     };
@@ -102,10 +107,10 @@ pub fn run_batch<const P: u32, R: Threads + Wait + Sync, G: Read, S: Read, W: Wr
     requires layout { is_layout P ≡ true }
     ensures exact { (gr_text ss_text : List ℕ)
         → G.left gr.old ≡ Some gr_text → S.left ss.old ≡ Some ss_text
-        → BatchAnswered P None gr_text ss_text G.Read gr.new S.Read ss.new
+        → BatchAnswered P None None gr_text ss_text G.Read gr.new S.Read ss.new
         W.Write out.old out.new result }
     ensures untouched { IfErr result (λ e. is_early e ≡ true → out.new ≡ out.old) }
-    ensures found { BatchOfSome P None W.Write out.old out.new result }
+    ensures found { BatchOfSome P None None W.Write out.old out.new result }
     ensures may_fail { IfErr result (MayFail (G.failing gr.old) (S.failing ss.old)) }
 {
     let settings = Settings {
@@ -113,12 +118,13 @@ pub fn run_batch<const P: u32, R: Threads + Wait + Sync, G: Read, S: Read, W: Wr
         workers,
         listener: &Nobody,
     };
-    run_batch_told::<P, R, G, S, W, Nobody>(rt, alloc, gr, ss, None, out, &settings)
+    run_batch_told::<P, R, G, S, W, Nobody>(rt, alloc, gr, ss, None, None, out, &settings)
 }
 
 /// Does what `run_batch` does, and tells a listener how far it is: when the graph stands, and before each source, or each
 /// group of sources that are answered at once. Where places are given, it answers the sources at these places of the list
-/// alone.
+/// alone. Where a limit is given, it writes for each source the part of its tree within that distance, however far other
+/// vertices are.
 pub fn run_batch_told<
     const P: u32,
     R: Threads + Wait + Sync,
@@ -132,16 +138,18 @@ pub fn run_batch_told<
     gr: &mut G,
     ss: &mut S,
     places: Option<Places>,
+    limit: Option<u64>,
     out: &mut W,
     settings: &Settings<P, L>,
 ) -> Result<Summary, BatchError>
     requires layout { is_layout P ≡ true }
+    requires limit { IfSome limit (λ l. l ≤ max_dist P) }
     ensures exact { (gr_text ss_text : List ℕ)
         → G.left gr.old ≡ Some gr_text → S.left ss.old ≡ Some ss_text
-        → BatchAnswered P places gr_text ss_text G.Read gr.new S.Read ss.new
+        → BatchAnswered P places limit gr_text ss_text G.Read gr.new S.Read ss.new
         W.Write out.old out.new result }
     ensures untouched { IfErr result (λ e. is_early e ≡ true → out.new ≡ out.old) }
-    ensures found { BatchOfSome P places W.Write out.old out.new result }
+    ensures found { BatchOfSome P places limit W.Write out.old out.new result }
     ensures may_fail { IfErr result (MayFail (G.failing gr.old) (S.failing ss.old)) }
 {
     let file = match read_gr::<P, G>(alloc, gr) {
@@ -154,6 +162,7 @@ pub fn run_batch_told<
     };
     let batch = Batch {
         sources: chosen::<P>(places, &list),
+        limit,
         least_items: LEAST_ITEMS,
         watch: &Unwatched,
     };
@@ -166,19 +175,22 @@ pub fn run_given_told<const P: u32, R: Threads + Wait + Sync, G: Read, W: Write,
     alloc: Global,
     gr: &mut G,
     sources: &[u32],
+    limit: Option<u64>,
     out: &mut W,
     settings: &Settings<P, L>,
 ) -> Result<Summary, BatchError>
     requires layout { is_layout P ≡ true }
+    requires limit { IfSome limit (λ l. l ≤ max_dist P) }
     requires sources { AreNumbered sources.now }
     ensures exact { (gr_text : List ℕ) → G.left gr.old ≡ Some gr_text
-        → GivenAnswered P gr_text sources.now G.Read gr.new W.Write out.old out.new result }
+        → GivenAnswered P limit gr_text sources.now G.Read gr.new W.Write out.old out.new result }
     ensures untouched { IfErr result (λ e. is_early e ≡ true → out.new ≡ out.old) }
-    ensures found { GivenOfSome P sources.now W.Write out.old out.new result }
+    ensures found { GivenOfSome P limit sources.now W.Write out.old out.new result }
     ensures may_fail { IfErr result (MayFail (G.failing gr.old) Anytime) }
 {
     let batch = Batch {
         sources,
+        limit,
         least_items: LEAST_ITEMS,
         watch: &Unwatched,
     };

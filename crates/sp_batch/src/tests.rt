@@ -121,6 +121,7 @@ pub fn run_watched<R: Threads + Wait + Sync, V: Watch + Sync>(
     };
     let batch = Batch {
         sources: chosen::<28>(None, &list),
+        limit: None,
         least_items,
         watch,
     };

@@ -27,6 +27,7 @@ use Rattle.sp_options.specs.declared.sources.Sources.{Sources}
 use Rattle.sp_options.specs.declared.sources.Sources.TheVariants.{File, Part, Given}
 use Rattle.sp_options.specs.Sources.{path_of}
 use Rattle.sp_options.specs.Width.{IsBucket}
+use Rattle.sp_options.specs.Within.{IsLimit}
 use Rattle.sp_options.specs.Ends.{end_of}
 
 -- ## Texts
@@ -76,67 +77,70 @@ pub record HasGraphAndSources (P : ℕ) (gr : List ℕ) (asked : Asked) : Type 0
 
 -- ## Trees
 
--- All sources have an answer, exactly the text of all of them was written, and the status tells whether some vertex is too far.
-pub record AreTreesWritten (P : ℕ) (far_ok : Bool) (graph : GrFile) (sources : List ℕ) (s : Scene) (status : Status) : Type 0 where
+-- All sources have an answer, up to the limit if there is one; exactly the text of all of them was written; and the status tells
+-- whether some vertex is too far.
+pub record AreTreesWritten (P : ℕ) (far_ok : Bool) (limit : Option ℕ) (graph : GrFile) (sources : List ℕ) (s : Scene) (status : Status) : Type 0 where
   pub answers : List Answer
   pub summary : Summary
-  pub are : AreAnswers P (graph_of graph) sources answers
+  pub are : AreAnswers P limit (graph_of graph) sources answers
   pub wrote : Appends s.before s.after (batch_text answers)
   pub counts : IsSummary answers summary
   pub ends : status ≡ end_of far_ok summary
 
 -- All sources are vertices and have an answer, and of the text of all the answers a beginning stands.
-abbrev pub AreTreesBegun : (P : ℕ) → (gr : List ℕ) → Asked → Scene → Type 0
-AreTreesBegun P gr asked s = (read : HasGraphAndSources P gr asked) × All (λ v. v ≤ read.graph.n) read.sources × HasBegun P (graph_of read.graph) read.sources s.before s.after
+abbrev pub AreTreesBegun : (P : ℕ) → (limit : Option ℕ) → (gr : List ℕ) → Asked → Scene → Type 0
+AreTreesBegun P limit gr asked s = (read : HasGraphAndSources P gr asked) × All (λ v. v ≤ read.graph.n) read.sources × HasBegun P limit (graph_of read.graph) read.sources s.before s.after
 
 -- What is written for the text of a graph and for sources, and how that ends: the answers of all sources; or nothing, where a text
 -- is refused or a source is no vertex, or a file couldn't be opened; or a beginning, where memory was refused or the writer failed.
-abbrev pub TreesTold : (P : ℕ) → (far_ok : Bool) → (gr : List ℕ) → Asked → Scene → Result Status Fault → Type 0
-TreesTold P far_ok gr asked s (Ok status) = (read : HasGraphAndSources P gr asked) × AreTreesWritten P far_ok read.graph read.sources s status
-TreesTold P far_ok gr asked s (Err (fault.Input file.Graph e)) = GraphIn P gr (Err e) × IsUnwritten s
-TreesTold P far_ok gr asked s (Err (fault.Input file.Sources e)) = HoldsGraph P gr × AreRefused P asked e × IsUnwritten s
-TreesTold P far_ok gr asked s (Err (fault.NoSuchVertex v)) = (read : HasGraphAndSources P gr asked) × IsFirstAbove read.graph.n read.sources v × IsUnwritten s
-TreesTold P far_ok gr asked s (Err fault.Memory) = AreTreesBegun P gr asked s
-TreesTold P far_ok gr asked s (Err fault.WriteFailed) = (s.failed ≡ true) × AreTreesBegun P gr asked s
-TreesTold P far_ok gr asked s (Err (fault.CannotOpen kind)) = IsUnwritten s
-TreesTold P far_ok gr asked s (Err fault.InputTwice) = IsUnwritten s
-TreesTold P far_ok gr asked s (Err _) = ⊥
+abbrev pub TreesTold : (P : ℕ) → (far_ok : Bool) → (limit : Option ℕ) → (gr : List ℕ) → Asked → Scene → Result Status Fault → Type 0
+TreesTold P far_ok limit gr asked s (Ok status) = (read : HasGraphAndSources P gr asked) × AreTreesWritten P far_ok limit read.graph read.sources s status
+TreesTold P far_ok limit gr asked s (Err (fault.Input file.Graph e)) = GraphIn P gr (Err e) × IsUnwritten s
+TreesTold P far_ok limit gr asked s (Err (fault.Input file.Sources e)) = HoldsGraph P gr × AreRefused P asked e × IsUnwritten s
+TreesTold P far_ok limit gr asked s (Err (fault.NoSuchVertex v)) = (read : HasGraphAndSources P gr asked) × IsFirstAbove read.graph.n read.sources v × IsUnwritten s
+TreesTold P far_ok limit gr asked s (Err fault.Memory) = AreTreesBegun P limit gr asked s
+TreesTold P far_ok limit gr asked s (Err fault.WriteFailed) = (s.failed ≡ true) × AreTreesBegun P limit gr asked s
+TreesTold P far_ok limit gr asked s (Err (fault.CannotOpen kind)) = IsUnwritten s
+TreesTold P far_ok limit gr asked s (Err fault.InputTwice) = IsUnwritten s
+TreesTold P far_ok limit gr asked s (Err _) = ⊥
 
 -- the trees of the sources in the file of this path, or of those at some places of it
-abbrev pub TreesOfFile : (P : ℕ) → (far_ok : Bool) → (graph path : List ℕ) → (places : Option (ℕ × ℕ)) → Scene → Result Status Fault → Type 0
-TreesOfFile P far_ok graph path places s result = (gr ss : List ℕ) → HasText s graph gr → HasText s path ss → TreesTold P far_ok gr (InText places ss) s result
+abbrev pub TreesOfFile : (P : ℕ) → (far_ok : Bool) → (limit : Option ℕ) → (graph path : List ℕ) → (places : Option (ℕ × ℕ)) → Scene → Result Status Fault → Type 0
+TreesOfFile P far_ok limit graph path places s result = (gr ss : List ℕ) → HasText s graph gr → HasText s path ss → TreesTold P far_ok limit gr (InText places ss) s result
 
 -- The same where a word for the places may spell none: exactly that is told then, with nothing written.
-abbrev pub TreesOfPart : (P : ℕ) → (far_ok : Bool) → (graph path : List ℕ) → Option (ℕ × ℕ) → Scene → Result Status Fault → Type 0
-TreesOfPart P far_ok graph path None s result = (result ≡ Err fault.NoPlaces) × IsUnwritten s
-TreesOfPart P far_ok graph path (Some places) s result = TreesOfFile P far_ok graph path (Some places) s result
+abbrev pub TreesOfPart : (P : ℕ) → (far_ok : Bool) → (limit : Option ℕ) → (graph path : List ℕ) → Option (ℕ × ℕ) → Scene → Result Status Fault → Type 0
+TreesOfPart P far_ok limit graph path None s result = (result ≡ Err fault.NoPlaces) × IsUnwritten s
+TreesOfPart P far_ok limit graph path (Some places) s result = TreesOfFile P far_ok limit graph path (Some places) s result
 
 -- the trees of these sources
-abbrev pub TreesOfGiven : (P : ℕ) → (far_ok : Bool) → (graph sources : List ℕ) → Scene → Result Status Fault → Type 0
-TreesOfGiven P far_ok graph sources s result = (gr : List ℕ) → HasText s graph gr → TreesTold P far_ok gr (These sources) s result
+abbrev pub TreesOfGiven : (P : ℕ) → (far_ok : Bool) → (limit : Option ℕ) → (graph sources : List ℕ) → Scene → Result Status Fault → Type 0
+TreesOfGiven P far_ok limit graph sources s result = (gr : List ℕ) → HasText s graph gr → TreesTold P far_ok limit gr (These sources) s result
 
 -- those of a whole file, of a part of one, or those that were given
-abbrev pub TreesOf : (P : ℕ) → (far_ok : Bool) → (graph : List ℕ) → Sources → Scene → Result Status Fault → Type 0
-TreesOf P far_ok graph (File path) s result = TreesOfFile P far_ok graph path.now None s result
-TreesOf P far_ok graph (Part path places) s result = TreesOfPart P far_ok graph path.now places s result
-TreesOf P far_ok graph (Given given) s result = TreesOfGiven P far_ok graph given.list.items s result
+abbrev pub TreesOf : (P : ℕ) → (far_ok : Bool) → (limit : Option ℕ) → (graph : List ℕ) → Sources → Scene → Result Status Fault → Type 0
+TreesOf P far_ok limit graph (File path) s result = TreesOfFile P far_ok limit graph path.now None s result
+TreesOf P far_ok limit graph (Part path places) s result = TreesOfPart P far_ok limit graph path.now places s result
+TreesOf P far_ok limit graph (Given given) s result = TreesOfGiven P far_ok limit graph given.list.items s result
 
 -- Some texts spell a graph and the sources, and exactly the text of their answers was written.
-abbrev pub InSome : (P : ℕ) → (far_ok : Bool) → (List ℕ → Asked) → Scene → Status → Type 0
-InSome P far_ok asked_in s status = (gr ss : List ℕ) × ((read : HasGraphAndSources P gr (asked_in ss)) × AreTreesWritten P far_ok read.graph read.sources s status)
+abbrev pub InSome : (P : ℕ) → (far_ok : Bool) → (limit : Option ℕ) → (List ℕ → Asked) → Scene → Status → Type 0
+InSome P far_ok limit asked_in s status = (gr ss : List ℕ) × ((read : HasGraphAndSources P gr (asked_in ss)) × AreTreesWritten P far_ok limit read.graph read.sources s status)
 
-abbrev pub TreesOfSome : (P : ℕ) → (far_ok : Bool) → Sources → Scene → Status → Type 0
-TreesOfSome P far_ok (File path) s status = InSome P far_ok (InText None) s status
-TreesOfSome P far_ok (Part path None) s status = ⊥
-TreesOfSome P far_ok (Part path (Some places)) s status = InSome P far_ok (InText (Some places)) s status
-TreesOfSome P far_ok (Given given) s status = InSome P far_ok (λ ss. These given.list.items) s status
+abbrev pub TreesOfSome : (P : ℕ) → (far_ok : Bool) → (limit : Option ℕ) → Sources → Scene → Status → Type 0
+TreesOfSome P far_ok limit (File path) s status = InSome P far_ok limit (InText None) s status
+TreesOfSome P far_ok limit (Part path None) s status = ⊥
+TreesOfSome P far_ok limit (Part path (Some places)) s status = InSome P far_ok limit (InText (Some places)) s status
+TreesOfSome P far_ok limit (Given given) s status = InSome P far_ok limit (λ ss. These given.list.items) s status
 
--- What `tree` answers: where the layout has no such width, exactly that, with nothing written; else what belongs to the
--- texts of its files, where they are known; and if it succeeds, whatever is known of them, what belongs to some texts.
+-- What `tree` answers: where the layout has no such width, or else no such distance as the limit, exactly that, with nothing written;
+-- else what belongs to the texts of its files, where they are known; and if it succeeds, whatever is known of them, what belongs
+-- to some texts. With a limit no vertex is told to be too far.
 pub record IsTreeAnswer (P : ℕ) (tree : TreeCommand) (s : Scene) (result : Result Status Fault) : Type 0 where
   pub no_width : ¬ (IsBucket P tree.options.width) → (result ≡ Err fault.DeltaOutOfRange) × IsUnwritten s
-  pub told : IsBucket P tree.options.width → TreesOf P tree.options.far_ok tree.graph.now tree.sources s result
-  pub of_some : IfOk result (TreesOfSome P tree.options.far_ok tree.sources s)
+  pub no_limit : IsBucket P tree.options.width → ¬ (IsLimit P tree.within.limit) → (result ≡ Err fault.LimitOutOfRange) × IsUnwritten s
+  pub told : IsBucket P tree.options.width → IsLimit P tree.within.limit → TreesOf P tree.options.far_ok tree.within.limit tree.graph.now tree.sources s result
+  pub of_some : IfOk result (TreesOfSome P tree.options.far_ok tree.within.limit tree.sources s)
 
 abbrev pub TreeAnswers : (P : ℕ) → Meaning TreeCommand
 TreeAnswers P tree s result = IsTreeAnswer P tree s result
@@ -153,10 +157,11 @@ LackPlaces (File path) = ⊥
 LackPlaces (Part path places) = places ≡ None
 LackPlaces (Given given) = ⊥
 
--- These faults the words of `tree` or its texts may bring about: the layout has no such width, a word spells no places,
--- or a source is no vertex.
+-- These faults the words of `tree` or its texts may bring about: the layout has no such width, or no such distance as the limit,
+-- a word spells no places, or a source is no vertex.
 abbrev pub tree_faults : (P : ℕ) → TreeCommand → Fault → Type 0
 tree_faults P tree fault.DeltaOutOfRange = ¬ (IsBucket P tree.options.width)
+tree_faults P tree fault.LimitOutOfRange = ¬ (IsLimit P tree.within.limit)
 tree_faults P tree fault.NoPlaces = LackPlaces tree.sources
 tree_faults P tree (fault.NoSuchVertex source) = Unit {0}
 tree_faults P tree _ = ⊥

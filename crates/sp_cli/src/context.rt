@@ -1,11 +1,12 @@
-//! What a command that runs from sources finds: the files, the settings of its job, and a file of sources.
+//! What a command that runs from sources finds: the files, the settings of its job and its limit, and a file of sources.
 use sp_job::{Places, Settings};
 use sp_options::Teller;
 
-/// The files of the command line, and the settings of the job.
+/// The files of the command line, the settings of the job, and the greatest distance that is told, if there is a limit.
 pub(crate) struct Context<'a, const P: u32, F> {
     pub(crate) files: &'a F,
     pub(crate) settings: &'a Settings<'a, P, Teller<'a, F>>,
+    pub(crate) limit: Option<u64>,
 }
 
 impl<const P: u32, F> Drop for Context<'_, P, F> {
@@ -13,6 +14,7 @@ impl<const P: u32, F> Drop for Context<'_, P, F> {
         let Context {
             files: _,
             settings: _,
+            limit: _,
         } = self;
     }
 }

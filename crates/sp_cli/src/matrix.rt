@@ -333,6 +333,7 @@ impl<const P: u32> Run<P> for MatrixCommand<'_> {
         let context = Context {
             files,
             settings: &settings,
+            limit: None,
         };
         self.run_all::<P, R, F, W>(rt, alloc, &context, out)
     }

@@ -7,6 +7,7 @@ ghost use Rattle.sp_command.specs.Causes.{IsBorneOut};
 ghost use Rattle.sp_command.specs.Scene.{scene};
 ghost use Rattle.sp_cli.specs.Answers.{TreeAnswers, TreesTold, InText, These, TreesOf, TreesOfFile, TreesOfGiven, TreesOfSome, InSome, tree_paths, tree_faults};
 ghost use Rattle.sp_options.specs.Sources.{path_of};
+ghost use Rattle.sp_options.specs.Within.{IsLimit};
 ghost use Rattle.sp_options.specs.Ends.{end_of, fault_of};
 
 use crate::context::{Context, SourceFile};
@@ -17,7 +18,7 @@ use sp_command::{
 };
 use sp_device::Write;
 use sp_job::{BatchError, Listener, Progress, Summary};
-use sp_options::{Given, RunOptions, Sources, Teller, Watched};
+use sp_options::{Given, RunOptions, Sources, Teller, Watched, Within};
 use std::alloc::Global;
 use std::sync::Wait;
 use std::thread::Threads;
@@ -39,6 +40,8 @@ pub struct TreeCommand<'a> {
     pub sources: Sources<'a>,
     /// The options that say how runs are made.
     pub options: RunOptions,
+    /// The greatest distance that is told.
+    pub within: Within,
 }
 
 impl<'a> Command<'a> for TreeCommand<'a> {
@@ -80,6 +83,8 @@ or, where a vertex with an arc from one within the greatest distance of a word
 lies beyond it, one line that names the smallest such V (exit status 4 at the
 end):
   x S V
+With --within L a block has the vertices at distances up to L alone, and no
+source has a line x.
 
 It takes at most 28 bytes of memory a vertex, 24 an arc, 8 a source, and 4 MB;
 where several workers run several sources, 48 bytes a vertex more for each
@@ -102,6 +107,12 @@ the output of `spt tree diamond.gr diamond.ss --delta 3` is
   v 3 3 1
   v 4 5 2
   e 4
+and with --within 3 it is
+  p spt 4 1
+  v 1 0 0
+  v 2 3 1
+  v 3 3 1
+  e 3
 
 A fault of a file is told with its line, as in
 `spt: gr: line 2: 5 OutOfRange V`; FILE is gr or ss:
@@ -113,6 +124,8 @@ A fault of a file is told with its line, as in
 Others are
   spt: FILE: cannot open             (exit status 6)
   spt: delta out of range            a word of this layout has no such distance
+                                     (exit status 1)
+  spt: limit out of range            a word of this layout has no such distance
                                      (exit status 1)
   spt: standard input twice          both files are `-` (exit status 1)
   spt: sources are not A-B           two numbers, the first at least 1
@@ -126,7 +139,7 @@ Others are
 ",
         statuses:
             0 "done"
-            1 "the command line is wrong, or delta is out of range"
+            1 "the command line is wrong, or delta or the limit is out of range"
             2 "a file is refused, or a source is no vertex"
             4 "for some source a vertex is too far, without --far-ok; all is written";
             "a file" "the output"
@@ -134,7 +147,8 @@ Others are
 
     fn build(alloc: Global) -> BuiltCommand<'a> {
         let command = clap::Command::new(alloc, Self::NAME).arg(file(alloc, "GR", GRAPH_FILE))?;
-        RunOptions::add_to(Sources::add_to(command, alloc)?, alloc, WORKERS_LONG)
+        let command = Sources::add_to(command, alloc)?.arg(Within::option(alloc))?;
+        RunOptions::add_to(command, alloc, WORKERS_LONG)
     }
 
     fn read(alloc: Global, given: &ArgMatches<'a>) -> Result<Option<Self>, Error> {
@@ -142,13 +156,17 @@ Others are
         else {
             return Ok(None);
         };
-        let Some(sources) = Sources::read(alloc, given)? else {
+        let (Some(sources), Some(within)) = (
+            Sources::read(alloc, given)?,
+            Within::read(alloc, given)?,
+        ) else {
             return Ok(None);
         };
         Ok(Some(TreeCommand {
             graph,
             sources,
             options,
+            within,
         }))
     }
 
@@ -191,11 +209,14 @@ impl TreeCommand<'_> {
         out: &mut W,
     ) -> Result<Status, Fault>
         requires run { (is_layout P ≡ true) × IsSync R.row }
+        requires limit { IsLimit P context.now.limit }
         requires path { path_of self.now.sources ≡ Some list.now.path.now }
-        ensures answered { TreesOfFile P self.now.options.far_ok self.now.graph.now
-            list.now.path.now list.now.places (scene (F.files context.now.files.now)
+        ensures answered { TreesOfFile P self.now.options.far_ok context.now.limit
+            self.now.graph.now list.now.path.now list.now.places
+            (scene (F.files context.now.files.now)
             (W.written out.old) (W.written out.new) (W.has_failed out.new)) result }
-        ensures of_some { IfOk result (InSome P self.now.options.far_ok (InText list.now.places)
+        ensures of_some { IfOk result
+            (InSome P self.now.options.far_ok context.now.limit (InText list.now.places)
             (scene (F.files context.now.files.now)
             (W.written out.old) (W.written out.new) (W.has_failed out.new))) }
         ensures borne_out { IfErr result (IsBorneOut (tree_paths self.now) (tree_faults P self.now)
@@ -208,9 +229,9 @@ impl TreeCommand<'_> {
         let (gr, ss) = FileKind::Sources.open_with_graph(files, self.graph, list.path)?;
         let mut gr = Watched::new(gr, FileKind::Graph, settings.listener);
         let mut ss = Watched::new(ss, FileKind::Sources, settings.listener);
-        let places = list.places;
+        let (places, limit) = (list.places, context.limit);
         let answer = run_batch_told::<P, R, _, _, W, _>(
-            rt, alloc, &mut gr, &mut ss, places, out, settings,
+            rt, alloc, &mut gr, &mut ss, places, limit, out, settings,
         );
         self.end(answer, settings.listener)
     }
@@ -224,12 +245,13 @@ impl TreeCommand<'_> {
         given: &Given,
         out: &mut W,
     ) -> Result<Status, Fault>
-        requires { (is_layout P ≡ true) × IsSync R.row }
-        ensures answered { TreesOfGiven P self.now.options.far_ok self.now.graph.now
-            given.now.list.items (scene (F.files context.now.files.now)
+        requires run { (is_layout P ≡ true) × IsSync R.row }
+        requires limit { IsLimit P context.now.limit }
+        ensures answered { TreesOfGiven P self.now.options.far_ok context.now.limit
+            self.now.graph.now given.now.list.items (scene (F.files context.now.files.now)
             (W.written out.old) (W.written out.new) (W.has_failed out.new)) result }
         ensures of_some { IfOk result
-            (InSome P self.now.options.far_ok (λ _. These given.now.list.items)
+            (InSome P self.now.options.far_ok context.now.limit (λ _. These given.now.list.items)
             (scene (F.files context.now.files.now)
             (W.written out.old) (W.written out.new) (W.has_failed out.new))) }
         ensures borne_out { IfErr result (IsBorneOut (tree_paths self.now) (tree_faults P self.now)
@@ -246,6 +268,7 @@ impl TreeCommand<'_> {
             alloc,
             &mut gr,
             &given.list,
+            context.limit,
             out,
             settings,
         );
@@ -260,11 +283,14 @@ impl TreeCommand<'_> {
         context: &Context<'_, P, F>,
         out: &mut W,
     ) -> Result<Status, Fault>
-        requires { (is_layout P ≡ true) × IsSync R.row }
-        ensures answered { TreesOf P self.now.options.far_ok self.now.graph.now self.now.sources
+        requires run { (is_layout P ≡ true) × IsSync R.row }
+        requires limit { IsLimit P context.now.limit }
+        ensures answered { TreesOf P self.now.options.far_ok context.now.limit
+            self.now.graph.now self.now.sources
             (scene (F.files context.now.files.now)
             (W.written out.old) (W.written out.new) (W.has_failed out.new)) result }
-        ensures of_some { IfOk result (TreesOfSome P self.now.options.far_ok self.now.sources
+        ensures of_some { IfOk result
+            (TreesOfSome P self.now.options.far_ok context.now.limit self.now.sources
             (scene (F.files context.now.files.now)
             (W.written out.old) (W.written out.new) (W.has_failed out.new))) }
         ensures borne_out { IfErr result (IsBorneOut (tree_paths self.now) (tree_faults P self.now)
@@ -315,6 +341,7 @@ impl<const P: u32> Run<P> for TreeCommand<'_> {
         let context = Context {
             files,
             settings: &settings,
+            limit: self.within.limit_for::<P>()?,
         };
         self.run_all::<P, R, F, W>(rt, alloc, &context, out)
     }

@@ -6,10 +6,10 @@ use Rattle.sp_batch.proofs.batch.answer_file.Goals as goal
 pub returns-in_err-graph-clause-batch : goal.returns-in_err-graph-clause-batch
 returns-in_err-graph-clause-batch g c =
     let p = err_from_is_err_and c.from_residual.result c.from_residual.ensures.1 in
-    let ok : AreSources g.row.P c.args.file c.args.batch.now.sources.now = record { layout = c.requires.layout; network = c.requires.network; numbered = c.requires.sources; within = c.in_default.ensures.none } in
-    rw (p.1, p.2) (refused_early g.row.P c.args.file c.args.batch.now.sources.now g.W.Write c.args.out.now ok)
+    let ok : AreSources g.row.P c.args.batch.now.limit c.args.file c.args.batch.now.sources.now = record { layout = c.requires.layout; network = c.requires.network; numbered = c.requires.sources; limit_within = c.requires.limit; within = c.in_default.ensures.none } in
+    rw (p.1, p.2) (refused_early g.row.P c.args.batch.now.limit c.args.file c.args.batch.now.sources.now g.W.Write c.args.out.now ok)
 
 pub returns-clause-batch : goal.returns-clause-batch
 returns-clause-batch g c =
-    of_file g.row.P c.args.file c.args.batch.now.sources.now c.in_ok-graph.graph g.W.Write c.args.out.now c.answer_sources.new.out c.answer_sources.result
-    (same_graph c.args.file c.in_ok-graph.graph c.in_ok-graph.ensures.n c.in_ok-graph.ensures.arcs) (record { layout = c.requires.layout; network = c.requires.network; numbered = c.requires.sources; within = c.in_default.ensures.none }) c.answer_sources.ensures
+    of_file g.row.P c.args.batch.now.limit c.args.file c.args.batch.now.sources.now c.in_ok-graph.graph g.W.Write c.args.out.now c.answer_sources.new.out c.answer_sources.result
+    (same_graph c.args.file c.in_ok-graph.graph c.in_ok-graph.ensures.n c.in_ok-graph.ensures.arcs) (record { layout = c.requires.layout; network = c.requires.network; numbered = c.requires.sources; limit_within = c.requires.limit; within = c.in_default.ensures.none }) c.answer_sources.ensures
