@@ -1,3 +1,4 @@
 pub mod Opening
+pub mod Near
 pub mod Told
 pub mod ToldOfMatrix

@@ -19,6 +19,7 @@ use Rattle.sp_command.specs.Causes.{Paths}
 use Rattle.sp_command.specs.declared.faults.Fault.{Fault}
 use Rattle.sp_command.specs.declared.faults.Fault.TheVariants as fault
 use Rattle.sp_command.specs.declared.faults.Status.{Status}
+use Rattle.sp_command.specs.declared.faults.Status.TheVariants as status
 use Rattle.sp_command.specs.Scene.{Scene, Meaning, HasText, IsUnwritten}
 use Rattle.sp_tools.specs.Reading.{GraphIn}
 use Rattle.sp_cli.specs.declared.tree.TreeCommand.{TreeCommand}
@@ -133,14 +134,20 @@ TreesOfSome P far_ok limit (Part path None) s status = ⊥
 TreesOfSome P far_ok limit (Part path (Some places)) s status = InSome P far_ok limit (InText (Some places)) s status
 TreesOfSome P far_ok limit (Given given) s status = InSome P far_ok limit (λ ss. These given.list.items) s status
 
+-- With a limit no vertex is told to be too far.
+abbrev pub EndsNear : Result Status Fault → (limit : Option ℕ) → Type 0
+EndsNear (Ok status.TooFar) (Some limit) = ⊥
+EndsNear _ _ = Unit {0}
+
 -- What `tree` answers: where the layout has no such width, or else no such distance as the limit, exactly that, with nothing written;
 -- else what belongs to the texts of its files, where they are known; and if it succeeds, whatever is known of them, what belongs
--- to some texts. With a limit no vertex is told to be too far.
+-- to some texts.
 pub record IsTreeAnswer (P : ℕ) (tree : TreeCommand) (s : Scene) (result : Result Status Fault) : Type 0 where
   pub no_width : ¬ (IsBucket P tree.options.width) → (result ≡ Err fault.DeltaOutOfRange) × IsUnwritten s
   pub no_limit : IsBucket P tree.options.width → ¬ (IsLimit P tree.within.limit) → (result ≡ Err fault.LimitOutOfRange) × IsUnwritten s
   pub told : IsBucket P tree.options.width → IsLimit P tree.within.limit → TreesOf P tree.options.far_ok tree.within.limit tree.graph.now tree.sources s result
   pub of_some : IfOk result (TreesOfSome P tree.options.far_ok tree.within.limit tree.sources s)
+  pub near : EndsNear result tree.within.limit
 
 abbrev pub TreeAnswers : (P : ℕ) → Meaning TreeCommand
 TreeAnswers P tree s result = IsTreeAnswer P tree s result

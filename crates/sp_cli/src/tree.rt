@@ -5,7 +5,7 @@ ghost use Rattle.sp_word.specs.Word.{is_layout};
 ghost use Rattle.sp_command.specs.Faults.{is_done, is_early};
 ghost use Rattle.sp_command.specs.Causes.{IsBorneOut};
 ghost use Rattle.sp_command.specs.Scene.{scene};
-ghost use Rattle.sp_cli.specs.Answers.{TreeAnswers, TreesTold, InText, These, TreesOf, TreesOfFile, TreesOfGiven, TreesOfSome, InSome, tree_paths, tree_faults};
+ghost use Rattle.sp_cli.specs.Answers.{TreeAnswers, TreesTold, InText, These, TreesOf, TreesOfFile, TreesOfGiven, TreesOfSome, InSome, tree_paths, tree_faults, EndsNear};
 ghost use Rattle.sp_options.specs.Sources.{path_of};
 ghost use Rattle.sp_options.specs.Within.{IsLimit};
 ghost use Rattle.sp_options.specs.Ends.{end_of, fault_of};
@@ -222,6 +222,7 @@ impl TreeCommand<'_> {
         ensures borne_out { IfErr result (IsBorneOut (tree_paths self.now) (tree_faults P self.now)
             (scene (F.files context.now.files.now)
             (W.written out.old) (W.written out.new) (W.has_failed out.new))) }
+        ensures near { EndsNear result context.now.limit }
         ensures done { IfOk result (λ status. is_done status ≡ true) }
         ensures untouched { IfErr result (λ fault. is_early fault ≡ true → out.new ≡ out.old) }
     {
@@ -257,6 +258,7 @@ impl TreeCommand<'_> {
         ensures borne_out { IfErr result (IsBorneOut (tree_paths self.now) (tree_faults P self.now)
             (scene (F.files context.now.files.now)
             (W.written out.old) (W.written out.new) (W.has_failed out.new))) }
+        ensures near { EndsNear result context.now.limit }
         ensures done { IfOk result (λ status. is_done status ≡ true) }
         ensures untouched { IfErr result (λ fault. is_early fault ≡ true → out.new ≡ out.old) }
     {
@@ -296,6 +298,7 @@ impl TreeCommand<'_> {
         ensures borne_out { IfErr result (IsBorneOut (tree_paths self.now) (tree_faults P self.now)
             (scene (F.files context.now.files.now)
             (W.written out.old) (W.written out.new) (W.has_failed out.new))) }
+        ensures near { EndsNear result context.now.limit }
         ensures done { IfOk result (λ status. is_done status ≡ true) }
         ensures untouched { IfErr result (λ fault. is_early fault ≡ true → out.new ≡ out.old) }
     {

@@ -4,6 +4,7 @@ use Rattle.sp_command.specs.declared.faults.FileKind.TheVariants as file
 use Rattle.sp_command.specs.Scene.{scene}
 use Rattle.sp_cli.specs.Answers.{InText, TreesTold, InSome, tree_paths, tree_faults}
 use Rattle.sp_cli.proofs.Opening.{no_sources, two_borne_out}
+use Rattle.sp_cli.proofs.Near.{ends_near}
 use Rattle.sp_cli.proofs.Told.{after_batch, after_end, batch_of_some, batch_borne_out}
 use Rattle.sp_cli.proofs.tree.TreeCommand.run_file.Goals as goal
 
@@ -35,3 +36,8 @@ returns-in_err-gr-clause-borne_out g c =
     let is : c.from_residual.result ≡ Err c.in_err-gr.field-0.0 = search rules in
     two_borne_out (tree_paths c.args.self.now) (tree_faults g.row.P c.args.self.now) (g.F.Inputs.files c.args.context.now.files.now) (g.W.Write.written c.args.out.now) (g.W.Write.written c.args.out.now) (g.W.Write.has_failed c.args.out.now) file.Sources c.args.self.now.graph.now c.args.list.now.path.now c.in_err-gr.field-0.0 c.from_residual.result
     no_sources refl c.requires.path is c.in_err-gr.ensures.once c.in_err-gr.ensures.closed
+
+pub returns-clause-near : goal.returns-clause-near
+returns-clause-near g c =
+    ends_near g.row.P c.args.self.now.options.far_ok c.args.context.now.limit (InText c.args.list.now.places)
+    (scene (g.F.Inputs.files c.args.context.now.files.now) (g.W.Write.written c.args.out.now) (g.W.Write.written c.run_batch_told-answer.new.out) (g.W.Write.has_failed c.run_batch_told-answer.new.out)) c.end.result (returns-clause-of_some g c)
