@@ -1,6 +1,6 @@
-"""`spt check`, of one tree and of all trees of a file."""
+"""`spt check`, of one tree or forest and of all trees of a file."""
 
-from .shared import ALONE, ALONE_TREE, DIAMOND, DIAMOND_TREE, GREATEST, Case, in_layouts, path, path_tree
+from .shared import ALONE, ALONE_TREE, DIAMOND, DIAMOND_TREE, GREATEST, LONGEST, Case, in_layouts, path, path_tree
 
 FAR, NEAR = path(17, "15\n"), path_tree("e 17\n")
 TWICE = "p sp 2 2\na 1 2 5\na 1 2 3\n"
@@ -36,6 +36,85 @@ VERDICTS = [
     ("beyond the limit", "24", FAR, NEAR, 3, "no 18 3\n"),
     ("beyond the limit", "20", FAR, NEAR, 3, "no 18 3\n"),
     ("layouts", "28", LONG_ARC, LONG_TREE, 0, "yes\n"),
+]
+
+# The part of the diamond's tree up to 3, and forests of the diamond.
+PART = "p spt 4 1\nv 1 0 0\nv 2 3 1\nv 3 3 1\ne 3\n"
+
+
+def forest(fourth="v 4 2 3 3", third="v 3 0 0 3", second="v 2 3 1 1", first="p near 4 2"):
+    return f"{first}\nv 1 0 0 1\n{second}\n{third}\n{fourth}\ne 4\n"
+
+
+# The forest of the long path from its first vertex, without the last.
+FAR_FOREST = "p near 18 1\nv 1 0 0 1\n" + "".join(f"v {v} {(v - 1) * LONGEST} {v - 1} 1\n" for v in range(2, 18)) + "e 17\n"
+
+# words, graph, tree or forest, status, verdict, in each layout
+WITHIN = [
+    ("--within 3", DIAMOND, PART, 0, "yes\n"),
+    ("", DIAMOND, PART, 3, "no 4 3\n"),
+    ("--within 2", DIAMOND, PART, 3, "no 2 6\n"),
+    ("--within 4", DIAMOND, PART, 0, "yes\n"),
+    ("--within 5", DIAMOND, PART, 3, "no 4 3\n"),
+    ("--within 5", DIAMOND, DIAMOND_TREE, 0, "yes\n"),
+    ("--within 4", DIAMOND, DIAMOND_TREE, 3, "no 4 6\n"),
+    ("--within 0", DIAMOND, "p spt 4 1\nv 1 0 0\ne 1\n", 0, "yes\n"),
+    ("--within 0", DIAMOND, "p spt 4 1\ne 0\n", 3, "no 1 2\n"),
+    ("--within 3", DIAMOND, "p spt 3 1\nv 1 0 0\ne 1\n", 3, "no 0 1\n"),
+    ("--within 3 --all", DIAMOND, PART + DIAMOND_TREE + "p spt 4 4\nv 4 0 0\ne 1\n", 3, "yes\nno 1 4 6\nyes\n"),
+    ("", DIAMOND, forest(), 0, "yes\n"),
+    ("", DIAMOND, forest("v 4 2 3 1"), 3, "no 4 7\n"),
+    ("", DIAMOND, forest(first="p near 4 3"), 3, "no 0 1\n"),
+    ("", DIAMOND, forest(first="p near 5 2"), 3, "no 0 1\n"),
+    ("", DIAMOND, forest(third="v 3 0 0 1"), 3, "no 3 2\n"),
+    ("", DIAMOND, forest(third="v 3 1 0 3"), 3, "no 3 2\n"),
+    ("", DIAMOND, forest(second="v 2 2 1 1"), 3, "no 2 4\n"),
+    ("", DIAMOND, forest(second="v 2 4 1 1"), 3, "no 2 3\n"),
+    ("", DIAMOND, "p near 4 2\nv 2 0 0 2\nv 3 0 0 3\nv 4 2 2 2\ne 3\n", 0, "yes\n"),
+    ("", DIAMOND, "p near 4 2\nv 2 0 0 2\nv 3 0 0 3\nv 4 2 3 3\ne 3\n", 3, "no 4 3\n"),
+    ("", DIAMOND, "p near 4 0\ne 0\n", 0, "yes\n"),
+    ("", "p sp 2 1\na 1 2 1\n", "p near 2 2\nv 1 0 0 1\nv 2 0 0 2\ne 2\n", 0, "yes\n"),
+    ("--within 3", DIAMOND, forest(), 0, "yes\n"),
+    ("--within 2", DIAMOND, forest(), 3, "no 2 6\n"),
+    ("--within 2", DIAMOND, "p near 4 2\nv 1 0 0 1\nv 3 0 0 3\nv 4 2 3 3\ne 3\n", 0, "yes\n"),
+    ("", DIAMOND, "p near 4 2\nv 1 0 0 1\nv 3 0 0 3\nv 4 2 3 3\ne 3\n", 3, "no 2 3\n"),
+]
+
+# A vertex that is too far plays no part with a limit.
+FAR_WITHIN = [
+    ("--within 68719476734", path_tree("e 17\n"), 0, "yes\n"),
+    ("", FAR_FOREST, 3, "no 18 5\n"),
+    ("--within 68719476734", FAR_FOREST, 0, "yes\n"),
+]
+
+# no file is opened: there is none
+LIMIT_OUT_OF_RANGE = [
+    "check no no --within 68719476735",
+    "check no no --within 4294967295 --pred-bits 32",
+    "check no no --all --within 1099511627775 --pred-bits 24",
+    "check - - --within 17592186044414",
+]
+
+# forest that is refused, fault
+REFUSED_FORESTS = [
+    ("p near 1 1", "line 1: 7 TooFew"),
+    ("p near 1\n", "line 1: 2 BadLine"),
+    ("p nearer 1 1\n", "line 1: 2 BadLine"),
+    ("p near 0 0\n", "line 1: 5 OutOfRange N"),
+    ("p near 1 2\n", "line 1: 5 OutOfRange K"),
+    ("p near 2 1\np near 2 1\n", "line 2: 4 SecondProblem"),
+    ("p near 2 1\np spt 2 1\n", "line 2: 2 BadLine"),
+    ("p near 2 1\nv 1 0 0\n", "line 2: 2 BadLine"),
+    ("p near 2 1\nx 2\n", "line 2: 2 BadLine"),
+    ("p near 2 1\nv 3 0 0 1\n", "line 2: 5 OutOfRange V"),
+    ("p near 2 1\nv 2 0 0 2\nv 2 0 0 2\n", "line 3: 5 OutOfRange V"),
+    ("p near 2 1\nv 1 68719476735 3 3\n", "line 2: 5 OutOfRange D"),
+    ("p near 2 1\nv 1 0 3 3\n", "line 2: 5 OutOfRange P"),
+    ("p near 2 1\nv 1 0 0 0\n", "line 2: 5 OutOfRange S"),
+    ("p near 2 1\nv 1 0 0 3\n", "line 2: 5 OutOfRange S"),
+    ("p near 2 1\nv 1 0 0 1\ne 2\n", "line 3: 5 OutOfRange R"),
+    ("p near 2 1\nv 1 0 0 1\ne 1\nx", "line 4: 6 TooMany"),
+    ("p near 2 1\nv 1 0 0 1\ne 1", "line 3: 7 TooFew"),
 ]
 
 # name, tree that is refused, fault
@@ -159,6 +238,15 @@ def cases():
     made += [
         Case("spellings", line, {"g.gr": ALONE, "g.tree": f"p spt 1 1\n{second}\n"}, 2, "tree: line 2: 2 BadLine") for second in SPELLINGS
     ]
+    made += in_layouts(Case("within", f"{line} {words}", {"g.gr": gr, "g.tree": tree}, status, text) for words, gr, tree, status, text in WITHIN)
+    made += [
+        Case("within", f"{line} {words}", {"g.gr": path(17, f"{LONGEST}\n"), "g.tree": tree}, status, text)
+        for words, tree, status, text in FAR_WITHIN
+    ]
+    made += [Case("limit out of range", words, {}, 1, "limit out of range") for words in LIMIT_OUT_OF_RANGE]
+    made += [Case("refused forests", line, {"g.gr": DIAMOND, "g.tree": tree}, 2, f"tree: {fault}") for tree, fault in REFUSED_FORESTS]
+    # with --all trees alone are read
+    made += [Case("refused forests", f"{line} --all", {"g.gr": DIAMOND, "g.tree": forest()}, 2, "tree: line 1: 2 BadLine")]
     made += greatest()
     made += [
         # the graph is read first

@@ -54,6 +54,12 @@ TOLD = [
         LIMIT,
     ),
     (
+        "limit beyond every layout",
+        "check f.rep f.rep --within 17592186044415",
+        "error: invalid value '17592186044415' for '--within <L>': 17592186044415 is not in 0..=17592186044414\n",
+        LIMIT,
+    ),
+    (
         "limit that is no number",
         "tree f.rep f.rep --delta 3 --within far",
         "error: invalid value 'far' for '--within <L>': invalid digit found in string\n",

@@ -74,12 +74,9 @@ pub first_same : (P Q : ℕ → Rule → Type 0) → ((v : ℕ) (r : Rule) → P
 first_same P Q there back None x = λ v r q. x v r (back v r q)
 first_same P Q there back (Some f) x = (there f.vertex f.rule x.0, λ w other q. x.1 w other (back w other q))
 
--- where one rule at most is broken at v, its fault is the first
+-- the lowest rule that is broken at v is the first fault there
 pub first_at : (v : ℕ) (P : Rule → Type 0) (rule : Rule) → IsBroken P (Some rule) → IsFirstOf (λ w r. (w ≡ v) × P r) (Some (record { vertex = v; rule = rule }))
-first_at v P rule h = ((refl, h.0), λ w other p. inr (sym p.0, at_most other p.1))
-  where
-    at_most : (other : Rule) → P other → number_of rule ≤ number_of other
-    at_most other p = let same : other ≡ rule = h.1 other p in let e = ap number_of same in omega arith
+first_at v P rule h = ((refl, h.0), λ w other p. inr (sym p.0, h.1 other p.1))
 
 -- ## The faults that a reduction joins
 

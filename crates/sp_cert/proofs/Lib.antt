@@ -1,4 +1,6 @@
 pub mod Checker
+pub mod ForestRows
+pub mod Exact
 pub mod FirstSteps
 pub mod RowSteps
 pub mod VertexSteps

@@ -1,5 +1,5 @@
 -- The row of a vertex rises by head, then by length, so a binary search finds an arc in it.
-use Rattle.std.proofs.Common.{◌≡◌, ℕ, zero, suc, ◌+◌, ◌-◌, ◌<◌, ◌≤◌, ◌⊎◌, ◌↔◌, inl, inr, Bool, true, false, eqb, ltb, cond, List, [], ◌∷◌, length, get_or, Some, None, sym, refl, ap, ◌∙◌, subst, arith, nat_cmp}
+use Rattle.std.proofs.Common.{◌≡◌, ℕ, zero, suc, ◌+◌, ◌-◌, ◌<◌, ◌≤◌, ◌⊎◌, ◌↔◌, inl, inr, Bool, true, false, eqb, ltb, cond, List, [], ◌∷◌, length, get_or, Option, Some, None, sym, refl, ap, ◌∙◌, subst, arith, nat_cmp}
 use Rattle.std.specs.Prelude.{Contains, filter, IsTrue, Result, Ok, Err, is_ok}
 use Rattle.std.specs.Ordering.{ordering_then, ordering_index}
 use Rattle.std.specs.List.Sorted.{IsBinarySearchResult, IsSearchInRange, IsPartitionPoint}
@@ -15,10 +15,13 @@ use Rattle.sp_paths.specs.Rows.{row_of}
 use Rattle.sp_paths.proofs.RowSteps.{kept}
 use Rattle.sp_paths.proofs.Core.{pair_dist, pair_pred}
 use Rattle.sp_paths.proofs.RowSteps.{rows_hold_arcs}
+use Rattle.sp_paths.proofs.Run.{not_both}
 use Rattle.sp_graph.specs.Order.{IsNoGreater, IsInOrder}
 use Rattle.sp_cert.specs.declared.rule.Rule.{Rule}
-use Rattle.sp_cert.specs.declared.rule.Rule.TheVariants.{Size, OwnSource, NoLesserOffer, NamesPredecessor, OnlyTooFar}
-use Rattle.sp_cert.specs.Rules.{IsExplained}
+use Rattle.sp_cert.specs.declared.rule.Rule.TheVariants.{Size, OwnSource, NoLesserOffer, NamesPredecessor, OnlyTooFar, BeyondLimit, OtherRoot}
+use Rattle.sp_cert.specs.declared.sources.Sources.{Sources}
+use Rattle.sp_cert.specs.Claims.{IsSource, IsUpTo, IsAbove}
+use Rattle.sp_cert.specs.Rules.{IsExplained, number_of}
 use Rattle.sp_cert.specs.Faults.{IsNoFurther, IsRow, HasArcTo, BreaksAt, IsBroken}
 
 -- ## The order of rows
@@ -218,24 +221,106 @@ pub pair_of_both : (w : Word) (d p : ℕ) → dist_of w ≡ Some d → pred_of w
 pair_of_both Unreached d p e f = absurd (cc)
 pair_of_both (Pair c q) d p e f = let a : c ≡ d = cc in let b : q ≡ p = cc in cc
 
--- the rules that a reached vertex breaks, other than the source
-module _ (g : Graph) (s : ℕ) (words : Table) (v d p : ℕ) (other : v ≡ s → ⊥) (is : words v ≡ Pair d p) where
-  pub breaks_none : IsExplained g words v d p → IsBroken (BreaksAt g s words v) None
-  breaks_none e Size b = b
-  breaks_none e OwnSource b = other b.0
-  breaks_none e NoLesserOffer b = b
-  breaks_none e NamesPredecessor (d', p', is', other', none) =
-      let same_dist : d' ≡ d = pair_dist d' p' d p (sym is' ∙ is) in
-      let same_pred : p' ≡ p = pair_pred d' p' d p (sym is' ∙ is) in
-      none (rw (same_dist, same_pred) e)
-  breaks_none e OnlyTooFar b = b
+-- ## The rules that a vertex breaks
 
-  pub breaks_names : (IsExplained g words v d p → ⊥) → IsBroken (BreaksAt g s words v) (Some NamesPredecessor)
-  breaks_names none = ((d, p, is, other, none), one)
+module _ (g : Graph) (sources : Sources) (limit : Option ℕ) (words : Table) (v : ℕ) where
+  abbrev At : Rule → Type 0
+  At rule = BreaksAt g sources limit words v rule
+
+  none_above : IsUpTo limit 0 → IsAbove limit 0 → ⊥
+  none_above = go limit
     where
-      one : (rule : Rule) → BreaksAt g s words v rule → rule ≡ NamesPredecessor
-      one Size b = absurd b
-      one OwnSource b = absurd (other b.0)
-      one NoLesserOffer b = absurd b
-      one NamesPredecessor b = refl
-      one OnlyTooFar b = absurd b
+      go : (limit : Option ℕ) → IsUpTo limit 0 → IsAbove limit 0 → ⊥
+      go None low high = high
+      go (Some l) low high = absurd (omega arith)
+
+  zero_up_to : IsUpTo limit 0
+  zero_up_to = go limit
+    where
+      go : (limit : Option ℕ) → IsUpTo limit 0
+      go None = tt
+      go (Some l) = omega arith
+
+  -- a source
+  pub own_none : IsSource sources words v → words v ≡ Pair 0 0 → IsBroken At None
+  own_none source is Size b = b
+  own_none source is OwnSource b = b.1 is
+  own_none source is NoLesserOffer b = b
+  own_none source is NamesPredecessor (d, p, is', other, none) = other source
+  own_none source is OnlyTooFar b = b
+  own_none source is BeyondLimit (d, p, is', high) =
+      let zero' : d ≡ 0 = pair_dist d p 0 0 (sym is' ∙ is) in
+      none_above zero_up_to (subst (IsAbove limit) zero' high)
+  own_none source is OtherRoot b = b
+
+  pub own_broken : IsSource sources words v → (words v ≡ Pair 0 0 → ⊥) → IsBroken At (Some OwnSource)
+  own_broken source other = ((source, other), least)
+    where
+      least : (rule : Rule) → At rule → number_of OwnSource ≤ number_of rule
+      least Size b = absurd b
+      least OwnSource b = omega arith
+      least NoLesserOffer b = absurd b
+      least NamesPredecessor b = omega arith
+      least OnlyTooFar b = absurd b
+      least BeyondLimit b = omega arith
+      least OtherRoot b = absurd b
+
+  module _ (other : IsSource sources words v → ⊥) where
+    -- an unreached vertex
+    pub unreached_none : words v ≡ Unreached → IsBroken At None
+    unreached_none is Size b = b
+    unreached_none is OwnSource b = other b.0
+    unreached_none is NoLesserOffer b = b
+    unreached_none is NamesPredecessor (d, p, is', away, none) = not_both (words v) d p is' is
+    unreached_none is OnlyTooFar b = b
+    unreached_none is BeyondLimit (d, p, is', high) = not_both (words v) d p is' is
+    unreached_none is OtherRoot b = b
+
+    -- a reached one
+    module _ (d p : ℕ) (is : words v ≡ Pair d p) where
+      same_explained : (d' p' : ℕ) → words v ≡ Pair d' p' → IsExplained g words v d p → IsExplained g words v d' p'
+      same_explained d' p' is' e = subst (λ x. IsExplained g words v d' x) (pair_pred d p d' p' (sym is ∙ is')) (subst (λ x. IsExplained g words v x p) (pair_dist d p d' p' (sym is ∙ is')) e)
+
+      same_above : (d' p' : ℕ) → words v ≡ Pair d' p' → IsAbove limit d' → IsAbove limit d
+      same_above d' p' is' high = subst (IsAbove limit) (pair_dist d' p' d p (sym is' ∙ is)) high
+
+      pub breaks_none : IsExplained g words v d p → (IsAbove limit d → ⊥) → IsBroken At None
+      breaks_none e low Size b = b
+      breaks_none e low OwnSource b = other b.0
+      breaks_none e low NoLesserOffer b = b
+      breaks_none e low NamesPredecessor (d', p', is', other', none) = none (same_explained d' p' is' e)
+      breaks_none e low OnlyTooFar b = b
+      breaks_none e low BeyondLimit (d', p', is', high) = low (same_above d' p' is' high)
+      breaks_none e low OtherRoot b = b
+
+      pub breaks_names : (IsExplained g words v d p → ⊥) → IsBroken At (Some NamesPredecessor)
+      breaks_names none = ((d, p, is, other, none), least)
+        where
+          least : (rule : Rule) → At rule → number_of NamesPredecessor ≤ number_of rule
+          least Size b = absurd b
+          least OwnSource b = absurd (other b.0)
+          least NoLesserOffer b = absurd b
+          least NamesPredecessor b = omega arith
+          least OnlyTooFar b = absurd b
+          least BeyondLimit b = omega arith
+          least OtherRoot b = absurd b
+
+      pub breaks_limit : IsExplained g words v d p → IsAbove limit d → IsBroken At (Some BeyondLimit)
+      breaks_limit e high = ((d, p, is, high), least)
+        where
+          least : (rule : Rule) → At rule → number_of BeyondLimit ≤ number_of rule
+          least Size b = absurd b
+          least OwnSource b = absurd (other b.0)
+          least NoLesserOffer b = absurd b
+          least NamesPredecessor (d', p', is', other', none) = absurd (none (same_explained d' p' is' e))
+          least OnlyTooFar b = absurd b
+          least BeyondLimit b = omega arith
+          least OtherRoot b = absurd b
+
+pub word_of_none : (w : Word) → dist_of w ≡ None → w ≡ Unreached
+word_of_none Unreached e = refl
+word_of_none (Pair d p) e = absurd (cc)
+
+pub word_of_no_pred : (w : Word) → pred_of w ≡ None → w ≡ Unreached
+word_of_no_pred Unreached e = refl
+word_of_no_pred (Pair d p) e = absurd (cc)

@@ -5,11 +5,10 @@ use Rattle.std.proofs.lemmas.List.Elements.{All-contains}
 use Rattle.std.proofs.lemmas.List.FromFn.{get_or-range_with_len, length-range_with_len}
 use Rattle.rayon.specs.Numbers.{nat_range}
 use Rattle.rayon.proofs.ToStd.{nat_range-All}
-use Rattle.sp_word.specs.History.{Table}
-use Rattle.sp_paths.specs.Paths.{Graph, IsVertex}
+use Rattle.sp_paths.specs.Paths.{IsVertex}
 use Rattle.sp_cert.specs.declared.rule.Rule.{Rule}
 use Rattle.sp_cert.specs.declared.fault.Fault.{Fault}
-use Rattle.sp_cert.specs.Faults.{IsFirstOf, BreaksAt, FaultAt, FaultOfVertex}
+use Rattle.sp_cert.specs.Faults.{IsFirstOf, FaultAt, FaultOfVertex}
 use Rattle.sp_cert.proofs.FirstSteps.{OfAny, first_same}
 
 -- the numbers from 1 to n
@@ -24,14 +23,14 @@ among_numbers n x h =
     let size = length-range_with_len 1 ((n + 1) - 1) in
     (x - 1, omega (arith, h, size), get_or-range_with_len 1 ((n + 1) - 1) (x - 1) x (omega (arith, h)) ∙ omega (arith, h))
 
-module _ (g : Graph) (s : ℕ) (words : Table) where
-  there : (v : ℕ) (rule : Rule) → OfAny (FaultAt g s words) (numbers g.n) v rule → FaultOfVertex g s words v rule
+module _ (n : ℕ) (P : ℕ → Rule → Type 0) where
+  there : (v : ℕ) (rule : Rule) → OfAny (FaultAt P) (numbers n) v rule → FaultOfVertex n P v rule
   there v rule (x, c, (same, b)) =
-      let in' : IsVertex g.n x = All-contains (IsVertex g.n) (numbers g.n) x (numbers_are g.n) c in
-      (subst (IsVertex g.n) (sym same) in', subst (λ y. BreaksAt g s words y rule) (sym same) b)
+      let in' : IsVertex n x = All-contains (IsVertex n) (numbers n) x (numbers_are n) c in
+      (subst (IsVertex n) (sym same) in', subst (λ y. P y rule) (sym same) b)
 
-  back : (v : ℕ) (rule : Rule) → FaultOfVertex g s words v rule → OfAny (FaultAt g s words) (numbers g.n) v rule
-  back v rule (in', b) = (v, among_numbers g.n v in', (refl, b))
+  back : (v : ℕ) (rule : Rule) → FaultOfVertex n P v rule → OfAny (FaultAt P) (numbers n) v rule
+  back v rule (in', b) = (v, among_numbers n v in', (refl, b))
 
-  pub first_of_numbers : (r : Option Fault) → IsFirstOf (OfAny (FaultAt g s words) (numbers g.n)) r → IsFirstOf (FaultOfVertex g s words) r
-  first_of_numbers r h = first_same (OfAny (FaultAt g s words) (numbers g.n)) (FaultOfVertex g s words) there back r h
+  pub first_of_numbers : (r : Option Fault) → IsFirstOf (OfAny (FaultAt P) (numbers n)) r → IsFirstOf (FaultOfVertex n P) r
+  first_of_numbers r h = first_same (OfAny (FaultAt P) (numbers n)) (FaultOfVertex n P) there back r h

@@ -1,3 +1,5 @@
+pub mod Claims
 pub mod Rules
 pub mod Faults
+pub mod ForestRows
 pub mod Certificate

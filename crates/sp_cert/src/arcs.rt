@@ -1,7 +1,8 @@
 //! Finds, in parallel, the faults that arcs show at their heads.
-ghost use Rattle.std.specs.Prelude.{◌≡◌, ◌≤◌, true, length, All, None};
+ghost use Rattle.std.specs.Prelude.{◌≡◌, ◌≤◌, ◌↔◌, true, length, All, None, IsTrue};
 ghost use Rattle.sp_word.specs.Word.{is_layout, max_dist, max_pred};
 ghost use Rattle.sp_paths.specs.Paths.{IsArc, word_at};
+ghost use Rattle.sp_cert.specs.Claims.{IsInReach};
 ghost use Rattle.sp_cert.specs.Faults.{IsFirstOf, IsBroken, BreaksBy, FaultBy, FaultOfArc, earlier_of};
 
 use crate::fault::{Fault, earlier};
@@ -12,29 +13,42 @@ use sp_paths::{Arc, Offer};
 use sp_word::Word;
 use std::thread::Threads;
 
+/// Returns whether the distance of a word is up to the limit, if there is one.
+fn is_in_reach<const P: u32>(limit: Option<u64>, word: Word<P>) -> bool
+    ensures { IsTrue result ↔ IsInReach limit word.entry }
+{
+    match (limit, word.dist()) {
+        (Some(limit), Some(dist)) => dist <= limit,
+        _ => true,
+    }
+}
+
 // Returns the rule that the arc breaks at its head, if any.
-fn broken_by<const P: u32>(words: &[Word<P>], arc: Arc) -> Option<Rule>
+fn broken_by<const P: u32>(words: &[Word<P>], limit: Option<u64>, arc: Arc) -> Option<Rule>
     requires layout { is_layout P ≡ true }
     requires most { length words.now ≤ max_pred P }
     requires arc { IsArc (length words.now) arc }
-    ensures { IsBroken (BreaksBy (max_dist P) (word_at words.now) arc) result }
+    ensures { IsBroken (BreaksBy (max_dist P) limit (word_at words.now) arc) result }
 {
+    let head = look_up(words, arc.head);
     match arc.offer(look_up(words, arc.tail)) {
-        Offer::Within(word) if word.is_below(look_up(words, arc.head)) => Some(Rule::NoLesserOffer),
-        Offer::Beyond if look_up(words, arc.head).is_unreached() => Some(Rule::OnlyTooFar),
+        Offer::Within(word) if is_in_reach(limit, word) && word.is_below(head) => {
+            Some(Rule::NoLesserOffer)
+        }
+        Offer::Beyond if limit.is_none() && head.is_unreached() => Some(Rule::OnlyTooFar),
         _ => None,
     }
 }
 
 // Returns the fault that the arc shows, if any.
-fn fault_by<const P: u32>(words: &[Word<P>], arc: Arc) -> Option<Fault>
+fn fault_by<const P: u32>(words: &[Word<P>], limit: Option<u64>, arc: Arc) -> Option<Fault>
     requires layout { is_layout P ≡ true }
     requires most { length words.now ≤ max_pred P }
     requires arc { IsArc (length words.now) arc }
     ensures { IsFirstOf
-        (FaultBy (max_dist P) (word_at words.now) arc) result }
+        (FaultBy (max_dist P) limit (word_at words.now) arc) result }
 {
-    match broken_by(words, arc) {
+    match broken_by(words, limit, arc) {
         Some(rule) => Some(Fault {
             vertex: arc.head,
             rule,
@@ -47,12 +61,13 @@ fn fault_by<const P: u32>(words: &[Word<P>], arc: Arc) -> Option<Fault>
 pub fn first_of_arcs<const P: u32, R: Threads + Sync>(
     rt: &R,
     words: &[Word<P>],
+    limit: Option<u64>,
     arcs: &[Arc],
 ) -> Option<Fault>
     requires layout { is_layout P ≡ true }
     requires most { length words.now ≤ max_pred P }
     requires arcs { All (IsArc (length words.now)) arcs.now }
-    ensures { IsFirstOf (FaultOfArc (max_dist P) (word_at words.now) arcs.now) result }
+    ensures { IsFirstOf (FaultOfArc (max_dist P) limit (word_at words.now) arcs.now) result }
 {
     arcs.par_iter()
         .map(
@@ -60,8 +75,8 @@ pub fn first_of_arcs<const P: u32, R: Threads + Sync>(
                 requires { (is_layout P ≡ true) × (length words.now ≤ max_pred P)
                     × IsArc (length words.now) arc.now }
                 ensures { IsFirstOf
-                    (FaultBy (max_dist P) (word_at words.entry.now) arc.now) result }
-            { fault_by(words, *arc) },
+                    (FaultBy (max_dist P) limit (word_at words.entry.now) arc.now) result }
+            { fault_by(words, limit, *arc) },
         )
         .reduce(
             rt,

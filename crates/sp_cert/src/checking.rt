@@ -1,20 +1,30 @@
-//! The check of a tree.
-ghost use Rattle.std.specs.Prelude.{◌≡◌, IfOk, IfErr, OnOk};
-ghost use Rattle.sp_cert.specs.Certificate.{IsCertified, TellsFault, IsFirstFaultOf};
+//! The checks of a tree and of a forest.
+ghost use Rattle.std.specs.Prelude.{◌≡◌, ◌≤◌, ◌↔◌, true, length, IsTrue, IfOk, IfErr, OnOk, IfSome, Some};
+ghost use Rattle.sp_word.specs.Word.{is_layout, max_dist, max_pred};
+ghost use Rattle.sp_paths.specs.Paths.{IsGraph, word_at};
+ghost use Rattle.sp_answer.specs.Table.{IsTable};
+ghost use Rattle.sp_forest.specs.ForestTable.{IsForestTable};
+ghost use Rattle.sp_cert.specs.Rules.{IsForestOf, IsCounted};
+ghost use Rattle.sp_cert.specs.Faults.{IsFirstOf, FaultOfWords};
+ghost use Rattle.sp_cert.specs.Certificate.{IsCertified, IsCertifiedWithin, TellsFault, TellsFaultUpTo, TellsForestFault, FailsOfTree, FailsOfForest, answer_of, wrong_size};
 ghost use Rattle.sp_cert.specs.declared.checking.CheckError.TheVariants.{Memory};
 
 use crate::arcs::first_of_arcs;
 use crate::fault::{Fault, earlier};
+use crate::forests::{count_of_sources, first_of_roots, words_of_forest};
 use crate::rule::Rule;
+use crate::sources::Sources;
 use crate::vertices::first_of_vertices;
 use crate::words::words_of;
 use sp_answer::Tree;
+use sp_forest::Forest;
 use sp_graph::Graph;
+use sp_word::Word;
 use std::alloc::{AllocError, Global};
 use std::thread::Threads;
 use thiserror::Error;
 
-/// Why a tree is not certified.
+/// Why a tree or a forest is not certified.
 #[derive(Clone, Copy, Debug, PartialEq, Eq, Error)]
 pub enum CheckError {
     /// The lowest vertex at which a rule fails, and the lowest rule that fails there. For the rule of the size the
@@ -34,29 +44,100 @@ impl From<AllocError> for CheckError {
     }
 }
 
-// Returns the earliest fault of a tree with as many vertices as the graph.
-#[tactic(auto, using(crate::proofs::Verdict::first_of_tree))]
-fn first_fault<const P: u32, R: Threads + Sync>(
+// Returns the earliest fault of words, but for what concerns roots.
+fn first_of_words<const P: u32, R: Threads + Sync>(
+    rt: &R,
+    graph: &Graph,
+    words: &[Word<P>],
+    sources: Sources,
+    limit: Option<u64>,
+) -> Option<Fault>
+    requires layout { is_layout P ≡ true }
+    requires size { length words.now ≡ graph.now.n }
+    requires most { graph.now.n ≤ max_pred P }
+    ensures { IsFirstOf
+        (FaultOfWords graph.now (max_dist P) sources limit (word_at words.now)) result }
+{
+    let of_arcs = first_of_arcs(rt, words, limit, graph.arcs());
+    let of_vertices = first_of_vertices(rt, graph, words, sources, limit);
+    earlier(of_arcs, of_vertices)
+}
+
+// Returns the fault of wrong numbers.
+fn wrong_size() -> Option<Fault>
+    ensures { result ≡ wrong_size }
+{
+    Some(Fault {
+        vertex: 0,
+        rule: Rule::Size,
+    })
+}
+
+// Returns the earliest fault of a tree.
+fn first_of_tree<const P: u32, R: Threads + Sync>(
     rt: &R,
     alloc: Global,
     graph: &Graph,
     tree: &Tree<P>,
+    limit: Option<u64>,
 ) -> Result<Option<Fault>, AllocError>
-    requires { tree.now.n ≡ graph.now.n }
-    ensures { IfOk result (IsFirstFaultOf P graph.now tree.now) }
+    ensures first { IfOk result (IsFirstOf (FailsOfTree P limit graph.now tree.now)) }
+    ensures graph { IsGraph graph.now }
+    ensures table { IsTable P tree.now }
 {
-    let source = tree.source();
+    if tree.n() != graph.n() {
+        return Ok(wrong_size());
+    }
+    let source = Sources::One(tree.source());
     let words = words_of(alloc, tree)?;
-    let of_arcs = first_of_arcs(rt, &words, graph.arcs());
-    let of_vertices = first_of_vertices(rt, graph, &words, source);
-    Ok(earlier(of_arcs, of_vertices))
+    Ok(first_of_words(rt, graph, &words, source, limit))
+}
+
+// Returns whether the numbers of vertices and of sources are right.
+fn is_counted<const P: u32>(graph: &Graph, forest: &Forest<P>, count: u32) -> bool
+    ensures counted { IsTrue result ↔ IsCounted graph.now forest.now count }
+    ensures graph { IsGraph graph.now }
+    ensures table { IsForestTable P forest.now }
+{
+    forest.n() == graph.n() && count_of_sources(forest) == count as usize
+}
+
+// Returns the earliest fault of a forest.
+fn first_of_forest<const P: u32, R: Threads + Sync>(
+    rt: &R,
+    alloc: Global,
+    graph: &Graph,
+    forest: &Forest<P>,
+    count: u32,
+    limit: Option<u64>,
+) -> Result<Option<Fault>, AllocError>
+    ensures first { IfOk result (IsFirstOf (FailsOfForest P count limit graph.now forest.now)) }
+    ensures graph { IsGraph graph.now }
+    ensures table { IsForestTable P forest.now }
+{
+    if !is_counted(graph, forest, count) {
+        return Ok(wrong_size());
+    }
+    let words = words_of_forest(alloc, forest)?;
+    let of_words = first_of_words(rt, graph, &words, Sources::WithoutPred, limit);
+    let of_roots = first_of_roots(rt, forest);
+    Ok(earlier(of_words, of_roots))
+}
+
+// Returns the answer where this is the earliest fault, if there is one.
+fn told(first: Option<Fault>) -> Result<(), CheckError>
+    ensures { result ≡ answer_of first }
+{
+    match first {
+        Some(Fault { vertex, rule }) => Err(CheckError::Fault { vertex, rule }),
+        None => Ok(()),
+    }
 }
 
 /// Checks whether the tree is the shortest-path tree of its source in the graph, with no vertex that is too far.
 ///
 /// It takes the time of one pass over the arcs and, for each reached vertex, of a binary search in one row, on all
 /// processors. It allocates 8 bytes for each vertex, and returns `Memory` only if that allocation fails.
-#[tactic(auto, using(crate::proofs::Verdict::passes, crate::proofs::Verdict::told, crate::proofs::Verdict::only_memory))]
 pub fn check<const P: u32, R: Threads + Sync>(
     rt: &R,
     alloc: Global,
@@ -67,14 +148,45 @@ pub fn check<const P: u32, R: Threads + Sync>(
     ensures no { IfErr result (TellsFault P graph.now tree.now) }
     ensures exactly { IsCertified P graph.now tree.now → IfErr result (λ error. error ≡ Memory) }
 {
-    if tree.n() != graph.n() {
-        return Err(CheckError::Fault {
-            vertex: 0,
-            rule: Rule::Size,
-        });
-    }
-    match first_fault(rt, alloc, graph, tree)? {
-        Some(Fault { vertex, rule }) => Err(CheckError::Fault { vertex, rule }),
-        None => Ok(()),
-    }
+    told(first_of_tree(rt, alloc, graph, tree, None)?)
+}
+
+/// Checks whether the tree is the part of the shortest-path tree of its source within a distance.
+///
+/// Time and memory are those of `check`.
+pub fn check_within<const P: u32, R: Threads + Sync>(
+    rt: &R,
+    alloc: Global,
+    graph: &Graph,
+    tree: &Tree<P>,
+    limit: u64,
+) -> Result<(), CheckError>
+    requires { limit ≤ max_dist P }
+    ensures yes { OnOk result (IsCertifiedWithin limit graph.now tree.now) }
+    ensures no { IfErr result (TellsFaultUpTo P (Some limit) graph.now tree.now) }
+    ensures exactly { IsCertifiedWithin limit graph.now tree.now
+        → IfErr result (λ error. error ≡ Memory) }
+{
+    told(first_of_tree(rt, alloc, graph, tree, Some(limit))?)
+}
+
+/// Checks whether the forest is that of its sources, the vertices whose row has predecessor 0, of which there are `count`: the
+/// forest in the graph, with no vertex that is too far, or its part within a limit; and whether each vertex has its root.
+///
+/// It takes the time of `check` and, for each reached vertex, of a binary search among the rows. It allocates as `check` does.
+pub fn check_forest<const P: u32, R: Threads + Sync>(
+    rt: &R,
+    alloc: Global,
+    graph: &Graph,
+    forest: &Forest<P>,
+    count: u32,
+    limit: Option<u64>,
+) -> Result<(), CheckError>
+    requires { IfSome limit (λ l. l ≤ max_dist P) }
+    ensures yes { OnOk result (IsForestOf P graph.now forest.now count limit) }
+    ensures no { IfErr result (TellsForestFault P count limit graph.now forest.now) }
+    ensures exactly { IsForestOf P graph.now forest.now count limit
+        → IfErr result (λ error. error ≡ Memory) }
+{
+    told(first_of_forest(rt, alloc, graph, forest, count, limit)?)
 }

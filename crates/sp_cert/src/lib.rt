@@ -1,14 +1,16 @@
-//! A checker of shortest-path trees, which any program may have made.
+//! A checker of shortest-path trees and forests, which any program may have made.
 #![tactic(auto)]
 
 mod arcs;
 mod checking;
 mod fault;
+mod forests;
 mod laws;
 mod rule;
+mod sources;
 mod vertices;
 mod words;
 
-pub use checking::{CheckError, check};
-pub use laws::checked_table;
+pub use checking::{CheckError, check, check_forest, check_within};
+pub use laws::{checked_forest, checked_table};
 pub use rule::Rule;

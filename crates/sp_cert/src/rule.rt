@@ -1,24 +1,29 @@
-//! The rules of a tree.
+//! The rules of a tree or a forest.
 ghost use Rattle.std.specs.Prelude.{◌≡◌, ◌≤◌, Some};
 ghost use Rattle.std.specs.Fmt.{decimal};
 ghost use Rattle.sp_cert.specs.Rules.{number_of};
 
 use std::fmt;
 
-/// A rule that a tree satisfies. It displays as its number.
+/// A rule that a tree or a forest satisfies. It displays as its number.
 #[derive(Clone, Copy, Debug, PartialEq, Eq)]
 pub enum Rule {
-    /// The tree has as many vertices as the graph.
+    /// There are as many vertices as in the graph, and in a forest as many sources as are counted.
     Size = 1,
-    /// The source's word is (0, 0).
+    /// A source's word is (0, 0), and its root is itself.
     OwnSource = 2,
-    /// No arc from a reached vertex offers its head a pair within the greatest distance that is less than its word.
+    /// No arc from a reached vertex offers its head a pair within the greatest distance, and the limit if there is one, that
+    /// is less than its word.
     NoLesserOffer = 3,
-    /// A reached vertex other than the source names a reached predecessor, which has an arc to it whose length is the
+    /// A reached vertex other than a source names a reached predecessor, which has an arc to it whose length is the
     /// difference of the two distances.
     NamesPredecessor = 4,
-    /// No arc from a reached vertex to an unreached one has a sum beyond the greatest distance.
+    /// Where no limit is given, no arc from a reached vertex to an unreached one has a sum beyond the greatest distance.
     OnlyTooFar = 5,
+    /// No distance is above the limit.
+    BeyondLimit = 6,
+    /// A reached vertex other than a source has its predecessor's root.
+    OtherRoot = 7,
 }
 
 impl Rule {

@@ -3,11 +3,13 @@ ghost use Rattle.std.specs.Prelude.{◌≡◌, ◌≤◌, ◌↔◌, true, lengt
 ghost use Rattle.sp_word.specs.Word.{is_layout, max_pred};
 ghost use Rattle.sp_paths.specs.Paths.{IsVertex, word_at};
 ghost use Rattle.sp_graph.specs.Order.{IsInOrder};
+ghost use Rattle.sp_cert.specs.Claims.{IsAbove};
 ghost use Rattle.sp_cert.specs.Rules.{IsExplained};
 ghost use Rattle.sp_cert.specs.Faults.{IsRow, HasArcTo, IsFirstOf, IsBroken, BreaksAt, FaultAt, FaultOfVertex, earlier_of};
 
 use crate::fault::{Fault, earlier};
 use crate::rule::Rule;
+use crate::sources::{Sources, is_source};
 use rayon::prelude::*;
 use sp_graph::{Graph, look_up};
 use sp_paths::Arc;
@@ -44,21 +46,32 @@ fn is_explained<const P: u32>(
     }
 }
 
-// Returns the rule that the vertex breaks by its own word, if any.
+// Returns whether a distance is above the limit, if there is one.
+fn is_above(limit: Option<u64>, dist: u64) -> bool
+    ensures { IsTrue result ↔ IsAbove limit dist }
+{
+    match limit {
+        Some(limit) => limit < dist,
+        None => false,
+    }
+}
+
+// Returns the lowest rule that the vertex breaks by its own word, if any.
 fn broken_at<const P: u32>(
     graph: &Graph,
     words: &[Word<P>],
-    source: u32,
+    sources: Sources,
+    limit: Option<u64>,
     vertex: u32,
 ) -> Option<Rule>
     requires layout { is_layout P ≡ true }
     requires size { length words.now ≡ graph.now.n }
     requires order { IsInOrder graph.now.arcs }
     requires vertex { IsVertex graph.now.n vertex }
-    ensures { IsBroken (BreaksAt graph.now source (word_at words.now) vertex) result }
+    ensures { IsBroken (BreaksAt graph.now sources limit (word_at words.now) vertex) result }
 {
     let word = look_up(words, vertex);
-    if vertex == source {
+    if is_source(sources, words, vertex) {
         return if word.is_same(Word::pack(0, 0)) {
             None
         } else {
@@ -68,10 +81,12 @@ fn broken_at<const P: u32>(
     let (Some(dist), Some(pred)) = (word.dist(), word.pred()) else {
         return None;
     };
-    if is_explained(graph, words, vertex, dist, pred) {
-        None
-    } else {
+    if !is_explained(graph, words, vertex, dist, pred) {
         Some(Rule::NamesPredecessor)
+    } else if is_above(limit, dist) {
+        Some(Rule::BeyondLimit)
+    } else {
+        None
     }
 }
 
@@ -79,7 +94,8 @@ fn broken_at<const P: u32>(
 fn fault_at<const P: u32>(
     graph: &Graph,
     words: &[Word<P>],
-    source: u32,
+    sources: Sources,
+    limit: Option<u64>,
     vertex: u32,
 ) -> Option<Fault>
     requires layout { is_layout P ≡ true }
@@ -87,9 +103,9 @@ fn fault_at<const P: u32>(
     requires order { IsInOrder graph.now.arcs }
     requires vertex { IsVertex graph.now.n vertex }
     ensures { IsFirstOf
-        (FaultAt graph.now source (word_at words.now) vertex) result }
+        (FaultAt (BreaksAt graph.now sources limit (word_at words.now)) vertex) result }
 {
-    match broken_at(graph, words, source, vertex) {
+    match broken_at(graph, words, sources, limit, vertex) {
         Some(rule) => Some(Fault { vertex, rule }),
         None => None,
     }
@@ -100,12 +116,14 @@ pub fn first_of_vertices<const P: u32, R: Threads + Sync>(
     rt: &R,
     graph: &Graph,
     words: &[Word<P>],
-    source: u32,
+    sources: Sources,
+    limit: Option<u64>,
 ) -> Option<Fault>
     requires layout { is_layout P ≡ true }
     requires size { length words.now ≡ graph.now.n }
     requires order { IsInOrder graph.now.arcs }
-    ensures { IsFirstOf (FaultOfVertex graph.now source (word_at words.now)) result }
+    ensures { IsFirstOf (FaultOfVertex graph.now.n
+        (BreaksAt graph.now sources limit (word_at words.now))) result }
 {
     (1..=graph.n())
         .into_par_iter()
@@ -113,9 +131,9 @@ pub fn first_of_vertices<const P: u32, R: Threads + Sync>(
             |vertex: u32| -> Option<Fault>
                 requires { (is_layout P ≡ true) × (length words.now ≡ graph.now.n)
                     × IsInOrder graph.now.arcs × IsVertex graph.now.n vertex }
-                ensures { IsFirstOf
-                    (FaultAt graph.entry.now source (word_at words.entry.now) vertex) result }
-            { fault_at(graph, words, source, vertex) },
+                ensures { IsFirstOf (FaultAt (BreaksAt graph.entry.now sources limit
+                    (word_at words.entry.now)) vertex) result }
+            { fault_at(graph, words, sources, limit, vertex) },
         )
         .reduce(
             rt,

@@ -21,12 +21,12 @@ use Rattle.sp_tools.specs.Verdict.{IsVerdict}
 use Rattle.sp_tools.specs.Verdicts.{AreJudged, FileJudged}
 
 -- The trees that were given since `start` are judged.
-pub record HaveVerdicts {P : ℕ} {D : Type 0} (r : Reader D) (g : Graph) (start : Option (List ℕ)) (blocks : TreeBlocks P) (device : D) (all : List Judged) : Type 0 where
+pub record HaveVerdicts {P : ℕ} {D : Type 0} (r : Reader D) (limit : Option ℕ) (g : Graph) (start : Option (List ℕ)) (blocks : TreeBlocks P) (device : D) (all : List Judged) : Type 0 where
   pub trees : List TreeTable
   pub tables : All (IsTable P) trees
   pub came : Consumes start (left_of r blocks device) (trees_text trees)
   pub lines : lines_before blocks ≡ min (lines_of trees) (2 ^ 64 - 1)
-  pub judged : AreJudged P g trees all
+  pub judged : AreJudged P limit g trees all
   pub going : IsGoing r blocks device
 
 lines_of_more : (trees : List TreeTable) (tree : TreeTable) → lines_of (trees ++ tree ∷ []) ≡ lines_of trees + lines_in tree
@@ -36,26 +36,26 @@ lines_of_more (first ∷ trees) tree = omega (arith, lines_of_more trees tree)
 text_more : (trees : List TreeTable) (tree : TreeTable) → trees_text trees ++ tree_text tree ≡ trees_text (trees ++ tree ∷ [])
 text_more trees tree = sym (flat_map-append tree_text trees (tree ∷ []) ∙ ap (λ (t : List ℕ). trees_text trees ++ t) (append-nil (tree_text tree)))
 
-judged_more : (P : ℕ) (g : Graph) (trees : List TreeTable) (all : List Judged) (tree : TreeTable) (judged : Judged) → AreJudged P g trees all → judged.source ≡ tree.source → IsVerdict P g tree judged.verdict → AreJudged P g (trees ++ tree ∷ []) (all ++ judged ∷ [])
-judged_more P g [] [] tree judged h source verdict = (source, verdict, tt)
-judged_more P g [] (first ∷ all) tree judged h source verdict = absurd h
-judged_more P g (first ∷ trees) [] tree judged h source verdict = absurd h
-judged_more P g (first ∷ trees) (second ∷ all) tree judged h source verdict = (h.0, h.1, judged_more P g trees all tree judged h.2 source verdict)
+judged_more : (P : ℕ) (limit : Option ℕ) (g : Graph) (trees : List TreeTable) (all : List Judged) (tree : TreeTable) (judged : Judged) → AreJudged P limit g trees all → judged.source ≡ tree.source → IsVerdict P limit g tree judged.verdict → AreJudged P limit g (trees ++ tree ∷ []) (all ++ judged ∷ [])
+judged_more P limit g [] [] tree judged h source verdict = (source, verdict, tt)
+judged_more P limit g [] (first ∷ all) tree judged h source verdict = absurd h
+judged_more P limit g (first ∷ trees) [] tree judged h source verdict = absurd h
+judged_more P limit g (first ∷ trees) (second ∷ all) tree judged h source verdict = (h.0, h.1, judged_more P limit g trees all tree judged h.2 source verdict)
 
 capped : (most a b lines : ℕ) → lines ≡ min a most → min (lines + b) most ≡ min (a + b) most
 capped most a b lines is = omega (arith, is)
 
 -- One tree more.
-pub one_more : {P : ℕ} {D : Type 0} (r : Reader D) (g : Graph) (start : Option (List ℕ)) (old new : TreeBlocks P) (before after : D) (all : List Judged) (tree : TreeTable) (judged : Judged)
-    → HaveVerdicts r g start old before all → Gives r old before (Ok (Some tree)) new after → judged.source ≡ tree.source → IsVerdict P g tree judged.verdict → HaveVerdicts r g start new after (all ++ judged ∷ [])
-one_more {P = P} r g start old new before after all tree judged h gives source verdict =
+pub one_more : {P : ℕ} {D : Type 0} (r : Reader D) (limit : Option ℕ) (g : Graph) (start : Option (List ℕ)) (old new : TreeBlocks P) (before after : D) (all : List Judged) (tree : TreeTable) (judged : Judged)
+    → HaveVerdicts r limit g start old before all → Gives r old before (Ok (Some tree)) new after → judged.source ≡ tree.source → IsVerdict P limit g tree judged.verdict → HaveVerdicts r limit g start new after (all ++ judged ∷ [])
+one_more {P = P} r limit g start old new before after all tree judged h gives source verdict =
     let came = Consumes-trans start (left_of r old before) (left_of r new after) (trees_text h.trees) (tree_text tree) h.came gives.2 in
     record {
       trees = h.trees ++ tree ∷ [];
       tables = All-push (IsTable P) h.trees tree h.tables gives.0;
       came = subst (Consumes start (left_of r new after)) (text_more h.trees tree) came;
       lines = gives.3 ∙ (capped (2 ^ 64 - 1) (lines_of h.trees) (lines_in tree) (lines_before old) h.lines ∙ ap (λ n. min n (2 ^ 64 - 1)) (sym (lines_of_more h.trees tree)));
-      judged = judged_more P g h.trees all tree judged h.judged source verdict;
+      judged = judged_more P limit g h.trees all tree judged h.judged source verdict;
       going = gives.1;
     }
 
@@ -68,17 +68,17 @@ some_trees [] most lines is some = absurd (omega (arith, is, some))
 some_trees (tree ∷ trees) most lines is some = omega arith
 
 -- The text has ended behind a tree.
-pub all_judged : {P : ℕ} {D : Type 0} (r : Reader D) (g : Graph) (start : Option (List ℕ)) (text : List ℕ) (old new : TreeBlocks P) (before after : D) (all : List Judged)
-    → start ≡ Some text → HaveVerdicts r g start old before all → Gives r old before (Ok None) new after → FileJudged P g text all
-all_judged r g start text old new before after all known h gives =
+pub all_judged : {P : ℕ} {D : Type 0} (r : Reader D) (limit : Option ℕ) (g : Graph) (start : Option (List ℕ)) (text : List ℕ) (old new : TreeBlocks P) (before after : D) (all : List Judged)
+    → start ≡ Some text → HaveVerdicts r limit g start old before all → Gives r old before (Ok None) new after → FileJudged P limit g text all
+all_judged r limit g start text old new before after all known h gives =
     let came = Consumes-trans start (left_of r old before) (left_of r new after) (trees_text h.trees) [] h.came gives.3 in
     let is = whole text (trees_text h.trees ++ []) (left_of r new after) (rw known at came) gives.1 in
     (h.trees, record { some = some_trees h.trees (2 ^ 64 - 1) (lines_before old) h.lines gives.0; tables = h.tables; is = is ∙ append-nil (trees_text h.trees) }, h.judged)
 
 -- The same whatever is known of the text: the trees are those of the text that they make.
-pub some_judged : {P : ℕ} {D : Type 0} (r : Reader D) (g : Graph) (start : Option (List ℕ)) (old new : TreeBlocks P) (before after : D) (all : List Judged)
-    → HaveVerdicts r g start old before all → Gives r old before (Ok None) new after → (text : List ℕ) × FileJudged P g text all
-some_judged r g start old new before after all h gives =
+pub some_judged : {P : ℕ} {D : Type 0} (r : Reader D) (limit : Option ℕ) (g : Graph) (start : Option (List ℕ)) (old new : TreeBlocks P) (before after : D) (all : List Judged)
+    → HaveVerdicts r limit g start old before all → Gives r old before (Ok None) new after → (text : List ℕ) × FileJudged P limit g text all
+some_judged r limit g start old new before after all h gives =
     (trees_text h.trees, (h.trees, record { some = some_trees h.trees (2 ^ 64 - 1) (lines_before old) h.lines gives.0; tables = h.tables; is = refl }, h.judged))
 
 left_behind : (P : ℕ) (text front block : List ℕ) (left : Option (List ℕ)) (failed : Bool) (fault : DimacsError) → Consumes (Some text) left (front ++ block) → IsFaultOf P block left failed fault
@@ -99,9 +99,9 @@ told_in_file : (a lines : ℕ) (e : DimacsError) → lines ≡ min a (2 ^ 64 - 1
 told_in_file a lines e is = ap (λ n. record { line = n; kind = e.kind }) (capped (2 ^ 64 - 1) a e.line lines is)
 
 -- A block has a fault.
-pub refused : {P : ℕ} {D : Type 0} (r : Reader D) (g : Graph) (start : Option (List ℕ)) (text : List ℕ) (old new : TreeBlocks P) (before after : D) (all : List Judged) (e : DimacsError)
-    → start ≡ Some text → HaveVerdicts r g start old before all → Gives r old before (Err e) new after → IsFileFault P text (r.has_failed after) e
-refused {P = P} r g start text old new before after all e known h (spent, begun, fault, told, (front, block, from, has_fault)) =
+pub refused : {P : ℕ} {D : Type 0} (r : Reader D) (limit : Option ℕ) (g : Graph) (start : Option (List ℕ)) (text : List ℕ) (old new : TreeBlocks P) (before after : D) (all : List Judged) (e : DimacsError)
+    → start ≡ Some text → HaveVerdicts r limit g start old before all → Gives r old before (Err e) new after → IsFileFault P text (r.has_failed after) e
+refused {P = P} r limit g start text old new before after all e known h (spent, begun, fault, told, (front, block, from, has_fault)) =
     let came = Consumes-trans start (left_of r old before) (left_of r new after) (trees_text h.trees) front h.came from in
     let behind = left_behind P text (trees_text h.trees) front (left_of r new after) (r.has_failed after) fault (rw known at came) has_fault in
     record {
@@ -119,8 +119,8 @@ refused {P = P} r g start text old new before after all e known h (spent, begun,
     }
 
 -- Before the first tree.
-pub none_judged : {P : ℕ} {D : Type 0} (r : Reader D) (g : Graph) (blocks : TreeBlocks P) (device : D) → IsFresh blocks → HaveVerdicts r g (r.left device) blocks device []
-none_judged r g blocks device h = record {
+pub none_judged : {P : ℕ} {D : Type 0} (r : Reader D) (limit : Option ℕ) (g : Graph) (blocks : TreeBlocks P) (device : D) → IsFresh blocks → HaveVerdicts r limit g (r.left device) blocks device []
+none_judged r limit g blocks device h = record {
   trees = [];
   tables = λ k d within. absurd (omega (arith, within));
   came = rw (h.piece, prepend_known-nil (r.left device)) (Consumes-nil (r.left device));

@@ -3,3 +3,4 @@ pub mod Judging
 pub mod VerdictTexts
 pub mod SameVerdicts
 pub mod Texts
+pub mod Limits

@@ -3,13 +3,13 @@ use Rattle.std.proofs.Common.{◌≡◌, ℕ, ◌<◌, Bool, List, length, Optio
 use Rattle.std.specs.Prelude.{◌⊎◌, IfOk, IfErr}
 use Rattle.sp_text.specs.Text.{items_of}
 use Rattle.sp_text.specs.Lines.{lines}
-use Rattle.sp_paths.specs.Paths.{Graph}
+use Rattle.sp_paths.specs.Paths.{Graph, IsGraph}
 use Rattle.sp_dimacs.specs.declared.graphs.GrFile.{GrFile}
 use Rattle.sp_dimacs.specs.Formats.{gr}
 use Rattle.sp_dimacs.specs.Graph.{SpellsGraph, GraphRead, graph_of}
-use Rattle.sp_answer.specs.Table.{TreeTable, IsTable}
-use Rattle.sp_tree.specs.Reading.{TreeRead}
-use Rattle.sp_tree.specs.TreeText.{tree_text}
+use Rattle.sp_forest_file.specs.declared.either.TreeOrForest.{TreeOrForest}
+use Rattle.sp_forest_file.specs.TreeOrForest.{EitherRead, IsEither, either_text}
+use Rattle.sp_options.specs.Within.{IsLimit}
 use Rattle.sp_replay.specs.declared.replays.ReplayFile.{ReplayFile}
 use Rattle.sp_replay.specs.ReplayFormat.{replay}
 use Rattle.sp_replay.specs.ReplayFile.{ReplayRead}
@@ -20,12 +20,12 @@ use Rattle.sp_command.specs.Scene.{Scene, IsUnwritten}
 use Rattle.sp_command.specs.Answers.{Hinders}
 use Rattle.sp_tools.specs.declared.check.Verdict.{Verdict}
 use Rattle.sp_tools.specs.declared.check_all.Judged.{Judged}
-use Rattle.sp_tools.specs.Verdict.{IsVerdict}
+use Rattle.sp_tools.specs.Verdict.{IsVerdictOn}
 use Rattle.sp_tools.specs.Verdicts.{FileJudged, TellsFault}
 use Rattle.sp_tools.specs.Reading.{IsGraphIn, SpellsReplay}
 use Rattle.sp_tools.specs.CheckAnswers.{TreeJudged, TreesJudged, AreTreesRefused}
 use Rattle.sp_tools.specs.ReplayAnswers.{TellsPicture}
-use Rattle.sp_tools.proofs.SameVerdicts.{same_verdict, same_file}
+use Rattle.sp_tools.proofs.SameVerdicts.{same_verdict_on, same_file}
 
 -- What was read to its end is spelled.
 pub graph_spelled : (P : ℕ) (text : List ℕ) (left : Option (List ℕ)) (failed : Bool) (file : GrFile) → GraphRead P text left failed (Ok file) → SpellsGraph P text file
@@ -35,34 +35,34 @@ pub replay_spelled : {P : ℕ} (text : List ℕ) (left : Option (List ℕ)) (fai
 replay_spelled text left failed file (_, clean, (ps, found, is)) = (ps, items_of replay (lines text), record { faultless = clean; problem_line = found; item_lines = refl }, is)
 
 -- What is said of a tree against the rows of a graph is said of it against the graph.
-pub tree_judged : (P : ℕ) (gr_text text : List ℕ) (g : Graph) (left : Option (List ℕ)) (failed : Bool) (tree : TreeTable) (verdict : Verdict)
-    → IsGraphIn P gr_text g → TreeRead P text left failed (Ok tree) → IsTable P tree → IsVerdict P g tree verdict → TreeJudged P gr_text text verdict
-tree_judged P gr_text text g left failed tree verdict (file, spelled, same) (_, block) within says = record {
+pub tree_judged : (P : ℕ) (limit : Option ℕ) (gr_text text : List ℕ) (g : Graph) (left : Option (List ℕ)) (failed : Bool) (held : TreeOrForest P) (verdict : Verdict)
+    → IsGraph g → IsLimit P limit → IsGraphIn P gr_text g → EitherRead text left failed (Ok held) → IsEither held → IsVerdictOn limit g held verdict → TreeJudged P limit gr_text text verdict
+tree_judged P limit gr_text text g left failed held verdict gr low (file, spelled, same) (_, block) within says = record {
   file = file;
   graph = spelled;
-  table = tree;
+  held = held;
   within = within;
   block = block;
-  says = same_verdict P g (graph_of file) same tree verdict says;
+  says = same_verdict_on limit g (graph_of file) same gr low held within verdict says;
 }
 
 -- A table is the one of its own text.
-pub some_tree_judged : (P : ℕ) (g : Graph) (tree : TreeTable) (verdict : Verdict) → (text : List ℕ) × IsGraphIn P text g → IsTable P tree → IsVerdict P g tree verdict → (gr text : List ℕ) × TreeJudged P gr text verdict
-some_tree_judged P g tree verdict (gr_text, (file, spelled, same)) within says = (
+pub some_tree_judged : (P : ℕ) (limit : Option ℕ) (g : Graph) (held : TreeOrForest P) (verdict : Verdict) → IsGraph g → IsLimit P limit → (text : List ℕ) × IsGraphIn P text g → IsEither held → IsVerdictOn limit g held verdict → (gr text : List ℕ) × TreeJudged P limit gr text verdict
+some_tree_judged P limit g held verdict gr low (gr_text, (file, spelled, same)) within says = (
   gr_text,
-  tree_text tree,
+  either_text held,
   record {
     file = file;
     graph = spelled;
-    table = tree;
+    held = held;
     within = within;
     block = refl;
-    says = same_verdict P g (graph_of file) same tree verdict says;
+    says = same_verdict_on limit g (graph_of file) same gr low held within verdict says;
   },
 )
 
-pub trees_judged : (P : ℕ) (gr_text text : List ℕ) (g : Graph) (all : List Judged) → IsGraphIn P gr_text g → FileJudged P g text all → TreesJudged P gr_text text all
-trees_judged P gr_text text g all (file, spelled, same) says = record { file = file; graph = spelled; says = same_file P g (graph_of file) same text all says }
+pub trees_judged : (P : ℕ) (limit : Option ℕ) (gr_text text : List ℕ) (g : Graph) (all : List Judged) → IsGraphIn P gr_text g → FileJudged P limit g text all → TreesJudged P limit gr_text text all
+trees_judged P limit gr_text text g all (file, spelled, same) says = record { file = file; graph = spelled; says = same_file P limit g (graph_of file) same text all says }
 
 -- What holds of what was found, or of a fault, is weakened.
 pub ok_as : {A B : Type 0} (Before After : A → Type 0) (result : Result A B) → ((a : A) → Before a → After a) → IfOk result Before → IfOk result After

@@ -4,50 +4,52 @@ use Rattle.std.specs.List.{flat_map}
 use Rattle.sp_text.specs.declared.faults.DimacsError.{DimacsError}
 use Rattle.sp_dimacs.specs.declared.graphs.GrFile.{GrFile}
 use Rattle.sp_dimacs.specs.Graph.{graph_of, SpellsGraph}
-use Rattle.sp_answer.specs.Table.{TreeTable, IsTable}
-use Rattle.sp_tree.specs.TreeText.{tree_text}
 use Rattle.sp_tree.specs.Whole.{IsFileFault}
+use Rattle.sp_forest_file.specs.declared.either.TreeOrForest.{TreeOrForest}
+use Rattle.sp_forest_file.specs.TreeOrForest.{IsEither, either_text}
+use Rattle.sp_options.specs.Within.{IsLimit}
 use Rattle.sp_command.specs.declared.faults.Fault.{Fault}
+use Rattle.sp_command.specs.declared.faults.Fault.TheVariants as fault
 use Rattle.sp_command.specs.declared.faults.Status.{Status}
 use Rattle.sp_command.specs.declared.faults.FileKind.{FileKind}
 use Rattle.sp_command.specs.declared.faults.FileKind.TheVariants as kind
-use Rattle.sp_command.specs.Scene.{Scene, Meaning}
+use Rattle.sp_command.specs.Scene.{Scene, Meaning, IsUnwritten}
 use Rattle.sp_command.specs.Causes.{Paths}
 use Rattle.sp_command.specs.Answers.{Told, Tells}
 use Rattle.sp_tools.specs.declared.check.CheckCommand.{CheckCommand}
 use Rattle.sp_tools.specs.declared.check.Verdict.{Verdict}
 use Rattle.sp_tools.specs.declared.check_all.Judged.{Judged}
-use Rattle.sp_tools.specs.Reading.{GraphIn, TreeIn}
-use Rattle.sp_tools.specs.Verdict.{IsVerdict, verdict_text, verdict_end}
+use Rattle.sp_tools.specs.Reading.{GraphIn, HeldIn}
+use Rattle.sp_tools.specs.Verdict.{IsVerdictOn, verdict_text, verdict_end}
 use Rattle.sp_tools.specs.Verdicts.{FileJudged, judged_text, end_of}
 
--- ## One tree
+-- ## One tree or forest
 
--- The texts spell a graph and a tree, and this is the verdict on the tree.
-pub record TreeJudged (P : ℕ) (gr tree : List ℕ) (verdict : Verdict) : Type 0 where
+-- The texts spell a graph, and a tree or a forest, and this is the verdict on that.
+pub record TreeJudged (P : ℕ) (limit : Option ℕ) (gr tree : List ℕ) (verdict : Verdict) : Type 0 where
   pub file : GrFile
   pub graph : SpellsGraph P gr file
-  pub table : TreeTable
-  pub within : IsTable P table
-  pub block : tree ≡ tree_text table
-  pub says : IsVerdict P (graph_of file) table verdict
+  pub held : TreeOrForest P
+  pub within : IsEither held
+  pub block : tree ≡ either_text held
+  pub says : IsVerdictOn limit (graph_of file) held verdict
 
--- This is the first fault of the graph's text, or, if that has none, of the tree's text.
+-- This is the first fault of the graph's text, or, if that has none, of the text of the tree or forest.
 abbrev pub IsTreeRefused : (P : ℕ) → (gr tree : List ℕ) → FileKind → DimacsError → Type 0
 IsTreeRefused P gr tree kind.Graph e = GraphIn P gr (Err e)
-IsTreeRefused P gr tree kind.Tree e = (file : GrFile) × SpellsGraph P gr file × TreeIn P tree (Err e)
+IsTreeRefused P gr tree kind.Tree e = (file : GrFile) × SpellsGraph P gr file × HeldIn {P = P} tree (Err e)
 IsTreeRefused P gr tree _ e = ⊥
 
-abbrev pub TellsVerdict : (P : ℕ) → (gr tree : List ℕ) → Scene → Result Status Fault → Type 0
-TellsVerdict P gr tree s result = Tells (TreeJudged P gr tree) verdict_text verdict_end (IsTreeRefused P gr tree) s result
+abbrev pub TellsVerdict : (P : ℕ) → (limit : Option ℕ) → (gr tree : List ℕ) → Scene → Result Status Fault → Type 0
+TellsVerdict P limit gr tree s result = Tells (TreeJudged P limit gr tree) verdict_text verdict_end (IsTreeRefused P gr tree) s result
 
 -- ## One tree or more
 
 -- The texts spell a graph and trees, and these are the verdicts on the trees.
-pub record TreesJudged (P : ℕ) (gr trees : List ℕ) (all : List Judged) : Type 0 where
+pub record TreesJudged (P : ℕ) (limit : Option ℕ) (gr trees : List ℕ) (all : List Judged) : Type 0 where
   pub file : GrFile
   pub graph : SpellsGraph P gr file
-  pub says : FileJudged P (graph_of file) trees all
+  pub says : FileJudged P limit (graph_of file) trees all
 
 -- This is the first fault of the graph's text, or, if that has none, of the trees' text.
 abbrev pub AreTreesRefused : (P : ℕ) → (gr trees : List ℕ) → FileKind → DimacsError → Type 0
@@ -58,8 +60,8 @@ AreTreesRefused P gr trees _ e = ⊥
 abbrev pub judged_texts : List Judged → List ℕ
 judged_texts all = flat_map judged_text all
 
-abbrev pub TellsVerdicts : (P : ℕ) → (gr trees : List ℕ) → Scene → Result Status Fault → Type 0
-TellsVerdicts P gr trees s result = Tells (TreesJudged P gr trees) judged_texts end_of (AreTreesRefused P gr trees) s result
+abbrev pub TellsVerdicts : (P : ℕ) → (limit : Option ℕ) → (gr trees : List ℕ) → Scene → Result Status Fault → Type 0
+TellsVerdicts P limit gr trees s result = Tells (TreesJudged P limit gr trees) judged_texts end_of (AreTreesRefused P gr trees) s result
 
 -- ## The command
 
@@ -67,21 +69,22 @@ TellsVerdicts P gr trees s result = Tells (TreesJudged P gr trees) judged_texts 
 abbrev pub GiveTexts : (List ℕ → Option (List ℕ)) → CheckCommand → (gr tree : List ℕ) → Type 0
 GiveTexts texts c gr tree = (texts c.graph.now ≡ Some gr) × (texts c.tree.now ≡ Some tree)
 
-abbrev pub SaysOf : (P : ℕ) → (all : Bool) → (gr tree : List ℕ) → Scene → Result Status Fault → Type 0
-SaysOf P true gr tree s result = TellsVerdicts P gr tree s result
-SaysOf P false gr tree s result = TellsVerdict P gr tree s result
+abbrev pub SaysOf : (P : ℕ) → (all : Bool) → (limit : Option ℕ) → (gr tree : List ℕ) → Scene → Result Status Fault → Type 0
+SaysOf P true limit gr tree s result = TellsVerdicts P limit gr tree s result
+SaysOf P false limit gr tree s result = TellsVerdict P limit gr tree s result
 
--- Some texts spell a graph and a tree, or with `all` trees, and exactly the text of the verdicts was written.
-abbrev pub SaysOfSome : (P : ℕ) → (all : Bool) → Scene → Status → Type 0
-SaysOfSome P true s status = (gr trees : List ℕ) × Told (TreesJudged P gr trees) judged_texts end_of s status
-SaysOfSome P false s status = (gr tree : List ℕ) × Told (TreeJudged P gr tree) verdict_text verdict_end s status
+-- Some texts spell a graph and a tree or a forest, or with `all` trees, and exactly the text of the verdicts was written.
+abbrev pub SaysOfSome : (P : ℕ) → (all : Bool) → (limit : Option ℕ) → Scene → Status → Type 0
+SaysOfSome P true limit s status = (gr trees : List ℕ) × Told (TreesJudged P limit gr trees) judged_texts end_of s status
+SaysOfSome P false limit s status = (gr tree : List ℕ) × Told (TreeJudged P limit gr tree) verdict_text verdict_end s status
 
--- The answer is the verdict on the tree of the second file, or with `all` the verdicts on its trees, against the graph
--- of the first file, where their texts are known; and if it succeeds, whatever is known of them, what belongs to some
--- texts.
+-- Where the layout has no distance as the limit, exactly that is told, with nothing written. Else the answer is the verdict on
+-- the tree or the forest of the second file, or with `all` the verdicts on its trees, against the graph of the first file,
+-- where their texts are known; and if it succeeds, whatever is known of them, what belongs to some texts.
 pub record IsCheckAnswer (P : ℕ) (c : CheckCommand) (s : Scene) (result : Result Status Fault) : Type 0 where
-  pub told : (gr tree : List ℕ) → GiveTexts s.files.text c gr tree → SaysOf P c.all gr tree s result
-  pub of_some : IfOk result (SaysOfSome P c.all s)
+  pub no_limit : ¬ (IsLimit P c.within.limit) → (result ≡ Err fault.LimitOutOfRange) × IsUnwritten s
+  pub told : IsLimit P c.within.limit → (gr tree : List ℕ) → GiveTexts s.files.text c gr tree → SaysOf P c.all c.within.limit gr tree s result
+  pub of_some : IfOk result (SaysOfSome P c.all c.within.limit s)
 
 abbrev pub CheckAnswers : (P : ℕ) → Meaning CheckCommand
 CheckAnswers P c s result = IsCheckAnswer P c s result
@@ -91,3 +94,8 @@ abbrev pub check_paths : CheckCommand → Paths
 check_paths c kind.Graph = Some c.graph.now
 check_paths c kind.Tree = Some c.tree.now
 check_paths c _ = None
+
+-- The layout may have no distance as the limit.
+abbrev pub check_faults : (P : ℕ) → CheckCommand → Fault → Type 0
+check_faults P c fault.LimitOutOfRange = ¬ (IsLimit P c.within.limit)
+check_faults P c _ = ⊥

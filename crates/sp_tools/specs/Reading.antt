@@ -7,8 +7,8 @@ use Rattle.sp_paths.specs.Paths.{Graph}
 use Rattle.sp_paths.specs.Bags.{AreSame}
 use Rattle.sp_dimacs.specs.declared.graphs.GrFile.{GrFile}
 use Rattle.sp_dimacs.specs.Graph.{graph_of, SpellsGraph, GraphRead}
-use Rattle.sp_answer.specs.Table.{TreeTable}
-use Rattle.sp_tree.specs.Reading.{TreeRead}
+use Rattle.sp_forest_file.specs.declared.either.TreeOrForest.{TreeOrForest}
+use Rattle.sp_forest_file.specs.TreeOrForest.{EitherRead}
 use Rattle.sp_replay.specs.declared.replays.ReplayFile.{ReplayFile}
 use Rattle.sp_replay.specs.ReplayFormat.{replay}
 use Rattle.sp_replay.specs.Replay.{IsReplay}
@@ -21,8 +21,8 @@ use Rattle.sp_command.specs.declared.faults.FileKind.TheVariants as kind
 abbrev pub GraphIn : (P : ℕ) → (text : List ℕ) → Result GrFile DimacsError → Type 0
 GraphIn P text result = (left : Option (List ℕ)) × (failed : Bool) × GraphRead P text left failed result
 
-abbrev pub TreeIn : (P : ℕ) → (text : List ℕ) → Result TreeTable DimacsError → Type 0
-TreeIn P text result = (left : Option (List ℕ)) × (failed : Bool) × TreeRead P text left failed result
+abbrev pub HeldIn : {P : ℕ} → (text : List ℕ) → Result (TreeOrForest P) DimacsError → Type 0
+HeldIn text result = (left : Option (List ℕ)) × (failed : Bool) × EitherRead text left failed result
 
 abbrev pub ReplayIn : {P : ℕ} → (text : List ℕ) → Result (ReplayFile P) DimacsError → Type 0
 ReplayIn text result = (left : Option (List ℕ)) × (failed : Bool) × ReplayRead text left failed result

@@ -1,5 +1,5 @@
 -- The verdicts of `check --all` on the blocks of a tree file, and its exit status.
-use Rattle.std.specs.Prelude.{◌≡◌, ℕ, Bool, true, false, List, [], ◌∷◌, ◌++◌, codes, decimal, if◌then◌else◌}
+use Rattle.std.specs.Prelude.{◌≡◌, ℕ, Bool, true, false, List, [], ◌∷◌, ◌++◌, codes, decimal, if◌then◌else◌, Option}
 use Rattle.sp_paths.specs.Paths.{Graph}
 use Rattle.sp_answer.specs.Table.{TreeTable}
 use Rattle.sp_cert.specs.Rules.{number_of}
@@ -15,11 +15,11 @@ use Rattle.sp_tools.specs.declared.check_all.Judged.{Judged}
 use Rattle.sp_tools.specs.Verdict.{IsVerdict}
 
 -- Each of these trees has its verdict, in their order, with its source.
-abbrev pub AreJudged : (P : ℕ) → Graph → List TreeTable → List Judged → Type 0
-AreJudged P g [] [] = Unit {0}
-AreJudged P g [] (judged ∷ more) = ⊥
-AreJudged P g (tree ∷ trees) [] = ⊥
-AreJudged P g (tree ∷ trees) (judged ∷ more) = (judged.source ≡ tree.source) × IsVerdict P g tree judged.verdict × AreJudged P g trees more
+abbrev pub AreJudged : (P : ℕ) → (limit : Option ℕ) → Graph → List TreeTable → List Judged → Type 0
+AreJudged P limit g [] [] = Unit {0}
+AreJudged P limit g [] (judged ∷ more) = ⊥
+AreJudged P limit g (tree ∷ trees) [] = ⊥
+AreJudged P limit g (tree ∷ trees) (judged ∷ more) = (judged.source ≡ tree.source) × IsVerdict P limit g tree judged.verdict × AreJudged P limit g trees more
 
 -- The fault is the first one of the file, or there was no memory.
 abbrev pub TellsFault : (P : ℕ) → (text : List ℕ) → (failed : Bool) → Fault → Type 0
@@ -28,8 +28,8 @@ TellsFault P text failed fault.Memory = Unit {0}
 TellsFault P text failed _ = ⊥
 
 -- The text is that of one tree or more, and each has its verdict.
-abbrev pub FileJudged : (P : ℕ) → Graph → (text : List ℕ) → List Judged → Type 0
-FileJudged P g text all = (trees : List TreeTable) × IsFile P text trees × AreJudged P g trees all
+abbrev pub FileJudged : (P : ℕ) → (limit : Option ℕ) → Graph → (text : List ℕ) → List Judged → Type 0
+FileJudged P limit g text all = (trees : List TreeTable) × IsFile P text trees × AreJudged P limit g trees all
 
 -- This is `yes`, or `no S V R`.
 abbrev pub text_of : (source : ℕ) → Verdict → List ℕ

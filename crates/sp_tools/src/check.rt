@@ -1,4 +1,4 @@
-//! `spt check`: checks whether a tree file holds the shortest-path tree of its source.
+//! `spt check`: checks whether a tree file holds the shortest-path tree of its source, or a forest's file that of its sources.
 ghost use Rattle.std.specs.Prelude.{◌≡◌, ◌≢◌, ℕ, List, ◌++◌, true, false, IfOk, IfErr};
 ghost use Rattle.sp_word.specs.Word.{is_layout};
 ghost use Rattle.sp_device.specs.Printing.{IsSending, Finished};
@@ -6,20 +6,23 @@ ghost use Rattle.sp_command.specs.Causes.{IsBorneOut};
 ghost use Rattle.sp_command.specs.Faults.{is_done};
 ghost use Rattle.sp_command.specs.Scene.{scene};
 ghost use Rattle.sp_command.specs.Answers.{Hinders};
-ghost use Rattle.sp_tools.specs.Verdict.{IsVerdict, verdict_text, verdict_end};
-ghost use Rattle.sp_tools.specs.CheckAnswers.{TreeJudged, IsTreeRefused, TellsVerdict, GiveTexts, SaysOfSome, CheckAnswers, check_paths};
-ghost use Rattle.sp_tools.specs.Early.{IsEarly, no_faults};
+ghost use Rattle.sp_tools.specs.Verdict.{IsVerdict, IsForestVerdict, IsVerdictOn, IsVerdictOf, verdict_text, verdict_end};
+ghost use Rattle.sp_tools.specs.CheckAnswers.{TreeJudged, IsTreeRefused, TellsVerdict, GiveTexts, SaysOfSome, CheckAnswers, check_paths, check_faults};
+ghost use Rattle.sp_options.specs.Within.{IsLimit};
+ghost use Rattle.sp_tools.specs.Early.{IsEarly};
 
 use crate::check_all::check_all_files;
 use crate::graphs::read_graph;
 use clap::{ArgMatches, Error};
-use sp_cert::{CheckError, Rule};
+use sp_cert::{CheckError, Rule, check, check_forest, check_within};
 use sp_command::{
     BuiltCommand, Command, Fault, FileKind, GRAPH_FILE, Inputs, Run, Status, after_help, file, flag,
 };
 use sp_device::{Printer, Write, WriteFault, finish, print_number, print_text};
+use sp_forest_file::{ForestFile, TreeOrForest, read_tree_or_forest};
 use sp_graph::Graph;
-use sp_tree::{Tree, read_tree};
+use sp_options::Within;
+use sp_tree::Tree;
 use std::alloc::{AllocError, Global};
 use std::sync::Wait;
 use std::thread::Threads;
@@ -33,15 +36,17 @@ pub struct CheckCommand<'a> {
     pub tree: &'a str,
     /// Whether the file may have several blocks, each of which is checked.
     pub all: bool,
+    /// The limit up to which the tree or the forest is checked, if there is one.
+    pub within: Within,
 }
 
 impl<'a> Command<'a> for CheckCommand<'a> {
     const NAME: &'static str = "check";
 
-    const ABOUT: &'static str = "Check a tree against its graph";
+    const ABOUT: &'static str = "Check a tree or a forest against its graph";
 
     const LONG_ABOUT: &'static str = "\
-Check a tree against its graph
+Check a tree or a forest against its graph
 
 The answer is `yes` where the file holds the shortest-path tree of its source
 and no vertex is too far for a word, whoever made the file. Else it is `no V R`,
@@ -56,10 +61,20 @@ such rule:
      an arc to V of exactly the difference of the two distances
   5  V has no line, and an arc leads to it from a vertex of the tree, beyond the
      greatest distance
+  6  the distance of V is above the limit
+  7  V is not a source, and its root is not its predecessor's root
 
-With --all the file has one block or more, as `spt tree` writes for several
-sources. Each is checked, and has a line of its own: `yes`, or `no S V R` with
-its source S.";
+With --within L it is `yes` where the file holds the part of the tree up to the
+distance L. Rule 3 then asks for offers up to L, and rule 5 for nothing.
+
+A file whose first line begins with `p near` is read as a forest, of `spt
+nearest`. Its sources are the vertices whose line has predecessor 0. Rule 1 then
+also asks that there are as many of them as the first line tells, and rule 2
+that each is its own root.
+
+With --all the file has one block of a tree or more, as `spt tree` writes for
+several sources. Each is checked, and has a line of its own: `yes`, or
+`no S V R` with its source S.";
 
     const AFTER_HELP: &'static str = after_help!(
         "\
@@ -67,13 +82,16 @@ The graph is a .gr file, as `spt tree --help` tells. The tree file has one block
 as `spt tree` writes it for a source, with one space between fields and an LF at
 the end of each line:
   p spt N S, then v V D P by rising V, then e R
+or the block of a forest of K sources, with the root S of each vertex:
+  p near N K, then v V D P S by rising V, then e R
 
 It takes as much memory as `spt tree` does for one source, and 16 bytes a vertex
-more; with --all 32 bytes a block besides.
+more, for a forest at most 32; with --all 32 bytes a block besides.
 
 Example: for the graph and the tree of the example there,
 `spt check diamond.gr diamond.tree` writes `yes`. With `v 4 5 3` for `v 4 5 2`
-it writes `no 4 3`, since vertex 2 offers the same distance.
+it writes `no 4 3`, since vertex 2 offers the same distance. With --within 4 the
+whole tree is `no 4 6`, since vertex 4 has distance 5.
 
 A fault is told with its line, as in `spt: tree: line 3: 5 OutOfRange V`, FILE
 being gr or tree; the kinds are those of `spt tree --help`. In a tree file
@@ -84,6 +102,7 @@ being gr or tree; the kinds are those of `spt tree --help`. In a tree file
   6 TooMany        something stands after the e line; with --all a further block
                    may, and anything else is told as what is wrong with that
   7 TooFew         the file ends before the e line
+A limit above the greatest distance of a word is told before a file is opened.
 ",
         statuses:
             0 "yes; with --all of each block"
@@ -96,22 +115,27 @@ being gr or tree; the kinds are those of `spt tree --help`. In a tree file
     fn build(alloc: Global) -> BuiltCommand<'a> {
         clap::Command::new(alloc, Self::NAME)
             .arg(file(alloc, "GR", GRAPH_FILE))?
-            .arg(file(alloc, "TREE", "The tree file"))?
+            .arg(file(alloc, "TREE", "The tree file, or that of a forest"))?
             .arg(flag(
                 alloc,
                 "all",
                 "Check each block of a file that has one or more",
-            ))
+            ))?
+            .arg(Within::option(alloc))
     }
 
-    fn read(_alloc: Global, given: &ArgMatches<'a>) -> Result<Option<Self>, Error> {
+    fn read(alloc: Global, given: &ArgMatches<'a>) -> Result<Option<Self>, Error> {
         let (Some(graph), Some(tree)) = (given.get_str("GR"), given.get_str("TREE")) else {
+            return Ok(None);
+        };
+        let Some(within) = Within::read(alloc, given)? else {
             return Ok(None);
         };
         Ok(Some(CheckCommand {
             graph,
             tree,
             all: given.get_flag("all"),
+            within,
         }))
     }
 
@@ -129,7 +153,7 @@ impl<const P: u32> Run<P> for CheckCommand<'_> {
 
     ghost paths = { check_paths };
 
-    ghost own_faults = { λ _. no_faults };
+    ghost own_faults = { check_faults P };
 
     fn run<R: Threads + Wait + Sync, F: Inputs, W: Write>(
         &self,
@@ -138,64 +162,70 @@ impl<const P: u32> Run<P> for CheckCommand<'_> {
         files: &F,
         out: &mut W,
     ) -> Result<Status, Fault> {
+        let limit = self.within.limit_for::<P>()?;
         if self.all {
-            check_all_files::<P, R, F, W>(rt, alloc, self, files, out)
+            check_all_files::<P, R, F, W>(rt, alloc, self, limit, files, out)
         } else {
-            check_file::<P, R, F, W>(rt, alloc, self, files, out)
+            check_file::<P, R, F, W>(rt, alloc, self, limit, files, out)
         }
     }
 }
 
-// Checks the tree against the graph, and writes the verdict.
+// Checks the tree or the forest against the graph, and writes the verdict.
 fn check_file<const P: u32, R: Threads + Sync, F: Inputs, W: Write>(
     rt: &R,
     alloc: Global,
     given: &CheckCommand<'_>,
+    limit: Option<u64>,
     files: &F,
     out: &mut W,
 ) -> Result<Status, Fault>
     requires layout { is_layout P ≡ true }
+    requires limit { IsLimit P limit }
     ensures answered { (gr tree : List ℕ) → GiveTexts (F.files files.now).text given.now gr tree
-        → TellsVerdict P gr tree
+        → TellsVerdict P limit gr tree
         (scene (F.files files.now)
         (W.written out.old) (W.written out.new) (W.has_failed out.new)) result }
-    ensures of_some { IfOk result (SaysOfSome P false
+    ensures of_some { IfOk result (SaysOfSome P false limit
         (scene (F.files files.now)
         (W.written out.old) (W.written out.new) (W.has_failed out.new))) }
-    ensures borne_out { IfErr result (IsBorneOut (check_paths given.now) no_faults
+    ensures borne_out { IfErr result (IsBorneOut (check_paths given.now) (check_faults P given.now)
         (scene (F.files files.now)
         (W.written out.old) (W.written out.new) (W.has_failed out.new))) }
     ensures done { IfOk result (λ status. is_done status ≡ true) }
     ensures unwritten { IfErr result (λ fault. fault ≢ Fault.WriteFailed → out.new ≡ out.old) }
 {
-    let verdict = find_verdict::<P, R, F>(rt, alloc, given, files)?;
+    let verdict = find_verdict::<P, R, F>(rt, alloc, given, limit, files)?;
     write_verdict(verdict, out)?;
     Ok(verdict.status())
 }
 
-// Returns the verdict on the tree in a file, against the graph in another.
+// Returns the verdict on the tree or the forest in a file, against the graph in another.
 fn find_verdict<const P: u32, R: Threads + Sync, F: Inputs>(
     rt: &R,
     alloc: Global,
     given: &CheckCommand<'_>,
+    limit: Option<u64>,
     files: &F,
 ) -> Result<Verdict, Fault>
-    requires { is_layout P ≡ true }
+    requires layout { is_layout P ≡ true }
+    requires limit { IsLimit P limit }
     ensures judged { (gr tree : List ℕ) → GiveTexts (F.files files.now).text given.now gr tree
-        → IfOk result (TreeJudged P gr tree) }
-    ensures found { IfOk result (λ verdict. (gr tree : List ℕ) × TreeJudged P gr tree verdict) }
+        → IfOk result (TreeJudged P limit gr tree) }
+    ensures found { IfOk result
+        (λ verdict. (gr tree : List ℕ) × TreeJudged P limit gr tree verdict) }
     ensures refused { (gr tree : List ℕ) → GiveTexts (F.files files.now).text given.now gr tree
         → IfErr result (Hinders (IsTreeRefused P gr tree)) }
     ensures early { IfErr result
-        (IsEarly (check_paths given.now) no_faults (F.files files.now)) }
+        (IsEarly (check_paths given.now) (check_faults P given.now) (F.files files.now)) }
 {
     let (mut gr, mut tree) = FileKind::Tree.open_with_graph(files, given.graph, given.tree)?;
     let graph = read_graph::<P, _>(alloc, &mut gr)?;
-    let tree = match read_tree::<P, _>(alloc, &mut tree) {
-        Ok(tree) => tree,
+    let held = match read_tree_or_forest::<P, _>(alloc, &mut tree) {
+        Ok(held) => held,
         Err(error) => return Err(FileKind::Tree.fault(error)),
     };
-    Ok(judge(rt, alloc, &graph, &tree)?)
+    Ok(judge_either(rt, alloc, &graph, &held, limit)?)
 }
 
 /// The verdict of the checker.
@@ -219,19 +249,62 @@ impl Verdict {
     }
 }
 
-/// Returns the verdict of the checker on a tree.
+// Returns the verdict that an answer of the checker tells.
+fn verdict_of(answer: Result<(), CheckError>) -> Result<Verdict, AllocError>
+    ensures { IfOk result (IsVerdictOf answer) }
+{
+    match answer {
+        Ok(()) => Ok(Verdict::Yes),
+        Err(CheckError::Fault { vertex, rule }) => Ok(Verdict::No { vertex, rule }),
+        Err(CheckError::Memory) => Err(AllocError),
+    }
+}
+
+/// Returns the verdict of the checker on a tree, up to the limit if there is one.
 pub fn judge<const P: u32, R: Threads + Sync>(
     rt: &R,
     alloc: Global,
     graph: &Graph,
     tree: &Tree<P>,
+    limit: Option<u64>,
 ) -> Result<Verdict, AllocError>
-    ensures { IfOk result (IsVerdict P graph.now tree.now) }
+    requires { IsLimit P limit }
+    ensures { IfOk result (IsVerdict P limit graph.now tree.now) }
 {
-    match sp_cert::check::<P, R>(rt, alloc, graph, tree) {
-        Ok(()) => Ok(Verdict::Yes),
-        Err(CheckError::Fault { vertex, rule }) => Ok(Verdict::No { vertex, rule }),
-        Err(CheckError::Memory) => Err(AllocError),
+    verdict_of(match limit {
+        Some(limit) => check_within::<P, R>(rt, alloc, graph, tree, limit),
+        None => check::<P, R>(rt, alloc, graph, tree),
+    })
+}
+
+// Returns the verdict of the checker on a forest.
+fn judge_forest<const P: u32, R: Threads + Sync>(
+    rt: &R,
+    alloc: Global,
+    graph: &Graph,
+    file: &ForestFile<P>,
+    limit: Option<u64>,
+) -> Result<Verdict, AllocError>
+    requires { IsLimit P limit }
+    ensures { IfOk result (IsForestVerdict P limit graph.now file.now.forest file.now.sources) }
+{
+    verdict_of(check_forest::<P, R>(rt, alloc, graph, &file.forest, file.sources, limit))
+}
+
+// Returns the verdict of the checker on a tree or a forest.
+fn judge_either<const P: u32, R: Threads + Sync>(
+    rt: &R,
+    alloc: Global,
+    graph: &Graph,
+    held: &TreeOrForest<P>,
+    limit: Option<u64>,
+) -> Result<Verdict, AllocError>
+    requires { IsLimit P limit }
+    ensures { IfOk result (IsVerdictOn limit graph.now held.now) }
+{
+    match held {
+        TreeOrForest::Tree(tree) => judge(rt, alloc, graph, tree, limit),
+        TreeOrForest::Forest(file) => judge_forest(rt, alloc, graph, file, limit),
     }
 }
 

@@ -7,9 +7,10 @@ ghost use Rattle.sp_command.specs.Causes.{IsBorneOut};
 ghost use Rattle.sp_command.specs.Faults.{is_done};
 ghost use Rattle.sp_command.specs.Scene.{scene};
 ghost use Rattle.sp_command.specs.Answers.{Hinders};
+ghost use Rattle.sp_options.specs.Within.{IsLimit};
 ghost use Rattle.sp_tools.specs.Verdicts.{FileJudged, TellsFault, judged_text, end_of};
-ghost use Rattle.sp_tools.specs.CheckAnswers.{TreesJudged, AreTreesRefused, TellsVerdicts, GiveTexts, SaysOfSome, check_paths};
-ghost use Rattle.sp_tools.specs.Early.{IsEarly, IsOfFile, no_faults};
+ghost use Rattle.sp_tools.specs.CheckAnswers.{TreesJudged, AreTreesRefused, TellsVerdicts, GiveTexts, SaysOfSome, check_paths, check_faults};
+ghost use Rattle.sp_tools.specs.Early.{IsEarly, IsOfFile};
 
 use crate::check::{CheckCommand, Verdict, judge};
 use crate::graphs::read_graph;
@@ -34,24 +35,26 @@ pub fn check_all_files<const P: u32, R: Threads + Sync, F: Inputs, W: Write>(
     rt: &R,
     alloc: Global,
     given: &CheckCommand<'_>,
+    limit: Option<u64>,
     files: &F,
     out: &mut W,
 ) -> Result<Status, Fault>
     requires layout { is_layout P ≡ true }
+    requires limit { IsLimit P limit }
     ensures answered { (gr tree : List ℕ) → GiveTexts (F.files files.now).text given.now gr tree
-        → TellsVerdicts P gr tree
+        → TellsVerdicts P limit gr tree
         (scene (F.files files.now)
         (W.written out.old) (W.written out.new) (W.has_failed out.new)) result }
-    ensures of_some { IfOk result (SaysOfSome P true
+    ensures of_some { IfOk result (SaysOfSome P true limit
         (scene (F.files files.now)
         (W.written out.old) (W.written out.new) (W.has_failed out.new))) }
-    ensures borne_out { IfErr result (IsBorneOut (check_paths given.now) no_faults
+    ensures borne_out { IfErr result (IsBorneOut (check_paths given.now) (check_faults P given.now)
         (scene (F.files files.now)
         (W.written out.old) (W.written out.new) (W.has_failed out.new))) }
     ensures done { IfOk result (λ status. is_done status ≡ true) }
     ensures unwritten { IfErr result (λ fault. fault ≢ Fault.WriteFailed → out.new ≡ out.old) }
 {
-    let all = find_verdicts::<P, R, F>(rt, alloc, given, files)?;
+    let all = find_verdicts::<P, R, F>(rt, alloc, given, limit, files)?;
     write_verdicts(&all, out)?;
     Ok(status_of(&all))
 }
@@ -61,21 +64,23 @@ fn find_verdicts<const P: u32, R: Threads + Sync, F: Inputs>(
     rt: &R,
     alloc: Global,
     given: &CheckCommand<'_>,
+    limit: Option<u64>,
     files: &F,
 ) -> Result<Vec<Judged>, Fault>
-    requires { is_layout P ≡ true }
+    requires layout { is_layout P ≡ true }
+    requires limit { IsLimit P limit }
     ensures judged { (gr tree : List ℕ) → GiveTexts (F.files files.now).text given.now gr tree
-        → IfOk result (λ all. TreesJudged P gr tree all.items) }
+        → IfOk result (λ all. TreesJudged P limit gr tree all.items) }
     ensures found { IfOk result
-        (λ all. (gr trees : List ℕ) × TreesJudged P gr trees all.items) }
+        (λ all. (gr trees : List ℕ) × TreesJudged P limit gr trees all.items) }
     ensures refused { (gr tree : List ℕ) → GiveTexts (F.files files.now).text given.now gr tree
         → IfErr result (Hinders (AreTreesRefused P gr tree)) }
     ensures early { IfErr result
-        (IsEarly (check_paths given.now) no_faults (F.files files.now)) }
+        (IsEarly (check_paths given.now) (check_faults P given.now) (F.files files.now)) }
 {
     let (mut gr, mut trees) = FileKind::Tree.open_with_graph(files, given.graph, given.tree)?;
     let graph = read_graph::<P, _>(alloc, &mut gr)?;
-    judge_blocks::<P, R, _>(rt, alloc, &graph, &mut trees)
+    judge_blocks::<P, R, _>(rt, alloc, &graph, limit, &mut trees)
 }
 
 // Returns the verdict on each block of a tree file.
@@ -83,12 +88,15 @@ fn judge_blocks<const P: u32, R: Threads + Sync, D: Read>(
     rt: &R,
     alloc: Global,
     graph: &Graph,
+    limit: Option<u64>,
     trees: &mut D,
 ) -> Result<Vec<Judged>, Fault>
-    requires { is_layout P ≡ true }
+    requires layout { is_layout P ≡ true }
+    requires limit { IsLimit P limit }
     ensures judged { (text : List ℕ) → D.left trees.old ≡ Some text
-        → IfOk result (λ all. FileJudged P graph.now text all.items) }
-    ensures found { IfOk result (λ all. (text : List ℕ) × FileJudged P graph.now text all.items) }
+        → IfOk result (λ all. FileJudged P limit graph.now text all.items) }
+    ensures found { IfOk result
+        (λ all. (text : List ℕ) × FileJudged P limit graph.now text all.items) }
     ensures refused { (text : List ℕ) → D.left trees.old ≡ Some text
         → IfErr result (TellsFault P text (D.has_failed trees.new)) }
     ensures told { D.has_failed trees.old ≡ false
@@ -99,7 +107,7 @@ fn judge_blocks<const P: u32, R: Threads + Sync, D: Read>(
     loop {
         match blocks.next(trees) {
             Ok(Some(tree)) => {
-                let verdict = judge(rt, alloc, graph, &tree)?;
+                let verdict = judge(rt, alloc, graph, &tree, limit)?;
                 let source = tree.source();
                 if all.push(Judged { source, verdict }).is_err() {
                     return Err(Fault::Memory);

@@ -1,6 +1,7 @@
 //! Reads the graph of a file.
 ghost use Rattle.std.specs.Prelude.{◌≡◌, ℕ, List, Some, true, IfOk, IfErr};
 ghost use Rattle.sp_word.specs.Word.{is_layout};
+ghost use Rattle.sp_paths.specs.Paths.{IsGraph};
 ghost use Rattle.sp_tools.specs.Early.{IsOfFile};
 ghost use Rattle.sp_tools.specs.Reading.{IsGraphIn, IsGraphFault};
 
@@ -16,6 +17,7 @@ pub fn read_graph<const P: u32, D: Read>(alloc: Global, gr: &mut D) -> Result<Gr
     ensures graph { (text : List ℕ) → D.left gr.old ≡ Some text
         → IfOk result (IsGraphIn P text) }
     ensures found { IfOk result (λ graph. (text : List ℕ) × IsGraphIn P text graph) }
+    ensures sound { IfOk result IsGraph }
     ensures refused { (text : List ℕ) → D.left gr.old ≡ Some text
         → IfErr result (IsGraphFault P text) }
     ensures told { IfErr result (IsOfFile FileKind.Graph (D.failing gr.old)) }

@@ -1,4 +1,4 @@
-use Rattle.sp_cert.proofs.Checker.{rules_are_exact}
+use Rattle.sp_cert.proofs.Exact.{rules_are_exact}
 use Rattle.sp_cert.proofs.laws.checked_table.Goals as goal
 
 pub returns : goal.returns

@@ -6,7 +6,7 @@ use Rattle.sp_tools.proofs.check_all.judge_blocks.Given as goal
 
 abbrev pub invariant-loop-tree : goal.invariant-loop-tree
 invariant-loop-tree g l = record {
-  verdicts : HaveVerdicts g.D.Read l.fn.graph (g.D.Read.left l.fn.trees) l.blocks l.trees l.all.items;
+  verdicts : HaveVerdicts g.D.Read l.fn.limit l.fn.graph (g.D.Read.left l.fn.trees) l.blocks l.trees l.all.items;
   lasting : g.D.Read.failing l.trees ≡ g.D.Read.failing l.fn.trees;
   sound : g.D.Read.has_failed l.fn.trees ≡ false → g.D.Read.failing l.fn.trees ≡ Never → g.D.Read.has_failed l.trees ≡ false;
 }
