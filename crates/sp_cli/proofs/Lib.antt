@@ -2,3 +2,4 @@ pub mod Opening
 pub mod Near
 pub mod Told
 pub mod ToldOfMatrix
+pub mod ToldOfNearest

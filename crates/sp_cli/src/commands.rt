@@ -3,6 +3,7 @@
 //! Each command is a type in a file of its own, in this crate or in one below, with its arguments, its help and what it does. To add a
 //! command, write such a file, and put its type into `AnyCommand`.
 use crate::matrix::MatrixCommand;
+use crate::nearest::NearestCommand;
 use crate::pairs::PairsCommand;
 use crate::tree::TreeCommand;
 use sp_command::OneOf;
@@ -15,7 +16,10 @@ pub type AnyCommand<'a> = OneOf<
         PairsCommand<'a>,
         OneOf<
             MatrixCommand<'a>,
-            OneOf<CheckCommand<'a>, OneOf<ReplayCommand<'a>, OffersCommand<'a>>>,
+            OneOf<
+                NearestCommand<'a>,
+                OneOf<CheckCommand<'a>, OneOf<ReplayCommand<'a>, OffersCommand<'a>>>,
+            >,
         >,
     >,
 >;

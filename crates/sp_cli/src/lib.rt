@@ -1,12 +1,13 @@
 //! The program `spt`, over any files and any streams.
 //!
-//! This crate has the commands `tree`, `pairs` and `matrix`, and `sp_tools` has the others. `run_command` runs the command that a command line
+//! This crate has the commands `tree`, `pairs`, `matrix` and `nearest`, and `sp_tools` has the others. `run_command` runs the command that a command line
 //! names, by `sp_order`, which does so for any type of commands.
 #![tactic(auto)]
 
 mod commands;
 mod context;
 mod matrix;
+mod nearest;
 mod pairs;
 mod run;
 mod tree;
