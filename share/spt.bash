@@ -2,7 +2,7 @@
 _spt() {
     local words='' word=${COMP_WORDS[COMP_CWORD]}
     if [ "$COMP_CWORD" = 1 ]; then
-        mapfile -t COMPREPLY < <(compgen -W 'tree pairs matrix check replay offers help --help --version' -- "$word")
+        mapfile -t COMPREPLY < <(compgen -W 'tree pairs matrix nearest check replay offers help --help --version' -- "$word")
         return
     fi
     case ${COMP_WORDS[COMP_CWORD - 1]} in
@@ -22,6 +22,7 @@ _spt() {
         tree) words='--source --sources --within --delta --workers --far-ok --progress --pred-bits --output --help' ;;
         pairs) words='--delta --workers --far-ok --progress --pred-bits --output --help' ;;
         matrix) words='--source --sources --delta --workers --far-ok --progress --pred-bits --output --help' ;;
+        nearest) words='--source --sources --within --delta --workers --far-ok --progress --pred-bits --output --help' ;;
         check) words='--all --pred-bits --output --help' ;;
         replay) words='--svg --pred-bits --output --help' ;;
         offers) words='--pred-bits --output --help' ;;

@@ -61,6 +61,7 @@ def cases(folder, vertices):
     asked = put(f"{folder}/all.pairs", f"p pairs {vertices}\n" + "".join(f"q 1 {it}\n" for it in rows))
     targets = put(f"{folder}/all.ss", f"p aux sp ss {vertices}\n" + "".join(f"s {it}\n" for it in rows))
     told = "".join("d 1 {} {} {}\n".format(it, *words[it]) if it in words else f"n 1 {it}\n" for it in rows)
+    forest = f"p near {vertices} 1\n" + "".join("v {} {} {} 1\n".format(it, *words[it]) for it in sorted(words)) + f"e {len(words)}\n"
     for workers in ("1", "4"):
         crew = ("--delta", str(mean), "--workers", workers)
         named = "1 worker" if workers == "1" else f"{workers} workers"
@@ -69,6 +70,7 @@ def cases(folder, vertices):
         yield Case(f"tree within a distance, {named}", within, trees.block(vertices, 1, near, None), 0, {"gr": graph, "ss": sources})
         yield Case(f"pairs, {named}", ("pairs", graph, asked, *crew), told, 0, {"gr": graph, "pairs": asked})
         yield Case(f"matrix, {named}", ("matrix", graph, sources, targets, *crew), told, 0, {"gr": graph, "ss": sources, "targets": targets})
+        yield Case(f"nearest, {named}", ("nearest", graph, sources, *crew), forest, 0, {"gr": graph, "ss": sources})
     yield Case("check", ("check", graph, tree), "yes\n", 0, {"gr": graph, "tree": tree})
     offers = "".join(f"o 1 {it} {it} 1\n" for it in rows)
     kept = "".join(f"w {it} {it} 1\n" for it in rows)

@@ -158,6 +158,11 @@ def commands(folder):
             (0, "d 1 1 0 0\nd 1 4 5 2\nn 4 1\nd 4 4 0 0\n", ""), ends_short)
         yield ["matrix", f"{folder}/long.gr", f"{folder}/last.ss", "--source", "1", "--source", "17", *crew], (
             (4, "x 1 18\nd 17 18 15 17\n", ""), ends_short)
+        yield ["nearest", "examples/diamond.gr", "examples/depots.ss", *crew], (
+            (0, "p near 4 2\nv 1 0 0 1\nv 2 3 1 1\nv 3 0 0 3\nv 4 2 3 3\ne 4\n", ""), says_nothing_else)
+        yield ["nearest", f"{folder}/long.gr", "--source", "1", *crew], ((4, "x 18\n", ""), says_nothing_else)
+        yield ["nearest", f"{folder}/long.gr", f"{folder}/long.ss", "--within", far, *crew], (
+            (0, f"p near 18 1\nv 1 0 0 1\nv 2 {far} 1 1\ne 2\n", ""), says_nothing_else)
     # a reader takes no memory by what is announced
     yield ["tree", f"{folder}/announced.gr", f"{folder}/long.ss", "--delta", far], (
         (2, "", f"spt: gr: line 2: 7 TooFew\nspt: {folder}/announced.gr: {MORE}\n"), words_end_short)

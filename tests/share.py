@@ -61,7 +61,7 @@ def compare_files(count):
 
 def complete_words(count):
     count.of("completion of a command", completed("spt", "tr") == ["tree"])
-    count.of("completion of all commands", {"tree", "pairs", "matrix", "check", "replay", "offers"} <= set(completed("spt", "")))
+    count.of("completion of all commands", {"tree", "pairs", "matrix", "nearest", "check", "replay", "offers"} <= set(completed("spt", "")))
     count.of("completion of an option", completed("spt", "tree", "--wo") == ["--workers"])
     count.of("completion of an option whose value has a hyphen", completed("spt", "tree", "--sources") == ["--sources"])
     count.of("no completion of places", completed("spt", "tree", "--sources", "") == [])

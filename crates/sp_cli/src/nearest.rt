@@ -75,10 +75,10 @@ or, where a vertex with an arc from one within the greatest distance of a word
 lies beyond it, one line that names the smallest such V (exit status 4):
   x V
 With --within L vertices farther than L have no line; there is no such x line,
-and no run goes farther than L.
+and the run goes no farther.
 
-It makes one run, and takes at most 32 bytes of memory a vertex, 24 an arc, 4 a
-source, and 4 MB.
+It makes one run, and takes as much memory as `spt tree` does for one source,
+and at most 16 bytes a vertex more.
 
 Example: where diamond.gr is the graph of the example of `spt tree --help`, and
 depots.ss has the lines
@@ -197,7 +197,8 @@ impl NearestCommand<'_> {
             (ForestInSome P self.now.options.far_ok context.now.limit (InText list.now.places)
             (scene (F.files context.now.files.now)
             (W.written out.old) (W.written out.new) (W.has_failed out.new))) }
-        ensures borne_out { IfErr result (IsBorneOut (nearest_paths self.now) (nearest_faults P self.now)
+        ensures borne_out { IfErr result
+            (IsBorneOut (nearest_paths self.now) (nearest_faults P self.now)
             (scene (F.files context.now.files.now)
             (W.written out.old) (W.written out.new) (W.has_failed out.new))) }
         ensures done { IfOk result (λ status. is_done status ≡ true) }
@@ -229,10 +230,12 @@ impl NearestCommand<'_> {
             self.now.graph.now given.now.list.items (scene (F.files context.now.files.now)
             (W.written out.old) (W.written out.new) (W.has_failed out.new)) result }
         ensures of_some { IfOk result
-            (ForestInSome P self.now.options.far_ok context.now.limit (λ _. These given.now.list.items)
+            (ForestInSome P self.now.options.far_ok context.now.limit
+            (λ _. These given.now.list.items)
             (scene (F.files context.now.files.now)
             (W.written out.old) (W.written out.new) (W.has_failed out.new))) }
-        ensures borne_out { IfErr result (IsBorneOut (nearest_paths self.now) (nearest_faults P self.now)
+        ensures borne_out { IfErr result
+            (IsBorneOut (nearest_paths self.now) (nearest_faults P self.now)
             (scene (F.files context.now.files.now)
             (W.written out.old) (W.written out.new) (W.has_failed out.new))) }
         ensures done { IfOk result (λ status. is_done status ≡ true) }
@@ -271,7 +274,8 @@ impl NearestCommand<'_> {
             (ForestOfSome P self.now.options.far_ok context.now.limit self.now.sources
             (scene (F.files context.now.files.now)
             (W.written out.old) (W.written out.new) (W.has_failed out.new))) }
-        ensures borne_out { IfErr result (IsBorneOut (nearest_paths self.now) (nearest_faults P self.now)
+        ensures borne_out { IfErr result
+            (IsBorneOut (nearest_paths self.now) (nearest_faults P self.now)
             (scene (F.files context.now.files.now)
             (W.written out.old) (W.written out.new) (W.has_failed out.new))) }
         ensures done { IfOk result (λ status. is_done status ≡ true) }

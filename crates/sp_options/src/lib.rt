@@ -1,4 +1,4 @@
-//! The options that `tree`, `pairs` and `matrix` share, the sources of `tree`, the lists of `matrix`, reports of a command's
+//! The options that commands share which run from sources, their sources, the lists of `matrix`, reports of a command's
 //! progress, and the way in which a run from sources ends.
 #![tactic(auto)]
 

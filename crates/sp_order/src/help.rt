@@ -18,7 +18,7 @@ system's reason or what makes plain text of a file, a second line says it.
         1 "the command line is wrong"
         2 "a file is refused"
         3 "check: the tree is not the one of its source"
-        4 "tree, pairs, matrix: a vertex is too far, without --far-ok; all else is\n     written";
+        4 "tree, pairs, matrix, nearest: a vertex is too far, without --far-ok; all\n     else is written";
         "a file" "the output",
     example: "
 

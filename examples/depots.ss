@@ -1,0 +1,4 @@
+c The nearest of these two.
+p aux sp ss 2
+s 1
+s 3
