@@ -22,14 +22,14 @@ none_far P limit g (s ∷ sources) (TreeOf t ∷ answers) are =
     sum_by-cons (λ (b : Answer). cond (is_far b) 1 0) (TreeOf t) answers ∙ omega (arith, none_far P limit g sources answers are.1)
 none_far P limit g (s ∷ sources) (FarFrom source vertex ∷ answers) are = absurd are.0
 
-done_where_none : (far_ok : Bool) (summary : Summary) → summary.too_far ≡ 0 → end_of far_ok summary ≡ status.Done
+pub done_where_none : (far_ok : Bool) (summary : Summary) → summary.too_far ≡ 0 → end_of far_ok summary ≡ status.Done
 done_where_none true summary none = refl
 done_where_none false summary none = rw none refl
 
 done : (P : ℕ) (far_ok : Bool) (limit : ℕ) (graph : GrFile) (sources : List ℕ) (s : Scene) (end : Status) → AreTreesWritten P far_ok (Some limit) graph sources s end → end ≡ status.Done
 done P far_ok limit graph sources s end written = written.ends ∙ done_where_none far_ok written.summary (written.counts.too_far ∙ none_far P limit _ sources written.answers written.are)
 
-without_limit : (end : Status) → EndsNear (Ok end) None
+pub without_limit : (end : Status) → EndsNear (Ok end) None
 without_limit status.TooFar = tt
 without_limit _ = tt
 

@@ -1,5 +1,5 @@
 -- From what the job of a forest answers to what its command tells.
-use Rattle.std.proofs.Common.{◌≡◌, ℕ, Bool, List, [], ◌∙◌, Option, Some, Result, Ok, Err, refl}
+use Rattle.std.proofs.Common.{◌≡◌, ℕ, Bool, List, [], ◌∙◌, Option, None, Some, Result, Ok, Err, refl, sym, subst}
 use Rattle.std.specs.Prelude.{IfOk, IfErr}
 use Rattle.sp_device.specs.Failing.{Failing, Anytime}
 use Rattle.sp_device.specs.declared.devices.Read.{Ghosts as Reader}
@@ -8,15 +8,21 @@ use Rattle.sp_job.specs.declared.answers.Summary.{Summary}
 use Rattle.sp_job.specs.declared.answers.BatchError.{BatchError}
 use Rattle.sp_job.specs.declared.answers.BatchError.TheVariants.{Gr, Ss, Targets, Pairs, NoSuchVertex, Memory, Write}
 use Rattle.sp_job.specs.Places.{part_of}
+use Rattle.sp_paths.specs.Paths.{Graph}
+use Rattle.sp_dimacs.specs.declared.graphs.GrFile.{GrFile}
+use Rattle.sp_nearest.specs.Nearest.{Answer, ForestOf, FarFromAll, IsAnswerTo, far_count}
 use Rattle.sp_nearest.specs.Answered.{ForestAnswered, ForestOfSome as OfSomeTexts, GivenAnswered, GivenOfSome, MayFail}
 use Rattle.sp_command.specs.declared.faults.Fault.{Fault}
 use Rattle.sp_command.specs.declared.faults.Fault.TheVariants as fault
 use Rattle.sp_command.specs.declared.faults.FileKind.TheVariants as file
 use Rattle.sp_command.specs.Causes.{Paths, IsBorneOut}
-use Rattle.sp_command.specs.Scene.{Files, scene}
-use Rattle.sp_cli.specs.Answers.{InText, These}
-use Rattle.sp_cli.specs.NearestAnswers.{ForestTold, ForestInSome}
+use Rattle.sp_command.specs.declared.faults.Status.{Status}
+use Rattle.sp_command.specs.declared.faults.Status.TheVariants as status
+use Rattle.sp_command.specs.Scene.{Scene, Files, scene}
+use Rattle.sp_cli.specs.Answers.{Asked, InText, These, EndsNear}
+use Rattle.sp_cli.specs.NearestAnswers.{IsForestWritten, ForestTold, ForestInSome}
 use Rattle.sp_cli.proofs.Told.{end_after}
+use Rattle.sp_cli.proofs.Near.{done_where_none, without_limit}
 
 -- What the job answers to two texts is what `nearest` tells of them.
 pub after_nearest : {G S W : Type 0} (P : ℕ) (far_ok : Bool) (places : Option (ℕ × ℕ)) (limit : Option ℕ) (gr_text ss_text : List ℕ) (files : Files) (g : Reader G) (gr : G) (s : Reader S) (ss : S) (w : Writer W) (old new : W) (answer : Result Summary BatchError)
@@ -87,3 +93,17 @@ given_nearest_borne_out P far_ok limit sources paths own files graph gr w old ne
 given_nearest_borne_out P far_ok limit sources paths own files graph gr w old new (Err (Ss e)) graph_is gr_fails vertex may (_, _, _, is) = absurd is
 given_nearest_borne_out P far_ok limit sources paths own files graph gr w old new (Err (Targets e)) graph_is gr_fails vertex may (_, _, _, is) = absurd is
 given_nearest_borne_out P far_ok limit sources paths own files graph gr w old new (Err (Pairs e)) graph_is gr_fails vertex may (_, _, _, is) = absurd is
+
+-- With a limit no vertex is too far, so the command ends as one that is done.
+none_far : (P limit : ℕ) (g : Graph) (sources : List ℕ) (answer : Answer) → IsAnswerTo P g sources (Some limit) answer → far_count answer ≡ 0
+none_far P limit g sources (ForestOf f) is = refl
+none_far P limit g sources (FarFromAll v) is = absurd is
+
+done : (P : ℕ) (far_ok : Bool) (limit : ℕ) (graph : GrFile) (sources : List ℕ) (s : Scene) (end : Status) → IsForestWritten P far_ok (Some limit) graph sources s end → end ≡ status.Done
+done P far_ok limit graph sources s end written = written.ends ∙ done_where_none far_ok written.summary (written.counts.too_far ∙ none_far P limit _ sources written.answer written.is)
+
+pub forest_ends_near : (P : ℕ) (far_ok : Bool) (limit : Option ℕ) (asked : List ℕ → Asked) (s : Scene) (result : Result Status Fault) → IfOk result (ForestInSome P far_ok limit asked s) → EndsNear result limit
+forest_ends_near P far_ok limit asked s (Err why) some = tt
+forest_ends_near P far_ok None asked s (Ok end) some = without_limit end
+forest_ends_near P far_ok (Some limit) asked s (Ok end) (gr, ss, (read, written)) =
+    subst (λ x. EndsNear (Ok x) (Some limit)) (sym (done P far_ok limit read.graph read.sources s end written)) tt

@@ -13,7 +13,7 @@ use Rattle.sp_command.specs.declared.faults.Fault.TheVariants as fault
 use Rattle.sp_command.specs.declared.faults.Status.{Status}
 use Rattle.sp_command.specs.Scene.{Scene, Meaning, HasText, IsUnwritten}
 use Rattle.sp_tools.specs.Reading.{GraphIn}
-use Rattle.sp_cli.specs.Answers.{HoldsGraph, Asked, InText, These, AreRefused, HasGraphAndSources, LackPlaces}
+use Rattle.sp_cli.specs.Answers.{HoldsGraph, Asked, InText, These, AreRefused, HasGraphAndSources, LackPlaces, EndsNear}
 use Rattle.sp_cli.specs.declared.nearest.NearestCommand.{NearestCommand}
 use Rattle.sp_options.specs.declared.sources.Sources.{Sources}
 use Rattle.sp_options.specs.declared.sources.Sources.TheVariants.{File, Part, Given}
@@ -83,12 +83,13 @@ ForestOfSome P far_ok limit (Given given) s status = ForestInSome P far_ok limit
 
 -- What `nearest` answers: where the layout has no such width, or else no such distance as the limit, exactly that, with nothing written;
 -- else what belongs to the texts of its files, where they are known; and if it succeeds, whatever is known of them, what belongs
--- to some texts. With a limit no vertex is told to be too far.
+-- to some texts.
 pub record IsNearestAnswer (P : ℕ) (given : NearestCommand) (s : Scene) (result : Result Status Fault) : Type 0 where
   pub no_width : ¬ (IsBucket P given.options.width) → (result ≡ Err fault.DeltaOutOfRange) × IsUnwritten s
   pub no_limit : IsBucket P given.options.width → ¬ (IsLimit P given.within.limit) → (result ≡ Err fault.LimitOutOfRange) × IsUnwritten s
   pub told : IsBucket P given.options.width → IsLimit P given.within.limit → ForestOf P given.options.far_ok given.within.limit given.graph.now given.sources s result
   pub of_some : IfOk result (ForestOfSome P given.options.far_ok given.within.limit given.sources s)
+  pub near : EndsNear result given.within.limit
 
 abbrev pub NearestAnswers : (P : ℕ) → Meaning NearestCommand
 NearestAnswers P given s result = IsNearestAnswer P given s result

@@ -5,7 +5,7 @@ ghost use Rattle.sp_word.specs.Word.{is_layout};
 ghost use Rattle.sp_command.specs.Faults.{is_done, is_early};
 ghost use Rattle.sp_command.specs.Causes.{IsBorneOut};
 ghost use Rattle.sp_command.specs.Scene.{scene};
-ghost use Rattle.sp_cli.specs.Answers.{InText, These};
+ghost use Rattle.sp_cli.specs.Answers.{InText, These, EndsNear};
 ghost use Rattle.sp_cli.specs.NearestAnswers.{NearestAnswers, ForestOf, ForestOfFile, ForestOfGiven, ForestOfSome, ForestInSome, nearest_paths, nearest_faults};
 ghost use Rattle.sp_options.specs.Sources.{path_of};
 ghost use Rattle.sp_options.specs.Ends.{end_of, fault_of};
@@ -201,6 +201,7 @@ impl NearestCommand<'_> {
             (IsBorneOut (nearest_paths self.now) (nearest_faults P self.now)
             (scene (F.files context.now.files.now)
             (W.written out.old) (W.written out.new) (W.has_failed out.new))) }
+        ensures near { EndsNear result context.now.limit }
         ensures done { IfOk result (λ status. is_done status ≡ true) }
         ensures untouched { IfErr result (λ fault. is_early fault ≡ true → out.new ≡ out.old) }
     {
@@ -238,6 +239,7 @@ impl NearestCommand<'_> {
             (IsBorneOut (nearest_paths self.now) (nearest_faults P self.now)
             (scene (F.files context.now.files.now)
             (W.written out.old) (W.written out.new) (W.has_failed out.new))) }
+        ensures near { EndsNear result context.now.limit }
         ensures done { IfOk result (λ status. is_done status ≡ true) }
         ensures untouched { IfErr result (λ fault. is_early fault ≡ true → out.new ≡ out.old) }
     {
@@ -278,6 +280,7 @@ impl NearestCommand<'_> {
             (IsBorneOut (nearest_paths self.now) (nearest_faults P self.now)
             (scene (F.files context.now.files.now)
             (W.written out.old) (W.written out.new) (W.has_failed out.new))) }
+        ensures near { EndsNear result context.now.limit }
         ensures done { IfOk result (λ status. is_done status ≡ true) }
         ensures untouched { IfErr result (λ fault. is_early fault ≡ true → out.new ≡ out.old) }
     {

@@ -6,7 +6,7 @@ use Rattle.sp_cli.specs.Answers.{InText}
 use Rattle.sp_cli.specs.NearestAnswers.{ForestTold, ForestInSome, nearest_paths, nearest_faults}
 use Rattle.sp_cli.proofs.Opening.{no_sources, two_borne_out}
 use Rattle.sp_cli.proofs.Told.{after_end}
-use Rattle.sp_cli.proofs.ToldOfNearest.{after_nearest, nearest_of_some, nearest_borne_out}
+use Rattle.sp_cli.proofs.ToldOfNearest.{forest_ends_near, after_nearest, nearest_of_some, nearest_borne_out}
 use Rattle.sp_cli.proofs.nearest.NearestCommand.run_file.Goals as goal
 
 pub returns-clause-answered : goal.returns-clause-answered
@@ -37,3 +37,8 @@ returns-in_err-gr-clause-borne_out g c =
     let is : c.from_residual.result ≡ Err c.in_err-gr.field-0.0 = search rules in
     two_borne_out (nearest_paths c.args.self.now) (nearest_faults g.row.P c.args.self.now) (g.F.Inputs.files c.args.context.now.files.now) (g.W.Write.written c.args.out.now) (g.W.Write.written c.args.out.now) (g.W.Write.has_failed c.args.out.now) file.Sources c.args.self.now.graph.now c.args.list.now.path.now c.in_err-gr.field-0.0 c.from_residual.result
     no_sources refl c.requires.path is c.in_err-gr.ensures.once c.in_err-gr.ensures.closed
+
+pub returns-clause-near : goal.returns-clause-near
+returns-clause-near g c =
+    forest_ends_near g.row.P c.args.self.now.options.far_ok c.args.context.now.limit (InText c.args.list.now.places)
+    (scene (g.F.Inputs.files c.args.context.now.files.now) (g.W.Write.written c.args.out.now) (g.W.Write.written c.run_nearest_told-answer.new.out) (g.W.Write.has_failed c.run_nearest_told-answer.new.out)) c.end.result (returns-clause-of_some g c)

@@ -4,7 +4,7 @@ use Rattle.sp_command.specs.Scene.{scene}
 use Rattle.sp_cli.specs.Answers.{These}
 use Rattle.sp_cli.specs.NearestAnswers.{ForestTold, ForestInSome, nearest_paths, nearest_faults}
 use Rattle.sp_cli.proofs.Told.{after_end}
-use Rattle.sp_cli.proofs.ToldOfNearest.{after_given_nearest, given_nearest_of_some, given_nearest_borne_out}
+use Rattle.sp_cli.proofs.ToldOfNearest.{forest_ends_near, after_given_nearest, given_nearest_of_some, given_nearest_borne_out}
 use Rattle.sp_cli.proofs.nearest.NearestCommand.run_given.Goals as goal
 
 pub returns-clause-answered : goal.returns-clause-answered
@@ -32,3 +32,8 @@ returns-clause-borne_out g c =
     after_end c.args.self.now.options.far_ok (λ r. IfErr r (IsBorneOut (nearest_paths c.args.self.now) (nearest_faults g.row.P c.args.self.now) (scene files (g.W.Write.written c.args.out.now) (g.W.Write.written ran.new.out) (g.W.Write.has_failed ran.new.out)))) ran.result c.end.result c.end.ensures
     (given_nearest_borne_out g.row.P c.args.self.now.options.far_ok c.args.context.now.limit c.args.given.now.list.items (nearest_paths c.args.self.now) (nearest_faults g.row.P c.args.self.now) files c.args.self.now.graph.now _ g.W.Write c.args.out.now ran.new.out ran.result
     refl (c.new-gr.ensures.failing ∙ c.in_ok-gr.ensures.opened.failing) (λ v. tt) ran.ensures.may_fail found)
+
+pub returns-clause-near : goal.returns-clause-near
+returns-clause-near g c =
+    forest_ends_near g.row.P c.args.self.now.options.far_ok c.args.context.now.limit (λ ss. These c.args.given.now.list.items)
+    (scene (g.F.Inputs.files c.args.context.now.files.now) (g.W.Write.written c.args.out.now) (g.W.Write.written c.run_nearest_given_told-answer.new.out) (g.W.Write.has_failed c.run_nearest_given_told-answer.new.out)) c.end.result (returns-clause-of_some g c)
