@@ -3,13 +3,14 @@
 
 Usage: python3 bench/matrix.py [--vertices N] [--side K] [--workers W] [--runs R] [--rows S] [--program PROGRAM]
 
-On a road-like graph, K sources and K targets that lie in one tenth of it. The program goes from files to a file, by 1 and by W workers
+On a road-like graph, K sources and K targets that lie in a square of it, of one tenth of its vertices. The program goes from files to a file, by 1 and by W workers
 in turn, R times; the graph alone (no source) is timed too, so that the table tells what the rows take. SciPy's `dijkstra`, where it is
 installed, finds S of the rows in memory, each of the whole graph, since it can't end at targets; its distances are compared. The last
 row is the memory of a matrix of 10 K by K beside that of K by K.
 """
 
 import argparse
+import math
 import os
 import random
 import statistics
@@ -32,13 +33,17 @@ def write_list(path, vertices):
 
 
 def asked(program, graph, sources, targets, out, workers):
+    """Seconds and kilobytes of a matrix."""
+    return asked_words([program, "matrix", graph, sources, targets, "--workers", str(workers), "-o", out])
+
+
+def asked_words(words):
     """Seconds and kilobytes of a whole job."""
-    words = [program, "matrix", graph, sources, targets, "--workers", str(workers), "-o", out]
     begun = time.perf_counter()
     process = subprocess.Popen(words)
     _, status, used = os.wait4(process.pid, 0)
     if status:
-        sys.exit(f"matrix: status {status}")
+        sys.exit(f"{words[1]}: status {status}")
     return time.perf_counter() - begun, used.ru_maxrss
 
 
@@ -77,8 +82,12 @@ def measure(chosen, folder):
     program, draw = chosen.program or parts.program(), random.Random(SEED)
     graph, none, sources, more, targets, out = (f"{folder}/{name}" for name in ("g.gr", "none.ss", "s.ss", "more.ss", "t.ss", "out"))
     graphs.write_graph(graph, "roads", chosen.vertices, SEED)
-    tenth = chosen.vertices // 10
-    rows, ends = ([draw.randint(1, tenth) for _ in range(chosen.side)] for _ in range(2))
+    width, square = math.isqrt(chosen.vertices), math.isqrt(chosen.vertices // 10)
+
+    def drawn():
+        return [draw.randrange(square) * width + draw.randrange(square) + 1 for _ in range(chosen.side)]
+
+    rows, ends = drawn(), drawn()
     write_list(none, [])
     write_list(sources, rows)
     write_list(more, 10 * rows)

@@ -200,6 +200,10 @@ def texts_of_calls():
     yield "run_pair", (f"{(5 << 28) + 2}\n", far)
     yield "run_batch", (f"{tree}1 0 {len(tree)}\n", f"{far}1 1 {len(far)}\n")
     yield "run_pairs", (f"{pairs}2 0 {len(pairs)}\n", f"{far_pairs}2 1 {len(far_pairs)}\n")
+    row, far_row = "d 1 4 5 2\nd 1 1 0 0\n", f"{far}d 1 1 0 0\n"
+    yield "run_matrix", (f"{row}2 0 {len(row)}\n", f"{far_row}2 1 {len(far_row)}\n")
+    forest, far_forest = "p near 4 1\nv 1 0 0 1\nv 2 3 1 1\nv 3 3 1 1\nv 4 5 2 1\ne 4\n", "x 18\n"
+    yield "run_nearest", (f"{forest}1 0 {len(forest)}\n", f"{far_forest}1 1 {len(far_forest)}\n")
     yield "run", (f"b 0\nb 1\nb 2\nb 3\n{tree}", "".join(f"b {bucket}\n" for bucket in range(17)) + far)
     yield "run_targets", ("5 2\n0 0\n", "x 18\n0 0\n")
     yield "check", ("yes\n", "no 18 5\n")

@@ -49,6 +49,39 @@ fn row_of<const P: u32>(alloc: Global, reach: &Reach<P>) -> Result<Row, AllocErr
     })
 }
 
+impl<'a, const P: u32> RowQuestion<'a, P> {
+    // Returns the row of a source, by a run that goes no further than the targets ask for; without targets by none.
+    fn row<R: Threads + Wait + Sync>(
+        &self,
+        rt: &R,
+        alloc: Global,
+        workers: Workers,
+        source: u32,
+    ) -> Result<Row, AllocError>
+        requires source { CanFind P self.now.graph.now self.now.targets.now source }
+        requires sync { IsSync R.row }
+        ensures { IfOk result (IsRow P self.now.graph.now source self.now.targets.now) }
+    {
+        if self.targets.is_empty() {
+            return Ok(Row {
+                source,
+                lines: Vec::new(alloc),
+            });
+        }
+        let query = Query {
+            source,
+            targets: self.targets.to_vec(alloc)?,
+        };
+        let asked = Team {
+            delta: self.delta,
+            workers,
+        };
+        let team = useful_team(rt, self.graph.n(), &asked);
+        let reach = run_targets::<P, R>(rt, alloc, self.graph, team, self.meter, query)?;
+        row_of::<P>(alloc, &reach)
+    }
+}
+
 impl<'a, const P: u32> Question for RowQuestion<'a, P> {
     type Found = Row;
 
@@ -75,17 +108,7 @@ impl<'a, const P: u32> Question for RowQuestion<'a, P> {
             IsDue (λ s told. IsTold P self.now.graph.now self.now.targets.now s told)
             source (told_of found)) }
     {
-        let query = Query {
-            source,
-            targets: self.targets.to_vec(alloc)?,
-        };
-        let asked = Team {
-            delta: self.delta,
-            workers,
-        };
-        let team = useful_team(rt, self.graph.n(), &asked);
-        let reach = run_targets::<P, R>(rt, alloc, self.graph, team, self.meter, query)?;
-        row_of::<P>(alloc, &reach)
+        self.row(rt, alloc, workers, source)
     }
 
     fn write<W: Write>(

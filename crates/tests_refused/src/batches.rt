@@ -3,6 +3,8 @@ use crate::report::Ending;
 use crate::sample::Sample;
 use sp_batch::{BatchError, BucketWidth, Summary, run_batch};
 use sp_dimacs::{OfRead, Write};
+use sp_matrix::{Nobody, Settings, run_matrix_told};
+use sp_nearest::run_nearest_told;
 use sp_pairs::run_pairs;
 use sp_text::Kind;
 use sp_word::Workers;
@@ -72,6 +74,56 @@ pub fn call_run_pairs<R: AllocGlobal + Print + Threads + Wait + Sync, W: Write>(
         out,
         width,
         workers,
+    );
+    tell_batch(rt, answer)
+}
+
+/// A matrix of one row, from vertex 1.
+pub fn call_run_matrix<R: AllocGlobal + Print + Threads + Wait + Sync, W: Write>(
+    rt: &R,
+    out: &mut W,
+    sample: Sample,
+    workers: Workers,
+) -> io::Result<Ending> {
+    let settings = Settings {
+        width: BucketWidth::MeanLength,
+        workers,
+        listener: &Nobody,
+    };
+    let answer = run_matrix_told::<28, R, _, _, _, _, _>(
+        rt,
+        rt.alloc(),
+        &mut OfRead::new(sample.gr().as_bytes()),
+        &mut OfRead::new(FROM_ONE.as_bytes()),
+        &mut OfRead::new(sample.targets().as_bytes()),
+        None,
+        out,
+        &settings,
+    );
+    tell_batch(rt, answer)
+}
+
+/// The forest of vertex 1 alone.
+pub fn call_run_nearest<R: AllocGlobal + Print + Threads + Wait + Sync, W: Write>(
+    rt: &R,
+    out: &mut W,
+    sample: Sample,
+    workers: Workers,
+) -> io::Result<Ending> {
+    let settings = Settings {
+        width: BucketWidth::MeanLength,
+        workers,
+        listener: &Nobody,
+    };
+    let answer = run_nearest_told::<28, R, _, _, _, _>(
+        rt,
+        rt.alloc(),
+        &mut OfRead::new(sample.gr().as_bytes()),
+        &mut OfRead::new(FROM_ONE.as_bytes()),
+        None,
+        None,
+        out,
+        &settings,
     );
     tell_batch(rt, answer)
 }

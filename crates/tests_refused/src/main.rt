@@ -41,6 +41,8 @@ fn call<R: AllocGlobal + Eprint + Print + Threads + Wait + Sync, W: Write>(
         "run_pair" => runs::call_run_pair(rt, out, sample, workers),
         "run_batch" => batches::call_run_batch(rt, out, sample, workers),
         "run_pairs" => batches::call_run_pairs(rt, out, sample, workers),
+        "run_matrix" => batches::call_run_matrix(rt, out, sample, workers),
+        "run_nearest" => batches::call_run_nearest(rt, out, sample, workers),
         "run" => stages::call_run(rt, out, sample, workers),
         "round" => rounds::call_round(rt, workers),
         "run_targets" => runs::call_run_targets(rt, sample, workers),

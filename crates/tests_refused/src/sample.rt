@@ -60,6 +60,14 @@ impl Sample {
         }
     }
 
+    /// The text of a list of two targets, its last vertex and the first.
+    pub fn targets(self) -> &'static str {
+        match self {
+            Sample::Diamond => "p aux sp ss 2\ns 4\ns 1\n",
+            Sample::Long => "p aux sp ss 2\ns 18\ns 1\n",
+        }
+    }
+
     /// The text of a replay file: two actors relax a diamond, or one loses an exchange to the other.
     pub fn rep(self) -> &'static str {
         match self {
