@@ -23,7 +23,7 @@ _spt() {
         pairs) words='--delta --workers --far-ok --progress --pred-bits --output --help' ;;
         matrix) words='--source --sources --delta --workers --far-ok --progress --pred-bits --output --help' ;;
         nearest) words='--source --sources --within --delta --workers --far-ok --progress --pred-bits --output --help' ;;
-        check) words='--all --pred-bits --output --help' ;;
+        check) words='--all --within --pred-bits --output --help' ;;
         replay) words='--svg --pred-bits --output --help' ;;
         offers) words='--pred-bits --output --help' ;;
         *) words='' ;;

@@ -238,9 +238,9 @@ def cases():
     made += [
         Case("spellings", line, {"g.gr": ALONE, "g.tree": f"p spt 1 1\n{second}\n"}, 2, "tree: line 2: 2 BadLine") for second in SPELLINGS
     ]
-    made += in_layouts(Case("within", f"{line} {words}", {"g.gr": gr, "g.tree": tree}, status, text) for words, gr, tree, status, text in WITHIN)
+    made += in_layouts(Case("within", f"{line} {words}".strip(), {"g.gr": gr, "g.tree": tree}, status, text) for words, gr, tree, status, text in WITHIN)
     made += [
-        Case("within", f"{line} {words}", {"g.gr": path(17, f"{LONGEST}\n"), "g.tree": tree}, status, text)
+        Case("within", f"{line} {words}".strip(), {"g.gr": path(17, f"{LONGEST}\n"), "g.tree": tree}, status, text)
         for words, tree, status, text in FAR_WITHIN
     ]
     made += [Case("limit out of range", words, {}, 1, "limit out of range") for words in LIMIT_OUT_OF_RANGE]
