@@ -93,7 +93,7 @@ TOLD = [
         "no sources of a forest",
         "nearest f.rep",
         "error: the following required arguments were not provided:\n  <SS>\n\nUsage: spt nearest <GR> <SS>\n",
-        "",
+        "spt: SS, or --source V, says where trees begin\n",
     ),
     (
         "no sources",
