@@ -15,8 +15,7 @@ import sys
 import tempfile
 
 sys.dont_write_bytecode = True
-from harness import Count, graphs, put  # noqa: E402
-from matrix import drawn, write_list  # noqa: E402
+from harness import Count, drawn, graphs, put, write_list  # noqa: E402
 from nearest import block, forest, roots  # noqa: E402
 from trees import MAX, halfway, part, run_spt, with_another_digit  # noqa: E402
 

@@ -81,3 +81,16 @@ def put(path, data, mode=None):
     if mode is not None:
         os.chmod(path, mode)
     return path
+
+
+def drawn(draw, count, vertices):
+    """Vertices in no order, one of them twice."""
+    found = [draw.randint(1, vertices) for _ in range(count - 1)]
+    return [*found, found[0]]
+
+
+def write_list(path, vertices):
+    """Writes a list of sources or of targets."""
+    with open(path, "w") as it:
+        it.write(f"p aux sp ss {len(vertices)}\n")
+        it.writelines(f"s {vertex}\n" for vertex in vertices)

@@ -13,22 +13,10 @@ import sys
 import tempfile
 
 sys.dont_write_bytecode = True
-from harness import Count, graphs  # noqa: E402
+from harness import Count, drawn, graphs, write_list  # noqa: E402
 from trees import dijkstra, line_of_pair, run_spt  # noqa: E402
 
 WORKERS = ("1", "4", "64", "all")
-
-
-def drawn(draw, count, vertices):
-    """Vertices in no order, one of them twice."""
-    found = [draw.randint(1, vertices) for _ in range(count - 1)]
-    return [*found, found[0]]
-
-
-def write_list(path, vertices):
-    with open(path, "w") as it:
-        it.write(f"p aux sp ss {len(vertices)}\n")
-        it.writelines(f"s {vertex}\n" for vertex in vertices)
 
 
 def compare(count, kind, chosen, folder):

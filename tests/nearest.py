@@ -15,8 +15,7 @@ import sys
 import tempfile
 
 sys.dont_write_bytecode = True
-from harness import Count, graphs  # noqa: E402
-from matrix import drawn, write_list  # noqa: E402
+from harness import Count, drawn, graphs, write_list  # noqa: E402
 from trees import MAX, halfway, part, run_spt  # noqa: E402
 
 WORKERS = ("1", "2", "4", "64")
