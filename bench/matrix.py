@@ -3,7 +3,8 @@
 
 Usage: python3 bench/matrix.py [--vertices N] [--side K] [--workers W] [--runs R] [--rows S] [--program PROGRAM]
 
-On a road-like graph, K sources and K targets that lie in a square of it, of one tenth of its vertices. The program goes from files to a file, by 1 and by W workers
+On a road-like graph, K sources and K targets in a square of it that has one tenth of its vertices, all of which roads lead to: where no walk leads to a
+target, a run can't end before all is final. The program goes from files to a file, by 1 and by W workers
 in turn, R times; the graph alone (no source) is timed too, so that the table tells what the rows take. SciPy's `dijkstra`, where it is
 installed, finds S of the rows in memory, each of the whole graph, since it can't end at targets; its distances are compared. The last
 row is the memory of a matrix of 10 K by K beside that of K by K.
@@ -78,16 +79,27 @@ def by_scipy(graph, n, sources, targets, lines):
     return took
 
 
+def reached_of(program, graph, middle, out):
+    """The vertices that a tree reaches which has more than half of them, from one near the middle."""
+    while True:
+        asked_words([program, "tree", graph, "--source", str(middle), "--delta", "mean", "-o", out])
+        with open(out) as file:
+            n = int(next(file).split()[2])
+            reached = [int(line.split()[1]) for line in file if line.startswith("v ")]
+        if 2 * len(reached) > n:
+            return reached
+        middle += 1
+
+
 def measure(chosen, folder):
     program, draw = chosen.program or parts.program(), random.Random(SEED)
     graph, none, sources, more, targets, out = (f"{folder}/{name}" for name in ("g.gr", "none.ss", "s.ss", "more.ss", "t.ss", "out"))
     graphs.write_graph(graph, "roads", chosen.vertices, SEED)
     width, square = math.isqrt(chosen.vertices), math.isqrt(chosen.vertices // 10)
 
-    def drawn():
-        return [draw.randrange(square) * width + draw.randrange(square) + 1 for _ in range(chosen.side)]
-
-    rows, ends = drawn(), drawn()
+    reached = reached_of(program, graph, chosen.vertices // 2, out)
+    inside = [vertex for vertex in reached if (vertex - 1) // width < square and (vertex - 1) % width < square]
+    rows, ends = ([draw.choice(inside) for _ in range(chosen.side)] for _ in range(2))
     write_list(none, [])
     write_list(sources, rows)
     write_list(more, 10 * rows)
