@@ -9,13 +9,11 @@ check` must say yes to it, and no with the least vertex and rule once the number
 'N passed, M failed'.
 """
 
-import argparse
 import random
 import sys
-import tempfile
 
 sys.dont_write_bytecode = True
-from harness import Count, drawn, graphs, put, write_list  # noqa: E402
+from harness import compare_kinds, drawn, graphs, put, write_list  # noqa: E402
 from nearest import block, forest, roots  # noqa: E402
 from trees import MAX, halfway, part, run_spt, with_another_digit  # noqa: E402
 
@@ -109,16 +107,7 @@ def compare(count, kind, chosen, folder):
 
 
 def main():
-    options = argparse.ArgumentParser(description=__doc__, formatter_class=argparse.RawDescriptionHelpFormatter)
-    options.add_argument("--vertices", type=int, default=10000)
-    options.add_argument("--sources", type=int, default=20)
-    options.add_argument("--seed", type=int, default=1)
-    chosen = options.parse_args()
-    count = Count()
-    with tempfile.TemporaryDirectory() as folder:
-        for kind in sorted(graphs.KINDS):
-            compare(count, kind, chosen, folder)
-    return count.end()
+    return compare_kinds(__doc__, compare, sources=20)
 
 
 if __name__ == "__main__":

@@ -94,3 +94,24 @@ def write_list(path, vertices):
     with open(path, "w") as it:
         it.write(f"p aux sp ss {len(vertices)}\n")
         it.writelines(f"s {vertex}\n" for vertex in vertices)
+
+
+def arcs_by_tail(path, vertices):
+    """Of each vertex of a graph's file the heads and lengths of its arcs."""
+    rows = {vertex: [] for vertex in range(1, vertices + 1)}
+    with open(path) as it:
+        for tail, head, length in (map(int, line.split()[1:]) for line in it if line.startswith("a ")):
+            rows[tail].append((head, length))
+    return rows
+
+
+def compare_kinds(description, compare, **numbers):
+    """Compares on a graph of each kind, with numbers that options may change: 10,000 vertices, a seed, and these. The exit status."""
+    options = argparse.ArgumentParser(description=description, formatter_class=argparse.RawDescriptionHelpFormatter)
+    for name, number in {"vertices": 10000, **numbers, "seed": 1}.items():
+        options.add_argument(f"--{name}", type=int, default=number)
+    chosen, count = options.parse_args(), Count()
+    with tempfile.TemporaryDirectory() as folder:
+        for kind in sorted(graphs.KINDS):
+            compare(count, kind, chosen, folder)
+    return count.end()

@@ -21,7 +21,7 @@ import tempfile
 
 sys.dont_write_bytecode = True
 import refused  # noqa: E402
-from harness import HOME, SECONDS, Count, graphs, options_of, program, put, read  # noqa: E402
+from harness import HOME, SECONDS, Count, arcs_by_tail, graphs, options_of, program, put, read  # noqa: E402
 import trees  # noqa: E402
 
 PAGE = 4096
@@ -50,10 +50,7 @@ def cases(folder, vertices):
     """Each command on a graph or a list of this size; every text but that of `check` is long."""
     graph = f"{folder}/roads.gr"
     _, mean = graphs.write_graph(graph, "roads", vertices, 1)
-    rows = {vertex: [] for vertex in range(1, vertices + 1)}
-    with open(graph) as it:
-        for tail, head, length in (map(int, row.split()[1:]) for row in it if row.startswith("a ")):
-            rows[tail].append((head, length))
+    rows = arcs_by_tail(graph, vertices)
     words, far = trees.dijkstra(rows, 1)
     block = trees.block(vertices, 1, words, far)
     limit, near = trees.halfway(words)

@@ -7,13 +7,11 @@ For each kind S sources and T targets are drawn, in no order, some twice. For ea
 program must write the lines that Dijkstra's algorithm gives. The last line is 'N passed, M failed'.
 """
 
-import argparse
 import random
 import sys
-import tempfile
 
 sys.dont_write_bytecode = True
-from harness import Count, drawn, graphs, write_list  # noqa: E402
+from harness import arcs_by_tail, compare_kinds, drawn, graphs, write_list  # noqa: E402
 from trees import dijkstra, line_of_pair, run_spt  # noqa: E402
 
 WORKERS = ("1", "4", "64", "all")
@@ -26,10 +24,7 @@ def compare(count, kind, chosen, folder):
     sources, targets = drawn(draw, chosen.sources, chosen.vertices), drawn(draw, chosen.targets, chosen.vertices)
     write_list(sources_of, sources)
     write_list(targets_of, targets)
-    rows = {vertex: [] for vertex in range(1, chosen.vertices + 1)}
-    with open(graph) as it:
-        for tail, head, length in (map(int, row.split()[1:]) for row in it if row.startswith("a ")):
-            rows[tail].append((head, length))
+    rows = arcs_by_tail(graph, chosen.vertices)
     answers = {source: dijkstra(rows, source) for source in set(sources)}
     lines = ["".join(line_of_pair(source, target, *answers[source]) for target in targets) for source in sources]
 
@@ -46,17 +41,7 @@ def compare(count, kind, chosen, folder):
 
 
 def main():
-    options = argparse.ArgumentParser(description=__doc__, formatter_class=argparse.RawDescriptionHelpFormatter)
-    options.add_argument("--vertices", type=int, default=10000)
-    options.add_argument("--sources", type=int, default=20)
-    options.add_argument("--targets", type=int, default=30)
-    options.add_argument("--seed", type=int, default=1)
-    chosen = options.parse_args()
-    count = Count()
-    with tempfile.TemporaryDirectory() as folder:
-        for kind in sorted(graphs.KINDS):
-            compare(count, kind, chosen, folder)
-    return count.end()
+    return compare_kinds(__doc__, compare, sources=20, targets=30)
 
 
 if __name__ == "__main__":

@@ -8,14 +8,12 @@ write the block that Dijkstra's algorithm gives, and with a limit that of its wo
 'N passed, M failed'.
 """
 
-import argparse
 import heapq
 import random
 import sys
-import tempfile
 
 sys.dont_write_bytecode = True
-from harness import Count, drawn, graphs, write_list  # noqa: E402
+from harness import arcs_by_tail, compare_kinds, drawn, graphs, write_list  # noqa: E402
 from trees import MAX, halfway, part, run_spt  # noqa: E402
 
 WORKERS = ("1", "2", "4", "64")
@@ -62,10 +60,7 @@ def compare(count, kind, chosen, folder):
     _, mean = graphs.write_graph(graph, kind, n, chosen.seed)
     sources = drawn(random.Random(chosen.seed), chosen.sources, n)
     write_list(sources_of, sources)
-    rows = {vertex: [] for vertex in range(1, n + 1)}
-    with open(graph) as it:
-        for tail, head, length in (map(int, row.split()[1:]) for row in it if row.startswith("a ")):
-            rows[tail].append((head, length))
+    rows = arcs_by_tail(graph, n)
     words, far = forest(rows, sources)
     limit, _ = halfway(words)
     for workers in WORKERS:
@@ -81,16 +76,7 @@ def compare(count, kind, chosen, folder):
 
 
 def main():
-    options = argparse.ArgumentParser(description=__doc__, formatter_class=argparse.RawDescriptionHelpFormatter)
-    options.add_argument("--vertices", type=int, default=10000)
-    options.add_argument("--sources", type=int, default=20)
-    options.add_argument("--seed", type=int, default=1)
-    chosen = options.parse_args()
-    count = Count()
-    with tempfile.TemporaryDirectory() as folder:
-        for kind in sorted(graphs.KINDS):
-            compare(count, kind, chosen, folder)
-    return count.end()
+    return compare_kinds(__doc__, compare, sources=20)
 
 
 if __name__ == "__main__":

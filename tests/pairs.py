@@ -7,13 +7,11 @@ For each kind K pairs of S sources are drawn, in no order. For each width of a b
 must write the lines that Dijkstra's algorithm gives. The last line is 'N passed, M failed'.
 """
 
-import argparse
 import random
 import sys
-import tempfile
 
 sys.dont_write_bytecode = True
-from harness import Count, graphs  # noqa: E402
+from harness import arcs_by_tail, compare_kinds, graphs  # noqa: E402
 from trees import MAX, dijkstra, line_of_pair, run_spt  # noqa: E402
 
 WORKERS = (1, 4, 64)
@@ -36,10 +34,7 @@ def compare(count, kind, chosen, folder):
     with open(list_of_pairs, "w") as it:
         it.write(f"p pairs {len(pairs)}\n")
         it.writelines(f"q {source} {target}\n" for source, target in pairs)
-    rows = {vertex: [] for vertex in range(1, chosen.vertices + 1)}
-    with open(graph) as it:
-        for tail, head, length in (map(int, row.split()[1:]) for row in it if row.startswith("a ")):
-            rows[tail].append((head, length))
+    rows = arcs_by_tail(graph, chosen.vertices)
     answers = {source: dijkstra(rows, source) for source in {source for source, _ in pairs}}
     wanted = "".join(line_of_pair(source, target, *answers[source]) for source, target in pairs)
     status = 4 if "x " in wanted else 0
@@ -51,17 +46,7 @@ def compare(count, kind, chosen, folder):
 
 
 def main():
-    options = argparse.ArgumentParser(description=__doc__, formatter_class=argparse.RawDescriptionHelpFormatter)
-    options.add_argument("--vertices", type=int, default=10000)
-    options.add_argument("--pairs", type=int, default=200)
-    options.add_argument("--sources", type=int, default=20)
-    options.add_argument("--seed", type=int, default=1)
-    chosen = options.parse_args()
-    count = Count()
-    with tempfile.TemporaryDirectory() as folder:
-        for kind in sorted(graphs.KINDS):
-            compare(count, kind, chosen, folder)
-    return count.end()
+    return compare_kinds(__doc__, compare, pairs=200, sources=20)
 
 
 if __name__ == "__main__":
