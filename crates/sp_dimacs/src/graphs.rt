@@ -13,7 +13,8 @@ use crate::readers::TextReader;
 use sp_device::Read;
 use sp_paths::Arc;
 use sp_text::{
-    Collector, DimacsError, FileFormat, Keep, Kind, LineTaker, Ranges, Values, ranges_of, read_text,
+    Collector, DimacsError, FileFormat, Keep, Kind, LineTaker, Ranges, Values, ranges_of,
+    read_items,
 };
 use std::alloc::{AllocError, Global};
 use std::mem;
@@ -116,5 +117,5 @@ pub fn read_gr<const P: u32, R: Read>(alloc: Global, reader: &mut R) -> Result<G
     ensures read { IfErr result (λ e. e.kind ≡ Kind.Read → R.has_failed reader.new ≡ true) }
     ensures never { NeverRead (R.failing reader.old) result }
 {
-    read_text(reader, GrReader::<P>::new(alloc).into_feeder())
+    read_items(reader, GrReader::<P>::new(alloc).into_feeder())
 }

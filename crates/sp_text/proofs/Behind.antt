@@ -179,6 +179,39 @@ lf_whole text bytes line more is =
     ap (λ (t : List ℕ). t ++ more) (append_assoc text line (10 ∷ []))
     ∙ (append_assoc text (line ++ 10 ∷ []) more ∙ ap (λ (t : List ℕ). text ++ t) (append_assoc line (10 ∷ []) more ∙ sym is))
 
+-- A line with its LF at once, where none was begun.
+
+-- the reader before the LF
+abbrev with_line : {T : Type 0} → Feeder T → List ℕ → Feeder T
+with_line old line = record { taker = old.taker; room = line; ends = old.ends; spent = old.spent }
+
+line_short : (text bytes line more : List ℕ) → bytes ≡ line ++ 10 ∷ more → length (text ++ bytes) ≤ 2 ^ 62 → length (text ++ line) ≤ 2 ^ 62
+line_short text bytes line more is small = omega (arith, length-append text bytes, length-append text line, ap length is, length-append line (10 ∷ more))
+
+line_open : {T : Type 0} (judge : Judge) (After : T → List (List ℕ) → Type 0) (text line : List ℕ) (old : Feeder T) → HasNoLf line → length line ≤ 1024 → old.room ≡ [] → judge.closed (ended text) ≡ false
+    → IsBehind judge After text old → IsBehind judge After (text ++ line) (with_line old line)
+line_open judge After text line old none short empty goes h = run_ok judge After text line old line none goes h (omega (arith, ap length empty, short)) (rw empty refl)
+
+pub front_ok : {T : Type 0} (judge : Judge) (After : T → List (List ℕ) → Type 0) (text bytes line more : List ℕ) (old : Feeder T) (taker : T) (ends : ℕ) → bytes ≡ line ++ 10 ∷ more → HasNoLf line → length line ≤ 1024 → old.room ≡ []
+    → judge.closed (ended text) ≡ false → length (text ++ bytes) ≤ 2 ^ 62 → IsBehind judge After text old → (judge.fault (ended text) line ≡ None) × After taker (ended text ++ line ∷ []) → ends ≡ (old.ends + 1) % 2 ^ 64
+    → IsBehind judge After (text ++ (line ++ 10 ∷ [])) (record { taker = taker; room = old.room; ends = ends; spent = old.spent })
+front_ok judge After text bytes line more old taker ends is none short empty goes small h taken ends_is =
+    let open_line = line_open judge After text line old none short empty goes h in
+    let same : ended (text ++ line) ≡ ended text = ended_at_run text line none in
+    let shorter = line_short text bytes line more is small in
+    rw (← append_assoc text line (10 ∷ [])) (lf_ok judge After (text ++ line) (with_line old line) taker old.room ends shorter (run_open judge text line none goes) open_line (rw same taken.0) (rw same taken.1) empty
+    (ends_is ∙ next_end (text ++ line) old.ends shorter open_line.ends))
+
+pub front_err : {T : Type 0} (judge : Judge) (After : T → List (List ℕ) → Type 0) (text bytes line more : List ℕ) (old : Feeder T) (kind : Kind) → bytes ≡ line ++ 10 ∷ more → HasNoLf line → length line ≤ 1024 → old.room ≡ []
+    → judge.closed (ended text) ≡ false → length (text ++ bytes) ≤ 2 ^ 62 → IsBehind judge After text old
+    → (judge.fault (ended text) line ≡ Some kind) ⊎ ((judge.fault (ended text) line ≡ None) × (kind ≡ Memory) × (judge.is_item line ≡ true))
+    → Refused judge (ended text) (text ++ bytes) (at_line old.ends kind)
+front_err judge After text bytes line more old kind is none short empty goes small h told =
+    let open_line = line_open judge After text line old none short empty goes h in
+    let same : ended (text ++ line) ≡ ended text = ended_at_run text line none in
+    let refused = lf_err judge After (text ++ line) (with_line old line) kind (line_short text bytes line more is small) (run_open judge text line none goes) open_line (rw same told) in
+    rw (← lf_whole text bytes line more is) (refusal_lasts judge (ended text) (text ++ line ++ 10 ∷ []) more (at_line old.ends kind) (rw same at refused))
+
 -- The end of a text.
 
 pub lines_whole : (text : List ℕ) → rest text ≡ [] → lines text ≡ ended text

@@ -1,5 +1,5 @@
 -- What a collector has taken, and what it answers to a line.
-use Rattle.std.specs.Prelude.{◌≡◌, ℕ, Bool, true, false, List, [], ◌∷◌, ◌++◌, slice_get, Option, Some, Result}
+use Rattle.std.specs.Prelude.{◌≡◌, ℕ, ◌≤◌, Bool, true, false, List, [], ◌∷◌, ◌++◌, length, slice_get, Option, Some, Result}
 use Rattle.std.specs.Borrow.{Bor}
 use Rattle.sp_text.specs.declared.faults.Kind.{Kind}
 use Rattle.sp_text.specs.declared.formats.Form.{Form}
@@ -8,9 +8,10 @@ use Rattle.sp_text.specs.declared.collecting.Keep.{Ghosts as Keeper}
 use Rattle.sp_text.specs.declared.collecting.Collector.{Collector}
 use Rattle.sp_text.specs.Formats.{form_of}
 use Rattle.sp_text.specs.Text.{Item, judge, reading, problem_fault, placed_fault}
+use Rattle.sp_text.specs.Meaning.{IsFirstLine}
 use Rattle.sp_text.specs.Feeding.{Takes}
 use Rattle.sp_text.specs.Collecting.{IsAfter, Holds, Answers, ItemIs}
-use Rattle.sp_text.specs.Matching.{Are, IsUsualItem}
+use Rattle.sp_text.specs.Matching.{Are, IsUsualItem, IsFrontItem}
 
 -- The collector has taken this problem line and these items.
 abbrev pub HasTaken : {K V : Type 0} {keeper : Keeper K V} → Collector K V keeper → (problem : Option (List ℕ)) → (items : List Item) → Type 0
@@ -28,6 +29,10 @@ Answered {keeper} is_item fault problem items result new = Answers keeper.Kept i
 -- The line spells this item, and its numbers are in their ranges.
 abbrev pub FindsItem : {K V : Type 0} {keeper : Keeper K V} → Collector K V keeper → (line : List ℕ) → ℕ × Bor Form × List ℕ → Type 0
 FindsItem {keeper} collector line found = (ps : List ℕ) × (collector.problem ≡ Some ps) × IsUsualItem keeper.format keeper.ranges ps (reading keeper.format line) found
+
+-- The first line of the text spells the item, and its numbers are in their ranges.
+abbrev pub FindsFrontItem : {K V : Type 0} {keeper : Keeper K V} → Collector K V keeper → (text : List ℕ) → ℕ × Bor Form × List ℕ × Bor (List ℕ) → Type 0
+FindsFrontItem {keeper} collector text found = (ps : List ℕ) × (collector.problem ≡ Some ps) × IsFrontItem keeper.format keeper.ranges ps text found
 
 -- An item of the form at this index has these numbers.
 abbrev pub IsOfItem : {K V : Type 0} {keeper : Keeper K V} → Collector K V keeper → (place : ℕ) → Form → Numbers → Type 0
@@ -48,3 +53,7 @@ TakesItem {keeper} place form numbers old result new =
 -- The collector takes this line, or refuses it, whatever it has taken before.
 abbrev pub TakesLine : {K V U : Type 0} {keeper : Keeper K V} → (line : List ℕ) → (old : Collector K V keeper) → Result U Kind → (new : Collector K V keeper) → Type 0
 TakesLine {keeper} line old result new = (before : List (List ℕ)) → HasTakenLines old before → Takes (judge keeper.format keeper.ranges) HasTakenLines before line result new
+
+-- The collector takes the first line of the text, which isn't too long, or refuses it; these bytes come after its LF.
+abbrev pub TakesFront : {K V U : Type 0} {keeper : Keeper K V} → (text : List ℕ) → (old new : Collector K V keeper) → Result U Kind × Bor (List ℕ) → Type 0
+TakesFront {keeper} text old new (result, more) = (line : List ℕ) × IsFirstLine text line more.now × (length line ≤ 1024) × TakesLine line old result new

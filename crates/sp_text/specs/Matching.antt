@@ -1,6 +1,7 @@
 -- What a line was found to be.
-use Rattle.std.specs.Prelude.{◌≡◌, ℕ, ◌<◌, true, ◌&&◌, nat_le, List, [], ◌∷◌, ◌++◌, length, slice_get, slice_index, Option, Some, None, Result, Ok, Err}
+use Rattle.std.specs.Prelude.{◌≡◌, ℕ, ◌<◌, ◌≤◌, true, ◌&&◌, nat_le, List, [], ◌∷◌, ◌++◌, length, take, slice_get, slice_index, Option, Some, None, Result, Ok, Err}
 use Rattle.std.specs.Borrow.{Bor}
+use Rattle.std.specs.List.{AllByRecursion}
 use Rattle.sp_text.specs.Lines.{is_blank, fields_from}
 use Rattle.sp_text.specs.declared.formats.Ranges.{Ranges}
 use Rattle.sp_text.specs.declared.formats.Field.{Field}
@@ -12,7 +13,8 @@ use Rattle.sp_text.specs.declared.matching.Spelled.TheVariants.{No, Out, Within}
 use Rattle.sp_text.specs.declared.reading.LineContent.{LineContent}
 use Rattle.sp_text.specs.declared.reading.LineContent.TheVariants as contents
 use Rattle.sp_text.specs.Formats.{Format, form_of, IsSmallForm}
-use Rattle.sp_text.specs.Text.{Reading, Comment, Bad, IsProblem, IsItem, Item, with_number, numbers, behind_words, top, first_out, first_letter}
+use Rattle.sp_text.specs.Meaning.{IsFirstLine}
+use Rattle.sp_text.specs.Text.{Reading, Comment, Bad, IsProblem, IsItem, Item, with_number, numbers, behind_words, top, first_out, first_letter, reading}
 
 -- The number with this letter is out of its range, and these numbers come before it.
 abbrev pub IsFront : List Field → List ℕ → ℕ → List ℕ → Type 0
@@ -65,6 +67,14 @@ pub record AreSpaced (ranges : Ranges) (ps : List ℕ) (ds : List Field) (text n
   pub spelled : numbers ds (fields_from [] text) ≡ Some ns
   pub within : first_out ranges ps ds ns ≡ None
 
+-- The first bytes of the text, up to `end`, spell these numbers in the usual way. None of them is a control character,
+-- and the text goes on.
+pub record AreInFront (ranges : Ranges) (ps : List ℕ) (ds : List Field) (text ns : List ℕ) (end : ℕ) : Type 0 where
+  pub within : end < length text
+  pub short : end ≤ 32
+  pub plain : AllByRecursion (λ b. 32 ≤ b) (take end text)
+  pub spaced : AreSpaced ranges ps ds (take end text) ns
+
 -- A line with this reading was found to have this content.
 abbrev pub IsContent : Format → Ranges → List ℕ → Reading → LineContent → Type 0
 IsContent format ranges ps reading contents.Comment = reading ≡ Comment
@@ -75,3 +85,7 @@ IsContent format ranges ps reading (contents.Item place form numbers) = (item : 
 -- This is an item of the form at this index with these numbers, which are in their ranges.
 abbrev pub IsUsualItem : Format → Ranges → List ℕ → Reading → ℕ × Bor Form × List ℕ → Type 0
 IsUsualItem format ranges ps reading (place, form, ns) = IsContent format ranges ps reading (contents.Item place form (lists.Within ns))
+
+-- The first line of the text is such an item, it isn't too long, and these bytes come after its LF.
+abbrev pub IsFrontItem : Format → Ranges → List ℕ → List ℕ → ℕ × Bor Form × List ℕ × Bor (List ℕ) → Type 0
+IsFrontItem format ranges ps text (place, form, ns, more) = (line : List ℕ) × IsFirstLine text line more.now × (length line ≤ 1024) × IsUsualItem format ranges ps (reading format line) (place, form, ns)

@@ -1,9 +1,10 @@
 -- What a field is, read as a number within a range.
-use Rattle.std.specs.Prelude.{◌≡◌, ◌<◌, ◌≤◌, ◌-◌, ◌^◌, min, length, take, slice_index, ℕ, Bool, true, false, ◌&&◌, not, List, [], ◌∷◌, ◌++◌, codes, decimal, nat_le, ◌==◌, if◌then◌else◌}
+use Rattle.std.specs.Prelude.{◌≡◌, ◌<◌, ◌≤◌, ◌-◌, ◌^◌, min, length, take, slice_index, ℕ, Bool, true, false, ◌&&◌, not, List, [], ◌∷◌, ◌++◌, codes, decimal, map, nat_le, ◌==◌, if◌then◌else◌}
 use Rattle.sp_text.specs.declared.numbers.Numeral.{Numeral}
 use Rattle.sp_text.specs.declared.numbers.Numeral.TheVariants.{Bad, Out, Value}
 use Rattle.std.specs.List.{list_all, take_while}
 use Rattle.std.specs.Char.{is_ascii_digit}
+use Rattle.std.specs.Simd.Lanes.{mask_l}
 use Rattle.sp_text.specs.Lines.{is_blank, is_number, value}
 
 abbrev pub numeral_within : ℕ → ℕ → ℕ → Numeral
@@ -59,6 +60,10 @@ pub record IsFront (text : List ℕ) (n end : ℕ) : Type 0 where
   pub number : n ≡ value (take end text)
   pub behind : end < length text → is_ascii_digit (slice_index text end) ≡ false
   pub starts : starts_number (take end text) ≡ true
+
+-- This has a bit for each byte, the lowest for the first: 1 where the byte is no digit.
+abbrev pub others : List ℕ → ℕ
+others bytes = mask_l (map (λ b. not (is_ascii_digit b)) bytes)
 
 -- The digits at the front spell a small number, and a blank or the end follows them.
 pub record IsQuick (text : List ℕ) (n end : ℕ) : Type 0 where

@@ -1,5 +1,5 @@
 //! The lines of a file, taken one after another.
-ghost use Rattle.std.specs.Prelude.{◌≡◌, ℕ, ◌<◌, List, [], ◌∷◌, ◌++◌, length, OnOk, IfSome, Some, None, true};
+ghost use Rattle.std.specs.Prelude.{◌≡◌, ℕ, ◌<◌, List, [], ◌∷◌, ◌++◌, length, OnOk, IfSome, MatchOption, Some, None, true};
 ghost use Rattle.sp_text.specs.declared.formats.Ranges.{Ranges};
 ghost use Rattle.sp_text.specs.Formats.{Format, format_of, IsSmall, IsSmallForm, IsFreshPlace, form_of};
 ghost use Rattle.sp_text.specs.Text.{Item, judge, first_out, first_letter, is_named, named_at};
@@ -11,7 +11,7 @@ use crate::faults::Kind;
 use crate::feeding::LineTaker;
 use crate::formats::{Field, FileFormat, Form, Ranges};
 use crate::matching::{Numbers, greatest};
-use crate::reading::{LineContent, read_line, usual_item};
+use crate::reading::{LineContent, front_item, read_line, usual_item};
 use crate::rooms::Values;
 use std::alloc::AllocError;
 
@@ -93,7 +93,7 @@ fn named_letter<K: Keep>(keep: &K, place: usize, form: &Form, first: u64) -> Opt
 
 impl<K: Keep> Collector<K> {
     ghost use Rattle.sp_text.specs.Matching.{Are};
-    ghost use Rattle.sp_text.specs.Collectors.{HasTakenLines, FindsItem, IsOfItem, TakesProblem, TakesItem, TakesLine};
+    ghost use Rattle.sp_text.specs.Collectors.{HasTakenLines, FindsItem, FindsFrontItem, IsOfItem, TakesProblem, TakesItem, TakesLine, TakesFront};
 
     /// Returns a collector that takes the lines of a text from the first on.
     pub fn new(keep: K) -> Self
@@ -115,6 +115,25 @@ impl<K: Keep> Collector<K> {
     {
         let problem = self.problem.as_ref()?;
         usual_item(&self.keep.format(), &self.keep.ranges(), problem, line)
+    }
+
+    // Returns the same of the line at the front of a text, with the text after it.
+    #[inline(always)]
+    fn front_item<'a>(&self, text: &'a [u8]) -> Option<(usize, &'static Form, Values, &'a [u8])>
+        ensures { IfSome result (FindsFrontItem self.now text.now) }
+    {
+        let problem = self.problem.as_ref()?;
+        front_item(&self.keep.format(), &self.keep.ranges(), problem, text)
+    }
+
+    /// Takes the line at the front of a text, if it is an item in the usual spelling, and returns what comes of it and the
+    /// text after the line.
+    #[inline(always)]
+    pub(crate) fn take_front<'a>(&mut self, text: &'a [u8]) -> Option<(Result<(), Kind>, &'a [u8])>
+        ensures { MatchOption result (self.new ≡ self.old) (TakesFront text.now self.old self.new) }
+    {
+        let (place, form, values, more) = self.front_item(text)?;
+        Some((self.take_item(place, form, Numbers::Within(values)), more))
     }
 
     fn take_problem(&mut self, numbers: Numbers) -> Result<(), Kind>

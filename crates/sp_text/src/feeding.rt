@@ -49,10 +49,10 @@ pub trait LineTaker {
 /// call returns the same fault.
 #[derive(Drop)]
 pub struct Feeder<T> {
-    taker: T,
-    room: LineBuffer,
-    ends: u64,
-    spent: Option<DimacsError>,
+    pub(crate) taker: T,
+    pub(crate) room: LineBuffer,
+    pub(crate) ends: u64,
+    pub(crate) spent: Option<DimacsError>,
 }
 
 impl<T: LineTaker> Feeder<T> {
@@ -70,7 +70,7 @@ impl<T: LineTaker> Feeder<T> {
     }
 
     // Refuses the text: the line being read has this fault.
-    fn refuse(&mut self, kind: Kind) -> DimacsError
+    pub(crate) fn refuse(&mut self, kind: Kind) -> DimacsError
         ensures line { result
             ≡ record { line = min (self.old.ends + 1) (2 ^ 64 - 1); kind = kind } }
         ensures spent { self.new.spent ≡ Some result }
@@ -135,7 +135,7 @@ impl<T: LineTaker> Feeder<T> {
 
     // Takes the bytes up to and including the next LF, or all of them, and returns the bytes after them.
     #[inline(always)]
-    fn take_run<'a>(&mut self, bytes: &'a [u8]) -> Result<&'a [u8], DimacsError>
+    pub(crate) fn take_run<'a>(&mut self, bytes: &'a [u8]) -> Result<&'a [u8], DimacsError>
         requires { 0 < length bytes.now }
         ensures taken { IfOk result
             (λ more. HasReadSome T.rules T.After bytes.now more.now self.old self.new) }

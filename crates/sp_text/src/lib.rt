@@ -7,6 +7,7 @@ mod faults;
 mod feeding;
 mod fields;
 mod formats;
+mod items;
 mod laws;
 mod matching;
 mod numbers;
@@ -21,6 +22,7 @@ pub use endings::cut_line;
 pub use faults::{DimacsError, Kind};
 pub use feeding::{Feeder, LineTaker};
 pub use formats::{Field, FileFormat, Form, Ranges, Top, ranges_of};
+pub use items::read_items;
 pub use laws::{
     accepted_text_is_in_range, early_fault_is_first, first_fault_is_least, text_is_its_lines,
 };

@@ -1,16 +1,17 @@
 //! Matches a line against the forms of a file.
-ghost use Rattle.std.specs.Prelude.{◌≡◌, ◌+◌, ◌≤◌, ℕ, List, [], ◌∷◌, length, slice_index, true, Some, None, IfSome, MatchOption, MatchBool};
+ghost use Rattle.std.specs.Prelude.{◌≡◌, ◌+◌, ◌≤◌, ℕ, List, [], ◌∷◌, length, drop, slice_index, true, Some, None, IfSome, MatchOption, MatchBool};
 ghost use Rattle.sp_text.specs.Lines.{fields_from};
 ghost use Rattle.sp_text.specs.declared.formats.Field.{Field};
 ghost use Rattle.sp_text.specs.declared.formats.Ranges.{Ranges};
 ghost use Rattle.sp_text.specs.Formats.{form_of};
 ghost use Rattle.sp_text.specs.Numeral.{numeral};
 ghost use Rattle.sp_text.specs.Text.{top, numbers, behind_words, of_form};
-ghost use Rattle.sp_text.specs.Matching.{NumberTaken, Spells, Matched, IsLetter, AreSpaced};
+ghost use Rattle.sp_text.specs.Matching.{NumberTaken, Spells, Matched, IsLetter, AreSpaced, AreInFront};
 
 use crate::fields::{next_field, parts_fields, starts_otherwise};
 use crate::formats::{Field, Form, Ranges, Top};
 use crate::numbers::{Numeral, front_number, number, ranged, spells_number};
+use crate::packed::{ROOM, number_at, other_bytes};
 use crate::rooms::Values;
 
 /// The numbers of a line that has a form.
@@ -190,7 +191,8 @@ pub(crate) fn begins_otherwise(words: &[u8], text: &[u8]) -> bool
 /// Returns the text after a letter, if the words are that letter alone and the line begins with it.
 #[inline(always)]
 pub(crate) fn after_letter<'a>(words: &[u8], text: &'a [u8]) -> Option<&'a [u8]>
-    ensures { IfSome result (λ rest. IsLetter words.now text.now rest.now) }
+    ensures letter { IfSome result (λ rest. IsLetter words.now text.now rest.now) }
+    ensures rest { IfSome result (λ rest. rest.now ≡ drop 1 text.now) }
 {
     let [letter] = words else {
         return None;
@@ -234,6 +236,39 @@ pub(crate) fn spaced_numbers(
         (_, rest) = digits.split_at(end);
     }
     if rest.is_empty() { Some(values) } else { None }
+}
+
+/// Returns the numbers that the front of a text spells in the usual way, one for each field: each after one space, in its
+/// range and of at most seven digits; and where they end, which is among the first 32 bytes.
+#[inline(always)]
+pub(crate) fn front_numbers(
+    fields: &[Field],
+    ranges: &Ranges,
+    problem: &Values,
+    text: &[u8],
+) -> Option<(Values, usize)>
+    requires { length fields.now ≤ 4 }
+    ensures { IfSome result (λ x. AreInFront ranges.now problem.now fields.now text.now x.0 x.1) }
+{
+    if text.len() < ROOM {
+        return None;
+    }
+    let others = other_bytes(text);
+    let mut values = Values::new();
+    let mut end = 0;
+    for (place, field) in fields.iter().enumerate() {
+        if text[end] != b' ' {
+            return None;
+        }
+        let (value, count) = number_at(text, others, end + 1)?;
+        let most = greatest(field.most, ranges, problem);
+        let Numeral::Value(value) = ranged(value, field.least, most) else {
+            return None;
+        };
+        values.put(place, value);
+        end += 1 + count;
+    }
+    Some((values, end))
 }
 
 /// Returns the numbers of a line of this form, given those of the problem line.

@@ -1,9 +1,18 @@
 //! Reads numbers of few digits, all digits at once.
-ghost use Rattle.std.specs.Prelude.{IfSome};
-ghost use Rattle.sp_text.specs.Numeral.{AreDigits};
+ghost use Rattle.std.specs.Prelude.{◌≡◌, ◌+◌, ◌<◌, ◌≤◌, length, take, drop, true, IfSome};
+ghost use Rattle.std.specs.List.{list_all};
+ghost use Rattle.std.specs.Char.{is_ascii_digit};
+ghost use Rattle.sp_text.specs.Lines.{value};
+ghost use Rattle.sp_text.specs.Numeral.{AreDigits, IsFront, others};
 
 use std::simd::prelude::*;
-use std::simd::{u8x8, u32x8};
+use std::simd::{u8x8, u8x32, u32x8};
+
+/// So many bytes are looked at at once, to find where numbers end.
+const WINDOW: usize = 32;
+
+/// A text needs so many bytes for each number that ends in the window to be read at once.
+pub(crate) const ROOM: usize = 40;
 
 // For each number of digits, the weights of the digits; the bytes after them have weight 0.
 static WEIGHTS: [[u32; 8]; 8] = [
@@ -16,6 +25,20 @@ static WEIGHTS: [[u32; 8]; 8] = [
     [100_000, 10_000, 1_000, 100, 10, 1, 0, 0],
     [1_000_000, 100_000, 10_000, 1_000, 100, 10, 1, 0],
 ];
+
+// Returns the value of the digits at the front, given how many there are.
+#[inline(always)]
+fn packed_value(text: &[u8], count: usize) -> u64
+    requires room { 8 ≤ length text.now }
+    requires some { 0 < count }
+    requires few { count ≤ 7 }
+    requires digits { list_all is_ascii_digit (take count text.now) ≡ true }
+    ensures { result ≡ value (take count text.now) }
+{
+    let lanes = u8x8::from_slice(text) - u8x8::splat(b'0');
+    let value = (lanes.cast::<u32>() * u32x8::from_array(WEIGHTS[count])).reduce_sum();
+    value as u64
+}
 
 /// Returns the number that the digits at the front spell, and where they end, if there are eight bytes and one to seven
 /// of them are digits.
@@ -32,6 +55,33 @@ pub(crate) fn packed_number(text: &[u8]) -> Option<(u64, usize)>
     if count == 0 || count > 7 {
         return None;
     }
-    let value = (lanes.cast::<u32>() * u32x8::from_array(WEIGHTS[count])).reduce_sum();
-    Some((value as u64, count))
+    Some((packed_value(text, count), count))
+}
+
+/// Returns a bit for each of the first 32 bytes, which is set where the byte is no digit.
+#[inline(always)]
+pub(crate) fn other_bytes(text: &[u8]) -> u64
+    requires { WINDOW ≤ length text.now }
+    ensures { result ≡ others (take WINDOW text.now) }
+{
+    let lanes = u8x32::from_slice(text) - u8x32::splat(b'0');
+    lanes.simd_gt(u8x32::splat(9)).to_bitmask()
+}
+
+/// Returns the number that the digits from a place on spell, and how many they are, if these are one to seven, begin
+/// with no zero and end among the first 32 bytes. The bits tell which of those bytes are no digits.
+#[inline(always)]
+pub(crate) fn number_at(text: &[u8], bits: u64, place: usize) -> Option<(u64, usize)>
+    requires room { ROOM ≤ length text.now }
+    requires bits { bits ≡ others (take WINDOW text.now) }
+    requires place { place ≤ WINDOW }
+    ensures number { IfSome result (λ x. IsFront (drop place text.now) x.0 x.1) }
+    ensures within { IfSome result (λ x. place + x.1 < WINDOW) }
+{
+    let count = (bits >> place).trailing_zeros() as usize;
+    if count == 0 || count > 7 || text[place] == b'0' {
+        return None;
+    }
+    let (_, digits) = text.split_at(place);
+    Some((packed_value(digits, count), count))
 }

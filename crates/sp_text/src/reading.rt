@@ -3,11 +3,13 @@ ghost use Rattle.std.specs.Prelude.{◌≡◌, [], IfSome};
 ghost use Rattle.sp_text.specs.Lines.{fields_from};
 ghost use Rattle.sp_text.specs.Formats.{format_of, IsSmall};
 ghost use Rattle.sp_text.specs.Text.{is_comment, reading};
-ghost use Rattle.sp_text.specs.Matching.{IsContent, IsUsualItem};
+ghost use Rattle.sp_text.specs.Matching.{IsContent, IsUsualItem, IsFrontItem};
 
 use crate::fields::{drop_cr, next_field, starts_otherwise};
 use crate::formats::{FileFormat, Form, Ranges};
-use crate::matching::{Numbers, after_letter, begins_otherwise, match_form, spaced_numbers};
+use crate::matching::{
+    Numbers, after_letter, begins_otherwise, front_numbers, match_form, spaced_numbers,
+};
 use crate::rooms::Values;
 
 /// What a line holds.
@@ -62,6 +64,40 @@ pub(crate) fn usual_item(
         }
     }
     None
+}
+
+/// Returns the form of the line at the front of a text, with its index and its numbers, and the text after the line, if
+/// the line is an item of the first form in the usual spelling, its numbers are in their ranges, and all of it stands
+/// among the first bytes.
+#[inline(always)]
+pub(crate) fn front_item<'a>(
+    format: &FileFormat,
+    ranges: &Ranges,
+    problem: &Values,
+    text: &'a [u8],
+) -> Option<(usize, &'static Form, Values, &'a [u8])>
+    requires { IsSmall format.now }
+    ensures { IfSome result
+        (IsFrontItem (format_of format.now) ranges.now problem.now text.now) }
+{
+    let items: &'static [Form] = format.items;
+    let [form, ..] = items else {
+        return None;
+    };
+    let [first, rest @ ..] = text else {
+        return None;
+    };
+    let (values, end) = front_numbers(form.fields, ranges, problem, rest)?;
+    if rest[end] != b'\n' || *first < b' ' {
+        return None;
+    }
+    let (line, after) = text.split_at(end + 1);
+    after_letter(form.words, line)?;
+    if !starts_otherwise(line, b'c') || !begins_otherwise(format.problem.words, line) {
+        return None;
+    }
+    let (_, more) = after.split_at(1);
+    Some((0, form, values, more))
 }
 
 /// Returns what a line is, given the numbers of the problem line.

@@ -7,7 +7,8 @@ ghost use Rattle.sp_text.specs.Text.{Item};
 
 use sp_device::{Read, UpTo};
 use sp_text::{
-    Collector, DimacsError, Feeder, Field, FileFormat, Form, Keep, Ranges, Top, Values, read_text,
+    Collector, DimacsError, Feeder, Field, FileFormat, Form, Keep, Ranges, Top, Values, read_items,
+    read_text,
 };
 use std::alloc::{AllocError, Global};
 use std::mem;
@@ -159,6 +160,11 @@ pub fn new_reader(alloc: Global) -> Reader {
 
 pub fn read_entries<R: Read>(alloc: Global, reader: &mut R) -> Result<Vec<Entry>, DimacsError> {
     read_text(reader, Feeder::new(Collector::new(Entries::new(alloc))))
+}
+
+/// The same by `read_items`.
+pub fn read_quickly<R: Read>(alloc: Global, reader: &mut R) -> Result<Vec<Entry>, DimacsError> {
+    read_items(reader, Feeder::new(Collector::new(Entries::new(alloc))))
 }
 
 /// The number of items of a text, or its fault.

@@ -1,8 +1,9 @@
 //! Lines in the usual spelling and in others, whole and cut at each byte.
-ghost use Rattle.std.specs.Prelude.{◌≤◌, length};
+ghost use Rattle.std.specs.Prelude.{◌<◌, ◌≤◌, ◌^◌, length};
 
-use super::entries::{Entry, new_reader};
+use super::entries::{Entry, new_reader, read_quickly};
 use crate::answers::fault;
+use sp_device::UpTo;
 use sp_text::{DimacsError, Kind};
 use std::alloc::Global;
 use std::test::Fail;
@@ -44,7 +45,46 @@ fn singly(alloc: Global, problem: &[u8], line: &[u8]) -> Answer {
     Ok(entries.first().copied())
 }
 
-// The item of a line, if it is the same however the line is cut.
+// Behind a line with its LF: there are enough bytes for the line to be read at once.
+const COMMENT: &[u8] = b"c forty bytes and more come after each number\n";
+
+// The text of a problem line, a line and, where that has its LF, a comment.
+fn text_of(alloc: Global, problem: &[u8], line: &[u8]) -> Option<Vec<u8>> {
+    let mut text = Vec::new(alloc);
+    text.extend_from_slice(problem).ok()?;
+    text.extend_from_slice(line).ok()?;
+    if line.ends_with(b"\n") {
+        text.extend_from_slice(COMMENT).ok()?;
+    }
+    Some(text)
+}
+
+// The first item of a text that a device passes in pieces of at most this size.
+fn passed(alloc: Global, text: &[u8], most: usize) -> Answer
+    requires short { length text.now ≤ 2 ^ 62 }
+    requires some { 0 < most }
+{
+    let entries = read_quickly(alloc, &mut UpTo::in_pieces(text, most))?;
+    Ok(entries.first().copied())
+}
+
+// Whether the item of a line is this one where its text comes from a device, whatever the size of pieces.
+fn is_passed(alloc: Global, problem: &[u8], line: &[u8], whole: &Answer) -> bool {
+    let Some(text) = text_of(alloc, problem, line) else {
+        return false;
+    };
+    if text.len() > 1000 {
+        return false;
+    }
+    for most in 1..text.len() + 1 {
+        if passed(alloc, &text, most) != *whole {
+            return false;
+        }
+    }
+    true
+}
+
+// The item of a line, if it is the same however the line is cut, and read.
 fn item(alloc: Global, problem: &[u8], line: &[u8]) -> Option<Answer> {
     let whole = cut_at(alloc, problem, line, 0);
     for end in 1..line.len() {
@@ -52,7 +92,7 @@ fn item(alloc: Global, problem: &[u8], line: &[u8]) -> Option<Answer> {
             return None;
         }
     }
-    if singly(alloc, problem, line) != whole {
+    if singly(alloc, problem, line) != whole || !is_passed(alloc, problem, line, &whole) {
         return None;
     }
     Some(whole)

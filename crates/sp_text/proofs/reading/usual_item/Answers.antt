@@ -12,4 +12,4 @@ returns-then-begins_otherwise c =
     let text = c.drop_cr-text.result.now in
     found_usual c.args.format.now c.args.line.now text c.in-Some.rest.now c.loop-place.place _ c.args.ranges.now c.args.problem.now c.in_ok-values.values (c.requires.items c.loop-place.place _ (omega arith))
     c.drop_cr-text.ensures (sym (no_remark text (c.starts_otherwise.ensures c.if-starts_otherwise.true))) (c.begins_otherwise.ensures c.if-begins_otherwise.true)
-    c.loop-place.invariant (omega arith) c.in-Some.ensures c.in_ok-values.ensures
+    c.loop-place.invariant (omega arith) c.in-Some.ensures.letter c.in_ok-values.ensures

@@ -1,0 +1,91 @@
+//! Reads a text whose lines are items in the usual spelling, for the most part.
+ghost use Rattle.std.specs.Prelude.{◌≡◌, ◌<◌, ℕ, List, [], length, true, false, Some, Err, IfOk, IfErr};
+ghost use Rattle.sp_device.specs.Failing.{Never};
+ghost use Rattle.sp_text.specs.declared.faults.Kind.{Kind};
+ghost use Rattle.sp_text.specs.Text.{judge};
+ghost use Rattle.sp_text.specs.Collecting.{SpelledBy};
+ghost use Rattle.sp_text.specs.Feeding.{IsBehind, Reads, HasReadSome, Refuses};
+ghost use Rattle.sp_text.specs.Whole.{AllRead, IsSpelled, ReadOn, NeverRead};
+
+use crate::collecting::{Collector, Keep};
+use crate::faults::DimacsError;
+use crate::feeding::{Feeder, LineTaker};
+use crate::whole::PIECE;
+use sp_device::Read;
+
+impl<K: Keep> Feeder<Collector<K>> {
+    // Takes the bytes up to and including the next LF, or all of them, and returns the bytes after them.
+    #[inline(always)]
+    fn take_next<'a>(&mut self, bytes: &'a [u8]) -> Result<&'a [u8], DimacsError>
+        requires { 0 < length bytes.now }
+        ensures taken { IfOk result
+            (λ more. HasReadSome (judge K.format K.ranges) ⟦<Collector<K> as LineTaker>⟧.After
+            bytes.now more.now self.old self.new) }
+        ensures refused { IfErr result
+            (λ e. Refuses (judge K.format K.ranges) ⟦<Collector<K> as LineTaker>⟧.After
+            bytes.now self.old e self.new) }
+    {
+        if !self.room.is_empty() {
+            return self.take_run(bytes);
+        }
+        match self.taker.take_front(bytes) {
+            Some((Ok(()), more)) => {
+                self.ends = self.ends.wrapping_add(1);
+                Ok(more)
+            }
+            Some((Err(kind), _)) => Err(self.refuse(kind)),
+            None => self.take_run(bytes),
+        }
+    }
+
+    // Takes the next piece of the text, as `feed` does.
+    #[inline(never)]
+    fn feed_items(&mut self, piece: &[u8]) -> Result<(), DimacsError>
+        ensures { Reads (judge K.format K.ranges) ⟦<Collector<K> as LineTaker>⟧.After
+            piece.now self.old result self.new }
+    {
+        let mut rest = piece;
+        while !rest.is_empty() {
+            rest = self.take_next(rest)?;
+        }
+        Ok(())
+    }
+}
+
+// Reads to the end, and feeds what comes.
+fn read_on<R: Read, K: Keep + Drop>(
+    reader: &mut R,
+    mut feeder: Feeder<Collector<K>>,
+) -> Result<K::Value, DimacsError>
+    requires { IsBehind (judge K.format K.ranges) ⟦<Collector<K> as LineTaker>⟧.After [] feeder }
+    ensures read { ReadOn (judge K.format K.ranges) (SpelledBy K.format K.Spelled)
+        R.Read reader.old result reader.new }
+    ensures never { R.failing reader.old ≡ Never → R.has_failed reader.new ≡ false }
+{
+    let mut buffer = [0u8; PIECE];
+    loop {
+        match reader.read(&mut buffer) {
+            Ok(0) => return feeder.finish(),
+            Ok(n) => feeder.feed_items(&buffer[..n])?,
+            Err(_) => return Err(feeder.fail()),
+        }
+    }
+}
+
+/// Reads the rest of a reader's bytes as `read_text` does, sooner where most lines are items in the usual spelling: a
+/// letter, one space before each number, and LF.
+pub fn read_items<R: Read, K: Keep + Drop>(
+    reader: &mut R,
+    feeder: Feeder<Collector<K>>,
+) -> Result<K::Value, DimacsError>
+    requires { IsBehind (judge K.format K.ranges) ⟦<Collector<K> as LineTaker>⟧.After [] feeder }
+    ensures exact { (text : List ℕ) → R.left reader.old ≡ Some text
+        → AllRead (judge K.format K.ranges) (SpelledBy K.format K.Spelled) text
+        (R.left reader.new) (R.has_failed reader.new) result }
+    ensures found { IfOk result
+        (IsSpelled (judge K.format K.ranges) (SpelledBy K.format K.Spelled)) }
+    ensures read { IfErr result (λ e. e.kind ≡ Kind.Read → R.has_failed reader.new ≡ true) }
+    ensures never { NeverRead (R.failing reader.old) result }
+{
+    read_on(reader, feeder)
+}
