@@ -1,1 +1,2 @@
 pub mod RisingRows
+pub mod RowsWithin

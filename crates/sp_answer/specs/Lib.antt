@@ -1,3 +1,4 @@
 pub mod Answer
 pub mod Pair
 pub mod Table
+pub mod Within

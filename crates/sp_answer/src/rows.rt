@@ -1,8 +1,9 @@
 //! Rows for words.
-ghost use Rattle.std.specs.Prelude.{◌≡◌, ◌≤◌, ◌^◌, ◌<◌, length, IfOk, All};
+ghost use Rattle.std.specs.Prelude.{◌≡◌, ◌≤◌, ◌^◌, ◌<◌, ◌++◌, length, map, IfOk, IfSome, OnOk, All};
 ghost use Rattle.std.specs.Option.{is_some};
 ghost use Rattle.sp_word.specs.Word.{Fits, dist_of};
-ghost use Rattle.sp_answer.specs.Table.{rows_from};
+ghost use Rattle.sp_answer.specs.Table.{row_of, rows_from};
+ghost use Rattle.sp_answer.specs.Within.{up_to};
 
 use sp_word::Word;
 use std::alloc::{AllocError, Global};
@@ -32,4 +33,92 @@ pub fn rows_of<const P: u32>(
         }
     }
     Ok(rows)
+}
+
+// Rows are few where they are at most this part of the vertices.
+const FEW: usize = 16;
+
+// Returns whether the distance of a word is at most the limit.
+fn is_within<const P: u32>(word: Word<P>, limit: u64) -> bool
+    ensures { result ≡ is_some (dist_of (up_to limit word.entry)) }
+{
+    match word.dist() {
+        Some(dist) => dist <= limit,
+        None => false,
+    }
+}
+
+// Appends the row of a vertex, if the distance of its word is at most the limit.
+fn push_within<const P: u32>(
+    rows: &mut Vec<(u32, Word<P>)>,
+    vertex: u32,
+    word: Word<P>,
+    limit: u64,
+) -> Result<(), AllocError>
+    ensures rows { OnOk result
+        (rows.new.items ≡ rows.old.items ++ row_of vertex (up_to limit word.entry)) }
+    ensures range { Fits P word.entry }
+{
+    match word.dist() {
+        Some(dist) if dist <= limit => Ok(rows.push((vertex, word))?),
+        _ => Ok(()),
+    }
+}
+
+// Returns the rows of the words up to the limit, or none if they are not few. The list grows with them.
+fn few_rows<const P: u32>(
+    alloc: Global,
+    words: &[Word<P>],
+    limit: u64,
+) -> Result<Option<Vec<(u32, Word<P>)>>, AllocError>
+    requires { length words.now < 2 ^ 32 }
+    ensures rows { IfOk result (λ few. IfSome few
+        (λ rows. rows.items ≡ rows_from 1 (map (up_to limit) words.now))) }
+    ensures fits { IfOk result (λ few. IfSome few (λ rows. All (Fits P) words.now)) }
+{
+    let most = words.len() / FEW;
+    let mut rows = Vec::new(alloc);
+    for (place, word) in words.iter().enumerate() {
+        push_within(&mut rows, place as u32 + 1, *word, limit)?;
+        if rows.len() > most {
+            return Ok(None);
+        }
+    }
+    rows.shrink_to_fit();
+    Ok(Some(rows))
+}
+
+// Returns the rows of the words up to the limit. It counts them first, and allocates once.
+fn counted_rows<const P: u32>(
+    alloc: Global,
+    words: &[Word<P>],
+    limit: u64,
+) -> Result<Vec<(u32, Word<P>)>, AllocError>
+    requires { length words.now < 2 ^ 32 }
+    ensures rows { IfOk result (λ rows. rows.items ≡ rows_from 1 (map (up_to limit) words.now)) }
+    ensures fits { IfOk result (λ rows. All (Fits P) words.now) }
+{
+    let count = words.iter().filter(|word| is_within(**word, limit)).count();
+    let mut rows = Vec::with_capacity(alloc, count)?;
+    for (place, word) in words.iter().enumerate() {
+        push_within(&mut rows, place as u32 + 1, *word, limit)?;
+    }
+    Ok(rows)
+}
+
+/// Returns the rows of the vertices whose distances are at most the limit, of words that are given for vertex 1, 2 and so
+/// on. Where they are few it looks at the words once; the list has no more room than they need.
+pub fn rows_within<const P: u32>(
+    alloc: Global,
+    words: &[Word<P>],
+    limit: u64,
+) -> Result<Vec<(u32, Word<P>)>, AllocError>
+    requires { length words.now < 2 ^ 32 }
+    ensures rows { IfOk result (λ rows. rows.items ≡ rows_from 1 (map (up_to limit) words.now)) }
+    ensures fits { IfOk result (λ rows. All (Fits P) words.now) }
+{
+    match few_rows(alloc, words, limit)? {
+        Some(rows) => Ok(rows),
+        None => counted_rows(alloc, words, limit),
+    }
 }

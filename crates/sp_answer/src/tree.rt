@@ -1,9 +1,10 @@
 //! Trees as tables of rows.
-ghost use Rattle.std.specs.Prelude.{◌≡◌, ◌+◌, ◌-◌, ◌<◌, ◌≤◌, ◌∷◌, [], ◌++◌, ℕ, List, length, true, All, IfOk, Some, MatchOption, slice_get};
+ghost use Rattle.std.specs.Prelude.{◌≡◌, ◌+◌, ◌-◌, ◌<◌, ◌≤◌, ◌∷◌, [], ◌++◌, ℕ, List, length, map, true, All, IfOk, Some, MatchOption, slice_get};
 ghost use Rattle.sp_word.specs.Word.{Pair, Unreached, is_layout, max_dist, max_pred};
 ghost use Rattle.sp_answer.specs.Table.{TreeTable, IsTable, AreRows, HasPredWithin, last_vertex, table_of, tree_of, with_row};
+ghost use Rattle.sp_answer.specs.Within.{up_to};
 
-use crate::rows::rows_of;
+use crate::rows::{rows_of, rows_within};
 use sp_word::Word;
 use std::alloc::{AllocError, Global};
 use std::marker::Model;
@@ -44,6 +45,33 @@ impl<const P: u32> Tree<P> {
             n: words.len() as u32,
             source,
             rows: rows_of(alloc, words)?,
+        })
+    }
+
+    /// Returns the part within a limit of the tree of a source in which the vertices have these words: a vertex whose distance
+    /// is beyond it has no row.
+    ///
+    /// It takes linear time, and looks at the words once where few vertices lie within the limit.
+    pub fn of_words_within(
+        alloc: Global,
+        source: u32,
+        words: &[Word<P>],
+        limit: u64,
+    ) -> Result<Tree<P>, AllocError>
+        requires layout { is_layout P ≡ true }
+        requires least { 1 ≤ length words.now }
+        requires most { length words.now ≤ max_pred P }
+        requires source_least { 1 ≤ source }
+        requires source_most { source ≤ length words.now }
+        requires preds { All (HasPredWithin (length words.now)) words.now }
+        ensures tree { IfOk result (λ t. t ≡ tree_of source (map (up_to limit) words.now)) }
+        ensures words { IfOk result (λ t. (v : ℕ) → 1 ≤ v → v ≤ t.n
+            → slice_get (map (up_to limit) words.now) (v - 1) ≡ Some (table_of t v)) }
+    {
+        Ok(Tree {
+            n: words.len() as u32,
+            source,
+            rows: rows_within(alloc, words, limit)?,
         })
     }
 

@@ -7,7 +7,7 @@ use Rattle.sp_paths.specs.Paths.{Graph, IsFar}
 use Rattle.sp_answer.specs.Table.{TreeTable, IsTable}
 use Rattle.sp_tree.specs.TreeText.{tree_text, far_text}
 use Rattle.sp_answer.specs.Answer.{IsAnswer}
-use Rattle.sp_solve.specs.Within.{IsTreeWithin}
+use Rattle.sp_answer.specs.Within.{IsTreeWithin}
 use Rattle.sp_job.specs.declared.answers.Summary.{Summary}
 use Rattle.sp_job.specs.Answers.{IsCount}
 

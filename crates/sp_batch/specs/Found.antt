@@ -4,7 +4,7 @@ use Rattle.sp_word.specs.Word.{max_dist}
 use Rattle.sp_paths.specs.Paths.{Graph, IsVertex}
 use Rattle.sp_answer.specs.Answer.{IsRefusal}
 use Rattle.sp_answer.specs.declared.answer.RunError.{RunError}
-use Rattle.sp_solve.specs.Within.{IsRefusalWithin}
+use Rattle.sp_answer.specs.Within.{IsRefusalWithin}
 use Rattle.sp_job.specs.Ready.{IsReady}
 use Rattle.sp_sources.specs.Told.{Told}
 use Rattle.sp_batch.specs.declared.finding.SourceAnswer.{SourceAnswer}

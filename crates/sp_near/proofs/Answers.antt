@@ -11,7 +11,7 @@ use Rattle.sp_paths.specs.Rows.{row_of, IsArcRelaxed}
 use Rattle.sp_paths.proofs.Walks.{arc_in}
 use Rattle.sp_paths.proofs.RowSteps.{rows_hold_arcs}
 use Rattle.sp_scan.specs.Shown.{IsClosedUpTo}
-use Rattle.sp_solve.specs.Within.{up_to}
+use Rattle.sp_answer.specs.Within.{up_to}
 use Rattle.sp_forest.specs.Forests.{IsForestWord, IsNear, IsClosedTable}
 use Rattle.sp_forest.specs.Laws.{ShowsWithin, ClosedShowsWithin}
 use Rattle.sp_forest.proofs.Walks.{nearest_same}

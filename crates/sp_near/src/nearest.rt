@@ -1,5 +1,5 @@
 //! The nearest of several sources.
-ghost use Rattle.std.specs.Prelude.{◌≡◌, ◌≤◌, true, All, Any, None, Some, length, IfOk, IfErr, IfSome, OnOk, MatchBool};
+ghost use Rattle.std.specs.Prelude.{◌≡◌, ◌≤◌, true, All, Any, None, Some, IfOk, IfErr, IfSome, MatchBool};
 ghost use Rattle.sp_word.specs.Word.{is_layout, max_dist, max_pred};
 ghost use Rattle.sp_paths.specs.Paths.{IsVertex, word_at};
 ghost use Rattle.sp_graph.specs.LeftOut.{IsLeastLeftOut};
@@ -58,35 +58,14 @@ impl<'g, const P: u32> NearRun<'g, P> {
         ensures words { IfOk result (λ words. AreWords P self.now None words.items) }
         ensures refused { IfErr result (IsRefusal P self.now.graph self.now.sources None) }
     {
-        let n = self.graph.n() as usize;
-        let Ok(mut words) = vec![in self.alloc; Word::unreached(); n] else {
-            return Err(RunError::Memory);
-        };
-        let Ok(left) = self.relax(rt, words.as_mut_slice()) else {
+        let _ = self.graph.n();
+        let Ok((words, left)) = self.relax(rt) else {
             return Err(RunError::Memory);
         };
         self.judge(words, left)
     }
 
-    // Lowers words until those within the limit are final, and makes every other one unreached.
-    fn reach_within<R: Threads + Wait + Sync>(
-        &self,
-        rt: &R,
-        limit: u64,
-        words: &mut [Word<P>],
-    ) -> Result<(), AllocError>
-        requires limit { limit ≤ max_dist P }
-        requires room { length words.old ≡ self.now.graph.n }
-        ensures { OnOk result (AreWords P self.now (Some limit) words.new) }
-    {
-        closed_table();
-        let _ = self.graph.n();
-        self.relax_within(rt, limit, words)?;
-        cut(words, limit);
-        Ok(())
-    }
-
-    // Runs until the words within the limit are final, and returns these.
+    // Runs until the words within the limit are final, and returns these, with every other one unreached.
     fn words_within<R: Threads + Wait + Sync>(
         &self,
         rt: &R,
@@ -95,8 +74,10 @@ impl<'g, const P: u32> NearRun<'g, P> {
         requires { limit ≤ max_dist P }
         ensures { IfOk result (λ words. AreWords P self.now (Some limit) words.items) }
     {
-        let mut words = vec![in self.alloc; Word::unreached(); self.graph.n() as usize]?;
-        self.reach_within(rt, limit, words.as_mut_slice())?;
+        closed_table();
+        let _ = self.graph.n();
+        let mut words = self.relax_within(rt, limit)?;
+        cut(words.as_mut_slice(), limit);
         Ok(words)
     }
 

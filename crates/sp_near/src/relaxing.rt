@@ -1,5 +1,5 @@
 //! Turns of a run, until a copy of the words shows that the arcs are relaxed: all of them, or those within a limit.
-ghost use Rattle.std.specs.Prelude.{◌≡◌, length, IfOk, OnOk};
+ghost use Rattle.std.specs.Prelude.{◌≡◌, IfOk};
 ghost use Rattle.sp_word.specs.Word.{max_dist};
 ghost use Rattle.sp_paths.specs.Paths.{word_at};
 ghost use Rattle.sp_graph.specs.LeftOut.{IsLeastLeftOut};
@@ -17,21 +17,20 @@ use std::sync::Wait;
 use std::thread::Threads;
 
 impl<'g, const P: u32> NearRun<'g, P> {
-    // Relaxes turn after turn, until every arc is relaxed in the copy. Returns the smallest vertex that the words leave out, if
-    // there is one.
+    // Relaxes turn after turn, until every arc is relaxed in a copy of all words. Returns it, and the smallest vertex that it
+    // leaves out, if there is one.
     fn relax_turns<R: Threads + Wait + Sync>(
         &self,
         rt: &R,
         table: &OfferTable<NearWalks<'g>, P>,
         mut caller: Caller,
-        words: &mut [Word<P>],
-    ) -> Result<Option<u32>, AllocError>
+    ) -> Result<(Vec<Word<P>>, Option<u32>), AllocError>
         requires table { TakesWalks self.now table.now.law table.now.vertices }
         requires caller { caller.table ≡ table.now.id }
         requires own { KnowsOwn self.now.sources caller }
-        requires room { length words.old ≡ self.now.graph.n }
-        ensures relaxed { OnOk result (IsRelaxedCopy P self.now words.new) }
-        ensures left { IfOk result (IsLeastLeftOut self.now.graph (word_at words.new)) }
+        ensures relaxed { IfOk result (λ made. IsRelaxedCopy P self.now made.0.items) }
+        ensures left { IfOk result
+            (λ made. IsLeastLeftOut self.now.graph (word_at made.0.items) made.1) }
     {
         let mut queue = Vec::from_slice(self.alloc, self.sources)?;
         for _ in rt.forever() {
@@ -42,49 +41,47 @@ impl<'g, const P: u32> NearRun<'g, P> {
                 limit: u64::MAX,
                 meter: self.meter,
             };
-            let done = self.lower(rt, table, &search, caller, words);
-            match scan_arcs(rt, words, self.graph.arcs(), self.team.workers.get()) {
-                Scan::Whole => return Ok(None),
-                Scan::LeavesOut(vertex) => return Ok(Some(vertex)),
+            let (words, done) = self.lower(rt, table, &search, caller)?;
+            let threads = self.team.workers.get();
+            match scan_arcs(rt, words.as_slice(), self.graph.arcs(), threads) {
+                Scan::Whole => return Ok((words, None)),
+                Scan::LeavesOut(vertex) => return Ok((words, Some(vertex))),
                 Scan::Open if done.lost => return Err(AllocError),
-                Scan::Open => queue = open_tails(self.alloc, words, self.graph.arcs())?,
+                Scan::Open => queue = open_tails(self.alloc, words.as_slice(), self.graph.arcs())?,
             }
             caller = done.caller;
         }
         unreachable!()
     }
 
-    /// Relaxes every arc, in a table that is given back before it returns. Returns the smallest vertex that the words leave out,
-    /// if there is one.
+    /// Relaxes every arc, in a table that is given back before it returns. Returns a copy of all words, and the smallest vertex
+    /// that it leaves out, if there is one.
     pub(crate) fn relax<R: Threads + Wait + Sync>(
         &self,
         rt: &R,
-        words: &mut [Word<P>],
-    ) -> Result<Option<u32>, AllocError>
-        requires room { length words.old ≡ self.now.graph.n }
-        ensures relaxed { OnOk result (IsRelaxedCopy P self.now words.new) }
-        ensures left { IfOk result (IsLeastLeftOut self.now.graph (word_at words.new)) }
+    ) -> Result<(Vec<Word<P>>, Option<u32>), AllocError>
+        ensures relaxed { IfOk result (λ made. IsRelaxedCopy P self.now made.0.items) }
+        ensures left { IfOk result
+            (λ made. IsLeastLeftOut self.now.graph (word_at made.0.items) made.1) }
     {
         let (table, caller) = self.open()?;
-        self.relax_turns(rt, &table, caller, words)
+        self.relax_turns(rt, &table, caller)
     }
 
-    // Relaxes turn after turn, until each arc whose tail lies within the limit is relaxed in the copy.
+    // Relaxes turn after turn, until each arc whose tail lies within the limit is relaxed in a copy of all words. Returns it.
     fn within_turns<R: Threads + Wait + Sync>(
         &self,
         rt: &R,
         table: &OfferTable<NearWalks<'g>, P>,
         mut caller: Caller,
         limit: u64,
-        words: &mut [Word<P>],
-    ) -> Result<(), AllocError>
+    ) -> Result<Vec<Word<P>>, AllocError>
         requires table { TakesWalks self.now table.now.law table.now.vertices }
         requires caller { caller.table ≡ table.now.id }
         requires own { KnowsOwn self.now.sources caller }
-        requires room { length words.old ≡ self.now.graph.n }
-        ensures copy { OnOk result (IsOfWalks P self.now words.new) }
-        ensures closed { OnOk result
-            (IsClosedUpTo self.now.graph (max_dist P) limit (word_at words.new)) }
+        ensures copy { IfOk result (λ words. IsOfWalks P self.now words.items) }
+        ensures closed { IfOk result
+            (λ words. IsClosedUpTo self.now.graph (max_dist P) limit (word_at words.items)) }
     {
         let mut queue = Vec::from_slice(self.alloc, self.sources)?;
         for _ in rt.forever() {
@@ -95,32 +92,30 @@ impl<'g, const P: u32> NearRun<'g, P> {
                 limit,
                 meter: self.meter,
             };
-            let done = self.lower(rt, table, &search, caller, words);
-            if is_relaxed_up_to(words, self.graph, limit) {
-                return Ok(());
+            let (words, done) = self.lower(rt, table, &search, caller)?;
+            if is_relaxed_up_to(words.as_slice(), self.graph, limit) {
+                return Ok(words);
             }
             if done.lost {
                 return Err(AllocError);
             }
-            queue = open_tails(self.alloc, words, self.graph.arcs())?;
+            queue = open_tails(self.alloc, words.as_slice(), self.graph.arcs())?;
             caller = done.caller;
         }
         unreachable!()
     }
 
-    /// Relaxes the arcs within the limit, in a table that is given back before it returns.
+    /// Relaxes the arcs within the limit, in a table that is given back before it returns. Returns a copy of all words.
     pub(crate) fn relax_within<R: Threads + Wait + Sync>(
         &self,
         rt: &R,
         limit: u64,
-        words: &mut [Word<P>],
-    ) -> Result<(), AllocError>
-        requires room { length words.old ≡ self.now.graph.n }
-        ensures copy { OnOk result (IsOfWalks P self.now words.new) }
-        ensures closed { OnOk result
-            (IsClosedUpTo self.now.graph (max_dist P) limit (word_at words.new)) }
+    ) -> Result<Vec<Word<P>>, AllocError>
+        ensures copy { IfOk result (λ words. IsOfWalks P self.now words.items) }
+        ensures closed { IfOk result
+            (λ words. IsClosedUpTo self.now.graph (max_dist P) limit (word_at words.items)) }
     {
         let (table, caller) = self.open()?;
-        self.within_turns(rt, &table, caller, limit, words)
+        self.within_turns(rt, &table, caller, limit)
     }
 }

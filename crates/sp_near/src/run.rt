@@ -1,7 +1,7 @@
 //! A run by a team from several sources.
 //!
 //! The team lowers the words, in whatever order. What the run answers rests on a copy of the words alone.
-ghost use Rattle.std.specs.Prelude.{◌≡◌, ◌≤◌, true, All, length, IfOk};
+ghost use Rattle.std.specs.Prelude.{◌≡◌, ◌≤◌, true, All, IfOk};
 ghost use Rattle.sp_word.specs.Word.{is_layout, max_pred};
 ghost use Rattle.sp_paths.specs.Paths.{IsVertex};
 ghost use Rattle.sp_near.specs.NearRun.{TakesWalks, KnowsOwn, IsOfWalks};
@@ -94,27 +94,25 @@ impl<'g, const P: u32> NearRun<'g, P> {
         Ok((table, caller))
     }
 
-    /// Lets the team relax what the queue asks for, as far as the limit lies, and then copies all words.
+    /// Lets the team relax what the queue asks for, as far as the limit lies. Returns a copy of all words.
     pub(crate) fn lower<R: Threads + Wait + Sync>(
         &self,
         rt: &R,
         table: &OfferTable<NearWalks<'g>, P>,
         search: &Search<P>,
         caller: Caller,
-        words: &mut [Word<P>],
-    ) -> Relaxed
+    ) -> Result<(Vec<Word<P>>, Relaxed), AllocError>
         requires table { TakesWalks self.now table.now.law table.now.vertices }
         requires caller { caller.table ≡ table.now.id }
         requires own { KnowsOwn self.now.sources caller }
-        requires room { length words.old ≡ self.now.graph.n }
-        ensures caller { result.caller.table ≡ table.entry.now.id }
-        ensures own { KnowsOwn self.now.sources result.caller }
-        ensures copy { IsOfWalks P self.now words.new }
+        ensures copy { IfOk result (λ made. IsOfWalks P self.now made.0.items) }
+        ensures caller { IfOk result (λ made. made.1.caller.table ≡ table.entry.now.id) }
+        ensures own { IfOk result (λ made. KnowsOwn self.now.sources made.1.caller) }
     {
         let Relaxed { mut caller, lost } = relax_all(
             rt, self.alloc, self.graph, table, search, caller,
         );
-        table.copy_words(&mut caller, words);
-        Relaxed { caller, lost }
+        let words = table.list_words(self.alloc, &mut caller)?;
+        Ok((words, Relaxed { caller, lost }))
     }
 }

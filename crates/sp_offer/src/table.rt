@@ -1,5 +1,5 @@
 //! The table and its callers.
-ghost use Rattle.std.specs.Prelude.{◌≡◌, ℕ, ◌+◌, ◌≤◌, ◌<◌, true, ◌++◌, length, IfOk, IsOkAnd};
+ghost use Rattle.std.specs.Prelude.{◌≡◌, ℕ, ◌+◌, ◌≤◌, ◌<◌, true, ◌++◌, length, IfOk, IsOkAnd, OnErr};
 ghost use Rattle.sp_word.specs.Word.{IsPair, is_layout};
 ghost use Rattle.sp_word.specs.Reply.{reply_to};
 ghost use Rattle.sp_offer.specs.Story.{IsTried, empty_story, own_calls, reads_of};
@@ -150,6 +150,28 @@ impl<L: Lawful, const P: u32> OfferTable<L, P> {
         for i in 0..words.len() {
             self.copy_word(caller, i, &mut words[i]);
         }
+    }
+
+    /// Returns a list of the words of all vertices, made by one read of each vertex, in rising order. Where there is no memory
+    /// for it, nothing is read.
+    pub fn list_words(&self, alloc: Global, caller: &mut Caller) -> Result<Vec<Word<P>>, AllocError>
+        requires { caller.old.table ≡ self.now.id }
+        ensures caller { IsSameCaller caller.old caller.new }
+        ensures reads { IfOk result
+            (λ words. ReadsWords P L.allows self.now words.items caller.old caller.new) }
+        ensures copy { IfOk result
+            (λ words. CopiesWords P L.allows self.now words.items caller.old caller.new) }
+        ensures length { IfOk result (λ words. length words.items ≡ self.now.vertices) }
+        ensures own { IfOk result
+            (λ words. OwnsAll (reads_of caller.old.number 1 words.items) caller.old caller.new) }
+        ensures refused { OnErr result (caller.new ≡ caller.old) }
+    {
+        let count = self.words.count();
+        let mut words = Vec::with_capacity(alloc, count)?;
+        for place in 0..count {
+            words.push_reserved(self.read(caller, place as u32 + 1));
+        }
+        Ok(words)
     }
 
     // Reads the word at an index, counted from 0, into its copy.

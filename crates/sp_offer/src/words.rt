@@ -60,6 +60,14 @@ impl<L: Lawful> Words<L> {
         Ok((Words { table }, seat))
     }
 
+    /// Returns the number of vertices.
+    pub(crate) fn count(&self) -> usize
+        ensures count { result ≡ vertices_of self.now }
+        ensures range { (0 < result) × (result < 4294967296) }
+    {
+        self.table.word_count()
+    }
+
     pub(crate) fn read<J: Asking>(&self, seat: &mut CallerSeat, vertex: u32) -> u64
         requires vertex { (0 < vertex) × (vertex ≤ vertices_of self.now) }
         requires seat { IsAtRest (id_of self.now) seat.old }

@@ -1,11 +1,10 @@
 -- The part of a tree within a distance, from a copy of words in which the arcs within it are relaxed.
 use Rattle.std.proofs.Common.{◌≡◌, ℕ, ◌+◌, ◌-◌, ◌<◌, ◌≤◌, ◌⊎◌, inl, inr, List, length, Some, refl, sym, ap, ◌∙◌, subst, arith}
-use Rattle.std.specs.Prelude.{All, map, nat_le, slice_get}
+use Rattle.std.specs.Prelude.{map, nat_le, slice_get}
 use Rattle.std.specs.Option.{unwrap_or}
 use Rattle.std.proofs.Math.ListN.{get_or-map}
 use Rattle.std.proofs.lemmas.Bool.{cases_lt, le-leb, lt-leb, cond-true, cond-false}
 use Rattle.std.proofs.lemmas.List.{length-map}
-use Rattle.std.proofs.lemmas.List.Elements.{All-map, All-weaker}
 use Rattle.std.proofs.lemmas.Option.{unwrap_or-slice_get}
 use Rattle.sp_word.specs.Word.{Word, Unreached, Pair, max_dist}
 use Rattle.sp_paths.specs.Paths.{IsVertex, IsNear, IsTreeWord, word_at}
@@ -13,12 +12,11 @@ use Rattle.sp_paths.proofs.Walks.{least_same}
 use Rattle.sp_paths.proofs.Core.{walk_vertex}
 use Rattle.sp_paths.proofs.Only.{tree_pair_least}
 use Rattle.sp_paths.proofs.TheoremProofs.{passed_is_settled, passed_is_pair}
-use Rattle.sp_answer.specs.Table.{TreeTable, HasPredWithin, table_of, tree_of}
+use Rattle.sp_answer.specs.Table.{TreeTable, table_of, tree_of}
 use Rattle.sp_walks.specs.Walks.{WalksFrom}
 use Rattle.sp_scan.specs.Shown.{IsClosedUpTo}
 use Rattle.sp_solve.specs.WholeRun.{IsPlace, IsOfWalks}
-use Rattle.sp_solve.specs.Within.{IsTreeWithin, up_to}
-use Rattle.sp_solve.proofs.WholeRun.{preds_within}
+use Rattle.sp_answer.specs.Within.{IsTreeWithin, up_to}
 use Rattle.sp_solve.proofs.TargetAnswers.{passed}
 
 -- the word of a vertex after a cut
@@ -31,23 +29,7 @@ kept limit d p low = cond-true (nat_le d limit) (Pair d p) Unreached (le-leb d l
 dropped : (limit d p : ℕ) → limit < d → up_to limit (Pair d p) ≡ Unreached
 dropped limit d p high = cond-false (nat_le d limit) (Pair d p) Unreached (lt-leb d limit high)
 
--- a cut leaves predecessors within
-pred_cut : (limit n : ℕ) (w : Word) → HasPredWithin n w → HasPredWithin n (up_to limit w)
-pred_cut limit n Unreached h = h
-pred_cut limit n (Pair d p) h = go (cases_lt limit d)
-  where
-    go : (limit < d) ⊎ (d ≤ limit) → HasPredWithin n (up_to limit (Pair d p))
-    go (inl high) = rw (dropped limit d p high) tt
-    go (inr low) = rw (kept limit d p low) h
-
 module _ (P : ℕ) (run : WalksFrom) (place : IsPlace P run) (words : List Word) (copy : IsOfWalks P run words) where
-  pub cut_preds : (limit : ℕ) (cut : List Word) → cut ≡ map (up_to limit) words → All (HasPredWithin (length cut)) cut
-  cut_preds limit cut is =
-      let n = length words in
-      let size : length cut ≡ n = ap (λ (ws : List Word). length ws) is ∙ length-map words (up_to limit) in
-      let all = All-map (HasPredWithin n) (up_to limit) words (All-weaker (HasPredWithin n) (λ w. HasPredWithin n (up_to limit w)) (pred_cut limit n) words (preds_within P run place words copy)) in
-      subst (λ k. All (HasPredWithin k) cut) (sym size) (subst (All (HasPredWithin n)) (sym is) all)
-
   module _ (limit : ℕ) (most : limit ≤ max_dist P) (closed : IsClosedUpTo run.graph (max_dist P) limit (word_at words)) where
     -- a vertex near the source has its word of the tree, and its distance is within the limit
     near : (v : ℕ) → IsNear run.graph run.source limit v → IsTreeWord run.graph run.source v (up_to limit (word_at words v))

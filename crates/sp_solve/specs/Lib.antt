@@ -1,3 +1,2 @@
 pub mod WholeRun
 pub mod Reach
-pub mod Within

@@ -101,9 +101,8 @@ pub fn run_targets<'g, const P: u32, R: Threads + Wait + Sync>(
     ensures targets { IfOk result (λ reach. reach.targets ≡ query.targets.items) }
 {
     let Query { source, targets } = query;
-    let mut words = vec![in alloc; Word::unreached(); graph.n() as usize]?;
     let run = WholeRun::new(alloc, graph, source, team, meter);
-    let far = run.relax(rt, targets.as_slice(), words.as_mut_slice())?;
+    let (words, far) = run.relax(rt, targets.as_slice())?;
     Ok(Reach {
         graph,
         source,

@@ -44,28 +44,26 @@ impl<'g, const P: u32> WholeRun<'g, P> {
         Ok((table, caller))
     }
 
-    /// Lets the team relax what the queue asks for, as far as the targets and the limit lie, and then copies all words.
+    /// Lets the team relax what the queue asks for, as far as the targets and the limit lie. Returns a copy of all words.
     pub(crate) fn lower<R: Threads + Wait + Sync>(
         &self,
         rt: &R,
         table: &OfferTable<Walks<'g>, P>,
         search: &Search<P>,
         caller: Caller,
-        words: &mut [Word<P>],
-    ) -> Relaxed
+    ) -> Result<(Vec<Word<P>>, Relaxed), AllocError>
         requires table { TakesWalks self.now table.now.law table.now.vertices }
         requires caller { caller.table ≡ table.now.id }
         requires opened { HasOpened self.now caller }
-        requires room { length words.old ≡ self.now.graph.n }
-        ensures caller { result.caller.table ≡ table.entry.now.id }
-        ensures opened { HasOpened self.now result.caller }
-        ensures copy { IsOfWalks P self.now words.new }
+        ensures copy { IfOk result (λ made. IsOfWalks P self.now made.0.items) }
+        ensures caller { IfOk result (λ made. made.1.caller.table ≡ table.entry.now.id) }
+        ensures opened { IfOk result (λ made. HasOpened self.now made.1.caller) }
     {
         let Relaxed { mut caller, lost } = relax_all(
             rt, self.alloc, self.graph, table, search, caller,
         );
-        table.copy_words(&mut caller, words);
-        Relaxed { caller, lost }
+        let words = table.list_words(self.alloc, &mut caller)?;
+        Ok((words, Relaxed { caller, lost }))
     }
 
     // Judges a copy of the words by the arcs that bear on the targets: those within the farthest of them, or all arcs where
@@ -85,22 +83,20 @@ impl<'g, const P: u32> WholeRun<'g, P> {
         scan_arcs(rt, words, self.graph.arcs(), self.team.workers.get())
     }
 
-    // Relaxes turn after turn, until the words of the targets are final in the copy. Returns the smallest vertex that is too
-    // far, if one is and bears on the targets.
+    // Relaxes turn after turn, until the words of the targets are final in a copy of all words. Returns it, and the smallest
+    // vertex that is too far, if one is and bears on the targets.
     fn relax_turns<R: Threads + Wait + Sync>(
         &self,
         rt: &R,
         table: &OfferTable<Walks<'g>, P>,
         mut caller: Caller,
         targets: &[u32],
-        words: &mut [Word<P>],
-    ) -> Result<Option<u32>, AllocError>
+    ) -> Result<(Vec<Word<P>>, Option<u32>), AllocError>
         requires table { TakesWalks self.now table.now.law table.now.vertices }
         requires caller { caller.table ≡ table.now.id }
         requires opened { HasOpened self.now caller }
         requires targets { All (IsVertex self.now.graph.n) targets.now }
-        requires room { length words.old ≡ self.now.graph.n }
-        ensures { IfOk result (IsFinal P self.now targets.now words.new) }
+        ensures { IfOk result (λ made. IsFinal P self.now targets.now made.0.items made.1) }
     {
         let mut queue = vec![in self.alloc; self.source]?;
         for _ in rt.forever() {
@@ -111,12 +107,12 @@ impl<'g, const P: u32> WholeRun<'g, P> {
                 limit: u64::MAX,
                 meter: self.meter,
             };
-            let done = self.lower(rt, table, &search, caller, words);
-            match self.judge(rt, words, targets) {
-                Scan::Whole => return Ok(None),
-                Scan::LeavesOut(vertex) => return Ok(Some(vertex)),
+            let (words, done) = self.lower(rt, table, &search, caller)?;
+            match self.judge(rt, words.as_slice(), targets) {
+                Scan::Whole => return Ok((words, None)),
+                Scan::LeavesOut(vertex) => return Ok((words, Some(vertex))),
                 Scan::Open if done.lost => return Err(AllocError),
-                Scan::Open => queue = open_tails(self.alloc, words, self.graph.arcs())?,
+                Scan::Open => queue = open_tails(self.alloc, words.as_slice(), self.graph.arcs())?,
             }
             caller = done.caller;
         }
@@ -124,18 +120,17 @@ impl<'g, const P: u32> WholeRun<'g, P> {
     }
 
     /// Lowers words until those of the targets are final, or all words where no target is named, in a table that is given
-    /// back before it returns. Returns the smallest vertex that is too far, if one is and bears on the targets.
+    /// back before it returns. Returns a copy of all words, and the smallest vertex that is too far, if one is and bears on
+    /// the targets.
     pub(crate) fn relax<R: Threads + Wait + Sync>(
         &self,
         rt: &R,
         targets: &[u32],
-        words: &mut [Word<P>],
-    ) -> Result<Option<u32>, AllocError>
+    ) -> Result<(Vec<Word<P>>, Option<u32>), AllocError>
         requires targets { All (IsVertex self.now.graph.n) targets.now }
-        requires room { length words.old ≡ self.now.graph.n }
-        ensures { IfOk result (IsFinal P self.now targets.now words.new) }
+        ensures { IfOk result (λ made. IsFinal P self.now targets.now made.0.items made.1) }
     {
         let (table, caller) = self.open()?;
-        self.relax_turns(rt, &table, caller, targets, words)
+        self.relax_turns(rt, &table, caller, targets)
     }
 }

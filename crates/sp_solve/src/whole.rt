@@ -96,11 +96,8 @@ impl<'g, const P: u32> WholeRun<'g, P> {
         ensures tree { IfOk result (IsAnswer P self.now.graph self.now.source) }
         ensures refused { IfErr result (IsRefusal P self.now.graph self.now.source) }
     {
-        let n = self.graph.n() as usize;
-        let Ok(mut words) = vec![in self.alloc; Word::unreached(); n] else {
-            return Err(RunError::Memory);
-        };
-        let Ok(left) = self.relax(rt, &[], words.as_mut_slice()) else {
+        let _ = self.graph.n();
+        let Ok((words, left)) = self.relax(rt, &[]) else {
             return Err(RunError::Memory);
         };
         self.answer_of(words.as_slice(), left)

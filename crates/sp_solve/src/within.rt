@@ -1,10 +1,10 @@
 //! Runs within a distance of one source.
-ghost use Rattle.std.specs.Prelude.{◌≡◌, ◌≤◌, true, length, map, IfOk, IfErr, OnOk};
+ghost use Rattle.std.specs.Prelude.{◌≡◌, ◌≤◌, true, map, IfOk, IfErr};
 ghost use Rattle.sp_word.specs.Word.{is_layout, max_dist, max_pred};
 ghost use Rattle.sp_paths.specs.Paths.{word_at};
 ghost use Rattle.sp_scan.specs.Shown.{IsClosedUpTo};
 ghost use Rattle.sp_solve.specs.WholeRun.{TakesWalks, HasOpened, IsOfWalks};
-ghost use Rattle.sp_solve.specs.Within.{IsTreeWithin, IsRefusalWithin, up_to};
+ghost use Rattle.sp_answer.specs.Within.{IsTreeWithin, IsRefusalWithin, up_to};
 
 use crate::whole::WholeRun;
 use sp_answer::{RunError, Tree};
@@ -45,22 +45,20 @@ pub fn cut<const P: u32>(words: &mut [Word<P>], limit: u64)
 }
 
 impl<'g, const P: u32> WholeRun<'g, P> {
-    // Relaxes turn after turn, until each arc whose tail lies within the limit is relaxed in the copy.
+    // Relaxes turn after turn, until each arc whose tail lies within the limit is relaxed in a copy of all words. Returns it.
     fn within_turns<R: Threads + Wait + Sync>(
         &self,
         rt: &R,
         table: &OfferTable<Walks<'g>, P>,
         mut caller: Caller,
         limit: u64,
-        words: &mut [Word<P>],
-    ) -> Result<(), AllocError>
+    ) -> Result<Vec<Word<P>>, AllocError>
         requires table { TakesWalks self.now table.now.law table.now.vertices }
         requires caller { caller.table ≡ table.now.id }
         requires opened { HasOpened self.now caller }
-        requires room { length words.old ≡ self.now.graph.n }
-        ensures copy { OnOk result (IsOfWalks P self.now words.new) }
-        ensures closed { OnOk result
-            (IsClosedUpTo self.now.graph (max_dist P) limit (word_at words.new)) }
+        ensures copy { IfOk result (λ words. IsOfWalks P self.now words.items) }
+        ensures closed { IfOk result
+            (λ words. IsClosedUpTo self.now.graph (max_dist P) limit (word_at words.items)) }
     {
         let mut queue = vec![in self.alloc; self.source]?;
         for _ in rt.forever() {
@@ -71,45 +69,42 @@ impl<'g, const P: u32> WholeRun<'g, P> {
                 limit,
                 meter: self.meter,
             };
-            let done = self.lower(rt, table, &search, caller, words);
-            if is_relaxed_up_to(words, self.graph, limit) {
-                return Ok(());
+            let (words, done) = self.lower(rt, table, &search, caller)?;
+            if is_relaxed_up_to(words.as_slice(), self.graph, limit) {
+                return Ok(words);
             }
             if done.lost {
                 return Err(AllocError);
             }
-            queue = open_tails(self.alloc, words, self.graph.arcs())?;
+            queue = open_tails(self.alloc, words.as_slice(), self.graph.arcs())?;
             caller = done.caller;
         }
         unreachable!()
     }
 
-    // Relaxes the arcs within the limit, in a table that is given back before it returns.
+    // Relaxes the arcs within the limit, in a table that is given back before it returns. Returns a copy of all words.
     fn relax_within<R: Threads + Wait + Sync>(
         &self,
         rt: &R,
         limit: u64,
-        words: &mut [Word<P>],
-    ) -> Result<(), AllocError>
-        requires room { length words.old ≡ self.now.graph.n }
-        ensures copy { OnOk result (IsOfWalks P self.now words.new) }
-        ensures closed { OnOk result
-            (IsClosedUpTo self.now.graph (max_dist P) limit (word_at words.new)) }
+    ) -> Result<Vec<Word<P>>, AllocError>
+        ensures copy { IfOk result (λ words. IsOfWalks P self.now words.items) }
+        ensures closed { IfOk result
+            (λ words. IsClosedUpTo self.now.graph (max_dist P) limit (word_at words.items)) }
     {
         let (table, caller) = self.open()?;
-        self.within_turns(rt, &table, caller, limit, words)
+        self.within_turns(rt, &table, caller, limit)
     }
 
     // Makes the tree's rows within the limit, of words in which the arcs within it are relaxed.
-    fn tree_within(&self, words: &mut [Word<P>], limit: u64) -> Result<Tree<P>, AllocError>
+    fn tree_within(&self, words: &[Word<P>], limit: u64) -> Result<Tree<P>, AllocError>
         requires limit { limit ≤ max_dist P }
-        requires copy { IsOfWalks P self.now words.old }
-        requires closed { IsClosedUpTo self.now.graph (max_dist P) limit (word_at words.old) }
+        requires copy { IsOfWalks P self.now words.now }
+        requires closed { IsClosedUpTo self.now.graph (max_dist P) limit (word_at words.now) }
         ensures { IfOk result (IsTreeWithin self.now.graph self.now.source limit) }
     {
         let _ = self.graph.n();
-        cut(words, limit);
-        let tree = Tree::of_words(self.alloc, self.source, words)?;
+        let tree = Tree::of_words_within(self.alloc, self.source, words, limit)?;
         Ok(tree)
     }
 
@@ -122,9 +117,8 @@ impl<'g, const P: u32> WholeRun<'g, P> {
         requires { limit ≤ max_dist P }
         ensures { IfOk result (IsTreeWithin self.now.graph self.now.source limit) }
     {
-        let mut words = vec![in self.alloc; Word::unreached(); self.graph.n() as usize]?;
-        self.relax_within(rt, limit, words.as_mut_slice())?;
-        self.tree_within(words.as_mut_slice(), limit)
+        let words = self.relax_within(rt, limit)?;
+        self.tree_within(words.as_slice(), limit)
     }
 }
 

@@ -1,4 +1,4 @@
-//! Tests of runs within a distance, and of runs from several sources, by their public calls.
+//! Tests of runs within a distance, from several sources, and for several targets, by their public calls.
 #![tactic(auto)]
 
 #[cfg(test)]
@@ -9,5 +9,7 @@ mod plain;
 mod random;
 #[cfg(test)]
 mod runs;
+#[cfg(test)]
+mod targets;
 #[cfg(test)]
 mod within;

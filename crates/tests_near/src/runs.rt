@@ -1,10 +1,11 @@
-//! Runs with several numbers of workers and widths of buckets, and what they are to tell.
+//! Runs with several numbers of workers and widths of buckets, and by the calling thread alone, and what they are to tell.
 ghost use Rattle.std.specs.Prelude.{◌≡◌, ◌≤◌, true, IfOk, IfSome};
 ghost use Rattle.sp_word.specs.Word.{is_layout, max_dist};
 
 use sp_answer::{RunError, Tree};
 use sp_graph::Graph;
 use sp_near::{Forest, run_nearest};
+use sp_serial::{run_nearest_alone, run_within_alone};
 use sp_solve::run_within;
 use sp_team::Team;
 use sp_word::{Delta, Word, Workers};
@@ -101,7 +102,7 @@ fn limit_of<const P: u32>(rt: &impl Abort, limit: Option<u64>) -> Option<u64>
     }
 }
 
-/// Runs from the sources, for each number of workers and width, and compares.
+/// Runs from the sources, for each number of workers and width, and by the calling thread alone, and compares.
 pub(crate) fn compare_nearest<const P: u32>(
     rt: &(impl Abort + AllocGlobal + Threads + Wait + Sync),
     graph: &Graph,
@@ -113,6 +114,9 @@ pub(crate) fn compare_nearest<const P: u32>(
 {
     assert!(rt; graph.n() <= Word::<P>::max_pred());
     let limit = limit_of::<P>(rt, limit);
+    let delta = Delta::<P>::new(1).expect(rt, "a width in range");
+    let told = run_nearest_alone(rt.alloc(), graph, delta, sources, limit);
+    assert!(rt; tells(&told, want), "alone");
     for workers in WORKERS {
         for delta in DELTAS {
             let team = team_of::<P>(rt, delta, workers);
@@ -137,8 +141,8 @@ pub(crate) fn nearest_has<const P: u32>(
     Ok(())
 }
 
-/// Runs within the limit from a source, for each number of workers and width, and compares: these rows, whose roots play no
-/// part.
+/// Runs within the limit from a source, for each number of workers and width, and by the calling thread alone, and compares:
+/// these rows, whose roots play no part.
 pub(crate) fn compare_within<const P: u32>(
     rt: &(impl Abort + AllocGlobal + Threads + Wait + Sync),
     graph: &Graph,
@@ -150,6 +154,11 @@ pub(crate) fn compare_within<const P: u32>(
 {
     assert!(rt; graph.n() <= Word::<P>::max_pred());
     assert!(rt; limit <= Word::<P>::max_dist());
+    let delta = Delta::<P>::new(1).expect(rt, "a width in range");
+    match run_within_alone(rt.alloc(), graph, delta, source, limit) {
+        Ok(tree) => assert!(rt; has_tree_rows(&tree, want), "alone"),
+        Err(_) => assert!(rt; false),
+    }
     for workers in WORKERS {
         for delta in DELTAS {
             let team = team_of::<P>(rt, delta, workers);

@@ -2,6 +2,7 @@
 
 use crate::runs::{Row, compare_within, graph_of};
 use sp_answer::RunError;
+use sp_serial::run_within_alone;
 use sp_solve::run_within;
 use sp_word::{Delta, Team, Workers};
 use std::test::Fail;
@@ -45,6 +46,8 @@ fn source_is_no_vertex(rt: HostRuntime) -> Result<(), Fail> {
             workers: Workers::one(),
         };
         let told = run_within(&rt, rt.alloc(), &graph, team, source, 3);
+        assert!(rt; matches!(&told, Err(RunError::NoSuchVertex)));
+        let told = run_within_alone(rt.alloc(), &graph, team.delta, source, 3);
         assert!(rt; matches!(&told, Err(RunError::NoSuchVertex)));
     }
     Ok(())

@@ -2,7 +2,7 @@ use Rattle.std.proofs.Common.{◌∙◌, ap, arith}
 use Rattle.std.specs.Prelude.{slice_set}
 use Rattle.std.proofs.lemmas.List.Edits.{map_over_more}
 use Rattle.sp_word.specs.Word.{Word}
-use Rattle.sp_solve.specs.Within.{up_to}
+use Rattle.sp_answer.specs.Within.{up_to}
 use Rattle.sp_solve.proofs.within.cut.Goals as goal
 
 pub loop-place-preserved : goal.loop-place-preserved

@@ -1,6 +1,6 @@
 use Rattle.std.proofs.Common.{◌≡◌, ◌++◌, take, drop}
 use Rattle.std.specs.Prelude.{map}
-use Rattle.sp_solve.specs.Within.{up_to}
+use Rattle.sp_answer.specs.Within.{up_to}
 use Rattle.sp_solve.proofs.within.cut.Given as goal
 
 abbrev pub invariant-loop-place : goal.invariant-loop-place

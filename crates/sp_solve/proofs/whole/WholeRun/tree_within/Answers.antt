@@ -1,25 +1,24 @@
-use Rattle.std.proofs.Common.{◌≡◌, ◌≤◌, List, subst, sym, ap, ◌∙◌, arith, length}
-use Rattle.std.proofs.lemmas.List.{length-map}
-use Rattle.sp_word.specs.Word.{Word, max_dist, max_pred}
+use Rattle.std.proofs.Common.{◌≡◌, ◌≤◌, refl, subst, sym, arith}
+use Rattle.sp_word.specs.Word.{max_dist, max_pred}
 use Rattle.sp_paths.specs.Paths.{word_at}
 use Rattle.sp_walks.specs.Walks.{WalksFrom}
 use Rattle.sp_scan.specs.Shown.{IsClosedUpTo}
 use Rattle.sp_solve.specs.WholeRun.{IsOfWalks}
-use Rattle.sp_solve.specs.Within.{IsTreeWithin, up_to}
-use Rattle.sp_solve.proofs.TreeWithin.{cut_preds, tree_within}
+use Rattle.sp_answer.specs.Within.{IsTreeWithin}
+use Rattle.sp_solve.proofs.WholeRun.{preds_within}
+use Rattle.sp_solve.proofs.TreeWithin.{tree_within}
 use Rattle.sp_solve.proofs.whole.WholeRun.tree_within.Goals as goal
 
-pub of_words-requires : goal.of_words-requires
-of_words-requires g c =
+pub of_words_within-requires : goal.of_words_within-requires
+of_words_within-requires g c =
     let run : WalksFrom = record { graph = c.self.inside.graph.now; source = c.self.inside.source } in
     let place = c.self.invariant in
     let words = c.args.words.now in
-    let cut = c.cut.new.words in
     let copy : IsOfWalks g.row.P run words = subst (λ r. IsOfWalks g.row.P r words) (sym c.self.view_is) c.requires.copy in
-    let size = ap (λ (ws : List Word). length ws) c.cut.ensures ∙ length-map words (up_to c.args.limit) ∙ copy.0 in
+    let size = copy.0 in
     let low = place.source.0 in
     let high = place.source.1 in
-    (omega arith, (omega arith, (place.layout, (omega arith, (subst (λ k. k ≤ max_pred g.row.P) (sym size) place.most, (low, (omega arith, cut_preds g.row.P run place words copy c.args.limit cut c.cut.ensures)))))))
+    (omega arith, (omega arith, (place.layout, (omega arith, (subst (λ k. k ≤ max_pred g.row.P) (sym size) place.most, (low, (omega arith, preds_within g.row.P run place words copy)))))))
 
 pub returns : goal.returns
 returns g c =
@@ -30,4 +29,4 @@ returns g c =
     let closed : IsClosedUpTo run.graph (max_dist g.row.P) c.args.limit (word_at words) = subst (λ (r : WalksFrom). IsClosedUpTo r.graph (max_dist g.row.P) c.args.limit (word_at words)) (sym is) c.requires.closed in
     let tree = c.in_ok-tree.tree in
     subst (λ (r : WalksFrom). IsTreeWithin r.graph r.source c.args.limit tree) is
-    (tree_within g.row.P run c.self.invariant words copy c.args.limit c.requires.limit closed tree c.cut.new.words c.cut.ensures c.in_ok-tree.ensures.tree c.in_ok-tree.ensures.words)
+    (tree_within g.row.P run c.self.invariant words copy c.args.limit c.requires.limit closed tree _ refl c.in_ok-tree.ensures.tree c.in_ok-tree.ensures.words)

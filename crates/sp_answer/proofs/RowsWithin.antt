@@ -1,0 +1,69 @@
+-- The rows of the words up to a limit.
+use Rattle.std.proofs.Common.{◌≡◌, ℕ, ◌+◌, ◌-◌, ◌<◌, ◌≤◌, ◌⊎◌, inl, inr, true, List, [], ◌∷◌, ◌++◌, length, take, get_or, Some, refl, sym, ap, ◌∙◌, subst, arith}
+use Rattle.std.specs.Prelude.{All, map, nat_le, slice_get}
+use Rattle.std.proofs.lemmas.Bool.{cases_lt, le-leb, lt-leb, cond-true, cond-false}
+use Rattle.std.proofs.lemmas.List.{append-nil, length-map, length-take-le, map-append, take_more}
+use Rattle.std.proofs.lemmas.List.Elements.{All-map, All-more, All-weaker}
+use Rattle.sp_word.specs.Word.{Word, Unreached, Pair, Fits, dist_of, max_pred, is_layout}
+use Rattle.sp_answer.specs.Table.{IsTable, HasPredWithin, row_of, rows_from, table_of, tree_of}
+use Rattle.sp_answer.specs.Within.{up_to}
+use Rattle.sp_answer.proofs.RisingRows.{rows_from-append, tree_is_table, words_are}
+
+kept : (limit d p : ℕ) → d ≤ limit → up_to limit (Pair d p) ≡ Pair d p
+kept limit d p low = cond-true (nat_le d limit) (Pair d p) Unreached (le-leb d limit low)
+
+dropped : (limit d p : ℕ) → limit < d → up_to limit (Pair d p) ≡ Unreached
+dropped limit d p high = cond-false (nat_le d limit) (Pair d p) Unreached (lt-leb d limit high)
+
+-- what holds of a pair holds of it up to the limit, where it holds of an unreached word
+still : (A : Word → Type 0) (limit : ℕ) (w : Word) → A Unreached → A w → A (up_to limit w)
+still A limit Unreached none h = h
+still A limit (Pair d p) none h = go (cases_lt limit d)
+  where
+    go : (limit < d) ⊎ (d ≤ limit) → A (up_to limit (Pair d p))
+    go (inl high) = subst A (sym (dropped limit d p high)) none
+    go (inr low) = subst A (sym (kept limit d p low)) h
+
+all_still : (A : Word → Type 0) (limit : ℕ) (words : List Word) → A Unreached → All A words → All A (map (up_to limit) words)
+all_still A limit words none h = All-map A (up_to limit) words (All-weaker A (λ w. A (up_to limit w)) (λ w each. still A limit w none each) words h)
+
+-- one row more
+
+pub within_row : (limit vertex d : ℕ) (word : Word) → Some d ≡ dist_of word → d ≤ limit → (vertex, word) ∷ [] ≡ row_of vertex (up_to limit word)
+within_row limit vertex d Unreached is low = cc
+within_row limit vertex d (Pair e p) is low = let same : d ≡ e = cc in sym (ap (row_of vertex) (kept limit e p (omega (arith, same))))
+
+rows_grown : (f : Word → Word) (words : List Word) (i : ℕ) (x : Word) → i < length words → x ≡ get_or words i x → rows_from 1 (map f (take (i + 1) words)) ≡ rows_from 1 (map f (take i words)) ++ row_of (i + 1) (f x)
+rows_grown f words i x within is =
+    let before = take i words in
+    let vertex : 1 + length (map f before) ≡ i + 1 = omega (arith, length-map before f, length-take-le i words (omega arith)) in
+    ap (λ (ws : List Word). rows_from 1 (map f ws)) (take_more words i x within)
+    ∙ (ap (rows_from 1) (map-append f before (get_or words i x ∷ []))
+    ∙ (rows_from-append 1 (map f before) (f (get_or words i x) ∷ [])
+    ∙ ap (λ (t : List (ℕ × Word)). rows_from 1 (map f before) ++ t) (append-nil (row_of (1 + length (map f before)) (f (get_or words i x))) ∙ rw (vertex, ← is) refl)))
+
+pub row_taken : (P limit : ℕ) (words : List Word) (i : ℕ) (x : Word) (rows new : List (ℕ × Word)) → i < length words → x ≡ get_or words i x → (rows ≡ rows_from 1 (map (up_to limit) (take i words))) × All (Fits P) (take i words)
+    → new ≡ rows ++ row_of (i + 1) (up_to limit x) → Fits P x → (new ≡ rows_from 1 (map (up_to limit) (take (i + 1) words))) × All (Fits P) (take (i + 1) words)
+row_taken P limit words i x rows new within is before pushed fits = (
+  pushed ∙ (ap (λ (t : List (ℕ × Word)). t ++ row_of (i + 1) (up_to limit x)) before.0 ∙ sym (rows_grown (up_to limit) words i x within is)),
+  All-more (Fits P) words i x within before.1 (rw (← is) fits),
+)
+
+-- the table of the rows
+
+pub part_is_table : (P source limit : ℕ) (words : List Word) (rows : List (ℕ × Word)) → is_layout P ≡ true → 1 ≤ length words → length words ≤ max_pred P → 1 ≤ source → source ≤ length words → rows ≡ rows_from 1 (map (up_to limit) words)
+    → All (HasPredWithin (length words)) words → All (Fits P) words → IsTable P (record { n = length words; source = source; rows = rows })
+part_is_table P source limit words rows layout least most source_least source_most rows_are preds fits =
+    let part = map (up_to limit) words in
+    let size : length part ≡ length words = length-map words (up_to limit) in
+    let within = subst (λ n. All (HasPredWithin n) part) (sym size) (all_still (HasPredWithin (length words)) limit words tt preds) in
+    tree_is_table P (length words) source part rows layout (omega (arith, size)) (subst (λ n. n ≤ max_pred P) (sym size) most) source_least (omega (arith, size)) (sym size) rows_are within (all_still (Fits P) limit words tt fits)
+
+pub part_is_tree : (source limit : ℕ) (words : List Word) (rows : List (ℕ × Word)) → rows ≡ rows_from 1 (map (up_to limit) words) → record { n = length words; source = source; rows = rows } ≡ tree_of source (map (up_to limit) words)
+part_is_tree source limit words rows rows_are = let size = length-map words (up_to limit) in rw (rows_are, size) refl
+
+pub part_words : (source limit : ℕ) (words : List Word) (rows : List (ℕ × Word)) → rows ≡ rows_from 1 (map (up_to limit) words) → (v : ℕ) → 1 ≤ v → v ≤ length words
+    → slice_get (map (up_to limit) words) (v - 1) ≡ Some (table_of (record { n = length words; source = source; rows = rows }) v)
+part_words source limit words rows rows_are v least most =
+    let size = length-map words (up_to limit) in
+    rw rows_are (words_are source (map (up_to limit) words) v least (omega (arith, size)))

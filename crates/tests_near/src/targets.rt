@@ -1,0 +1,66 @@
+//! Runs for several targets of a source, by the calling thread alone.
+
+use crate::runs::graph_of;
+use sp_answer::{PairAnswer, RunError};
+use sp_graph::Graph;
+use sp_serial::run_targets_alone;
+use sp_word::{Delta, Word};
+use std::process::Abort;
+use std::test::Fail;
+use tests_samples::{DIAMOND, long_path};
+
+// Runs from a source, and compares: these answers, or why there are none.
+fn compare(
+    rt: &(impl Abort + AllocGlobal),
+    graph: &Graph,
+    source: u32,
+    targets: &[u32],
+    want: Result<&[PairAnswer], RunError>,
+) {
+    assert!(rt; graph.n() <= Word::<28>::max_pred());
+    let delta = Delta::<28>::new(9).expect(rt, "a width in range");
+    let told = run_targets_alone(rt.alloc(), graph, delta, source, targets);
+    match (told, want) {
+        (Ok(answers), Ok(want)) => assert!(rt; answers.as_slice() == want),
+        (Err(error), Err(want)) => assert!(rt; error == want),
+        _ => assert!(rt; false),
+    }
+}
+
+#[test]
+fn targets_in_their_order(rt: HostRuntime) -> Result<(), Fail> {
+    let graph = graph_of(&rt, 4, &DIAMOND)?;
+    let near = PairAnswer::Found { dist: 5, pred: 2 };
+    let own = PairAnswer::Found { dist: 0, pred: 0 };
+    compare(&rt, &graph, 1, &[4, 1, 4], Ok(&[near, own, near]));
+    compare(
+        &rt,
+        &graph,
+        4,
+        &[4, 1, 4],
+        Ok(&[own, PairAnswer::NoWalk, own]),
+    );
+    compare(&rt, &graph, 4, &[], Ok(&[]));
+    Ok(())
+}
+
+#[test]
+fn far_vertex_is_told_of_no_other_target(rt: HostRuntime) -> Result<(), Fail> {
+    let graph = graph_of(&rt, 18, &long_path(rt.alloc(), u32::MAX)?)?;
+    let far = PairAnswer::TooFar(18);
+    let last = PairAnswer::Found {
+        dist: 68_719_476_720,
+        pred: 16,
+    };
+    compare(&rt, &graph, 1, &[18, 17], Ok(&[far, last]));
+    compare(&rt, &graph, 1, &[17], Ok(&[last]));
+    Ok(())
+}
+
+#[test]
+fn some_end_is_no_vertex(rt: HostRuntime) -> Result<(), Fail> {
+    let graph = graph_of(&rt, 4, &DIAMOND)?;
+    compare(&rt, &graph, 5, &[], Err(RunError::NoSuchVertex));
+    compare(&rt, &graph, 1, &[4, 0], Err(RunError::NoSuchVertex));
+    Ok(())
+}
