@@ -1,2 +1,3 @@
+pub mod LoweringSteps
 pub mod PassSteps
 pub mod TableSteps

@@ -12,6 +12,8 @@ use Rattle.sp_paths.specs.declared.arc.Arc.{Arc}
 use Rattle.sp_paths.specs.Paths.{Graph, IsGraph, IsVertex, IsArc, HasArc, HasWalkBy, IsLawful, IsAtMost, IsClosed, IsTableFrom, word_at}
 use Rattle.sp_graph.specs.LeftOut.{network}
 use Rattle.sp_plain.specs.Passing.{IsLesserOffer, IsNoLesser, IsSmall, KeepsTables, KeepsWalks, rank}
+use Rattle.sp_plain.specs.Lowering.{IsLowered}
+use Rattle.sp_plain.proofs.LoweringSteps.{lowered_one, lowered_then}
 use Rattle.sp_paths.proofs.Walks.{walk_by}
 use Rattle.sp_paths.proofs.Core.{pair_walk}
 use Rattle.sp_graph.proofs.LeftOut.{arc_more}
@@ -96,6 +98,7 @@ pub record IsPassing (n max : ℕ) (arcs : List Arc) (i : ℕ) (initial words : 
   pub size : length words ≡ n
   pub small : All (IsSmall n max) words
   pub kept : KeepsTables (network n arcs) initial words
+  pub lowered : IsLowered max arcs initial words
   pub closed : changed ≡ false → IsClosed (network n (take i arcs)) max (word_at words)
   pub less : sum_by (rank n max) words + cond changed 1 0 ≤ sum_by (rank n max) initial
 
@@ -108,6 +111,7 @@ module _ (n max : ℕ) (arcs : List Arc) (i : ℕ) (initial words : List Word) (
     size = p.size;
     small = p.small;
     kept = p.kept;
+    lowered = p.lowered;
     closed = λ e. rw next (closed_more n max (take i arcs) arc (word_at words) (p.closed e) here);
     less = p.less;
   }
@@ -117,6 +121,7 @@ module _ (n max : ℕ) (arcs : List Arc) (i : ℕ) (initial words : List Word) (
     size = length-set words (arc.head - 1) w ∙ p.size;
     small = All-set (IsSmall n max) words (arc.head - 1) w (rw lesser.3 (lesser.2, ends.0.1)) p.small;
     kept = λ s h t. set_table (network n arcs) fine max words p.size arc here ends w lesser s h (p.kept s h t);
+    lowered = lowered_then max arcs initial words (set words (arc.head - 1) w) p.lowered (lowered_one max arcs words arc w (i, in', is) lesser);
     closed = λ e. absurd (cc);
     less = less;
   }

@@ -9,6 +9,7 @@ use Rattle.sp_paths.specs.Paths.{Graph, IsGraph, IsVertex, IsArc, IsLawful, IsCl
 use Rattle.sp_paths.specs.Theorems.{IsFinished}
 use Rattle.sp_graph.specs.LeftOut.{network, IsLeastLeftOut}
 use Rattle.sp_plain.specs.Passing.{IsSmall, IsSmallTable, KeepsTables, first_words, IsFinishedTable, IsOutcome, IsTableOfWalks}
+use Rattle.sp_plain.specs.Lowering.{IsLowered}
 use Rattle.sp_plain.proofs.PassSteps.{word_other, word_same}
 use Rattle.sp_paths.proofs.TheoremProofs.{finished_is_tree, finished_is_far}
 
@@ -17,6 +18,7 @@ pub record IsRelaxing (n max : ℕ) (arcs : List Arc) (initial words : List Word
   pub size : length words ≡ n
   pub small : IsSmallTable max words
   pub kept : KeepsTables (network n arcs) initial words
+  pub lowered : IsLowered max arcs initial words
   pub closed : changed ≡ false → IsClosed (network n arcs) max (word_at words)
 
 -- the table before the first pass

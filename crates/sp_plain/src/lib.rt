@@ -13,5 +13,6 @@ mod plain;
 mod random;
 
 pub use lowering::{open_table, relax};
+pub use pass::relax_all;
 pub use plain::{Answer, close_table, finish_table, plain_tree};
 pub use random::{GraphKind, Random, random_graph};

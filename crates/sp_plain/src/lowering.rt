@@ -2,6 +2,7 @@
 ghost use Rattle.std.specs.Prelude.{◌≡◌, ◌≤◌, true, vec_len, IfOk};
 ghost use Rattle.sp_word.specs.Word.{is_layout, max_dist, max_pred};
 ghost use Rattle.sp_paths.specs.Paths.{IsArc, IsVertex};
+ghost use Rattle.sp_plain.specs.Lowering.{IsLoweredBy};
 ghost use Rattle.sp_plain.specs.Passing.{IsTableOfWalks, KeepsWalks};
 
 use crate::pass::{first_table, lesser_offer};
@@ -37,6 +38,7 @@ pub fn relax<const P: u32>(words: &mut Vec<Word<P>>, arc: Arc) -> Option<u64>
     requires arc { IsArc (vec_len words.old) arc }
     ensures size { vec_len words.new ≡ vec_len words.old }
     ensures kept { KeepsWalks (max_dist P) arc words.old.items words.new.items }
+    ensures lowered { IsLoweredBy (max_dist P) arc words.old.items words.new.items }
 {
     let found = look_up(words, arc.head);
     let word = lesser_offer(look_up(words, arc.tail), arc, found)?;

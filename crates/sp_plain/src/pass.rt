@@ -3,6 +3,7 @@ ghost use Rattle.std.specs.Prelude.{◌≡◌, ℕ, ◌+◌, ◌≤◌, true, le
 ghost use Rattle.std.specs.Bool.{OnFalse};
 ghost use Rattle.sp_word.specs.Word.{is_layout, max_dist, max_pred};
 ghost use Rattle.sp_paths.specs.Paths.{IsArc, IsVertex};
+ghost use Rattle.sp_plain.specs.Lowering.{IsLowered};
 ghost use Rattle.sp_plain.specs.Passing.{KeepsTablesOf, IsClosedTable, IsLesserOffer, IsNoLesser, IsSmallTable, total_rank, first_words, IsFinishedTable};
 
 use sp_graph::{Graph, look_up};
@@ -33,6 +34,7 @@ fn pass<const P: u32>(words: &mut Vec<Word<P>>, arcs: &[Arc]) -> bool
     ensures size { vec_len words.new ≡ vec_len words.old }
     ensures small { IsSmallTable (max_dist P) words.new.items }
     ensures kept { KeepsTablesOf (vec_len words.old) arcs.now words.old.items words.new.items }
+    ensures lowered { IsLowered (max_dist P) arcs.now words.old.items words.new.items }
     ensures closed { OnFalse result
         (IsClosedTable (vec_len words.old) (max_dist P) arcs.now words.new.items) }
     ensures less { total_rank (max_dist P) words.new.items + cond result 1 0
@@ -50,7 +52,7 @@ fn pass<const P: u32>(words: &mut Vec<Word<P>>, arcs: &[Arc]) -> bool
     changed
 }
 
-/// Relaxes the arcs until no word changes.
+/// Relaxes the arcs until no word changes, in words that any other program may have lowered before.
 pub fn relax_all<const P: u32>(words: &mut Vec<Word<P>>, arcs: &[Arc])
     requires layout { is_layout P ≡ true }
     requires room { vec_len words.old ≤ max_pred P }
@@ -59,6 +61,7 @@ pub fn relax_all<const P: u32>(words: &mut Vec<Word<P>>, arcs: &[Arc])
     ensures size { vec_len words.new ≡ vec_len words.old }
     ensures small { IsSmallTable (max_dist P) words.new.items }
     ensures kept { KeepsTablesOf (vec_len words.old) arcs.now words.old.items words.new.items }
+    ensures lowered { IsLowered (max_dist P) arcs.now words.old.items words.new.items }
     ensures closed { IsClosedTable (vec_len words.old) (max_dist P) arcs.now words.new.items }
 {
     let mut changed = true;

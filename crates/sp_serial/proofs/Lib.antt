@@ -1,3 +1,6 @@
-pub mod RowWalks
+pub mod Lowered
+pub mod SeveralSources
+pub mod ForestAnswers
 pub mod Targets
+pub mod TargetAnswers
 pub mod WordsOfTree

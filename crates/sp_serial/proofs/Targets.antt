@@ -34,7 +34,7 @@ module _ (g : Graph) (s max : ℕ) (words : List Word) where
   }
 
   -- so a target at that distance has its answer
-  near : (t d p : ℕ) → IsGraph g → IsVertex g.n s → IsVertex g.n t → IsTableOfWalks g s max words → word_at words t ≡ Pair d p → IsClosedUpTo g max d (word_at words)
+  pub near : (t d p : ℕ) → IsGraph g → IsVertex g.n s → IsVertex g.n t → IsTableOfWalks g s max words → word_at words t ≡ Pair d p → IsClosedUpTo g max d (word_at words)
       → IsPair g s t max (answer_by (word_at words t) None)
   near t d p graph at vertex walks is closed =
       let within : d ≤ max = small_within g.n max words walks.size walks.small t d p vertex is in

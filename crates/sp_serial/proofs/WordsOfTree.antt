@@ -1,10 +1,10 @@
 -- The tree of a run by the calling thread alone.
-use Rattle.std.proofs.Common.{◌≡◌, ℕ, ◌-◌, ◌≤◌, List, length, Some, sym, ap, ◌∙◌, subst, arith}
+use Rattle.std.proofs.Common.{◌≡◌, ℕ, ◌-◌, ◌≤◌, List, Some, sym, ap, ◌∙◌, subst, arith}
 use Rattle.std.specs.Prelude.{All, slice_get}
 use Rattle.std.specs.Option.{unwrap_or}
 use Rattle.std.proofs.lemmas.Option.{unwrap_or-slice_get}
 use Rattle.sp_word.specs.Word.{Word, Unreached, Pair, max_dist}
-use Rattle.sp_paths.specs.Paths.{Graph, IsVertex, IsTree, IsFar, IsTreeWord, word_at}
+use Rattle.sp_paths.specs.Paths.{Graph, IsVertex, IsTreeWord, word_at}
 use Rattle.sp_plain.specs.Answer.{IsPredWithin}
 use Rattle.sp_answer.specs.Table.{TreeTable, HasPredWithin, table_of, tree_of}
 use Rattle.sp_answer.specs.Answer.{IsAnswer}

@@ -1,3 +1,5 @@
 pub mod Target
 pub mod TreeWords
 pub mod Asked
+pub mod Several
+pub mod Told

@@ -10,12 +10,21 @@
 
 mod alone;
 mod asked;
+mod nearest;
+mod row;
 mod run;
 mod search;
+mod several;
 mod target;
+mod vertices;
+mod within;
 
 pub use alone::run_source_alone;
 pub use asked::run_target_alone;
+pub use nearest::run_nearest_alone;
+pub use row::run_targets_alone;
 pub use run::solve_alone;
 pub use sp_answer::{PairAnswer, RunError};
+pub use sp_forest::Forest;
 pub use target::solve_target;
+pub use within::run_within_alone;

@@ -4,7 +4,7 @@ ghost use Rattle.sp_word.specs.Word.{is_layout, max_dist, max_pred};
 ghost use Rattle.sp_paths.specs.Paths.{IsVertex};
 ghost use Rattle.sp_plain.specs.Answer.{IsAnswer, ArePredsWithin};
 
-use crate::search::search;
+use crate::search::search_from;
 use sp_graph::Graph;
 use sp_plain::{Answer, finish_table, open_table};
 use sp_word::Delta;
@@ -28,6 +28,6 @@ pub fn solve_alone<const P: u32>(
     ensures predecessors { IfOk result (ArePredsWithin graph.now.n) }
 {
     let mut words = open_table::<P>(alloc, graph, source)?;
-    search(alloc, graph, source, None, &mut words)?;
+    search_from(alloc, graph, source, &[], &mut words)?;
     Ok(finish_table(graph, source, words))
 }

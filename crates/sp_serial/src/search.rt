@@ -1,8 +1,9 @@
 //! Words lowered bucket by bucket.
-ghost use Rattle.std.specs.Prelude.{◌≡◌, ℕ, ◌≤◌, true, length, vec_len, IfSome};
+ghost use Rattle.std.specs.Prelude.{◌≡◌, ℕ, ◌≤◌, true, length, vec_len, All};
 ghost use Rattle.sp_word.specs.Word.{is_layout, max_dist, max_pred};
 ghost use Rattle.sp_paths.specs.Paths.{IsVertex};
 ghost use Rattle.sp_plain.specs.Passing.{IsTableOfWalks};
+ghost use Rattle.sp_plain.specs.Lowering.{IsLowered};
 
 use sp_bins::{Bins, Entry};
 use sp_graph::{Graph, look_up};
@@ -14,16 +15,15 @@ use std::alloc::{AllocError, Global};
 // into buckets.
 fn relax_row<const P: u32>(
     graph: &Graph,
-    source: u32,
     entry: Entry,
     words: &mut Vec<Word<P>>,
     bins: &mut Bins,
 ) -> Result<(), AllocError>
     requires layout { is_layout P ≡ true }
-    requires source { IsVertex graph.now.n source }
     requires room { graph.now.n ≤ max_pred P }
-    requires walks { IsTableOfWalks graph.now source (max_dist P) words.old.items }
-    ensures walks { IsTableOfWalks graph.now source (max_dist P) words.new.items }
+    requires size { vec_len words.old ≡ graph.now.n }
+    ensures size { vec_len words.new ≡ graph.now.n }
+    ensures lowered { IsLowered (max_dist P) graph.now.arcs words.old.items words.new.items }
 {
     let vertex = entry.vertex;
     // The graph's arcs lead from vertices to vertices.
@@ -46,71 +46,120 @@ fn relax_row<const P: u32>(
 // Relaxes the arcs of the vertex of each entry.
 fn relax_rows<const P: u32>(
     graph: &Graph,
-    source: u32,
     entries: &[Entry],
     words: &mut Vec<Word<P>>,
     bins: &mut Bins,
 ) -> Result<(), AllocError>
     requires layout { is_layout P ≡ true }
-    requires source { IsVertex graph.now.n source }
     requires room { graph.now.n ≤ max_pred P }
-    requires walks { IsTableOfWalks graph.now source (max_dist P) words.old.items }
-    ensures walks { IsTableOfWalks graph.now source (max_dist P) words.new.items }
+    requires size { vec_len words.old ≡ graph.now.n }
+    ensures size { vec_len words.new ≡ graph.now.n }
+    ensures lowered { IsLowered (max_dist P) graph.now.arcs words.old.items words.new.items }
 {
     for entry in entries {
-        relax_row(graph, source, *entry, words, bins)?;
+        relax_row(graph, *entry, words, bins)?;
     }
     Ok(())
 }
 
 // Returns whether the target has a distance in a bucket before this one.
-fn is_before<const P: u32>(words: &[Word<P>], target: Option<u32>, bins: &Bins, bucket: u64) -> bool
-    requires { IfSome target (IsVertex (length words.now)) }
+fn is_before<const P: u32>(words: &[Word<P>], target: u32, bins: &Bins, bucket: u64) -> bool
+    requires { IsVertex (length words.now) target }
 {
-    match target {
-        Some(vertex) => match look_up(words, vertex).dist() {
-            Some(dist) => bins.bucket_of(dist) < bucket,
-            None => false,
-        },
+    match look_up(words, target).dist() {
+        Some(dist) => bins.bucket_of(dist) < bucket,
         None => false,
     }
 }
 
-/// Lowers words from the source on, until no entry waits, or, if there is a target, until none waits in the target's
-/// bucket or before it.
+// Returns the index of the first target, from this one on, that has no distance in a bucket before this one.
+fn first_open<const P: u32>(
+    words: &[Word<P>],
+    targets: &[u32],
+    first: usize,
+    bins: &Bins,
+    bucket: u64,
+) -> usize
+    requires { All (IsVertex (length words.now)) targets.now }
+{
+    for place in first..targets.len() {
+        if !is_before(words, targets[place], bins, bucket) {
+            return place;
+        }
+    }
+    targets.len()
+}
+
+// Returns buckets in which the sources wait.
+fn open_bins(alloc: Global, sources: &[u32]) -> Result<Bins, AllocError> {
+    // The buckets find their width as they are worked off.
+    let mut bins = Bins::new(alloc, 0)?;
+    for source in sources {
+        bins.put(Entry {
+            vertex: *source,
+            dist: 0,
+        })?;
+    }
+    Ok(bins)
+}
+
+/// Lowers words from the sources on, until no entry waits, or none within the limit; if there are targets, until none waits
+/// in the bucket of a target or before it.
 pub(crate) fn search<const P: u32>(
     alloc: Global,
     graph: &Graph,
-    source: u32,
-    target: Option<u32>,
+    sources: &[u32],
+    limit: u64,
+    targets: &[u32],
     words: &mut Vec<Word<P>>,
 ) -> Result<(), AllocError>
     requires layout { is_layout P ≡ true }
-    requires source { IsVertex graph.now.n source }
-    requires target { IfSome target (IsVertex graph.now.n) }
+    requires targets { All (IsVertex graph.now.n) targets.now }
     requires room { graph.now.n ≤ max_pred P }
-    requires walks { IsTableOfWalks graph.now source (max_dist P) words.old.items }
-    ensures walks { IsTableOfWalks graph.now source (max_dist P) words.new.items }
+    requires size { vec_len words.old ≡ graph.now.n }
+    ensures size { vec_len words.new ≡ graph.now.n }
+    ensures lowered { IsLowered (max_dist P) graph.now.arcs words.old.items words.new.items }
 {
-    // The buckets find their width as they are worked off.
-    let mut bins = Bins::new(alloc, 0)?;
-    bins.put(Entry {
-        vertex: source,
-        dist: 0,
-    })?;
+    let mut bins = open_bins(alloc, sources)?;
     let mut entries = Vec::new(alloc);
+    let mut open = 0;
     // If entries were left after so many buckets, the passes would still find what they lead to.
     for _ in 0..u64::MAX {
         bins.adjust()?;
         bins.refill(&mut entries)?;
         if !entries.is_empty() {
-            relax_rows(graph, source, &entries, words, &mut bins)?;
+            relax_rows(graph, &entries, words, &mut bins)?;
             continue;
         }
         match bins.advance()? {
-            Some(bucket) if !is_before(words, target, &bins, bucket) => {}
+            Some(bucket) if bucket <= bins.bucket_of(limit) => {
+                open = first_open(words, targets, open, &bins, bucket);
+            }
             _ => break,
+        }
+        if !targets.is_empty() && open == targets.len() {
+            break;
         }
     }
     Ok(())
+}
+
+/// Lowers words from one source on, until no entry waits, or, if there are targets, none in the bucket of a target or before
+/// it.
+pub(crate) fn search_from<const P: u32>(
+    alloc: Global,
+    graph: &Graph,
+    source: u32,
+    targets: &[u32],
+    words: &mut Vec<Word<P>>,
+) -> Result<(), AllocError>
+    requires layout { is_layout P ≡ true }
+    requires source { IsVertex graph.now.n source }
+    requires targets { All (IsVertex graph.now.n) targets.now }
+    requires room { graph.now.n ≤ max_pred P }
+    requires walks { IsTableOfWalks graph.now source (max_dist P) words.old.items }
+    ensures walks { IsTableOfWalks graph.now source (max_dist P) words.new.items }
+{
+    let _ = graph.n();
+    search(alloc, graph, &[source], u64::MAX, targets, words)
 }

@@ -5,7 +5,7 @@ ghost use Rattle.sp_paths.specs.Paths.{IsVertex};
 ghost use Rattle.sp_plain.specs.Passing.{IsTableOfWalks, IsFinishedTable};
 ghost use Rattle.sp_serial.specs.Target.{IsAnswerFor};
 
-use crate::search::search;
+use crate::search::search_from;
 use sp_answer::PairAnswer;
 use sp_graph::{Graph, left_out, look_up};
 use sp_plain::{close_table, open_table};
@@ -69,7 +69,7 @@ pub fn solve_target<const P: u32>(
     ensures { IfOk result (IsAnswerFor graph.now source target (max_dist P)) }
 {
     let mut words = open_table::<P>(alloc, graph, source)?;
-    search(alloc, graph, source, Some(target), &mut words)?;
+    search_from(alloc, graph, source, &[target], &mut words)?;
     if let Some(answer) = near_answer(graph, source, target, &words) {
         return Ok(answer);
     }

@@ -1,18 +1,19 @@
+use Rattle.std.proofs.Common.{sym, ◌∙◌}
 use Rattle.sp_word.specs.Word.{max_dist}
 use Rattle.sp_paths.specs.declared.arc.Arc.{Arc}
-use Rattle.sp_serial.proofs.RowWalks.{row_keeps}
+use Rattle.sp_serial.proofs.Lowered.{row_lowers}
 use Rattle.sp_serial.proofs.search.relax_row.Goals as goal
 
-pub returns-in_err-put_head : goal.returns-in_err-put_head
-returns-in_err-put_head g c =
+pub returns-in_err-put_head-clause-lowered : goal.returns-in_err-put_head-clause-lowered
+returns-in_err-put_head-clause-lowered g c =
     let none : Arc = record { tail = 0; head = 0; len = 0 } in
-    record {
-      walks = row_keeps c.args.graph.now c.args.source (max_dist g.row.P) c.args.entry.vertex c.row-arc-items.result.now c.loop-arc.arc-index none c.loop-arc.words.items c.relax.new.words.items
-          c.n.ensures.graph c.requires.source c.row-arc-items.ensures.row c.loop-arc-test.true c.relax.ensures.kept c.loop-arc.invariant;
-    }
+    row_lowers c.args.graph.now (max_dist g.row.P) c.args.entry.vertex c.row-arc-items.result.now c.loop-arc.arc-index none c.args.words.now.items c.loop-arc.words.items c.relax.new.words.items
+    c.row-arc-items.ensures.row c.loop-arc-test.true c.loop-arc.invariant.1 c.relax.ensures.lowered
 
 pub loop-arc-preserved : goal.loop-arc-preserved
 loop-arc-preserved g c =
-    let none : Arc = record { tail = 0; head = 0; len = 0 } in
-    row_keeps c.args.graph.now c.args.source (max_dist g.row.P) c.args.entry.vertex c.row-arc-items.result.now c.loop-arc.arc-index none c.loop-arc.words.items c.relax.new.words.items
-    c.n.ensures.graph c.requires.source c.row-arc-items.ensures.row c.loop-arc-test.true c.relax.ensures.kept c.loop-arc.invariant
+    let none : Arc = record { tail = 0; head = 0; len = 0 } in (
+      sym c.relax.new.words.ok.0 ∙ c.relax.ensures.size ∙ c.loop-arc.words.ok.0 ∙ c.loop-arc.invariant.0,
+      row_lowers c.args.graph.now (max_dist g.row.P) c.args.entry.vertex c.row-arc-items.result.now c.loop-arc.arc-index none c.args.words.now.items c.loop-arc.words.items c.relax.new.words.items
+          c.row-arc-items.ensures.row c.loop-arc-test.true c.loop-arc.invariant.1 c.relax.ensures.lowered,
+    )
