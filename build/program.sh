@@ -27,15 +27,18 @@ find_sources() {
     find HANDLES $(printf 'crates/%s ' $crates) \( -name out -o -path '*/src/tests*' -o -path '*/proofs/tests*' \) -prune -o "$@" -type f \( -name '*.rt' -o -name '*.antt' -o -name '*.txt' -o -name HANDLES \) -print0
 }
 
-# digest CRATE: of all that the crate is made from, as one line
-digest() (
+# digest_of CRATES: of the sources of the crates, as one line
+digest_of() (
     cd "$home"
-    crates=$(crates_of "$1")
     {
-        for crate in $crates; do grep "^$crate[ :]" crates.txt; done
-        find_sources "$crates" | LC_ALL=C sort -z | xargs -0 sha256sum
+        for crate in $1; do grep "^$crate[ :]" crates.txt; done
+        find_sources "$1" | LC_ALL=C sort -z | xargs -0 sha256sum
     } | sha256sum
 )
+
+# digest CRATE: of all that the crate is made from; digest_alone CRATE: of its own sources
+digest() { digest_of "$(crates_of "$1")"; }
+digest_alone() { digest_of "$1"; }
 
 # what the program is made from, and what the library for C is made from
 sources() { digest spt; }

@@ -26,9 +26,9 @@
 #include <stdint.h>
 
 /* The version of this header. SPT_VERSION_NUMBER grows with it; spt_version() returns the version of the library. */
-#define SPT_VERSION "1.1.0"
+#define SPT_VERSION "1.2.0"
 #define SPT_VERSION_MAJOR 1
-#define SPT_VERSION_MINOR 1
+#define SPT_VERSION_MINOR 2
 #define SPT_VERSION_PATCH 0
 #define SPT_VERSION_NUMBER (SPT_VERSION_MAJOR * 10000 + SPT_VERSION_MINOR * 100 + SPT_VERSION_PATCH)
 
@@ -53,7 +53,8 @@ typedef enum spt_status {
     SPT_BAD_TEXT = 7,       /* the text spells no graph; kind, letter and line describe its first fault */
     SPT_LONG_TEXT = 8,      /* the text has more than 2^62 bytes */
     SPT_WRONG = 9,          /* the lists hold a different tree: vertex is the smallest vertex at which they differ */
-    SPT_NO_GRAPH = 10       /* the place keeps no graph */
+    SPT_NO_GRAPH = 10,      /* the place keeps no graph */
+    SPT_BAD_LIMIT = 11      /* limit is above spt_reach(n). Since 1.2 */
 } spt_status;
 
 /* Returns a status in a few words, for messages, or "unknown status" for any other number. */
@@ -70,6 +71,7 @@ static inline const char *spt_status_text(uint32_t status) {
     case SPT_LONG_TEXT: return "text too long";
     case SPT_WRONG: return "not the shortest-path tree";
     case SPT_NO_GRAPH: return "no graph is kept";
+    case SPT_BAD_LIMIT: return "limit above the greatest distance";
     default: return "unknown status";
     }
 }
@@ -79,6 +81,12 @@ uint32_t spt_version(void);
 
 /* The distance of a vertex to which no walk leads; its predecessor is 0. */
 #define SPT_UNREACHED UINT64_MAX
+
+/* What spt_graph_matrix writes for a target that is too far. Since 1.2. */
+#define SPT_BEYOND (UINT64_MAX - 1)
+
+/* The limit of spt_graph_nearest that leaves nothing out. Since 1.2. */
+#define SPT_NO_LIMIT UINT64_MAX
 
 /* The answer of a call. vertex is set with SPT_TOO_FAR and SPT_WRONG, and index (from 0) with SPT_BAD_ARC and
  * SPT_NO_SUCH_VERTEX; otherwise they are 0. */
@@ -169,6 +177,40 @@ spt_batch spt_graph_trees(const spt_graph *graph, const uint32_t *sources, size_
  * status is SPT_NO_GRAPH if the place keeps none. Since 1.1. */
 spt_found spt_graph_pair(const spt_graph *graph, uint32_t source, uint32_t target, uint64_t delta);
 
+/* Finds the part of the tree from source that lies within limit, in the graph that is kept: dist and pred as spt_tree writes them
+ * for each vertex whose least length is at most limit, and SPT_UNREACHED and 0 for every other. A vertex beyond limit plays no part,
+ * so the status is never SPT_TOO_FAR. The call goes no farther than limit, so a small part of a large graph takes little time.
+ *
+ * dist and pred each need at least n places. The refusals are SPT_NO_GRAPH, SPT_BAD_SIZE, SPT_BAD_DELTA, SPT_BAD_LIMIT (limit is
+ * above spt_reach(n)), SPT_NO_SUCH_VERTEX (index is 0) and SPT_MEMORY, tested in this order; after a refusal dist and pred are
+ * unchanged. Since 1.2. */
+spt_answer spt_graph_within(const spt_graph *graph, uint32_t source, uint64_t limit, uint64_t delta,
+                            uint64_t *dist, size_t dist_places, uint32_t *pred, size_t pred_places);
+
+/* Finds the nearest of k sources for each vertex v of the graph that is kept: dist[v - 1] becomes the least length of a walk to v
+ * from any source, pred[v - 1] the vertex before v on such a walk, the smallest-numbered one if there are several, and root[v - 1]
+ * the source to which the predecessors lead back. A source has 0, 0 and itself, also if another source's walk reaches it. The order
+ * of the sources plays no part, nor does how often one is named; without a source, no vertex is reached. SPT_UNREACHED, 0 and 0
+ * stand for a vertex to which no walk leads or which lies beyond limit; SPT_NO_LIMIT leaves nothing out.
+ *
+ * dist, pred and root each need at least n places. The refusals are those of spt_graph_within, in the same order, with index that of
+ * the source; and, only with SPT_NO_LIMIT, SPT_TOO_FAR: some vertex is farther than spt_reach(n) from every source that leads there,
+ * and vertex is the smallest one that an arc reaches from a vertex which isn't. After a refusal the lists are unchanged. Since 1.2. */
+spt_answer spt_graph_nearest(const spt_graph *graph, const uint32_t *sources, size_t k, uint64_t limit, uint64_t delta,
+                             uint64_t *dist, size_t dist_places, uint32_t *pred, size_t pred_places,
+                             uint32_t *root, size_t root_places);
+
+/* Finds the distances of l targets from each of k sources in the graph that is kept: dist[i * l + j] becomes that of targets[j] from
+ * sources[i]. It is SPT_UNREACHED if no walk leads to the target and no vertex is too far, and SPT_BEYOND if the target has no
+ * distance up to spt_reach(n) and some vertex is too far. Each row ends as soon as its targets' distances are final, so near targets
+ * take little time.
+ *
+ * dist needs at least k * l places. After SPT_MEMORY it holds the first `done` rows, and after any other refusal done is 0. Places
+ * after these rows are unchanged. The refusals are those of spt_graph_trees, with index k + j for targets[j]; the sources are tested
+ * before the targets. Since 1.2. */
+spt_batch spt_graph_matrix(const spt_graph *graph, const uint32_t *sources, size_t k, const uint32_t *targets, size_t l,
+                           uint64_t delta, uint64_t *dist, size_t dist_places);
+
 /* The numbers of vertices and arcs of the graph that is kept with SPT_OK; both are 0 with SPT_NO_GRAPH. */
 typedef struct spt_counts {
     uint32_t status, n;
@@ -245,6 +287,32 @@ static inline spt_batch spt_graph_trees_or_null(const spt_graph *graph, const ui
                            dist_places ? dist : &no_dist, dist_places, pred_places ? pred : &no_pred, pred_places);
 }
 
+static inline spt_answer spt_graph_within_or_null(const spt_graph *graph, uint32_t source, uint64_t limit, uint64_t delta,
+                                                  uint64_t *dist, size_t dist_places, uint32_t *pred, size_t pred_places) {
+    uint64_t no_dist = 0;
+    uint32_t no_pred = 0;
+    return spt_graph_within(graph, source, limit, delta,
+                            dist_places ? dist : &no_dist, dist_places, pred_places ? pred : &no_pred, pred_places);
+}
+
+static inline spt_answer spt_graph_nearest_or_null(const spt_graph *graph, const uint32_t *sources, size_t k, uint64_t limit,
+                                                   uint64_t delta, uint64_t *dist, size_t dist_places, uint32_t *pred,
+                                                   size_t pred_places, uint32_t *root, size_t root_places) {
+    uint64_t no_dist = 0;
+    uint32_t no_source = 0, no_pred = 0, no_root = 0;
+    return spt_graph_nearest(graph, k ? sources : &no_source, k, limit, delta,
+                             dist_places ? dist : &no_dist, dist_places, pred_places ? pred : &no_pred, pred_places,
+                             root_places ? root : &no_root, root_places);
+}
+
+static inline spt_batch spt_graph_matrix_or_null(const spt_graph *graph, const uint32_t *sources, size_t k, const uint32_t *targets,
+                                                 size_t l, uint64_t delta, uint64_t *dist, size_t dist_places) {
+    uint64_t no_dist = 0;
+    uint32_t no_source = 0, no_target = 0;
+    return spt_graph_matrix(graph, k ? sources : &no_source, k, l ? targets : &no_target, l, delta,
+                            dist_places ? dist : &no_dist, dist_places);
+}
+
 static inline spt_text spt_gr_or_null(const uint8_t *text, size_t bytes, spt_arc *arcs, size_t places) {
     uint8_t no_text = 0;
     spt_arc no_arc = {0, 0, 0};
@@ -257,6 +325,9 @@ static inline spt_text spt_gr_or_null(const uint8_t *text, size_t bytes, spt_arc
 #define spt_check spt_check_or_null
 #define spt_graph_new spt_graph_new_or_null
 #define spt_graph_trees spt_graph_trees_or_null
+#define spt_graph_within spt_graph_within_or_null
+#define spt_graph_nearest spt_graph_nearest_or_null
+#define spt_graph_matrix spt_graph_matrix_or_null
 #define spt_gr spt_gr_or_null
 
 #ifdef __cplusplus

@@ -34,7 +34,8 @@ TAKEN = {"malloc", "realloc", "free", "memcpy", "memmove", "memset"}
 # which version of the library had each function first
 BROUGHT = {"SPT_1.0": {"spt_check", "spt_gr", "spt_graph_free", "spt_graph_new", "spt_graph_share", "spt_graph_trees", "spt_pair",
                        "spt_reach", "spt_tree", "spt_trees"},
-           "SPT_1.1": {"spt_graph_counts", "spt_graph_pair", "spt_version"}}
+           "SPT_1.1": {"spt_graph_counts", "spt_graph_pair", "spt_version"},
+           "SPT_1.2": {"spt_graph_matrix", "spt_graph_nearest", "spt_graph_within"}}
 # a program that is linked with a library whose symbols have no versions, as that of 1.0.0 was
 OLD = """#include <spt.h>
 int main(void) {
@@ -105,7 +106,7 @@ def great_graph(folder, program):
 
 def try_compiler(count, compiler, prefix, folder, great, wanted):
     static, shared = flags(prefix, True), flags(prefix, False)
-    for name, more in (("refusals", []), ("memory", WRAPPED), ("header", [])):
+    for name, more in (("refusals", []), ("near", []), ("memory", WRAPPED), ("header", [])):
         program = build(count, compiler, folder, name, static, *SANITIZED, *more)
         if program:
             add_counts(count, f"{compiler} {name}", [program])

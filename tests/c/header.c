@@ -10,9 +10,9 @@ static void versions(void) {
     snprintf(wanted, sizeof wanted, "%d.%d.%d", SPT_VERSION_MAJOR, SPT_VERSION_MINOR, SPT_VERSION_PATCH);
     count("the parts of the version", !strcmp(wanted, SPT_VERSION));
     int parts = SPT_VERSION_MAJOR * 10000 + SPT_VERSION_MINOR * 100 + SPT_VERSION_PATCH;
-    count("the number of the version", SPT_VERSION_NUMBER == parts && SPT_VERSION_NUMBER >= 10100);
+    count("the number of the version", SPT_VERSION_NUMBER == parts && SPT_VERSION_NUMBER >= 10200);
     count("the library is of this header", spt_version() == SPT_VERSION_NUMBER);
-#if SPT_VERSION_NUMBER < 10100
+#if SPT_VERSION_NUMBER < 10200
     count("the preprocessor reads it", 0);
 #endif
 }
@@ -20,7 +20,7 @@ static void versions(void) {
 /* Each status has a text of its own, and other numbers have another. */
 static void statuses(void) {
     const spt_status all[] = {SPT_OK, SPT_BAD_SIZE, SPT_BAD_DELTA, SPT_BAD_ARC, SPT_NO_SUCH_VERTEX, SPT_TOO_FAR,
-                              SPT_MEMORY, SPT_BAD_TEXT, SPT_LONG_TEXT, SPT_WRONG, SPT_NO_GRAPH};
+                              SPT_MEMORY, SPT_BAD_TEXT, SPT_LONG_TEXT, SPT_WRONG, SPT_NO_GRAPH, SPT_BAD_LIMIT};
     const uint32_t many = sizeof all / sizeof *all;
     for (uint32_t i = 0; i < many; i++) {
         const char *text = spt_status_text(all[i]);
@@ -53,6 +53,15 @@ static void nulls(void) {
     count("a graph of no arcs", spt_graph_new(NULL, 0, 2, &graph).status == SPT_OK);
     trees = spt_graph_trees(&graph, NULL, 0, 0, NULL, 0, NULL, 0);
     count("no sources of a graph", trees.status == SPT_OK && trees.done == 0);
+    count("a part of no graph's arcs", spt_graph_within(&graph, 1, 0, 0, dist, 2, pred, 2).status == SPT_OK && dist[1] == SPT_UNREACHED);
+    count("no places for a part", spt_graph_within(&graph, 1, 0, 0, NULL, 0, NULL, 0).status == SPT_BAD_SIZE);
+    uint32_t root[2] = {9, 9};
+    spt_answer nearest = spt_graph_nearest(&graph, NULL, 0, SPT_NO_LIMIT, 0, dist, 2, pred, 2, root, 2);
+    count("the nearest of no sources", nearest.status == SPT_OK && dist[0] == SPT_UNREACHED && pred[0] == 0 && root[0] == 0);
+    nearest = spt_graph_nearest(&graph, NULL, 0, SPT_NO_LIMIT, 0, NULL, 0, NULL, 0, NULL, 0);
+    count("no places for the nearest", nearest.status == SPT_BAD_SIZE);
+    trees = spt_graph_matrix(&graph, NULL, 0, NULL, 0, 0, NULL, 0);
+    count("a matrix of nothing", trees.status == SPT_OK && trees.done == 0);
     spt_graph_free(&graph);
 
     spt_text text = spt_gr(NULL, 0, NULL, 0);

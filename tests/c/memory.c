@@ -121,6 +121,61 @@ static uint32_t a_kept_pair(int *right) {
     return status;
 }
 
+/* Each call about a graph that is kept, with its lists as it leaves them; and they are as they were where it is refused. */
+static spt_graph kept;
+static uint64_t near_dist[N], right_near[N], block[K * K], right_block[K * K];
+static uint32_t near_pred[N], right_near_pred[N], near_root[N], right_near_root[N];
+
+static int same_block(size_t rows) {
+    size_t held = rows * K * sizeof *block;
+    return !memcmp(block, right_block, held) && !memcmp((char *)block + held, (char *)no_dist + held, sizeof block - held);
+}
+
+static uint32_t a_part(int *right) {
+    memcpy(near_dist, no_dist, sizeof near_dist);
+    memcpy(near_pred, no_pred, sizeof near_pred);
+    spt_answer told = spt_graph_within(&kept, sources[0], 900, 50, near_dist, N, near_pred, N);
+    int all = told.status != SPT_OK;
+    for (size_t v = 0; v < N; v++) {
+        int near = right_dist[v] <= 900;
+        uint64_t wanted = near ? right_dist[v] : SPT_UNREACHED;
+        all = all && !(near_dist[v] != no_dist[v] || near_pred[v] != no_pred[v]);
+        if (told.status == SPT_OK && (near_dist[v] != wanted || near_pred[v] != (near ? right_pred[v] : 0))) return *right = 0, told.status;
+    }
+    *right = (told.status == SPT_OK || all) && spt_graph_counts(&kept).m == M;
+    return told.status;
+}
+
+static uint32_t a_forest(int *right) {
+    memcpy(near_dist, no_dist, sizeof near_dist);
+    memcpy(near_pred, no_pred, sizeof near_pred);
+    memcpy(near_root, no_pred, sizeof near_root);
+    spt_answer told = spt_graph_nearest(&kept, sources, K, SPT_NO_LIMIT, 50, near_dist, N, near_pred, N, near_root, N);
+    int is_done = told.status == SPT_OK;
+    *right = !memcmp(near_dist, is_done ? right_near : no_dist, sizeof near_dist)
+        && !memcmp(near_pred, is_done ? right_near_pred : no_pred, sizeof near_pred)
+        && !memcmp(near_root, is_done ? right_near_root : no_pred, sizeof near_root);
+    return told.status;
+}
+
+static uint32_t a_matrix(int *right) {
+    memcpy(block, no_dist, sizeof block);
+    spt_batch told = spt_graph_matrix(&kept, sources, K, sources, K, 50, block, K * K);
+    *right = same_block(told.done) && (told.status == SPT_OK) == (told.done == K);
+    return told.status;
+}
+
+static void near_calls(void) {
+    count("a graph is kept", spt_graph_new(arcs, M, N, &kept).status == SPT_OK);
+    spt_answer nearest = spt_graph_nearest(&kept, sources, K, SPT_NO_LIMIT, 50, right_near, N, right_near_pred, N, right_near_root, N);
+    int right = nearest.status == SPT_OK;
+    for (size_t v = 0; v < N; v++)
+        for (size_t k = 0; k < K; k++) right = right && right_near[v] <= right_dist[k * N + v];
+    count("the nearest with ample memory", right);
+    for (size_t k = 0; k < K; k++)
+        for (size_t t = 0; t < K; t++) right_block[k * K + t] = right_dist[k * N + sources[t] - 1];
+}
+
 /* Fans in a chain: each bucket has the FAN heads of one vertex, which take blocks of their own. A target that lies near takes few. */
 static void near_targets(void) {
     enum { FAN = 9, FEW = 50 };
@@ -180,5 +235,11 @@ int main(void) {
     refuse_each("spt_graph_new and spt_graph_pair", a_kept_pair);
     refuse_each("spt_gr", a_text);
     near_targets();
+    near_calls();
+    refuse_each("spt_graph_within", a_part);
+    refuse_each("spt_graph_nearest", a_forest);
+    refuse_each("spt_graph_matrix", a_matrix);
+    spt_graph_free(&kept);
+    count("no block is left", blocks == 0);
     return finish();
 }

@@ -5,7 +5,7 @@ use Rattle.std.proofs.Math.Nat.{suc-mul, mul-le-mul_right}
 use Rattle.std.proofs.lemmas.Option.{get_or_from_slice_get, slice_get-get_or}
 use Rattle.sp_paths.specs.Paths.{Graph, IsVertex}
 use Rattle.spt_c.specs.declared.answers.Told.{Told}
-use Rattle.spt_c.specs.declared.answers.Told.TheVariants.{Tree, BadSize, BadDelta, BadArc, NoSuchVertex, TooFar, Memory, Wrong, NoGraph}
+use Rattle.spt_c.specs.declared.answers.Told.TheVariants.{Tree, BadSize, BadDelta, BadArc, NoSuchVertex, TooFar, Memory, Wrong, NoGraph, BadLimit}
 use Rattle.spt_c.specs.Blocks.{Slices, IsCell, HasSameAt, HasTreeAt, KeepsOthers, IsSolvedAt, AreDone, AreSolved}
 
 pub next_block : (i n : ℕ) → (i + 1) * n ≡ i * n + n
@@ -86,3 +86,4 @@ stopped max g sources place low old mid new (BadArc p) within not done is = absu
 stopped max g sources place low old mid new (NoSuchVertex p) within not done is = absurd is
 stopped max g sources place low old mid new (Wrong v) within not done is = absurd is
 stopped max g sources place low old mid new NoGraph within not done is = absurd is
+stopped max g sources place low old mid new BadLimit within not done is = absurd is

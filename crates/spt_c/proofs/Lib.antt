@@ -2,3 +2,5 @@ mod Blocks
 mod Same
 mod OneSource
 pub mod Pairs
+pub mod Forests
+mod Rows

@@ -7,7 +7,7 @@ use Rattle.std.specs.Prelude.{slice_get, slice_index}
 use Rattle.sp_paths.specs.Paths.{Graph, IsFar}
 use Rattle.sp_paths.specs.Bags.{AreSame}
 use Rattle.spt_c.specs.declared.answers.Told.{Told}
-use Rattle.spt_c.specs.declared.answers.Told.TheVariants.{Tree, BadSize, BadDelta, BadArc, NoSuchVertex, TooFar, Memory, Wrong, NoGraph}
+use Rattle.spt_c.specs.declared.answers.Told.TheVariants.{Tree, BadSize, BadDelta, BadArc, NoSuchVertex, TooFar, Memory, Wrong, NoGraph, BadLimit}
 use Rattle.spt_c.specs.declared.answers.Batch.{Batch}
 use Rattle.spt_c.specs.declared.arcs.SptArc.{SptArc}
 use Rattle.spt_c.specs.Arcs.{graph_of}
@@ -35,6 +35,7 @@ none_of max g s done (BadArc place) not is = absurd is
 none_of max g s done (NoSuchVertex place) not is = absurd is
 none_of max g s done (Wrong v) not is = absurd is
 none_of max g s done NoGraph not is = absurd is
+none_of max g s done BadLimit not is = absurd is
 
 -- Why one source isn't done is why it has no tree.
 pub no_tree : (max : ℕ) (g h : Graph) (s : ℕ) (old new : Slices) (b : Batch) → AreSame g h → AreSolved max g (s ∷ []) old new b → (b.told ≡ Tree → ⊥) → HasNone max h s b.told
@@ -84,6 +85,7 @@ none_done max g s done (BadArc place) is not = absurd is
 none_done max g s done (NoSuchVertex place) is not = absurd is
 none_done max g s done (Wrong v) is not = absurd is
 none_done max g s done NoGraph is not = absurd is
+none_done max g s done BadLimit is not = absurd is
 
 pub nothing_written : (arcs : List SptArc) (n s delta : ℕ) (old new : Slices) (b : Batch) → IsTold (asked arcs n (s ∷ []) delta) old new b → ((answer_of b.told).status ≡ 0 → ⊥) → KeepsFrom 0 old new
 nothing_written arcs n s delta old new b (inl refused) not = subst (KeepsFrom 0 old) (sym refused.same) (λ k low. (refl, refl))

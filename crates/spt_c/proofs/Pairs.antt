@@ -5,7 +5,7 @@ use Rattle.sp_paths.specs.Paths.{TooFar as FarVertex}
 use Rattle.sp_paths.specs.Bags.{AreSame}
 use Rattle.sp_paths.proofs.SameArcs.{same_arcs_same_answers}
 use Rattle.spt_c.specs.declared.answers.Told.{Told}
-use Rattle.spt_c.specs.declared.answers.Told.TheVariants.{Tree, BadSize, BadDelta, BadArc, NoSuchVertex, TooFar, Memory, Wrong, NoGraph}
+use Rattle.spt_c.specs.declared.answers.Told.TheVariants.{Tree, BadSize, BadDelta, BadArc, NoSuchVertex, TooFar, Memory, Wrong, NoGraph, BadLimit}
 use Rattle.spt_c.specs.declared.cells.Cell.{Cell}
 use Rattle.spt_c.specs.Limits.{reach}
 use Rattle.spt_c.specs.Asked.{Asked, IsGood}
@@ -21,6 +21,7 @@ same_none max g h s t (BadArc place) same is = is
 same_none max g h s t (NoSuchVertex place) same is = is
 same_none max g h s t (Wrong v) same is = is
 same_none max g h s t NoGraph same is = is
+same_none max g h s t BadLimit same is = is
 
 -- What is found by the rows of a graph is found by the arcs that were passed.
 pub same_found : (max : ℕ) (g h : Graph) (s t : ℕ) (found : Result Cell Told) → AreSame g h → IsFoundIn max g s t found → IsFoundIn max h s t found

@@ -7,7 +7,7 @@ use Rattle.sp_paths.specs.Paths.{Graph}
 use Rattle.sp_paths.specs.Bags.{AreSame}
 use Rattle.sp_paths.proofs.SameArcs.{same_arcs_same_answers}
 use Rattle.spt_c.specs.declared.answers.Told.{Told}
-use Rattle.spt_c.specs.declared.answers.Told.TheVariants.{Tree, BadSize, BadDelta, BadArc, NoSuchVertex, TooFar, Memory, Wrong, NoGraph}
+use Rattle.spt_c.specs.declared.answers.Told.TheVariants.{Tree, BadSize, BadDelta, BadArc, NoSuchVertex, TooFar, Memory, Wrong, NoGraph, BadLimit}
 use Rattle.spt_c.specs.declared.answers.Batch.{Batch}
 use Rattle.spt_c.specs.Blocks.{Slices, AreCells, HasTreeAt, KeepsFrom, EndsBy, AreSolved}
 
@@ -37,6 +37,7 @@ same_ends max g h sources done (BadArc place) same is = is
 same_ends max g h sources done (NoSuchVertex place) same is = is
 same_ends max g h sources done (Wrong v) same is = is
 same_ends max g h sources done NoGraph same is = is
+same_ends max g h sources done BadLimit same is = is
 
 -- What is told of the rows of a graph is told of the arcs that were passed.
 pub same_solved : (max : ℕ) (g h : Graph) (sources : List ℕ) (old new : Slices) (b : Batch) → AreSame g h → AreSolved max g sources old new b → AreSolved max h sources old new b

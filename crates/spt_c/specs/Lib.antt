@@ -8,3 +8,7 @@ pub mod Checked
 pub mod Found
 pub mod Texts
 pub mod Kept
+pub mod Query
+pub mod Part
+pub mod Near
+pub mod Matrix

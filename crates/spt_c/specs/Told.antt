@@ -4,7 +4,7 @@ use Rattle.spt_c.specs.declared.answers.SptAnswer.{SptAnswer}
 use Rattle.spt_c.specs.declared.answers.SptBatch.{SptBatch}
 use Rattle.spt_c.specs.declared.answers.Batch.{Batch}
 use Rattle.spt_c.specs.declared.answers.Told.{Told}
-use Rattle.spt_c.specs.declared.answers.Told.TheVariants.{Tree, BadSize, BadDelta, BadArc, NoSuchVertex, TooFar, Memory, Wrong, NoGraph}
+use Rattle.spt_c.specs.declared.answers.Told.TheVariants.{Tree, BadSize, BadDelta, BadArc, NoSuchVertex, TooFar, Memory, Wrong, NoGraph, BadLimit}
 use Rattle.spt_c.specs.Arcs.{graph_of}
 use Rattle.spt_c.specs.Limits.{reach}
 use Rattle.spt_c.specs.Asked.{Asked, IsGood, IsRefused}
@@ -21,6 +21,7 @@ answer_of (TooFar v) = record { status = 5; vertex = v; index = 0 }
 answer_of Memory = record { status = 6; vertex = 0; index = 0 }
 answer_of (Wrong v) = record { status = 9; vertex = v; index = 0 }
 answer_of NoGraph = record { status = 10; vertex = 0; index = 0 }
+answer_of BadLimit = record { status = 11; vertex = 0; index = 0 }
 
 abbrev pub batch_of : Batch → SptBatch
 batch_of b = record { status = (answer_of b.told).status; vertex = (answer_of b.told).vertex; index = (answer_of b.told).index; done = b.done }

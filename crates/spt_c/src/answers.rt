@@ -26,7 +26,7 @@ pub struct SptBatch {
 /// Why a call ends.
 #[derive(Clone, Copy, Debug, PartialEq, Eq)]
 pub(crate) enum Told {
-    /// Each source has its tree.
+    /// Everything that was asked for is written.
     Tree,
     /// The number of vertices is 0 or too great, or a slice has fewer than one place for each vertex of each source.
     BadSize,
@@ -44,6 +44,8 @@ pub(crate) enum Told {
     Wrong(u32),
     /// The place keeps no graph.
     NoGraph,
+    /// The limit is greater than the greatest distance.
+    BadLimit,
 }
 
 /// How many sources have their trees, and why no more have.
@@ -78,6 +80,7 @@ impl Told {
             Told::Memory => reply(6, 0, 0),
             Told::Wrong(vertex) => reply(9, vertex, 0),
             Told::NoGraph => reply(10, 0, 0),
+            Told::BadLimit => reply(11, 0, 0),
         }
     }
 }

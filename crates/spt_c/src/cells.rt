@@ -26,8 +26,8 @@ impl Cell {
     }
 }
 
-// Returns what represents a word.
-fn cell_of<const P: u32>(word: Word<P>) -> Cell
+/// Returns what represents a word.
+pub(crate) fn cell_of<const P: u32>(word: Word<P>) -> Cell
     ensures { IsCell word.entry result.dist result.pred }
 {
     match (word.dist(), word.pred()) {

@@ -7,6 +7,10 @@ ghost use Rattle.spt_c.specs.Asked.{asked};
 ghost use Rattle.spt_c.specs.Blocks.{slices, KeepsFrom};
 ghost use Rattle.spt_c.specs.Told.{IsTold, answer_of, batch_of};
 ghost use Rattle.spt_c.specs.Checked.{IsChecked};
+ghost use Rattle.spt_c.specs.Part.{IsPartOfKept};
+ghost use Rattle.spt_c.specs.Query.{limit_of};
+ghost use Rattle.spt_c.specs.Near.{lists, IsForestOfKept};
+ghost use Rattle.spt_c.specs.Matrix.{IsMatrixOfKept};
 ghost use Rattle.spt_c.specs.Found.{IsFound, IsFoundOfKept, found_of};
 ghost use Rattle.spt_c.specs.Texts.{IsRead, text_of};
 ghost use Rattle.spt_c.specs.Kept.{made_of, IsMade, IsShared, counts_of, IsToldOfKept};
@@ -21,10 +25,14 @@ use crate::arcs::SptArc;
 use crate::calls::{Question, solve};
 use crate::checking::check;
 use crate::counts::{SptCounts, counts};
+use crate::forest::{Near, forest_kept};
 use crate::found::{SptFound, find, find_kept};
 use crate::kept_trees::solve_kept;
 use crate::limits::{is_count, reach};
 use crate::making::{make, share};
+use crate::matrix::matrix_kept;
+use crate::part::{Part, part_kept};
+use crate::queries::limit_of;
 use crate::texts::{SptText, read_graph};
 use sp_kept::KeptGraph;
 use std::alloc::Global;
@@ -32,9 +40,9 @@ use std::alloc::Global;
 /// Returns the library's version: ten thousand for each unit of the first part, and a hundred for each of the second.
 #[unsafe(no_mangle)]
 pub extern "C" fn spt_version() -> u32
-    ensures { result ≡ 10100 }
+    ensures { result ≡ 10200 }
 {
-    10_100
+    10_200
 }
 
 /// Returns the greatest distance in a graph of n vertices, or 0 if no graph can have n vertices.
@@ -91,13 +99,13 @@ pub extern "C" fn spt_trees(
         × IsTold (asked arcs.now n sources.now delta)
         (slices dist.old pred.old) (slices dist.new pred.new) batch }
 {
-    let question = Question {
+    let wanted = Question {
         arcs,
         n,
         sources,
         delta,
     };
-    let batch = solve(alloc, &question, dist, pred);
+    let batch = solve(alloc, &wanted, dist, pred);
     batch.answer()
 }
 
@@ -235,4 +243,81 @@ pub extern "C" fn spt_graph_counts(alloc: Global, graph: &mut KeptGraph) -> SptC
     ensures same { kept graph.new ≡ kept graph.old }
 {
     counts(alloc, graph)
+}
+
+/// Writes the part of the shortest-path tree from a source that lies within the limit, in the graph that is kept: each vertex
+/// whose least length is at most the limit has its distance and its predecessor in the tree, and every other vertex is
+/// unreached. Each slice needs a place for each vertex. A delta of 0 stands for the mean length of an arc.
+#[unsafe(no_mangle)]
+pub extern "C" fn spt_graph_within(
+    alloc: Global,
+    graph: &mut KeptGraph,
+    source: u32,
+    limit: u64,
+    delta: u64,
+    dist: &mut [u64],
+    pred: &mut [u32],
+) -> SptAnswer
+    ensures told { (told : Told) × (result ≡ answer_of told)
+        × IsPartOfKept (kept graph.old) source limit delta
+        (slices dist.old pred.old) (slices dist.new pred.new) told }
+    ensures same { kept graph.new ≡ kept graph.old }
+{
+    let part = Part {
+        source,
+        limit,
+        delta,
+    };
+    let told = part_kept(alloc, graph, part, dist, pred);
+    told.answer()
+}
+
+/// Writes the forest of shortest paths from the sources in the graph that is kept: of each vertex its least distance from any of
+/// them, the smallest vertex before it on such a walk, and its root, the source at which its chain of predecessors begins.
+/// A limit leaves out what is farther; the greatest number is none. Each slice needs a place for each vertex. A delta of 0
+/// stands for the mean length of an arc.
+#[unsafe(no_mangle)]
+pub extern "C" fn spt_graph_nearest(
+    alloc: Global,
+    graph: &mut KeptGraph,
+    sources: &[u32],
+    limit: u64,
+    delta: u64,
+    dist: &mut [u64],
+    pred: &mut [u32],
+    root: &mut [u32],
+) -> SptAnswer
+    ensures told { (told : Told) × (result ≡ answer_of told)
+        × IsForestOfKept (kept graph.old) sources.now (limit_of limit) delta
+        (lists dist.old pred.old root.old) (lists dist.new pred.new root.new) told }
+    ensures same { kept graph.new ≡ kept graph.old }
+{
+    let near = Near {
+        sources,
+        limit: limit_of(limit),
+        delta,
+    };
+    let told = forest_kept(alloc, graph, near, dist, pred, root);
+    told.answer()
+}
+
+/// Writes the distances of the targets from each of the sources in the graph that is kept, row after row: the greatest number if
+/// no walk leads to the target, and the one before it if the target has no distance up to the greatest and some vertex is too
+/// far. The slice needs a place for each source and target. A delta of 0 stands for the mean length of an arc.
+#[unsafe(no_mangle)]
+pub extern "C" fn spt_graph_matrix(
+    alloc: Global,
+    graph: &mut KeptGraph,
+    sources: &[u32],
+    targets: &[u32],
+    delta: u64,
+    dist: &mut [u64],
+) -> SptBatch
+    ensures told { (batch : Batch) × (result ≡ batch_of batch)
+        × IsMatrixOfKept (kept graph.old) sources.now targets.now delta
+        dist.old dist.new batch }
+    ensures same { kept graph.new ≡ kept graph.old }
+{
+    let batch = matrix_kept(alloc, graph, sources, targets, delta, dist);
+    batch.answer()
 }

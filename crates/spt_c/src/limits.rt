@@ -20,17 +20,21 @@ pub(crate) fn is_vertex(n: u32, vertex: u32) -> bool
     1 <= vertex && vertex <= n
 }
 
+/// Returns whether there are places for so many rows of so many places each.
+pub(crate) fn fits(rows: usize, columns: usize, places: usize) -> bool
+    ensures { IsTrue result ↔ (rows * columns ≤ places) }
+{
+    match rows.checked_mul(columns) {
+        Some(needed) => needed <= places,
+        None => false,
+    }
+}
+
 /// Returns whether a graph may have `n` vertices, and there are `blocks` blocks of `n` places each.
 pub(crate) fn has_room(n: u32, blocks: usize, places: usize) -> bool
     ensures { IsTrue result ↔ HasRoom n blocks places }
 {
-    if !is_count(n) {
-        return false;
-    }
-    match blocks.checked_mul(n as usize) {
-        Some(needed) => needed <= places,
-        None => false,
-    }
+    is_count(n) && fits(blocks, n as usize, places)
 }
 
 /// Returns the greatest distance in a graph of n vertices, by the layout with the fewest bits for a predecessor.

@@ -7,8 +7,8 @@ use crate::answers::Told;
 use crate::arcs::{SptArc, first_bad};
 use crate::limits::{has_room, is_vertex, reach};
 
-// Returns the index of the first source that is no vertex.
-fn first_none(n: u32, sources: &[u32]) -> Option<usize>
+/// Returns the index of the first source that is no vertex.
+pub(crate) fn first_none(n: u32, sources: &[u32]) -> Option<usize>
     ensures first { IfSome result (IsFirstWithout (IsVertex n) sources.now) }
     ensures none { IfNone result (All (IsVertex n) sources.now) }
 {

@@ -1,0 +1,37 @@
+-- The part of a tree within a distance, in the two slices of a caller.
+use Rattle.std.specs.Prelude.{◌≡◌, ◌⊎◌, ℕ, [], ◌∷◌}
+use Rattle.std.specs.declared.option.Option.{Option}
+use Rattle.std.specs.declared.option.Option.TheVariants.{None, Some}
+use Rattle.sp_word.specs.History.{Table}
+use Rattle.sp_paths.specs.Paths.{Graph, EndsInTree}
+use Rattle.spt_c.specs.declared.answers.Told.{Told}
+use Rattle.spt_c.specs.declared.answers.Told.TheVariants.{Tree, Memory, NoGraph}
+use Rattle.spt_c.specs.Query.{Query, IsGoodQuery, IsRefusedQuery}
+use Rattle.spt_c.specs.Blocks.{Slices, AreCells, KeepsFrom}
+use Rattle.spt_c.specs.Told.{places}
+
+-- The slices hold the part of the tree from s within the limit: each vertex whose least length is at most the limit has its
+-- distance and its predecessor in the tree, and every other vertex is unreached.
+pub record HasPart (g : Graph) (s limit : ℕ) (there : Slices) : Type 0 where
+  pub words : Table
+  pub part : EndsInTree g s limit words
+  pub cells : AreCells 0 g.n words there
+
+-- The part is written, and nothing else; or there was no memory, and nothing is written.
+abbrev pub IsPartIn : Graph → (s limit : ℕ) → (old new : Slices) → Told → Type 0
+IsPartIn g s limit old new Tree = HasPart g s limit new × KeepsFrom g.n old new
+IsPartIn g s limit old new Memory = new ≡ old
+IsPartIn g s limit old new told = ⊥
+
+-- A call for a part writes a row of n places.
+abbrev pub part_query : (n s limit delta : ℕ) → Query
+part_query n s limit delta = record { sources = s ∷ []; targets = []; delta = delta; limit = Some limit; rows = 1; columns = n }
+
+-- Something is wrong with the call, and nothing is written; or nothing is, and this is the answer.
+abbrev pub IsPartOf : Graph → (s limit delta : ℕ) → (old new : Slices) → Told → Type 0
+IsPartOf g s limit delta old new told = (IsRefusedQuery g.n (part_query g.n s limit delta) (places old) told × (new ≡ old)) ⊎ (IsGoodQuery g.n (part_query g.n s limit delta) (places old) × IsPartIn g s limit old new told)
+
+-- This says the same of the graph that is kept, if there is one.
+abbrev pub IsPartOfKept : Option Graph → (s limit delta : ℕ) → (old new : Slices) → Told → Type 0
+IsPartOfKept None s limit delta old new told = (told ≡ NoGraph) × (new ≡ old)
+IsPartOfKept (Some g) s limit delta old new told = IsPartOf g s limit delta old new told
