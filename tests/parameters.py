@@ -31,6 +31,8 @@ LIKE_NEAREST = "it takes what run_batch_told or run_given_told takes, and the li
 EXCEPTIONS = {
     ("spt_c", "spt_tree"): OF_C,
     ("spt_c", "spt_trees"): OF_C,
+    ("spt_c", "spt_graph_within"): OF_C,
+    ("spt_c", "spt_graph_nearest"): OF_C,
     ("sp_phase", "run_source_with"): SPECIFIED,
     ("sp_phase", "run_pair"): SPECIFIED,
     ("sp_phase", "run_pair_with"): SPECIFIED,

@@ -16,16 +16,19 @@ The library is taken from $SPT_LIBRARY, beside this package's files, or where th
 """
 
 from ._convert import dijkstra
-from ._faults import BadArc, BadDelta, Fault, NoSuchVertex, SptError, TooFar
-from ._graph import UNREACHED, Graph, Pair, Tree
+from ._faults import BadArc, BadDelta, BadLimit, Fault, NoSuchVertex, SptError, TooFar
+from ._graph import BEYOND, UNREACHED, Forest, Graph, Pair, Tree
 from ._library import LibraryNotFound, reach
 
-__version__ = "1.1.0"
+__version__ = "1.2.0"
 __all__ = [
+    "BEYOND",
     "UNREACHED",
     "BadArc",
     "BadDelta",
+    "BadLimit",
     "Fault",
+    "Forest",
     "Graph",
     "LibraryNotFound",
     "NoSuchVertex",

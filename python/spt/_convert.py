@@ -7,7 +7,7 @@ import math
 
 from typing import Any, Callable, Iterable, Iterator, Optional
 
-from ._faults import BadDelta, TooFar
+from ._faults import BadDelta
 from ._library import reach
 
 MOST = 2**32 - 1
@@ -144,12 +144,12 @@ def dijkstra(
     indices: the sources, in any shape, all vertices where it is None; -1 is the last vertex.
     return_predecessors: whether the answer is a tuple of distances and predecessors.
     unweighted: whether each arc has length 1, whatever its entry is, also a fraction or 0.
-    limit: vertices that are farther are told as those that no walk leads to. It takes as long as without.
+    limit: vertices that are farther are told as those that no walk leads to, and the search goes no farther.
     min_only: whether one row is answered, of the distances from the nearest source. The tuple has the sources too, then.
     delta, workers: as for `Graph.trees`; SciPy has neither. `min_only` is answered by one thread.
 
     Distances are SciPy's, and exact. Of several predecessors SciPy takes any, and this the smallest. TooFar tells its source and
-    vertex as `Graph.tree` does, from 1.
+    vertex as `Graph.tree` and `Graph.nearest` do, from 1; with a limit nothing is too far.
     """
     import numpy
 
@@ -161,14 +161,13 @@ def dijkstra(
     if delta is not None and not 1 <= delta <= reach(graph.n):
         raise BadDelta(graph.n, delta)
     sources = _sources(indices, graph.n)
+    # distances are whole, and none is above the greatest
+    within = None if math.isinf(limit) else min(math.floor(limit), reach(graph.n))
     if min_only:
-        found = _from_nearest(graph, sources.reshape(-1), delta)
+        found = _from_nearest(graph, sources.reshape(-1), within, delta)
     else:
-        rows = _from_each(graph, sources.reshape(-1), delta, workers)
+        rows = _from_each(graph, sources.reshape(-1), within, delta, workers)
         found = tuple(it.reshape(*sources.shape, graph.n) for it in rows)
-    is_far = found[0] > limit
-    for values, none in zip(found, (numpy.inf, _NONE, _NONE)):
-        values[is_far] = none
     return found if return_predecessors else found[0]
 
 
@@ -201,46 +200,28 @@ def _sources(indices: Any, n: int) -> Any:
     return numpy.where(asked < 0, asked + n, asked)
 
 
-def _from_each(graph: Any, sources: Any, delta: Optional[int], workers: int) -> tuple[Any, Any]:
+def _from_zero(vertices: memoryview) -> Any:
+    """The vertices as SciPy numbers them, and what it tells where there is none."""
+    import numpy
+
+    told = numpy.asarray(vertices)
+    return numpy.where(told == 0, _NONE, told.astype(numpy.int64) - 1).astype(numpy.int32)
+
+
+def _from_each(
+    graph: Any, sources: Any, within: Optional[int], delta: Optional[int], workers: int
+) -> tuple[Any, Any]:
     """Distances and predecessors, a row for each source."""
     import numpy
 
     distances = numpy.empty((len(sources), graph.n))
     predecessors = numpy.empty((len(sources), graph.n), numpy.int32)
-    for row, tree in enumerate(graph.trees((sources + 1).tolist(), workers=workers, delta=delta)):
-        before = numpy.asarray(tree.predecessors)
-        distances[row] = tree.floats()
-        predecessors[row] = numpy.where(before == 0, _NONE, before.astype(numpy.int64) - 1)
+    for row, tree in enumerate(graph.trees((sources + 1).tolist(), within=within, workers=workers, delta=delta)):
+        distances[row], predecessors[row] = tree.floats(), _from_zero(tree.predecessors)
     return distances, predecessors
 
 
-def _from_nearest(graph: Any, sources: Any, delta: Optional[int]) -> tuple[Any, Any, Any]:
-    """Distances from the nearest source, predecessors, and which source that is: by one tree, from a vertex before them all."""
-    import numpy
-    from ._graph import Graph
-
-    n, given = graph.n, _rows(graph.arcs)
-    first = numpy.unique(sources)
-    added = numpy.column_stack([numpy.full(len(first), n + 1), first + 1, numpy.ones(len(first))]).astype(numpy.uint32)
-    try:
-        tree = Graph(n + 1, numpy.concatenate([given, added])).tree(n + 1, delta=delta and min(delta, reach(n + 1)))
-    except TooFar:
-        return _nearest_of_each(graph, first, delta)
-    before = numpy.asarray(tree.predecessors)[:n].astype(numpy.int64)
-    is_reached, is_source = before > 0, before == n + 1
-    predecessors = numpy.where(is_reached & ~is_source, before - 1, _NONE).astype(numpy.int32)
-    # each vertex names one on its way to the source, twice as far off in each round
-    named = numpy.where(predecessors == _NONE, numpy.arange(n), predecessors)
-    while (named[named] != named).any():
-        named = named[named]
-    return tree.floats()[:n] - 1, predecessors, numpy.where(is_reached, named, _NONE).astype(numpy.int32)
-
-
-def _nearest_of_each(graph: Any, sources: Any, delta: Optional[int]) -> tuple[Any, Any, Any]:
-    """The same by a tree for each source, which tells what is too far from it, and reaches as far as a tree can."""
-    import numpy
-
-    distances, predecessors = _from_each(graph, sources, delta, 1)
-    row, at = distances.argmin(axis=0), numpy.arange(graph.n)
-    nearest = numpy.where(numpy.isinf(distances[row, at]), _NONE, sources[row])
-    return distances[row, at], predecessors[row, at], nearest.astype(numpy.int32)
+def _from_nearest(graph: Any, sources: Any, within: Optional[int], delta: Optional[int]) -> tuple[Any, Any, Any]:
+    """Distances from the nearest source, predecessors, and which source that is."""
+    forest = graph.nearest((sources + 1).tolist(), within=within, delta=delta)
+    return forest.floats(), _from_zero(forest.predecessors), _from_zero(forest.sources)

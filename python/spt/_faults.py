@@ -55,9 +55,18 @@ class BadDelta(SptError, ValueError):
         super().__init__(f"delta {delta} is out of range for a graph of {n} vertices")
 
 
-class TooFar(SptError, ArithmeticError):
-    """The distance of `vertex`, the smallest such, is above `reach(n)`, so this source has no tree."""
+class BadLimit(SptError, ValueError):
+    """A distance below 0 or above `reach(n)`, within which something is asked for."""
 
-    def __init__(self, source: int, vertex: int) -> None:
+    def __init__(self, n: int, limit: int) -> None:
+        self.limit = limit
+        super().__init__(f"within {limit} is out of range for a graph of {n} vertices")
+
+
+class TooFar(SptError, ArithmeticError):
+    """The distance of `vertex`, the smallest such, is above `reach(n)`, so this source has no tree. `source` is None where the
+    nearest of several sources is asked for."""
+
+    def __init__(self, source: Optional[int], vertex: int) -> None:
         self.source, self.vertex = source, vertex
-        super().__init__(f"from {source}, vertex {vertex} is too far")
+        super().__init__(f"from {'the nearest source' if source is None else source}, vertex {vertex} is too far")

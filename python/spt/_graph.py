@@ -17,10 +17,10 @@ from typing import Any, BinaryIO, Iterable, Iterator, List, NamedTuple, Optional
 
 from . import _convert
 from ._buffers import address, column, in_bytes, is_buffer, words, zeros
-from ._faults import BadArc, BadDelta, Fault, NoSuchVertex, SptError, TooFar
+from ._faults import BadArc, BadDelta, BadLimit, Fault, NoSuchVertex, SptError, TooFar
 from ._kept import Kept
 from ._library import (
-    BAD_ARC, BAD_TEXT, HAS_PAIR, MEMORY, MOST_VERTICES, OK, TOO_FAR, WRONG, library, reach,
+    BAD_ARC, BAD_TEXT, HAS_NEAR, HAS_PAIR, MEMORY, MOST_VERTICES, NO_LIMIT, OK, TOO_FAR, WRONG, library, reach,
 )
 
 UNREACHED = 2**64 - 1
@@ -29,6 +29,9 @@ UNREACHED = 2**64 - 1
 It is the greatest number of 64 bits, so in sums of NumPy's uint64 it wraps around: with 1 it is 0. `Tree.masked` and
 `Tree.floats` have no such number.
 """
+
+BEYOND = 2**64 - 2
+"""What a matrix has for a target whose distance is above `reach(n)`, or to which no walk leads where some vertex is so far."""
 
 # places of the trees that one call of the library answers, unless one tree has more
 _MOST_PLACES = 1 << 22
@@ -46,52 +49,21 @@ class Pair(NamedTuple):
     predecessor: int
 
 
-@dataclass(frozen=True, eq=False, repr=False)
-class Tree:
-    """The shortest-path tree from a source.
+class _Reached:
+    """What a tree and a forest tell of each vertex."""
 
-    `distances` and `predecessors` are lists of unsigned numbers of 64 and of 32 bits, vertex v at place v - 1: UNREACHED and 0
-    where no walk leads to it, 0 and 0 for the source. UNREACHED is 2^64 - 1, which wraps around in sums: `masked` and `floats`
-    answer the distances without it. They can only be read, and `numpy.asarray` takes them without a copy. A tree that is made of
-    other lists copies those that can be written.
-
-    Trees are equal where source, distances and predecessors are, and can be keys of a dict, pickled and copied.
-
-    >>> tree = Graph(3, [(1, 2, 7)]).tree(1)
-    >>> tree
-    Tree from 1 over 3 vertices: distances 0, 7, unreached; predecessors 0, 1, 0
-    >>> tree == Graph(3, [(1, 2, 7), (1, 2, 8)]).tree(1)
-    True
-    """
-
-    source: int
     distances: memoryview
     predecessors: memoryview
 
-    def __post_init__(self) -> None:
-        object.__setattr__(self, "distances", column(self.distances, "Q"))
-        object.__setattr__(self, "predecessors", column(self.predecessors, "I"))
-
-    def __repr__(self) -> str:
-        distances = _shown(self.distances, {UNREACHED: "unreached"})
-        told = f"distances {distances}; predecessors {_shown(self.predecessors, {})}"
-        return f"Tree from {self.source} over {len(self.distances)} vertices: {told}"
+    def _values(self) -> tuple[Any, ...]:
+        """What is told, whose lists are only read."""
+        raise NotImplementedError
 
     def __eq__(self, other: object) -> bool:
-        if not isinstance(other, Tree):
-            return NotImplemented
-        alike = self.source == other.source and self.distances == other.distances
-        return alike and self.predecessors == other.predecessors
+        return self._values() == other._values() if isinstance(other, type(self)) else NotImplemented
 
     def __hash__(self) -> int:
-        return hash((self.source, self.distances.tobytes(), self.predecessors.tobytes()))
-
-    def __reduce_ex__(self, protocol: Any) -> tuple[Any, ...]:
-        return type(self)._again, (self.source, _pickled(self.distances, protocol), _pickled(self.predecessors, protocol))
-
-    @classmethod
-    def _again(cls, source: int, distances: Any, predecessors: Any) -> Tree:
-        return cls(source, in_bytes(distances, "Q"), in_bytes(predecessors, "I"))
+        return hash(tuple(it.tobytes() if isinstance(it, memoryview) else it for it in self._values()))
 
     def masked(self) -> Any:
         """The distances as a masked array of NumPy (uint64), without a copy, masked where no walk leads.
@@ -125,20 +97,114 @@ class Tree:
         distance = self.distances[place]
         return None if distance == UNREACHED else Pair(distance, self.predecessors[place])
 
+    def _back_to(self, source: int, target: int) -> Optional[list[int]]:
+        """The vertices of the walk to a target, None where no walk leads to it."""
+        if self.distances[self._place(target)] == UNREACHED:
+            return None
+        path = [target]
+        while path[-1] != source:
+            if len(path) == len(self.distances):
+                raise ValueError("the predecessors are no tree's")
+            path.append(self.predecessors[self._place(path[-1])])
+        return path[::-1]
+
+
+@dataclass(frozen=True, eq=False, repr=False)
+class Tree(_Reached):
+    """The shortest-path tree from a source, or its part within a distance.
+
+    `distances` and `predecessors` are lists of unsigned numbers of 64 and of 32 bits, vertex v at place v - 1: UNREACHED and 0
+    where no walk leads to it, 0 and 0 for the source. UNREACHED is 2^64 - 1, which wraps around in sums: `masked` and `floats`
+    answer the distances without it. They can only be read, and `numpy.asarray` takes them without a copy. A tree that is made of
+    other lists copies those that can be written.
+
+    Trees are equal where source, distances and predecessors are, and can be keys of a dict, pickled and copied.
+
+    >>> tree = Graph(3, [(1, 2, 7)]).tree(1)
+    >>> tree
+    Tree from 1 over 3 vertices: distances 0, 7, unreached; predecessors 0, 1, 0
+    >>> tree == Graph(3, [(1, 2, 7), (1, 2, 8)]).tree(1)
+    True
+    """
+
+    source: int
+    distances: memoryview
+    predecessors: memoryview
+
+    def __post_init__(self) -> None:
+        object.__setattr__(self, "distances", column(self.distances, "Q"))
+        object.__setattr__(self, "predecessors", column(self.predecessors, "I"))
+
+    def __repr__(self) -> str:
+        distances = _shown(self.distances, {UNREACHED: "unreached"})
+        told = f"distances {distances}; predecessors {_shown(self.predecessors, {})}"
+        return f"Tree from {self.source} over {len(self.distances)} vertices: {told}"
+
+    def _values(self) -> tuple[Any, ...]:
+        return self.source, self.distances, self.predecessors
+
+    def __reduce_ex__(self, protocol: Any) -> tuple[Any, ...]:
+        return type(self)._again, (self.source, _pickled(self.distances, protocol), _pickled(self.predecessors, protocol))
+
+    @classmethod
+    def _again(cls, source: int, distances: Any, predecessors: Any) -> Tree:
+        return cls(source, in_bytes(distances, "Q"), in_bytes(predecessors, "I"))
+
     def path(self, target: int) -> Optional[list[int]]:
         """The vertices of the tree's walk from the source to a target, None where no walk leads to it.
 
         >>> Graph(3, [(1, 2, 5), (2, 3, 5)]).tree(1).path(3)
         [1, 2, 3]
         """
-        if self.distances[self._place(target)] == UNREACHED:
-            return None
-        path = [target]
-        while path[-1] != self.source:
-            if len(path) == len(self.distances):
-                raise ValueError("the predecessors are no tree's")
-            path.append(self.predecessors[self._place(path[-1])])
-        return path[::-1]
+        return self._back_to(self.source, target)
+
+
+@dataclass(frozen=True, eq=False, repr=False)
+class Forest(_Reached):
+    """The distances from the nearest of several sources, or those within a distance.
+
+    `distances`, `predecessors` and `sources` are lists of unsigned numbers, of 64 bits and twice of 32, vertex v at place v - 1:
+    its least distance from any source, the smallest vertex before it on such a walk, and the source that it is reached from, to
+    which the predecessors lead back. They are UNREACHED, 0 and 0 where no walk leads, and 0, 0 and the vertex for a source. The
+    lists are as those of a `Tree`.
+
+    >>> forest = Graph(4, [(1, 2, 3), (1, 3, 3), (2, 4, 2), (3, 4, 2)]).nearest([3, 1])
+    >>> forest
+    Forest over 4 vertices: distances 0, 3, 0, 2; predecessors 0, 1, 0, 3; sources 1, 1, 3, 3
+    >>> forest.path(4)
+    [3, 4]
+    """
+
+    distances: memoryview
+    predecessors: memoryview
+    sources: memoryview
+
+    def __post_init__(self) -> None:
+        for name, format in (("distances", "Q"), ("predecessors", "I"), ("sources", "I")):
+            object.__setattr__(self, name, column(getattr(self, name), format))
+
+    def __repr__(self) -> str:
+        distances = _shown(self.distances, {UNREACHED: "unreached"})
+        told = f"distances {distances}; predecessors {_shown(self.predecessors, {})}; sources {_shown(self.sources, {})}"
+        return f"Forest over {len(self.distances)} vertices: {told}"
+
+    def _values(self) -> tuple[Any, ...]:
+        return self.distances, self.predecessors, self.sources
+
+    def __reduce_ex__(self, protocol: Any) -> tuple[Any, ...]:
+        return type(self)._again, tuple(_pickled(it, protocol) for it in self._values())
+
+    @classmethod
+    def _again(cls, distances: Any, predecessors: Any, sources: Any) -> Forest:
+        return cls(in_bytes(distances, "Q"), in_bytes(predecessors, "I"), in_bytes(sources, "I"))
+
+    def source(self, target: int) -> Optional[int]:
+        """The source that a target is reached from, None where no walk leads to it."""
+        return self.sources[self._place(target)] or None
+
+    def path(self, target: int) -> Optional[list[int]]:
+        """The vertices of the walk to a target from its source, None where no walk leads to it."""
+        return self._back_to(self.sources[self._place(target)], target)
 
 
 def _shown(numbers: memoryview, names: dict[int, str]) -> str:
@@ -152,6 +218,21 @@ def _shown(numbers: memoryview, names: dict[int, str]) -> str:
 def _pickled(numbers: memoryview, protocol: int) -> Any:
     """A list as pickle takes it: from protocol 5 on where it stands."""
     return pickle.PickleBuffer(numbers) if protocol >= 5 else numbers.tobytes()
+
+
+def _want_near() -> None:
+    """Raises where the library has no calls for what is near."""
+    if not HAS_NEAR:
+        raise SptError("the library is older than 1.2: it has no spt_graph_within, spt_graph_nearest and spt_graph_matrix")
+
+
+def _as_matrix(distances: memoryview, rows: int, columns: int) -> Any:
+    """The numbers in rows and columns, of NumPy where it is installed."""
+    try:
+        import numpy
+    except ImportError:
+        return distances.cast("B").cast("Q", [rows, columns]) if distances.nbytes else distances
+    return numpy.asarray(distances).reshape(rows, columns)
 
 
 # the trees of a block of sources, up to the first that has none, and why that has none
@@ -312,23 +393,29 @@ class Graph:
         """A sparse array of SciPy (csr, float64), whose row i is vertex i + 1. Of parallel arcs it has the shortest."""
         return _convert.matrix_of_arcs(self.n, self._arcs)
 
-    def tree(self, source: int, *, delta: Optional[int] = None) -> Tree:
-        """The tree from a source.
+    def tree(self, source: int, *, within: Optional[int] = None, delta: Optional[int] = None) -> Tree:
+        """The tree from a source, or its part within a distance.
 
+        Where `within` is given, a vertex that is farther is told as one that no walk leads to, and the search goes no farther.
         `delta`, the width of a bucket, changes how long it takes and never the tree; None is the mean length of an arc. Where no
         walk leads, the distance is UNREACHED, 2^64 - 1, which wraps around in sums (`Tree.masked`, `Tree.floats`).
-        NoSuchVertex, BadDelta: what is asked for is refused. TooFar: a distance is above `reach(n)`. MemoryError: memory is
-        wanting.
+        NoSuchVertex, BadDelta, BadLimit: what is asked for is refused. TooFar: a distance is above `reach(n)`, and `within` isn't
+        given. MemoryError: memory is wanting.
 
-        >>> list(Graph(3, [(1, 2, 7), (2, 3, 1), (1, 3, 9)]).tree(1).distances)
+        >>> graph = Graph(3, [(1, 2, 7), (2, 3, 1), (1, 3, 9)])
+        >>> list(graph.tree(1).distances)
         [0, 7, 8]
+        >>> graph.tree(1, within=7)
+        Tree from 1 over 3 vertices: distances 0, 7, unreached; predecessors 0, 1, 0
         """
-        trees, refused = self._solve([self._vertex(source)], delta)
+        trees, refused = self._solve([self._vertex(source)], self._limit(within), delta)
         if refused:
             raise refused
         return trees[0]
 
-    def trees(self, sources: Iterable[int], *, workers: int = 1, delta: Optional[int] = None) -> Iterator[Tree]:
+    def trees(
+        self, sources: Iterable[int], *, within: Optional[int] = None, workers: int = 1, delta: Optional[int] = None
+    ) -> Iterator[Tree]:
         """The trees from several sources, in their order, by so many threads.
 
         Each is answered as by `tree`, UNREACHED (2^64 - 1) where no walk leads, and an exception comes in its place. Trees that
@@ -337,11 +424,54 @@ class Graph:
         >>> [tree.distances[2] for tree in Graph(3, [(1, 2, 7), (2, 3, 1)]).trees([1, 2], workers=2)]
         [8, 1]
         """
-        if workers < 1:
-            raise ValueError(f"{workers} workers")
-        asked = [self._vertex(source) for source in sources]
-        size = max(1, min(-(-len(asked) // workers), _MOST_PLACES // self.n))
-        return self._in_order([asked[at : at + size] for at in range(0, len(asked), size)], workers, delta)
+        limit, blocks = self._limit(within), self._blocks(sources, workers, _MOST_PLACES // self.n)
+        return self._in_order(blocks, limit, workers, delta)
+
+    def nearest(self, sources: Iterable[int], *, within: Optional[int] = None, delta: Optional[int] = None) -> Forest:
+        """The distance of each vertex from the nearest of the sources, and the source that it is reached from.
+
+        The order of the sources plays no part, nor does how often one is named; without any, no vertex is reached. Where `within`
+        is given, a vertex that is farther is told as one that no walk leads to. Refusals are those of `tree`; a TooFar names no
+        source.
+
+        >>> list(Graph(4, [(1, 2, 3), (1, 3, 3), (2, 4, 2), (3, 4, 2)]).nearest([2, 3]).sources)
+        [0, 2, 3, 2]
+        """
+        asked = words([self._vertex(source) for source in sources])
+        limit, width = self._limit(within), self._width(delta)
+        _want_near()
+        lists = zeros("Q", self.n), zeros("I", self.n), zeros("I", self.n)
+        told = self._kept.nearest(asked, NO_LIMIT if limit is None else limit, width, lists)
+        if told.status != OK:
+            raise self._refused(told.status, told.vertex, told.index, None)
+        return Forest(*(it.toreadonly() for it in lists))
+
+    def matrix(
+        self, sources: Iterable[int], targets: Iterable[int], *, workers: int = 1, delta: Optional[int] = None
+    ) -> Any:
+        """The distances of the targets from each source, rows side by side by so many threads.
+
+        It is an array of NumPy (uint64), of a row for each source and a column for each target; where NumPy isn't installed a
+        `memoryview` of that shape, and a flat one where it is empty. It has UNREACHED (2^64 - 1) where no walk leads, and BEYOND
+        (2^64 - 2) where the target has no distance up to `reach(n)` and some vertex is too far. A row is searched no farther than
+        its targets. NoSuchVertex, BadDelta, MemoryError: as for `tree`.
+
+        >>> Graph(4, [(1, 2, 3), (1, 3, 3), (2, 4, 2), (3, 4, 2)]).matrix([1, 2], [4, 2]).tolist()
+        [[5, 3], [2, 0]]
+        """
+        blocks = self._blocks(sources, workers, _MOST_PLACES)
+        columns, width = words([self._vertex(target) for target in targets]), self._width(delta)
+        _want_near()
+        rows = sum(map(len, blocks))
+        distances = zeros("Q", rows * len(columns))
+        ends = itertools.accumulate(len(block) * len(columns) for block in blocks)
+        with ThreadPoolExecutor(workers) as pool:
+            parts = [distances[end - len(block) * len(columns) : end] for block, end in zip(blocks, ends)]
+            told = pool.map(lambda block, part: self._kept.matrix(words(block), columns, width, part), blocks, parts)
+            refused = [it for it in told if it.status != OK]
+        if refused:
+            raise self._refused(refused[0].status, refused[0].vertex, refused[0].index, None)
+        return _as_matrix(distances, rows, len(columns))
 
     def pair(self, source: int, target: int) -> Optional[Pair]:
         """Distance and predecessor of a target, None where no walk leads to it. The search ends once they are known.
@@ -408,24 +538,48 @@ class Graph:
             raise NoSuchVertex(self.n, vertex)
         return vertex
 
-    def _in_order(self, blocks: list[list[int]], workers: int, delta: Optional[int]) -> Iterator[Tree]:
+    def _width(self, delta: Optional[int]) -> int:
+        """The width of a bucket as the library takes it."""
+        if delta is not None and not 1 <= delta <= reach(self.n):
+            raise BadDelta(self.n, delta)
+        return delta or 0
+
+    def _limit(self, within: Optional[int]) -> Optional[int]:
+        """A distance that a tree can tell, if one is given."""
+        limit = None if within is None else operator.index(within)
+        if limit is not None and not 0 <= limit <= reach(self.n):
+            raise BadLimit(self.n, limit)
+        return limit
+
+    def _blocks(self, sources: Iterable[int], workers: int, most: int) -> list[list[int]]:
+        """The sources in blocks for so many threads, of so many sources at most."""
+        if workers < 1:
+            raise ValueError(f"{workers} workers")
+        asked = [self._vertex(source) for source in sources]
+        size = max(1, min(-(-len(asked) // workers), most))
+        return [asked[at : at + size] for at in range(0, len(asked), size)]
+
+    def _in_order(
+        self, blocks: list[list[int]], limit: Optional[int], workers: int, delta: Optional[int]
+    ) -> Iterator[Tree]:
         """The trees of each block of sources. No more than `workers` blocks are ahead of who takes them."""
         with ThreadPoolExecutor(workers) as pool:
             waiting: deque[Future[_Solved]] = deque()
             for block in blocks:
-                waiting.append(pool.submit(self._solve, block, delta))
+                waiting.append(pool.submit(self._solve, block, limit, delta))
                 if len(waiting) > workers:
                     yield from _each(waiting.popleft().result())
             while waiting:
                 yield from _each(waiting.popleft().result())
 
-    def _solve(self, sources: list[int], delta: Optional[int]) -> _Solved:
-        """The trees of sources, up to the first that has none, and why."""
-        n, k = self.n, len(sources)
-        if delta is not None and not 1 <= delta <= reach(n):
-            raise BadDelta(n, delta)
+    def _solve(self, sources: list[int], limit: Optional[int], delta: Optional[int]) -> _Solved:
+        """The trees of sources, or their parts within a limit, up to the first that has none, and why."""
+        n, k, width = self.n, len(sources), self._width(delta)
         distances, predecessors = zeros("Q", k * n), zeros("I", k * n)
-        done, refused = self._call(sources, delta or 0, distances, predecessors)
+        if limit is None:
+            done, refused = self._call(sources, width, distances, predecessors)
+        else:
+            done, refused = self._parts(sources, limit, width, distances, predecessors)
         distances, predecessors = distances.toreadonly(), predecessors.toreadonly()
         found = zip(sources, range(0, done * n, n))
         return [Tree(source, distances[low : low + n], predecessors[low : low + n]) for source, low in found], refused
@@ -441,8 +595,21 @@ class Graph:
         source = asked[told.done] if told.done < len(asked) else 0
         return told.done, self._refused(told.status, told.vertex, told.index, source)
 
-    def _refused(self, status: int, vertex: int, index: int, source: int) -> Exception:
-        """What is raised for a refusal. Sources and delta were tested before the call."""
+    def _parts(
+        self, sources: list[int], limit: int, delta: int, distances: memoryview, predecessors: memoryview
+    ) -> tuple[int, Optional[Exception]]:
+        """How many sources have their parts, and why the next one has none."""
+        n = self.n
+        _want_near()
+        for done, source in enumerate(sources):
+            low, end = done * n, (done + 1) * n
+            told = self._kept.within(source, limit, delta, distances[low:end], predecessors[low:end])
+            if told.status != OK:
+                return done, self._refused(told.status, told.vertex, told.index, source)
+        return len(sources), None
+
+    def _refused(self, status: int, vertex: int, index: int, source: Optional[int]) -> Exception:
+        """What is raised for a refusal. Sources, delta and limit were tested before the call."""
         if status == BAD_ARC:
             return BadArc(self.n, index, tuple(self._arcs[3 * index : 3 * index + 3]))
         if status == TOO_FAR:

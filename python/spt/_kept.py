@@ -7,10 +7,10 @@ import weakref
 
 from contextlib import contextmanager
 from ctypes import byref
-from typing import Iterator, Tuple
+from typing import Iterator, Sequence, Tuple
 
 from ._buffers import address
-from ._library import OK, Batch, Found, Place, library
+from ._library import OK, Answer, Batch, Found, Place, library
 
 
 class Kept:
@@ -43,6 +43,30 @@ class Kept:
             told: Found = library.spt_graph_pair(byref(own), source, target, 0)
         return told
 
+    def within(self, source: int, limit: int, delta: int, distances: memoryview, predecessors: memoryview) -> Answer:
+        """Puts the part of a tree within a limit."""
+        with self._shared() as (own, status):
+            if status != OK:
+                return Answer(status)
+            told: Answer = library.spt_graph_within(byref(own), source, limit, delta, *_slices(distances, predecessors))
+        return told
+
+    def nearest(self, sources: memoryview, limit: int, delta: int, lists: Sequence[memoryview]) -> Answer:
+        """Puts the distances, predecessors and roots of the forest of the sources."""
+        with self._shared() as (own, status):
+            if status != OK:
+                return Answer(status)
+            told: Answer = library.spt_graph_nearest(byref(own), *_slices(sources), limit, delta, *_slices(*lists))
+        return told
+
+    def matrix(self, sources: memoryview, targets: memoryview, delta: int, distances: memoryview) -> Batch:
+        """Puts the distances of the targets from each of the sources, row after row."""
+        with self._shared() as (own, status):
+            if status != OK:
+                return Batch(status)
+            told: Batch = library.spt_graph_matrix(byref(own), *_slices(sources, targets), delta, *_slices(distances))
+        return told
+
     @contextmanager
     def _shared(self) -> Iterator[Tuple[Place, int]]:
         """A place of its own for one call, and whether it could be made."""
@@ -53,3 +77,9 @@ class Kept:
             yield own, shared.status
         finally:
             library.spt_graph_free(byref(own))
+
+
+def _slices(*lists: memoryview) -> Iterator[int]:
+    """Where each list stands, and how many places it has."""
+    for numbers in lists:
+        yield from (address(numbers), len(numbers))

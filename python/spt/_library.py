@@ -7,7 +7,7 @@ import os
 
 from ctypes import POINTER, c_bool, c_size_t, c_uint32, c_uint64, c_void_p
 
-OK, BAD_SIZE, BAD_DELTA, BAD_ARC, NO_SUCH_VERTEX, TOO_FAR, MEMORY, BAD_TEXT, LONG_TEXT, WRONG, NO_GRAPH = range(11)
+OK, BAD_SIZE, BAD_DELTA, BAD_ARC, NO_SUCH_VERTEX, TOO_FAR, MEMORY, BAD_TEXT, LONG_TEXT, WRONG, NO_GRAPH, BAD_LIMIT = range(12)
 MOST_VERTICES = 2**32 - 2
 NAME = "libspt.so.1"
 
@@ -63,8 +63,13 @@ _FUNCTIONS = {
     "spt_check": ([*_SLICE, c_uint32, c_uint32, *_SLICE, *_SLICE], Answer),
     "spt_gr": ([*_SLICE, *_SLICE], Text),
 }
-# those that a library of version 1.0 lacks
-_LATER = {"spt_graph_pair": ([POINTER(Place), c_uint32, c_uint32, c_uint64], Found)}
+# those that a library of version 1.0 lacks, and of 1.1
+_LATER = {
+    "spt_graph_pair": ([POINTER(Place), c_uint32, c_uint32, c_uint64], Found),
+    "spt_graph_within": ([POINTER(Place), c_uint32, c_uint64, c_uint64, *_SLICE, *_SLICE], Answer),
+    "spt_graph_nearest": ([POINTER(Place), *_SLICE, c_uint64, c_uint64, *_SLICE, *_SLICE, *_SLICE], Answer),
+    "spt_graph_matrix": ([POINTER(Place), *_SLICE, *_SLICE, c_uint64, *_SLICE], Batch),
+}
 
 
 def _path() -> str:
@@ -87,6 +92,9 @@ def _load() -> ctypes.CDLL:
 
 library = _load()
 HAS_PAIR = hasattr(library, "spt_graph_pair")
+HAS_NEAR = hasattr(library, "spt_graph_nearest")
+# what the library takes for no limit
+NO_LIMIT = 2**64 - 1
 
 
 def reach(n: int) -> int:

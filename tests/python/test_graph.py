@@ -330,7 +330,7 @@ class Refusals(unittest.TestCase):
             self.refused(spt.TooFar, lambda: next(trees), source=1, vertex=vertex)
 
     def test_base(self):
-        for kind in (spt.BadArc, spt.BadDelta, spt.Fault, spt.NoSuchVertex, spt.TooFar):
+        for kind in (spt.BadArc, spt.BadDelta, spt.BadLimit, spt.Fault, spt.NoSuchVertex, spt.TooFar):
             self.assertTrue(issubclass(kind, spt.SptError))
 
 
@@ -370,10 +370,11 @@ class Copies(unittest.TestCase):
             lambda: spt.Graph(4, [(1, 5, 1)]),
             lambda: spt.Graph(4).tree(9),
             lambda: spt.Graph(4).tree(1, delta=0),
+            lambda: spt.Graph(4).tree(1, within=-1),
             lambda: spt.Graph.read(io.BytesIO(b"p sp 2 1\na 1 2 0\n")),
             lambda: spt.Graph(4201, [(tail, tail + 1, samples.LONGEST) for tail in range(1, 4201)]).tree(1),
         ]
-        kinds = [spt.BadArc, spt.NoSuchVertex, spt.BadDelta, spt.Fault, spt.TooFar]
+        kinds = [spt.BadArc, spt.NoSuchVertex, spt.BadDelta, spt.BadLimit, spt.Fault, spt.TooFar]
         for kind, call in zip(kinds, calls):
             with self.assertRaises(kind) as told:
                 call()

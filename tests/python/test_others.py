@@ -194,6 +194,29 @@ class Dijkstra(unittest.TestCase):
                 count += 1
         self.assertEqual(count, 2 * 11 * 2 * 2 * 4)
 
+    def test_limits(self):
+        graph = spt.Graph(500, samples.by_lot(500, 2000, 7))
+        matrix = graph.to_scipy()
+        for limit in (0, 0.5, 99, 100, 100.5, 1000, 1e300, numpy.float32(700.25), numpy.int64(700), 10**30):
+            wanted = scipy.sparse.csgraph.dijkstra(matrix, indices=[3, 4, 3], limit=float(limit))
+            self.assertTrue((spt.dijkstra(graph, indices=[3, 4, 3], limit=limit, workers=2) == wanted).all())
+            wanted = scipy.sparse.csgraph.dijkstra(matrix, indices=[3, 4, 3], limit=float(limit), min_only=True)
+            self.assertTrue((spt.dijkstra(graph, indices=[3, 4, 3], limit=limit, min_only=True) == wanted).all())
+
+    def test_matrices_and_forests_of_numpy(self):
+        graph = spt.Graph(500, samples.by_lot(500, 2000, 8))
+        sources, targets = [3, 4, 3, 500], numpy.arange(1, 500, 7)
+        told = graph.matrix(sources, targets, workers=3)
+        wanted = scipy.sparse.csgraph.dijkstra(graph.to_scipy(), indices=[it - 1 for it in sources])[:, targets - 1]
+        self.assertEqual((told.dtype, told.shape), (numpy.uint64, wanted.shape))
+        self.assertTrue((numpy.where(told == spt.UNREACHED, numpy.inf, told) == wanted).all())
+        self.assertEqual((graph.matrix([], targets).shape, graph.matrix(sources, []).shape), ((0, len(targets)), (4, 0)))
+        forest = graph.nearest(numpy.array(sources))
+        nearest = scipy.sparse.csgraph.dijkstra(graph.to_scipy(), indices=[it - 1 for it in sources], min_only=True)
+        self.assertTrue((forest.floats() == nearest).all())
+        self.assertEqual(forest.masked().filled().tolist(), list(forest.distances))
+        self.assertFalse(numpy.asarray(forest.sources).flags.writeable)
+
     def test_predecessors_and_sources(self):
         for seed in range(20):
             given = self.matrix(30, seed)
@@ -272,13 +295,19 @@ class Dijkstra(unittest.TestCase):
     def test_too_far(self):
         n = 4201
         graph = spt.Graph(n, [(tail, tail + 1, samples.LONGEST) for tail in range(1, n)])
-        for nearest in (True, False):
+        farthest = spt.reach(n) // samples.LONGEST + 1
+        for nearest, wanted in ((False, (1, farthest + 1)), (True, (None, farthest + 2))):
             with self.assertRaises(spt.TooFar) as told:
                 spt.dijkstra(graph, indices=[0, 1], min_only=nearest)
-            self.assertEqual((told.exception.source, told.exception.vertex), (1, spt.reach(n) // samples.LONGEST + 2))
+            self.assertEqual((told.exception.source, told.exception.vertex), wanted)
+            # (with a limit nothing is too far)
+            for limit in (1e18, spt.reach(n)):
+                distances = spt.dijkstra(graph, indices=[0, 1], min_only=nearest, limit=limit)
+                row = distances if nearest else distances[1]
+                self.assertEqual((row[farthest], row[farthest + 1]), ((farthest - 1) * samples.LONGEST, numpy.inf))
 
     def test_the_farthest(self):
-        # a distance of reach(n) itself, which no tree from a vertex before the sources tells
+        # a distance of reach(n) itself
         longest, reach = samples.LONGEST, spt.reach(4200)
         whole, rest = divmod(reach, longest)
         graph = spt.Graph(4200, [*((tail, tail + 1, longest) for tail in range(1, whole + 1)), (whole + 1, whole + 2, rest)])
