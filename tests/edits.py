@@ -19,7 +19,7 @@ Usage: python3 tests/edits.py [--over-gate] [--changed] [CRATE..]
 --over-gate takes the libraries that `rt ci` has just proved in this folder; else what the crates below state is taken as build/check.py
 has it, and built first where it isn't at hand.
 --changed leaves out the crates of which dist/edits says that all their edits were refused: with these edits, of these sources of the
-crate and of those below it, by a kit of this logic. A run writes that list to .spt/edits, where a sum of a crate that it doesn't try
+crate, over what the crates below it state (build/stated.py), by a kit of this logic. A run writes that list to .spt/edits, where a sum of a crate that it doesn't try
 stays, and build/release puts it into dist/.
 The last line is 'N passed, M failed'.
 """
@@ -37,6 +37,7 @@ HOME = os.path.dirname(os.path.dirname(os.path.realpath(__file__)))
 sys.dont_write_bytecode = True
 sys.path.insert(0, f"{HOME}/build")
 import check  # noqa: E402
+from stated import stated_to  # noqa: E402
 
 rt = check.rt
 HEAD = re.compile(r"( *)(?:pub(?:\([a-z]+\))? )?(?:const )?(?:unsafe )?(?:extern \"C\" )?fn (\w+)")
@@ -298,9 +299,13 @@ def tried(crate):
 
 
 def sum_of(crate):
-    """Of all that the answers of a crate's edits stand on: the edits, the sources of the crate and of those below it, the kit's logic."""
-    script = 'home=$1; . "$home/build/program.sh"; digest "$2"; rt version | grep -o "logic .*"'
-    said = subprocess.run(["sh", "-c", script, "sh", HOME, crate.name], capture_output=True, check=True).stdout
+    """Of all that the answers of a crate's edits stand on: the edits, the crate's sources, what the crates below state, the kit's logic; None
+    where a library below isn't at hand."""
+    stated = stated_to(crate)
+    if stated is None:
+        return None
+    script = 'home=$1; . "$home/build/program.sh"; digest_alone "$2"; rt version | grep -o "logic .*"'
+    said = subprocess.run(["sh", "-c", script, "sh", HOME, crate.name], capture_output=True, check=True).stdout + stated.encode()
     for edit in edits_of(crate):
         said += f"{edit.name}\n{rt.rtlib.text_of(edit.path)}".encode()
     return hashlib.sha256(said).hexdigest()
@@ -330,6 +335,13 @@ def lanes(crates):
     return {(it.name, "edits"): task(it) for it in crates}
 
 
+def is_provided(crates):
+    """Whether what the crates below these state is at hand, kept from before or built now."""
+    os.makedirs(check.KEPT, exist_ok=True)
+    below = {dep.name for crate in crates for dep in crate.below()}
+    return all(check.provide(dep, os.cpu_count()) for dep in rt.rtlib.crates_below(HOME) if dep.name in below)
+
+
 def main():
     options = argparse.ArgumentParser(description=__doc__, formatter_class=argparse.RawDescriptionHelpFormatter)
     options.add_argument("--over-gate", action="store_true")
@@ -344,20 +356,17 @@ def main():
     crates = [it for it in rt.rtlib.crates_below(HOME) if os.path.isdir(f"{it.folder}/edits")]
     names = {it.name for it in crates}
     crates = [it for it in crates if not chosen.crates or it.name in chosen.crates]
+    if not chosen.over_gate and not is_provided(crates):
+        return 1
     sums, before = {it.name: sum_of(it) for it in crates}, kept_sums(KEPT) if chosen.changed else {}
-    refused_before = [it for it in crates if before.get(it.name) == sums[it.name]]
+    refused_before = [it for it in crates if sums[it.name] and before.get(it.name) == sums[it.name]]
     for crate in refused_before:
-        print(f"{crate.name}: its edits were refused before, of the same sources")
+        print(f"{crate.name}: its edits were refused before, of the same sources over the same statements")
     crates = [it for it in crates if it not in refused_before]
-    if not chosen.over_gate:
-        os.makedirs(check.KEPT, exist_ok=True)
-        below = {dep.name: dep for crate in crates for dep in crate.below()}
-        if not all(check.provide(dep, os.cpu_count()) for dep in rt.rtlib.crates_below(HOME) if dep.name in below):
-            return 1
     found = rt.in_lanes(lanes(crates)) if crates else {}
     wrong = {name for (name, _), outcomes in found.items() if not all(outcomes)}
     others = {name: its for name, its in kept_sums(MADE, KEPT).items() if name in names and name not in sums}
-    keep({**others, **{name: its for name, its in sums.items() if name not in wrong}})
+    keep({**others, **{name: its for name, its in sums.items() if its and name not in wrong}})
     outcomes = [it for outcomes in found.values() for it in outcomes]
     print(f"{sum(outcomes)} passed, {len(outcomes) - sum(outcomes)} failed")
     return 0 if all(outcomes) else 1
