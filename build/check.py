@@ -1,7 +1,7 @@
 #!/usr/bin/env python3
 """Checks crates while one writes them, over what the crates below state and without their proofs: sooner than `rt check`.
 
-Usage: python3 build/check.py [--jobs N] [--tests] [--run] [--above] CRATE..
+Usage: python3 build/check.py [--jobs N] [--tests] [--run] [--above] [CRATE..]
 
 The crates below are built as they are, their statements alone, once for each state of their sources; what is built is kept in
 .spt/statements, or in the folder that SPT_STATEMENTS names, which several clones may share. A check keeps what it has proved in the
@@ -9,6 +9,9 @@ crate's out/incremental, so that the next one proves only what has changed.
 
 --tests checks the crates' tests too, --run builds and runs those (as `rt test` does), --above checks the crates too that use these. A
 program is built and linked as well. Nothing of this is a verdict: the gate proves each crate from nothing.
+
+With no crate nothing is proved: in a few seconds it tells what the gate would refuse of all crates before it proves them, a file that isn't
+laid out as `rt fmt` does it, or one that no crate reads. Of the crates that it checks it tells the layout too.
 """
 
 import argparse
@@ -62,6 +65,23 @@ def linked(crate, jobs):
     return crate.call(f"{rt.KIT}/bin/rattle-link", "--target", "x86_64-unknown-linux-gnu", *toolchain, "-o", made, f"{made}.o", *of_c) == 0
 
 
+def laid_out(crate):
+    """Whether all files of a crate are as `rt fmt` lays them out, which the gate wants."""
+    if rt.rtlib.fmt(crate.folder, "--check", sys.stdout) == 0:
+        return True
+    print(f"check: {crate.name}: run rt fmt in its folder", flush=True)
+    return False
+
+
+def would_begin(all_crates):
+    """Whether the gate would prove these crates at all."""
+    for name in sorted(os.listdir(f"{HOME}/crates")):
+        rt.rtlib.stop_on_unread(f"{HOME}/crates/{name}", all_crates)
+    wrong = [it.name for it in all_crates if not laid_out(it)]
+    print(f"check: {len(all_crates)} crates, {len(wrong)} not laid out: nothing is proved")
+    return not wrong
+
+
 def checked(crate, chosen):
     """Whether a crate is proved, over its libraries; a program is linked, and tests are checked and run where that is asked."""
     if not all(provide(it, chosen.jobs) for it in crate.below()):
@@ -86,12 +106,14 @@ def main():
     options.add_argument("--tests", action="store_true")
     options.add_argument("--run", action="store_true")
     options.add_argument("--above", action="store_true")
-    options.add_argument("crates", nargs="+")
+    options.add_argument("crates", nargs="*")
     chosen = options.parse_args()
     os.makedirs(KEPT, exist_ok=True)
     os.chdir(HOME)
     rt.rtlib.guarded()
     all_crates = rt.rtlib.crates_below(HOME)
+    if not chosen.crates:
+        return 0 if would_begin(all_crates) else 1
     unknown = {*chosen.crates} - {it.name for it in all_crates}
     if unknown:
         sys.exit(f"check: no crate is named {', '.join(sorted(unknown))}")
@@ -102,7 +124,7 @@ def main():
     wrong = []
     for crate in filter(is_meant, all_crates):
         begun = time.time()
-        is_proved = checked(crate, chosen)
+        is_proved = checked(crate, chosen) and laid_out(crate)
         print(f"check: {crate.name} {'proved' if is_proved else 'NOT PROVED'}; {time.time() - begun:.0f} s", flush=True)
         wrong += [] if is_proved else [crate.name]
     return 1 if wrong else 0

@@ -16,7 +16,7 @@ HOME = os.path.dirname(os.path.dirname(os.path.realpath(__file__)))
 # what the scripts call: of the gate, of the other commands, and of a crate
 CALLED = {
     "rt": ["Crate", "KIT", "checked", "edited", "in_lanes", "must_fail", "need", "rtlib", "unread"],
-    "rtlib": ["Crate", "RATTLE", "crates_below", "guarded", "lock", "text_of"],
+    "rtlib": ["Crate", "RATTLE", "crates_below", "fmt", "guarded", "lock", "stop_on_unread", "text_of"],
     "rtlib.Crate": ["below", "build_rlib", "build_static", "call", "count", "cuts_libraries", "has_tests", "run", "stamp", "verdict_on_tests", "words"],
 }
 OF_A_CRATE = ["folder", "is_program", "name", "out", "rlib"]

@@ -19,7 +19,7 @@ from harness import HOME, Count, put, read  # noqa: E402
 sys.path.insert(0, f"{HOME}/build")
 import kit  # noqa: E402
 
-SCRIPTS = ["build/archive.py", "build/build.py", "build/kit.py", "tests/edits.py", "tests/twins.py"]
+SCRIPTS = ["build/archive.py", "build/build.py", "build/check.py", "build/kit.py", "tests/edits.py", "tests/twins.py"]
 # what is taken away from a kit, in which file, and the scripts that need it
 GONE = [("def in_lanes(", "rt", "rt.in_lanes"), ("    def stamp(", "rtlib.py", "rtlib.Crate.stamp"), ("def crates_below(", "rtlib.py", "rtlib.crates_below")]
 
