@@ -98,6 +98,17 @@ def figures(program, folder):
     with open(words, "wb") as out:
         subprocess.run([program, *one_worker], stdout=out, check=True)
     yield "a vertex of `check`, beside `tree`", slope(("check", roads, words), one_worker, MILLION)
+    # each vertex reached by one source, with as few arcs as that takes; and then each of them a source, with no arc at all
+    star = put(folder, "star.gr", [f"p sp {MILLION} {MILLION - 1}"], (f"a 1 {head} {1 + head % 999}" for head in range(2, MILLION + 1)))
+    all_of_star, one_alone = ("tree", star, one, *tree, "--workers", "1"), ("tree", alone, one, *tree, "--workers", "1")
+    yield "a vertex of `nearest` with one source, beside `tree`", slope(("nearest", star, one, *tree, "--workers", "1"), all_of_star, MILLION)
+    every = sources(folder, MILLION, MILLION)
+    forest = ("nearest", alone, every, *tree, "--workers", "1")
+    yield "a vertex of `nearest` that is a source, beside `tree`", slope(forest, one_alone, MILLION)
+    with open(words, "wb") as out:
+        subprocess.run([program, *forest], stdout=out, check=True)
+    yield "a vertex of `check` of that forest, beside `tree`", slope(("check", alone, words), one_alone, MILLION)
+    yield "a target of `matrix`, beside `tree`", slope(("matrix", star, one, every, *tree, "--workers", "1"), all_of_star, MILLION)
 
 
 def main():

@@ -78,7 +78,7 @@ With --within L vertices farther than L have no line; there is no such x line,
 and the run goes no farther.
 
 It makes one run, and takes as much memory as `spt tree` does for one source,
-and at most 16 bytes a vertex more.
+and at most 16 bytes a vertex and 12 a source more.
 
 Example: where diamond.gr is the graph of the example of `spt tree --help`, and
 depots.ss has the lines
