@@ -6,15 +6,15 @@ use Rattle.std.proofs.lemmas.Option.{slice_get_within}
 use Rattle.std.specs.Prelude.{slice_get, slice_index}
 use Rattle.sp_paths.specs.Paths.{Graph, IsFar}
 use Rattle.sp_paths.specs.Bags.{AreSame}
-use Rattle.spt_c.specs.declared.answers.Told.{Told}
-use Rattle.spt_c.specs.declared.answers.Told.TheVariants.{Tree, BadSize, BadDelta, BadArc, NoSuchVertex, TooFar, Memory, Wrong, NoGraph, BadLimit}
-use Rattle.spt_c.specs.declared.answers.Batch.{Batch}
+use Rattle.sp_lists.specs.declared.answers.Told.{Told}
+use Rattle.sp_lists.specs.declared.answers.Told.TheVariants.{Tree, BadSize, BadDelta, BadArc, NoSuchVertex, TooFar, Memory, Wrong, NoGraph, BadLimit}
+use Rattle.sp_lists.specs.declared.answers.Batch.{Batch}
+use Rattle.sp_lists.specs.Limits.{reach}
+use Rattle.sp_lists.specs.Blocks.{Slices, IsCell, HasSameAt, HasTreeAt, KeepsFrom, HasNone, EndsBy, AreSolved}
 use Rattle.spt_c.specs.declared.arcs.SptArc.{SptArc}
 use Rattle.spt_c.specs.Arcs.{graph_of}
-use Rattle.spt_c.specs.Limits.{reach}
 use Rattle.spt_c.specs.Asked.{asked}
 use Rattle.spt_c.specs.Told.{answer_of, IsTold}
-use Rattle.spt_c.specs.Blocks.{Slices, IsCell, HasSameAt, HasTreeAt, KeepsFrom, HasNone, EndsBy, AreSolved}
 use Rattle.spt_c.proofs.Same.{same_solved}
 
 -- A list of one source has no other.

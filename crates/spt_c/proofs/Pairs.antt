@@ -4,12 +4,13 @@ use Rattle.sp_paths.specs.Paths.{Graph}
 use Rattle.sp_paths.specs.Paths.{TooFar as FarVertex}
 use Rattle.sp_paths.specs.Bags.{AreSame}
 use Rattle.sp_paths.proofs.SameArcs.{same_arcs_same_answers}
-use Rattle.spt_c.specs.declared.answers.Told.{Told}
-use Rattle.spt_c.specs.declared.answers.Told.TheVariants.{Tree, BadSize, BadDelta, BadArc, NoSuchVertex, TooFar, Memory, Wrong, NoGraph, BadLimit}
-use Rattle.spt_c.specs.declared.cells.Cell.{Cell}
-use Rattle.spt_c.specs.Limits.{reach}
+use Rattle.sp_lists.specs.declared.answers.Told.{Told}
+use Rattle.sp_lists.specs.declared.answers.Told.TheVariants.{Tree, BadSize, BadDelta, BadArc, NoSuchVertex, TooFar, Memory, Wrong, NoGraph, BadLimit}
+use Rattle.sp_lists.specs.declared.cells.Cell.{Cell}
+use Rattle.sp_lists.specs.Limits.{reach}
+use Rattle.sp_lists.specs.Target.{HasNoCell, IsFoundIn}
 use Rattle.spt_c.specs.Asked.{Asked, IsGood}
-use Rattle.spt_c.specs.Found.{HasNoCell, IsFoundIn, IsFoundBy, unlimited}
+use Rattle.spt_c.specs.Found.{IsFoundBy, unlimited}
 
 same_none : (max : ℕ) (g h : Graph) (s t : ℕ) (told : Told) → AreSame g h → HasNoCell max g s t told → HasNoCell max h s t told
 same_none max g h s t (TooFar v) same is = (same_arcs_same_answers g h same).pair s t max (FarVertex v) is

@@ -6,10 +6,10 @@ use Rattle.sp_paths.specs.declared.arc.Arc.{Arc}
 use Rattle.sp_paths.specs.Paths.{Graph}
 use Rattle.sp_paths.specs.Bags.{AreSame}
 use Rattle.sp_paths.proofs.SameArcs.{same_arcs_same_answers}
-use Rattle.spt_c.specs.declared.answers.Told.{Told}
-use Rattle.spt_c.specs.declared.answers.Told.TheVariants.{Tree, BadSize, BadDelta, BadArc, NoSuchVertex, TooFar, Memory, Wrong, NoGraph, BadLimit}
-use Rattle.spt_c.specs.declared.answers.Batch.{Batch}
-use Rattle.spt_c.specs.Blocks.{Slices, AreCells, HasTreeAt, KeepsFrom, EndsBy, AreSolved}
+use Rattle.sp_lists.specs.declared.answers.Told.{Told}
+use Rattle.sp_lists.specs.declared.answers.Told.TheVariants.{Tree, BadSize, BadDelta, BadArc, NoSuchVertex, TooFar, Memory, Wrong, NoGraph, BadLimit}
+use Rattle.sp_lists.specs.declared.answers.Batch.{Batch}
+use Rattle.sp_lists.specs.Blocks.{Slices, AreCells, HasTreeAt, KeepsFrom, EndsBy, AreSolved}
 
 pub same_graph : (n : ℕ) (arcs : List Arc) (graph : Graph) → graph.n ≡ n → IsPermutation arcs graph.arcs → AreSame graph (record { n = n; arcs = arcs })
 same_graph n arcs graph e is = record {

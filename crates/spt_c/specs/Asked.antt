@@ -1,11 +1,11 @@
 -- What a call asks for, and what is wrong with it.
-use Rattle.std.specs.Prelude.{◌≡◌, ◌<◌, ◌≤◌, ◌*◌, ℕ, List, length, slice_get, All, Some}
+use Rattle.std.specs.Prelude.{◌<◌, ◌≤◌, ◌*◌, ℕ, List, length, All}
 use Rattle.sp_paths.specs.Paths.{IsVertex, IsArc}
+use Rattle.sp_lists.specs.declared.answers.Told.{Told}
+use Rattle.sp_lists.specs.declared.answers.Told.TheVariants.{BadSize, BadDelta, BadArc, NoSuchVertex}
+use Rattle.sp_lists.specs.Limits.{IsCount, IsFirstWithout, reach}
 use Rattle.spt_c.specs.declared.arcs.SptArc.{SptArc}
-use Rattle.spt_c.specs.declared.answers.Told.{Told}
-use Rattle.spt_c.specs.declared.answers.Told.TheVariants.{BadSize, BadDelta, BadArc, NoSuchVertex}
 use Rattle.spt_c.specs.Arcs.{arc_of}
-use Rattle.spt_c.specs.Limits.{IsCount, reach}
 
 -- This asks for the trees from these sources in the graph of n vertices with these arcs, with buckets of width delta.
 pub record Asked : Type 0 where
@@ -26,13 +26,6 @@ HasRoom n blocks places = IsCount n × (blocks * n ≤ places)
 -- The arc leads from a vertex to a vertex, and has a positive length.
 abbrev pub IsArcOf : (n : ℕ) → SptArc → Type 0
 IsArcOf n a = IsArc n (arc_of a)
-
--- The item at this index lacks the property, and all items before it have it.
-pub record IsFirstWithout {A : Type 0} (P : A → Type 0) (items : List A) (place : ℕ) : Type 0 where
-  pub item : A
-  pub there : slice_get items place ≡ Some item
-  pub lacks : P item → ⊥
-  pub before : (k : ℕ) (other : A) → k < place → slice_get items k ≡ Some other → P other
 
 -- Nothing is wrong, given this number of places in both slices.
 pub record IsGood (q : Asked) (places : ℕ) : Type 0 where

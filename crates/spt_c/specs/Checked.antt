@@ -1,14 +1,13 @@
 -- The verdict on slices that C passes as a tree.
 use Rattle.std.specs.Prelude.{◌<◌, ◌-◌, ◌⊎◌, ℕ, List, [], ◌∷◌, Some}
 use Rattle.sp_paths.specs.Paths.{Graph, IsVertex, IsFar}
+use Rattle.sp_lists.specs.declared.answers.Told.{Told}
+use Rattle.sp_lists.specs.declared.answers.Told.TheVariants.{Tree, TooFar, Memory, Wrong}
+use Rattle.sp_lists.specs.Limits.{reach}
+use Rattle.sp_lists.specs.Blocks.{Slices, places, HasSameAt, HasTreeAt}
 use Rattle.spt_c.specs.declared.arcs.SptArc.{SptArc}
-use Rattle.spt_c.specs.declared.answers.Told.{Told}
-use Rattle.spt_c.specs.declared.answers.Told.TheVariants.{Tree, TooFar, Memory, Wrong}
 use Rattle.spt_c.specs.Arcs.{graph_of}
-use Rattle.spt_c.specs.Limits.{reach}
 use Rattle.spt_c.specs.Asked.{asked, IsGood, IsRefused}
-use Rattle.spt_c.specs.Blocks.{Slices, HasSameAt, HasTreeAt}
-use Rattle.spt_c.specs.Told.{places}
 
 -- The vertex v is the first of n vertices at which the slices differ.
 pub record IsFirstOther (n : ℕ) (right there : Slices) (v : ℕ) : Type 0 where

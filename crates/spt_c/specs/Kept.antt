@@ -4,18 +4,18 @@ use Rattle.std.specs.declared.option.Option.{Option}
 use Rattle.std.specs.declared.option.Option.TheVariants.{None, Some}
 use Rattle.sp_paths.specs.Paths.{Graph}
 use Rattle.sp_paths.specs.Bags.{AreSame}
+use Rattle.sp_lists.specs.declared.answers.Batch.{Batch}
+use Rattle.sp_lists.specs.declared.answers.Told.TheVariants.{NoGraph}
+use Rattle.sp_lists.specs.Limits.{IsCount, IsFirstWithout, reach}
+use Rattle.sp_lists.specs.Blocks.{Slices, places, AreSolved}
 use Rattle.spt_c.specs.declared.arcs.SptArc.{SptArc}
 use Rattle.spt_c.specs.declared.answers.SptAnswer.{SptAnswer}
-use Rattle.spt_c.specs.declared.answers.Batch.{Batch}
 use Rattle.spt_c.specs.declared.counts.SptCounts.{SptCounts}
-use Rattle.spt_c.specs.declared.answers.Told.TheVariants.{NoGraph}
 use Rattle.spt_c.specs.declared.making.Made.{Made}
 use Rattle.spt_c.specs.declared.making.Made.TheVariants.{Kept, BadSize, BadArc, Memory}
 use Rattle.spt_c.specs.Arcs.{graph_of}
-use Rattle.spt_c.specs.Limits.{IsCount, reach}
-use Rattle.spt_c.specs.Asked.{Asked, asked, IsArcOf, IsFirstWithout, IsGood}
-use Rattle.spt_c.specs.Blocks.{Slices, AreSolved}
-use Rattle.spt_c.specs.Told.{places, IsRefusal}
+use Rattle.spt_c.specs.Asked.{Asked, asked, IsArcOf, IsGood}
+use Rattle.spt_c.specs.Told.{IsRefusal}
 
 -- ## A graph is made
 

@@ -1,14 +1,9 @@
 pub mod Arcs
-pub mod Limits
 pub mod Asked
 pub mod Question
-pub mod Blocks
 pub mod Told
 pub mod Checked
 pub mod Found
 pub mod Texts
 pub mod Kept
-pub mod Query
-pub mod Part
-pub mod Near
-pub mod Matrix
+pub mod KeptLists

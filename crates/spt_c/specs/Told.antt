@@ -1,14 +1,14 @@
 -- What a call tells C, and what the caller's slices then hold.
-use Rattle.std.specs.Prelude.{◌≡◌, ◌⊎◌, ℕ, length, min}
+use Rattle.std.specs.Prelude.{◌≡◌, ◌⊎◌}
+use Rattle.sp_lists.specs.declared.answers.Batch.{Batch}
+use Rattle.sp_lists.specs.declared.answers.Told.{Told}
+use Rattle.sp_lists.specs.declared.answers.Told.TheVariants.{Tree, BadSize, BadDelta, BadArc, NoSuchVertex, TooFar, Memory, Wrong, NoGraph, BadLimit}
+use Rattle.sp_lists.specs.Limits.{reach}
+use Rattle.sp_lists.specs.Blocks.{Slices, places, AreSolved}
 use Rattle.spt_c.specs.declared.answers.SptAnswer.{SptAnswer}
 use Rattle.spt_c.specs.declared.answers.SptBatch.{SptBatch}
-use Rattle.spt_c.specs.declared.answers.Batch.{Batch}
-use Rattle.spt_c.specs.declared.answers.Told.{Told}
-use Rattle.spt_c.specs.declared.answers.Told.TheVariants.{Tree, BadSize, BadDelta, BadArc, NoSuchVertex, TooFar, Memory, Wrong, NoGraph, BadLimit}
 use Rattle.spt_c.specs.Arcs.{graph_of}
-use Rattle.spt_c.specs.Limits.{reach}
 use Rattle.spt_c.specs.Asked.{Asked, IsGood, IsRefused}
-use Rattle.spt_c.specs.Blocks.{Slices, AreSolved}
 
 -- These are the numbers of the header.
 abbrev pub answer_of : Told → SptAnswer
@@ -25,10 +25,6 @@ answer_of BadLimit = record { status = 11; vertex = 0; index = 0 }
 
 abbrev pub batch_of : Batch → SptBatch
 batch_of b = record { status = (answer_of b.told).status; vertex = (answer_of b.told).vertex; index = (answer_of b.told).index; done = b.done }
-
--- This is the number of places that both slices have.
-abbrev pub places : Slices → ℕ
-places s = min (length s.dist) (length s.pred)
 
 -- Something is wrong with the call, and nothing is written.
 pub record IsRefusal (q : Asked) (old new : Slices) (b : Batch) : Type 0 where

@@ -2,6 +2,8 @@
 ghost use Rattle.std.specs.Prelude.{◌≡◌};
 ghost use Rattle.spt_c.specs.Told.{answer_of, batch_of};
 
+use sp_lists::{Batch, Told};
+
 /// The answer of a call for one source: a status, the vertex that is too far, and the index of the arc or of the source
 /// that is invalid. A field that the status doesn't use is 0.
 #[repr(C)]
@@ -23,38 +25,6 @@ pub struct SptBatch {
     pub done: u64,
 }
 
-/// Why a call ends.
-#[derive(Clone, Copy, Debug, PartialEq, Eq)]
-pub(crate) enum Told {
-    /// Everything that was asked for is written.
-    Tree,
-    /// The number of vertices is 0 or too great, or a slice has fewer than one place for each vertex of each source.
-    BadSize,
-    /// The width of a bucket is greater than the greatest distance.
-    BadDelta,
-    /// The arc at this index is invalid.
-    BadArc(usize),
-    /// The source at this index isn't a vertex.
-    NoSuchVertex(usize),
-    /// The least length of this vertex is above the greatest distance.
-    TooFar(u32),
-    /// An allocation failed.
-    Memory,
-    /// The slices that were passed hold a different tree, from this vertex on.
-    Wrong(u32),
-    /// The place keeps no graph.
-    NoGraph,
-    /// The limit is greater than the greatest distance.
-    BadLimit,
-}
-
-/// How many sources have their trees, and why no more have.
-#[derive(Clone, Copy, Debug, PartialEq, Eq)]
-pub(crate) struct Batch {
-    pub done: usize,
-    pub told: Told,
-}
-
 fn reply(status: u32, vertex: u32, place: usize) -> SptAnswer
     ensures { result ≡ record { status = status; vertex = vertex; index = place } }
 {
@@ -65,12 +35,12 @@ fn reply(status: u32, vertex: u32, place: usize) -> SptAnswer
     }
 }
 
-impl Told {
-    /// Returns the answer in the form for C.
-    pub(crate) fn answer(self) -> SptAnswer
-        ensures { result ≡ answer_of self }
+impl SptAnswer {
+    /// Returns what is told in the form for C.
+    pub(crate) fn of(told: Told) -> SptAnswer
+        ensures { result ≡ answer_of told }
     {
-        match self {
+        match told {
             Told::Tree => reply(0, 0, 0),
             Told::BadSize => reply(1, 0, 0),
             Told::BadDelta => reply(2, 0, 0),
@@ -85,17 +55,17 @@ impl Told {
     }
 }
 
-impl Batch {
-    /// Returns the answer in the form for C.
-    pub(crate) fn answer(self) -> SptBatch
-        ensures { result ≡ batch_of self }
+impl SptBatch {
+    /// Returns what is told of several sources in the form for C.
+    pub(crate) fn of(batch: Batch) -> SptBatch
+        ensures { result ≡ batch_of batch }
     {
-        let answer = self.told.answer();
+        let answer = SptAnswer::of(batch.told);
         SptBatch {
             status: answer.status,
             vertex: answer.vertex,
             index: answer.index,
-            done: self.done as u64,
+            done: batch.done as u64,
         }
     }
 }

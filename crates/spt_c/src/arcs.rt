@@ -1,12 +1,12 @@
 //! Arcs in the form that C passes.
 ghost use Rattle.std.specs.Prelude.{◌≡◌, ◌≤◌, ◌↔◌, IsTrue, IfSome, IfNone, IfOk, All, length, map};
-ghost use Rattle.sp_paths.specs.Paths.{IsArc};
 ghost use Rattle.sp_paths.specs.Bags.{AreSame};
+ghost use Rattle.sp_lists.specs.Limits.{IsFirstWithout};
 ghost use Rattle.spt_c.specs.Arcs.{arc_of, graph_of};
-ghost use Rattle.spt_c.specs.Asked.{IsArcOf, IsFirstWithout};
+ghost use Rattle.spt_c.specs.Asked.{IsArcOf};
 
-use crate::limits::is_vertex;
 use sp_graph::Graph;
+use sp_lists::is_vertex;
 use sp_paths::Arc;
 use std::alloc::{AllocError, Global};
 

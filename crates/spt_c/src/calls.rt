@@ -1,12 +1,11 @@
 //! A whole call, from what C passes to its answer.
+ghost use Rattle.sp_lists.specs.Blocks.{slices};
 ghost use Rattle.spt_c.specs.Question.{asked_by};
-ghost use Rattle.spt_c.specs.Blocks.{slices};
 ghost use Rattle.spt_c.specs.Told.{IsTold};
 
-use crate::answers::{Batch, Told};
 use crate::arcs::{SptArc, graph_of};
 use crate::refusals::refusal;
-use crate::solving::solve_graph;
+use sp_lists::{Batch, Told, write_trees};
 use std::alloc::Global;
 
 /// What a call asks for: the trees from these sources in the graph of n vertices with these arcs, with buckets of width
@@ -35,7 +34,7 @@ pub(crate) fn solve(alloc: Global, question: &Question, dist: &mut [u64], pred: 
         return Batch { done: 0, told };
     }
     match graph_of(alloc, n, arcs) {
-        Ok(graph) => solve_graph(alloc, &graph, sources, delta, dist, pred),
+        Ok(graph) => write_trees(alloc, &graph, sources, delta, dist, pred),
         Err(_) => Batch {
             done: 0,
             told: Told::Memory,

@@ -1,12 +1,12 @@
 //! Checks whether slices hold a tree.
 ghost use Rattle.std.specs.Prelude.{◌≤◌, ◌<◌, ℕ, length, IfSome, IfNone};
-ghost use Rattle.spt_c.specs.Blocks.{slices, HasSameAt};
+ghost use Rattle.sp_lists.specs.Blocks.{slices, HasSameAt};
 ghost use Rattle.spt_c.specs.Checked.{IsFirstOther, IsChecked};
 
-use crate::answers::Told;
 use crate::arcs::SptArc;
 use crate::own::own_tree;
 use crate::refusals::refusal;
+use sp_lists::Told;
 use std::alloc::Global;
 
 // Returns the first vertex at which two lists of distances, or two of predecessors, differ.

@@ -2,21 +2,19 @@
 ghost use Rattle.std.specs.Prelude.{◌≡◌, ◌≢◌, ◌∷◌, [], Result};
 ghost use Rattle.std.specs.declared.option.Option.TheVariants.{None};
 ghost use Rattle.sp_kept.specs.Kept.{kept};
-ghost use Rattle.spt_c.specs.Limits.{IsCount, reach};
+ghost use Rattle.sp_lists.specs.Limits.{IsCount, reach};
+ghost use Rattle.sp_lists.specs.Blocks.{slices, KeepsFrom};
+ghost use Rattle.sp_lists.specs.Near.{lists};
+ghost use Rattle.sp_lists.specs.declared.answers.Batch.{Batch};
+ghost use Rattle.sp_lists.specs.declared.answers.Told.{Told};
+ghost use Rattle.sp_lists.specs.declared.cells.Cell.{Cell};
 ghost use Rattle.spt_c.specs.Asked.{asked};
-ghost use Rattle.spt_c.specs.Blocks.{slices, KeepsFrom};
 ghost use Rattle.spt_c.specs.Told.{IsTold, answer_of, batch_of};
 ghost use Rattle.spt_c.specs.Checked.{IsChecked};
-ghost use Rattle.spt_c.specs.Part.{IsPartOfKept};
-ghost use Rattle.spt_c.specs.Query.{limit_of};
-ghost use Rattle.spt_c.specs.Near.{lists, IsForestOfKept};
-ghost use Rattle.spt_c.specs.Matrix.{IsMatrixOfKept};
+ghost use Rattle.spt_c.specs.KeptLists.{limit_of, IsPartOfKept, IsForestOfKept, IsMatrixOfKept};
 ghost use Rattle.spt_c.specs.Found.{IsFound, IsFoundOfKept, found_of};
 ghost use Rattle.spt_c.specs.Texts.{IsRead, text_of};
 ghost use Rattle.spt_c.specs.Kept.{made_of, IsMade, IsShared, counts_of, IsToldOfKept};
-ghost use Rattle.spt_c.specs.declared.answers.Batch.{Batch};
-ghost use Rattle.spt_c.specs.declared.answers.Told.{Told};
-ghost use Rattle.spt_c.specs.declared.cells.Cell.{Cell};
 ghost use Rattle.spt_c.specs.declared.making.Made.{Made};
 ghost use Rattle.spt_c.specs.declared.texts.TextAnswer.{TextAnswer};
 
@@ -25,16 +23,13 @@ use crate::arcs::SptArc;
 use crate::calls::{Question, solve};
 use crate::checking::check;
 use crate::counts::{SptCounts, counts};
-use crate::forest::{Near, forest_kept};
 use crate::found::{SptFound, find, find_kept};
+use crate::kept_lists::{forest_kept, limit_of, matrix_kept, part_kept};
 use crate::kept_trees::solve_kept;
-use crate::limits::{is_count, reach};
 use crate::making::{make, share};
-use crate::matrix::matrix_kept;
-use crate::part::{Part, part_kept};
-use crate::queries::limit_of;
 use crate::texts::{SptText, read_graph};
 use sp_kept::KeptGraph;
+use sp_lists::{Near, Part, is_count, reach};
 use std::alloc::Global;
 
 /// Returns the library's version: ten thousand for each unit of the first part, and a hundred for each of the second.
@@ -80,7 +75,7 @@ pub extern "C" fn spt_tree(
         delta,
     };
     let batch = solve(alloc, &question, dist, pred);
-    batch.told.answer()
+    SptAnswer::of(batch.told)
 }
 
 /// Writes the shortest-path trees from several sources, up to the first that has none. Each slice needs for each source
@@ -106,7 +101,7 @@ pub extern "C" fn spt_trees(
         delta,
     };
     let batch = solve(alloc, &wanted, dist, pred);
-    batch.answer()
+    SptBatch::of(batch)
 }
 
 /// Reads the graph that the text of a `.gr` file spells, with its arcs written to the slice, or tells the text's first
@@ -153,7 +148,7 @@ pub extern "C" fn spt_check(
         × IsChecked n arcs.now source (slices dist.now pred.now) told }
 {
     let told = check(alloc, arcs, n, source, dist, pred);
-    told.answer()
+    SptAnswer::of(told)
 }
 
 /// Keeps the graph of n vertices with these arcs, in place of what was kept; or tells why it can't, and then the place
@@ -214,7 +209,7 @@ pub extern "C" fn spt_graph_trees(
     ensures same { kept graph.new ≡ kept graph.old }
 {
     let batch = solve_kept(alloc, graph, sources, delta, dist, pred);
-    batch.answer()
+    SptBatch::of(batch)
 }
 
 /// Returns the distance and the predecessor of a target in the shortest-path tree from a source in the graph that is
@@ -269,7 +264,7 @@ pub extern "C" fn spt_graph_within(
         delta,
     };
     let told = part_kept(alloc, graph, part, dist, pred);
-    told.answer()
+    SptAnswer::of(told)
 }
 
 /// Writes the forest of shortest paths from the sources in the graph that is kept: of each vertex its least distance from any of
@@ -298,7 +293,7 @@ pub extern "C" fn spt_graph_nearest(
         delta,
     };
     let told = forest_kept(alloc, graph, near, dist, pred, root);
-    told.answer()
+    SptAnswer::of(told)
 }
 
 /// Writes the distances of the targets from each of the sources in the graph that is kept, row after row: the greatest number if
@@ -319,5 +314,5 @@ pub extern "C" fn spt_graph_matrix(
     ensures same { kept graph.new ≡ kept graph.old }
 {
     let batch = matrix_kept(alloc, graph, sources, targets, delta, dist);
-    batch.answer()
+    SptBatch::of(batch)
 }

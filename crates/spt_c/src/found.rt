@@ -1,23 +1,15 @@
 //! One target of a source.
-ghost use Rattle.std.specs.Prelude.{◌≡◌, ◌≤◌, ◌∷◌, [], ℕ, true};
-ghost use Rattle.sp_word.specs.Word.{is_layout, max_dist, max_pred};
-ghost use Rattle.sp_paths.specs.Paths.{Graph as Network, IsVertex};
+ghost use Rattle.std.specs.Prelude.{◌≡◌, ◌∷◌, []};
 ghost use Rattle.sp_kept.specs.Kept.{kept};
-ghost use Rattle.sp_serial.specs.Target.{IsAnswerFor};
 ghost use Rattle.spt_c.specs.Asked.{asked};
-ghost use Rattle.spt_c.specs.Limits.{IsCount, reach};
-ghost use Rattle.spt_c.specs.Found.{found_of, IsFoundIn, IsFoundBy, IsFound, IsFoundOfKept};
+ghost use Rattle.spt_c.specs.Found.{found_of, IsFoundBy, IsFound, IsFoundOfKept};
 
-use crate::answers::Told;
+use crate::answers::SptAnswer;
 use crate::arcs::{SptArc, graph_of};
-use crate::cells::Cell;
 use crate::refusals::refusal;
-use crate::solving::width_for;
-use sp_answer::PairAnswer;
 use sp_graph::Graph;
 use sp_kept::KeptGraph;
-use sp_serial::run_target_alone;
-use sp_word::Delta;
+use sp_lists::{Cell, Told, find_target};
 use std::alloc::Global;
 
 /// The answer of a call for a target: a status; its distance and its predecessor; and the index of the invalid arc, or
@@ -44,7 +36,7 @@ impl SptFound {
                 index: 0,
             },
             Err(told) => {
-                let answer = told.answer();
+                let answer = SptAnswer::of(told);
                 SptFound {
                     status: answer.status,
                     pred: answer.vertex,
@@ -53,58 +45,6 @@ impl SptFound {
                 }
             }
         }
-    }
-}
-
-// Converts an answer: no distance is equal to the greatest number, which stands for no walk.
-fn of_answer(answer: PairAnswer) -> Result<Cell, Told>
-    ensures { (g : Network) (s t max : ℕ) → IsAnswerFor g s t max answer
-        → IsFoundIn max g s t result }
-{
-    match answer {
-        PairAnswer::Found { dist, pred } => Ok(Cell { dist, pred }),
-        PairAnswer::TooFar(vertex) => Err(Told::TooFar(vertex)),
-        PairAnswer::NoWalk => Ok(Cell::unreached()),
-    }
-}
-
-// Returns the answer for a target in a graph.
-fn find_by<const P: u32>(
-    alloc: Global,
-    graph: &Graph,
-    source: u32,
-    target: u32,
-    width: Delta<P>,
-) -> Result<Cell, Told>
-    requires layout { is_layout P ≡ true }
-    requires n { graph.now.n ≤ max_pred P }
-    requires source { IsVertex graph.now.n source }
-    requires target { IsVertex graph.now.n target }
-    ensures { IsFoundIn (max_dist P) graph.now source target result }
-{
-    match run_target_alone(alloc, graph, width, source, target) {
-        Ok(answer) => of_answer(answer),
-        Err(_) => Err(Told::Memory),
-    }
-}
-
-// Returns the answer by the layout with the greatest distances that can name the vertices.
-fn find_in(alloc: Global, graph: &Graph, source: u32, target: u32, delta: u64) -> Result<Cell, Told>
-    requires n { IsCount graph.now.n }
-    requires source { IsVertex graph.now.n source }
-    requires target { IsVertex graph.now.n target }
-    requires delta { delta ≤ reach graph.now.n }
-    ensures { IsFoundIn (reach graph.now.n) graph.now source target result }
-{
-    let n = graph.n();
-    if n <= 1_048_574 {
-        find_by::<20>(alloc, graph, source, target, width_for(graph, delta))
-    } else if n <= 16_777_214 {
-        find_by::<24>(alloc, graph, source, target, width_for(graph, delta))
-    } else if n <= 268_435_454 {
-        find_by::<28>(alloc, graph, source, target, width_for(graph, delta))
-    } else {
-        find_by::<32>(alloc, graph, source, target, width_for(graph, delta))
     }
 }
 
@@ -125,7 +65,7 @@ pub(crate) fn find(
         return Err(told);
     }
     match graph_of(alloc, n, arcs) {
-        Ok(graph) => find_in(alloc, &graph, source, target, delta),
+        Ok(graph) => find_target(alloc, &graph, source, target, delta),
         Err(_) => Err(Told::Memory),
     }
 }
@@ -145,7 +85,7 @@ fn find_known(
     if let Some(told) = refusal(&[], graph.n(), &ends, delta, usize::MAX) {
         return Err(told);
     }
-    find_in(alloc, graph, source, target, delta)
+    find_target(alloc, graph, source, target, delta)
 }
 
 /// Finds the target in the graph that a place keeps. The place still keeps it.

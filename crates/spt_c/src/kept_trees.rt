@@ -1,14 +1,13 @@
 //! The trees of a graph that is kept.
 ghost use Rattle.std.specs.Prelude.{◌≡◌};
 ghost use Rattle.sp_kept.specs.Kept.{kept};
-ghost use Rattle.spt_c.specs.Blocks.{slices};
+ghost use Rattle.sp_lists.specs.Blocks.{slices};
 ghost use Rattle.spt_c.specs.Kept.{IsToldOf, IsToldOfKept};
 
-use crate::answers::{Batch, Told};
 use crate::refusals::refusal;
-use crate::solving::solve_graph;
 use sp_graph::Graph;
 use sp_kept::KeptGraph;
+use sp_lists::{Batch, Told, write_trees};
 use std::alloc::Global;
 
 // Tests all arguments that come with a graph, and writes the trees of the sources.
@@ -27,7 +26,7 @@ fn solve_known(
     if let Some(told) = refusal(&[], graph.n(), sources, delta, places) {
         return Batch { done: 0, told };
     }
-    solve_graph(alloc, graph, sources, delta, dist, pred)
+    write_trees(alloc, graph, sources, delta, dist, pred)
 }
 
 /// Writes the trees of the graph that a place keeps. The place still keeps it.

@@ -4,21 +4,15 @@
 mod answers;
 mod arcs;
 mod calls;
-mod cells;
 mod checking;
 mod counts;
 mod exports;
-mod forest;
 mod found;
+mod kept_lists;
 mod kept_trees;
-mod limits;
 mod making;
-mod matrix;
 mod own;
-mod part;
-mod queries;
 mod refusals;
-mod solving;
 mod texts;
 
 pub use answers::{SptAnswer, SptBatch};

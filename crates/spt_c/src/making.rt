@@ -3,10 +3,10 @@ ghost use Rattle.std.specs.Prelude.{◌≡◌};
 ghost use Rattle.sp_kept.specs.Kept.{kept};
 ghost use Rattle.spt_c.specs.Kept.{made_of, IsMade, IsShared};
 
-use crate::answers::{SptAnswer, Told};
+use crate::answers::SptAnswer;
 use crate::arcs::{SptArc, first_bad, graph_of};
-use crate::limits::is_count;
 use sp_kept::KeptGraph;
+use sp_lists::{Told, is_count};
 use std::alloc::Global;
 
 /// The answer to keeping a graph.
@@ -28,10 +28,10 @@ impl Made {
         ensures { result ≡ made_of self }
     {
         match self {
-            Made::Kept => Told::Tree.answer(),
-            Made::BadSize => Told::BadSize.answer(),
-            Made::BadArc(place) => Told::BadArc(place).answer(),
-            Made::Memory => Told::Memory.answer(),
+            Made::Kept => SptAnswer::of(Told::Tree),
+            Made::BadSize => SptAnswer::of(Told::BadSize),
+            Made::BadArc(place) => SptAnswer::of(Told::BadArc(place)),
+            Made::Memory => SptAnswer::of(Told::Memory),
         }
     }
 }

@@ -1,14 +1,13 @@
 //! A tree in lists that belong to the call.
 ghost use Rattle.std.specs.Prelude.{◌≡◌, ◌≤◌, IfOk, IfErr, All, length};
 ghost use Rattle.sp_paths.specs.Paths.{IsVertex};
+ghost use Rattle.sp_lists.specs.Limits.{IsCount, reach};
+ghost use Rattle.sp_lists.specs.Blocks.{slices, HasTreeAt, HasNone};
 ghost use Rattle.spt_c.specs.Arcs.{graph_of};
-ghost use Rattle.spt_c.specs.Limits.{IsCount, reach};
 ghost use Rattle.spt_c.specs.Asked.{IsArcOf};
-ghost use Rattle.spt_c.specs.Blocks.{slices, HasTreeAt, HasNone};
 
-use crate::answers::Told;
 use crate::arcs::{SptArc, graph_of};
-use crate::solving::solve_graph;
+use sp_lists::{Told, write_trees};
 use std::alloc::{AllocError, Global};
 
 /// The distances and the predecessors by vertex.
@@ -55,7 +54,7 @@ pub(crate) fn own_tree(
     let sources = [source];
     let dist = own.dist.as_mut_slice();
     let pred = own.pred.as_mut_slice();
-    match solve_graph(alloc, &graph, &sources, delta, dist, pred).told {
+    match write_trees(alloc, &graph, &sources, delta, dist, pred).told {
         Told::Tree => Ok(own),
         told => Err(told),
     }

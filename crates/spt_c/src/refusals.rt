@@ -1,23 +1,15 @@
 //! What may be wrong with a call.
-ghost use Rattle.std.specs.Prelude.{◌≡◌, IfSome, IfNone, All};
-ghost use Rattle.sp_paths.specs.Paths.{IsVertex};
-ghost use Rattle.spt_c.specs.Asked.{asked, IsFirstWithout, IsRefused, IsGood};
+ghost use Rattle.std.specs.Prelude.{◌↔◌, IsTrue, IfSome, IfNone};
+ghost use Rattle.spt_c.specs.Asked.{asked, HasRoom, IsRefused, IsGood};
 
-use crate::answers::Told;
 use crate::arcs::{SptArc, first_bad};
-use crate::limits::{has_room, is_vertex, reach};
+use sp_lists::{Told, first_non_vertex, fits, is_count, reach};
 
-/// Returns the index of the first source that is no vertex.
-pub(crate) fn first_none(n: u32, sources: &[u32]) -> Option<usize>
-    ensures first { IfSome result (IsFirstWithout (IsVertex n) sources.now) }
-    ensures none { IfNone result (All (IsVertex n) sources.now) }
+// Returns whether a graph may have `n` vertices, and there are `blocks` blocks of `n` places each.
+fn has_room(n: u32, blocks: usize, places: usize) -> bool
+    ensures { IsTrue result ↔ HasRoom n blocks places }
 {
-    for (place, source) in sources.iter().enumerate() {
-        if !is_vertex(n, *source) {
-            return Some(place);
-        }
-    }
-    None
+    is_count(n) && fits(blocks, n as usize, places)
 }
 
 /// Returns the first of the size, the delta, the sources and the arcs that is wrong, if any is. Both slices have
@@ -38,7 +30,7 @@ pub(crate) fn refusal(
     if delta > reach(n) {
         return Some(Told::BadDelta);
     }
-    if let Some(place) = first_none(n, sources) {
+    if let Some(place) = first_non_vertex(n, sources) {
         return Some(Told::NoSuchVertex(place));
     }
     if let Some(place) = first_bad(n, arcs) {

@@ -1,5 +1,5 @@
 use Rattle.std.proofs.Common.{ℕ, ◌<◌}
-use Rattle.spt_c.specs.Blocks.{slices, HasSameAt}
+use Rattle.sp_lists.specs.Blocks.{slices, HasSameAt}
 use Rattle.spt_c.proofs.checking.first_other.Given as goal
 
 abbrev pub invariant-loop-place : goal.invariant-loop-place

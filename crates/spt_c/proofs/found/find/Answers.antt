@@ -1,8 +1,8 @@
 use Rattle.std.proofs.Common.{◌∷◌, [], ℕ, subst}
+use Rattle.sp_lists.specs.Limits.{reach}
+use Rattle.sp_lists.specs.Target.{IsFoundIn}
 use Rattle.spt_c.specs.Arcs.{graph_of}
 use Rattle.spt_c.specs.Asked.{asked}
-use Rattle.spt_c.specs.Limits.{reach}
-use Rattle.spt_c.specs.Found.{IsFoundIn}
 use Rattle.spt_c.proofs.Pairs.{same_found, good_found}
 use Rattle.spt_c.proofs.found.find.Goals as goal
 
@@ -11,7 +11,7 @@ returns-in-Ok c =
     let g = c.in-Ok.graph in
     let h = graph_of c.args.n c.args.arcs.now in
     let same = c.in-Ok.ensures.same in
-    let found = c.find_in.result in
+    let found = c.find_target.result in
     let S : ℕ → Type 0 = λ n. IsFoundIn (reach n) g c.args.source c.args.target found in
     good_found (asked c.args.arcs.now c.args.n (c.args.source ∷ c.args.target ∷ []) c.args.delta) h c.args.source c.args.target found c.in_default.ensures.good
-    (same_found (reach c.args.n) g h c.args.source c.args.target found same (subst S same.n c.find_in.ensures))
+    (same_found (reach c.args.n) g h c.args.source c.args.target found same (subst S same.n c.find_target.ensures))

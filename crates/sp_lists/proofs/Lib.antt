@@ -1,0 +1,3 @@
+mod Blocks
+pub mod Forests
+mod Rows

@@ -1,0 +1,20 @@
+use Rattle.std.proofs.Common.{◌+◌, ◌*◌, ◌∙◌, sym, ap}
+use Rattle.sp_word.specs.Word.{max_dist}
+use Rattle.sp_lists.specs.Blocks.{slices}
+use Rattle.sp_lists.proofs.Blocks.{one_more, stopped, next_block}
+use Rattle.sp_lists.proofs.solving.solve_each.Goals as goal
+
+pub returns-in_default : goal.returns-in_default
+returns-in_default g c =
+    let loop = c.loop-place in
+    stopped (max_dist g.row.P) c.args.graph.now c.args.sources.now loop.place loop.low (slices c.args.dist.now c.args.pred.now) (slices loop.dist loop.pred)
+    (slices c.solve_at.new.dist c.solve_at.new.pred) c.solve_at.result c.loop-place-test.true c.in_default.not-Tree loop.invariant.done c.solve_at.ensures
+
+pub loop-place-preserved : goal.loop-place-preserved
+loop-place-preserved g c =
+    let gr = c.args.graph.now in
+    let loop = c.loop-place in record {
+      at = ap (λ k. k + c.n-n.result) loop.invariant.at ∙ (ap (λ k. loop.place * gr.n + k) c.n-n.ensures.n ∙ sym (next_block loop.place gr.n));
+      done = one_more (max_dist g.row.P) gr c.args.sources.now loop.place loop.low (slices c.args.dist.now c.args.pred.now) (slices loop.dist loop.pred)
+          (slices c.solve_at.new.dist c.solve_at.new.pred) loop.invariant.at loop.invariant.done c.in-Tree.ensures;
+    }

@@ -1,0 +1,7 @@
+pub mod Limits
+pub mod Blocks
+pub mod Target
+pub mod Query
+pub mod Part
+pub mod Near
+pub mod Matrix

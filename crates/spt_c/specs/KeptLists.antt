@@ -1,0 +1,31 @@
+-- What a call asks of a graph that is kept: the part of a tree within a distance, the forest of several sources, a matrix.
+use Rattle.std.specs.Prelude.{◌≡◌, ◌==◌, if◌then◌else◌, ℕ, List}
+use Rattle.std.specs.declared.option.Option.{Option}
+use Rattle.std.specs.declared.option.Option.TheVariants.{None, Some}
+use Rattle.sp_paths.specs.Paths.{Graph}
+use Rattle.sp_lists.specs.declared.answers.Batch.{Batch}
+use Rattle.sp_lists.specs.declared.answers.Told.{Told}
+use Rattle.sp_lists.specs.declared.answers.Told.TheVariants.{NoGraph}
+use Rattle.sp_lists.specs.Blocks.{Slices}
+use Rattle.sp_lists.specs.Part.{IsPartOf}
+use Rattle.sp_lists.specs.Near.{Lists, IsForestOf}
+use Rattle.sp_lists.specs.Matrix.{IsNoRow, IsMatrixOf}
+
+-- The greatest number of 64 bits stands for no limit.
+abbrev pub limit_of : (limit : ℕ) → Option ℕ
+limit_of limit = if limit == 18446744073709551615 then None else Some limit
+
+-- The part of a tree of the graph that is kept, if there is one.
+abbrev pub IsPartOfKept : Option Graph → (s limit delta : ℕ) → (old new : Slices) → Told → Type 0
+IsPartOfKept None s limit delta old new told = (told ≡ NoGraph) × (new ≡ old)
+IsPartOfKept (Some g) s limit delta old new told = IsPartOf g s limit delta old new told
+
+-- A forest of that graph.
+abbrev pub IsForestOfKept : Option Graph → (sources : List ℕ) → (limit : Option ℕ) → (delta : ℕ) → (old new : Lists) → Told → Type 0
+IsForestOfKept None sources limit delta old new told = (told ≡ NoGraph) × (new ≡ old)
+IsForestOfKept (Some g) sources limit delta old new told = IsForestOf g sources limit delta old new told
+
+-- A matrix of that graph.
+abbrev pub IsMatrixOfKept : Option Graph → (sources targets : List ℕ) → (delta : ℕ) → (old new : List ℕ) → Batch → Type 0
+IsMatrixOfKept None sources targets delta old new b = IsNoRow (λ told. told ≡ NoGraph) old new b
+IsMatrixOfKept (Some g) sources targets delta old new b = IsMatrixOf g sources targets delta old new b
