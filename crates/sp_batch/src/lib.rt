@@ -7,6 +7,3 @@ mod watch;
 
 pub use batch::{run_batch, run_batch_told, run_given_told};
 pub use sp_job::{BatchError, BucketWidth, Listener, Nobody, Places, Progress, Settings, Summary};
-
-#[cfg(test)]
-mod tests;

@@ -8,8 +8,6 @@ mod laws;
 mod lines;
 mod reading;
 mod taking;
-#[cfg(test)]
-mod tests;
 mod tree_or_forest;
 mod writing;
 

@@ -8,6 +8,3 @@ mod row_lines;
 
 pub use matrix::{run_matrix_given_told, run_matrix_told};
 pub use sp_job::{BatchError, BucketWidth, Listener, Nobody, Places, Progress, Settings, Summary};
-
-#[cfg(test)]
-mod tests;

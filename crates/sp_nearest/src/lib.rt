@@ -6,6 +6,3 @@ mod nearest;
 
 pub use nearest::{run_nearest_given_told, run_nearest_told};
 pub use sp_job::{BatchError, BucketWidth, Listener, Nobody, Places, Progress, Settings, Summary};
-
-#[cfg(test)]
-mod tests;

@@ -1,11 +1,11 @@
-//! The files of the worked examples, and a fault of each kind.
-ghost use Rattle.std.specs.Prelude.{◌≤◌, ◌^◌, length};
+//! The files of the worked examples' forests, and a fault of each kind.
+ghost use Rattle.std.specs.Prelude.{◌<◌, length};
 
-use crate::{
-    ForestFile, ForestReader, TreeOrForest, first_line_tells, forest_text_is_read,
-    forest_texts_are_accepted, read_forest, read_tree_or_forest, write_forest,
+use sp_device::{Read, UpTo, UpToWriter};
+use sp_forest_file::{
+    ForestReader, TreeOrForest, first_line_tells, forest_text_is_read, forest_texts_are_accepted,
+    read_forest, read_tree_or_forest, write_forest,
 };
-use sp_device::{UpTo, UpToWriter};
 use sp_text::{DimacsError, Kind};
 use sp_word::Word;
 use std::alloc::Global;
@@ -21,45 +21,56 @@ const EXAMPLES: [(&str, usize, u32); 5] = [
     ("p near 2 2\nv 1 0 0 1\nv 2 0 0 2\ne 2\n", 2, 2),
 ];
 
-// What a device in pieces of a few bytes passes.
-fn read(alloc: Global, text: &[u8]) -> Result<ForestFile<28>, DimacsError>
-    requires { length text.now ≤ 2 ^ 62 }
+/// A text, and the line and the kind of its fault.
+type Faulty = (&'static str, u64, Kind);
+
+/// The bytes of a text of a test, which is shorter than 100 bytes.
+fn bytes_of(text: &str) -> &[u8]
+    ensures { length result.now < 100 }
 {
-    read_forest(alloc, &mut UpTo::in_pieces(text, 5))
+    let bytes = text.as_bytes();
+    if bytes.len() < 100 { bytes } else { b"" }
+}
+
+// Whether a file with so many rows and so many sources is read, and its forest is written as it was.
+fn is_kept(alloc: Global, text: &str, rows: usize, sources: u32) -> bool {
+    let Ok(file) = read_forest::<28, _>(alloc, &mut UpTo::in_pieces(bytes_of(text), 5)) else {
+        return false;
+    };
+    let mut out = UpToWriter::new(alloc, 100, 100);
+    write_forest(&file.forest, &mut out).is_ok()
+        && out.taken() == text.as_bytes()
+        && (file.forest.rows().len(), file.sources) == (rows, sources)
 }
 
 #[test]
 fn worked_examples(rt: HostRuntime) -> Result<(), Fail> {
-    let alloc = rt.alloc();
     for (text, rows, sources) in EXAMPLES {
-        let text = text.as_bytes();
-        assert!(rt; text.len() < 100);
-        let file = read(alloc, text)?;
-        assert_eq!(rt; (file.forest.rows().len(), file.sources), (rows, sources));
-        let mut out = UpToWriter::new(alloc, 100, 100);
-        assert!(rt; write_forest(&file.forest, &mut out).is_ok());
-        assert_eq!(rt; out.taken(), text);
+        assert!(rt; is_kept(rt.alloc(), text, rows, sources));
     }
-    let text = TWO_ROOTS.as_bytes();
-    assert_eq!(rt; text.len(), 55);
-    let file = read(alloc, text)?;
-    let rows = [
+    let file = read_forest(rt.alloc(), &mut UpTo::in_pieces(bytes_of(TWO_ROOTS), 5))?;
+    let rows: [(u32, Word<28>, u32); 4] = [
         (1, Word::pack(0, 0), 1),
         (2, Word::pack(3, 1), 1),
         (3, Word::pack(0, 0), 3),
         (4, Word::pack(2, 3), 3),
     ];
-    assert_eq!(rt; file.forest.rows(), rows.as_slice());
+    assert!(rt; file.forest.rows() == rows.as_slice());
     forest_texts_are_accepted();
     forest_text_is_read();
     first_line_tells();
     Ok(())
 }
 
+// Whether a device that passes pieces of a text has this fault.
+fn is_refused(alloc: Global, (text, line, kind): Faulty) -> bool {
+    let read = read_forest::<28, _>(alloc, &mut UpTo::in_pieces(bytes_of(text), 5));
+    read.err() == Some(DimacsError { line, kind })
+}
+
 #[test]
 fn faults(rt: HostRuntime) -> Result<(), Fail> {
-    let alloc = rt.alloc();
-    for (text, line, kind) in [
+    for row in [
         ("", 1, Kind::NoProblem),
         ("v 1 0 0 1\n", 1, Kind::NoProblem),
         ("p spt 1 1\ne 0\n", 1, Kind::BadLine),
@@ -90,33 +101,30 @@ fn faults(rt: HostRuntime) -> Result<(), Fail> {
         ("p near 2 0\n", 2, Kind::TooFew),
         ("p near 2 0\ne 0", 2, Kind::TooFew),
     ] {
-        let text = text.as_bytes();
-        assert!(rt; text.len() < 100);
-        assert_eq!(rt; read(alloc, text).err(), Some(DimacsError { line, kind }));
+        assert!(rt; is_refused(rt.alloc(), row));
     }
     Ok(())
 }
 
 #[test]
 fn fed_in_pieces(rt: HostRuntime) -> Result<(), Fail> {
-    let alloc = rt.alloc();
-    let mut reader = ForestReader::<28>::new(alloc);
+    let mut reader = ForestReader::<28>::new(rt.alloc());
     for piece in TWO_ROOTS.as_bytes().chunks(7) {
         reader.feed(piece)?;
     }
     let file = reader.finish()?;
-    assert_eq!(rt; (file.forest.n(), file.sources), (4, 2));
-    assert_eq!(rt; reader.feed(b"p near 4 2\nv"), Ok(()));
+    let fed = reader.feed(b"p near 4 2\nv");
     let failed = DimacsError {
         line: 2,
         kind: Kind::Read,
     };
-    assert_eq!(rt; reader.fail(), failed);
-    assert_eq!(rt; reader.finish().err(), Some(failed));
+    let told = reader.fail();
+    assert!(rt; (file.forest.n(), file.sources, fed, told) == (4, 2, Ok(()), failed));
+    assert!(rt; reader.finish().err() == Some(failed));
     Ok(())
 }
 
-// How many rows a tree or a forest has.
+// Whether there is a forest, and how many rows it or the tree has.
 fn rows_of(value: &TreeOrForest<28>) -> (bool, usize) {
     match value {
         TreeOrForest::Tree(tree) => (false, tree.rows().len()),
@@ -124,27 +132,38 @@ fn rows_of(value: &TreeOrForest<28>) -> (bool, usize) {
     }
 }
 
-#[test]
-fn either_file(rt: HostRuntime) -> Result<(), Fail> {
-    let alloc = rt.alloc();
-    for (text, near, rows) in [
-        (TWO_ROOTS, true, 4),
-        ("p near 4 0\ne 0\n", true, 0),
-        ("p spt 2 1\nv 1 0 0\nv 2 7 1\ne 2\n", false, 2),
-    ] {
-        let text = text.as_bytes();
-        assert!(rt; text.len() < 100);
-        for most in 1..8 {
-            let value = read_tree_or_forest(alloc, &mut UpTo::in_pieces(text, most))?;
-            assert_eq!(rt; rows_of(&value), (near, rows));
+// Whether such a file is read of pieces of each size.
+fn is_either(alloc: Global, text: &str, near: bool, rows: usize) -> bool {
+    for most in 1..8 {
+        match read_tree_or_forest(alloc, &mut UpTo::in_pieces(bytes_of(text), most)) {
+            Ok(value) => {
+                if rows_of(&value) != (near, rows) {
+                    return false;
+                }
+            }
+            Err(_) => return false,
         }
     }
+    true
+}
+
+#[test]
+fn either_file(rt: HostRuntime) -> Result<(), Fail> {
+    let tree = "p spt 2 1\nv 1 0 0\nv 2 7 1\ne 2\n";
+    assert!(rt; is_either(rt.alloc(), TWO_ROOTS, true, 4));
+    assert!(rt; is_either(rt.alloc(), "p near 4 0\ne 0\n", true, 0));
+    assert!(rt; is_either(rt.alloc(), tree, false, 2));
     Ok(())
+}
+
+// Whether a device has this fault.
+fn has_fault(alloc: Global, device: &mut impl Read, line: u64, kind: Kind) -> bool {
+    let read = read_tree_or_forest::<28, _>(alloc, device);
+    read.err() == Some(DimacsError { line, kind })
 }
 
 #[test]
 fn faults_of_either(rt: HostRuntime) -> Result<(), Fail> {
-    let alloc = rt.alloc();
     for (text, line, kind) in [
         ("", 1, Kind::NoProblem),
         ("e 0\n", 1, Kind::NoProblem),
@@ -156,10 +175,7 @@ fn faults_of_either(rt: HostRuntime) -> Result<(), Fail> {
         ("p near 1 2\n", 1, Kind::OutOfRange(b'K')),
         ("p near", 1, Kind::TooFew),
     ] {
-        let text = text.as_bytes();
-        assert!(rt; text.len() < 100);
-        let read = read_tree_or_forest::<28, _>(alloc, &mut UpTo::whole(text));
-        assert_eq!(rt; read.err(), Some(DimacsError { line, kind }));
+        assert!(rt; has_fault(rt.alloc(), &mut UpTo::whole(bytes_of(text)), line, kind));
     }
     Ok(())
 }
@@ -167,7 +183,6 @@ fn faults_of_either(rt: HostRuntime) -> Result<(), Fail> {
 // The line that is being read when the device fails.
 #[test]
 fn failing_devices(rt: HostRuntime) -> Result<(), Fail> {
-    let alloc = rt.alloc();
     for (text, line, kind) in [
         ("", 1, Kind::Read),
         ("p ne", 1, Kind::Read),
@@ -176,10 +191,7 @@ fn failing_devices(rt: HostRuntime) -> Result<(), Fail> {
         ("p near 0 0\nv", 1, Kind::OutOfRange(b'N')),
         ("p spt 1 1\ne 0\n", 3, Kind::Read),
     ] {
-        let text = text.as_bytes();
-        assert!(rt; text.len() < 100);
-        let read = read_tree_or_forest::<28, _>(alloc, &mut UpTo::failing(text));
-        assert_eq!(rt; read.err(), Some(DimacsError { line, kind }));
+        assert!(rt; has_fault(rt.alloc(), &mut UpTo::failing(bytes_of(text)), line, kind));
     }
     Ok(())
 }

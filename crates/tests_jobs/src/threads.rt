@@ -1,9 +1,9 @@
-//! One source answered by several threads, as the system counts them.
-ghost use Rattle.std.specs.Prelude.{◌≤◌, ◌^◌, length};
+//! Sources answered by several threads, as the system counts them.
 ghost use denote.Param.Send.{IsSync};
 
-use super::graphs::ONE;
-use super::{AMPLE, Case, Ran, count_processors, run_into};
+use crate::batches::{AMPLE, Case, Ran, run, width_of};
+use crate::graphs::ONE;
+use crate::groups::{NINE, town};
 use std::alloc::Global;
 use std::fs;
 use std::process::Abort;
@@ -11,7 +11,7 @@ use std::rt::Files;
 use std::sync::Wait;
 use std::sync::atomic::{AtomicBool, Ordering};
 use std::test::Fail;
-use std::thread::{Threads, join};
+use std::thread::{Threads, available_parallelism, join};
 
 // Enough vertices for four threads.
 const N: u32 = 20_000;
@@ -20,6 +20,14 @@ const N: u32 = 20_000;
 const MOST_LOOKS: u32 = 100_000_000;
 
 const MOST_RUNS: u32 = 100;
+
+/// How many processors there are.
+pub(crate) fn count_processors(rt: &impl Threads) -> u64 {
+    match available_parallelism(rt) {
+        Ok(count) => count.get() as u64,
+        Err(_) => 1,
+    }
+}
 
 // Three arcs a vertex, to heads behind it, and round from the last vertex to the first.
 fn ring(alloc: Global) -> Result<String, Fail> {
@@ -60,27 +68,19 @@ fn look<R: Files + AllocGlobal>(rt: &R, usual: u64, done: &AtomicBool) -> bool {
     false
 }
 
-// A batch of one source, made on a thread of its own, and whether there were more threads meanwhile.
+// A batch, made on a thread of its own, and whether there were more threads meanwhile.
 fn run_looked_at<R: Files + AllocGlobal + Threads + Wait + Sync + Abort>(
     rt: &R,
-    gr: &[u8],
+    case: Case,
     workers: u32,
-) -> (Ran, bool)
-    requires gr { length gr.now ≤ 2 ^ 62 }
-{
+) -> (Ran, bool) {
     let usual = count_threads(rt).saturating_add(1);
-    let alloc = rt.alloc();
     let done = AtomicBool::new(false);
     let done = &done;
     let run = move || -> Ran
-        requires { IsSync R.row × (length gr.now ≤ 2 ^ 62) }
+        requires { IsSync R.row }
     {
-        let case = Case {
-            gr,
-            ss: ONE,
-            room: AMPLE,
-        };
-        let ran = run_into::<28, R>(rt, alloc, &case, 500, workers);
+        let ran = run::<28>(rt, case, width_of(rt, Some(500)), workers);
         done.store(true, Ordering::SeqCst);
         ran
     };
@@ -90,14 +90,12 @@ fn run_looked_at<R: Files + AllocGlobal + Threads + Wait + Sync + Abort>(
 // Runs until more threads were seen.
 fn is_shared<R: Files + AllocGlobal + Threads + Wait + Sync + Abort>(
     rt: &R,
-    gr: &[u8],
+    case: Case,
     workers: u32,
     want: &Ran,
-) -> bool
-    requires gr { length gr.now ≤ 2 ^ 62 }
-{
+) -> bool {
     for _ in 0..MOST_RUNS {
-        let (ran, seen) = run_looked_at(rt, gr, workers);
+        let (ran, seen) = run_looked_at(rt, case, workers);
         if ran.answer != want.answer || ran.out.taken() != want.out.taken() {
             return false;
         }
@@ -108,24 +106,40 @@ fn is_shared<R: Files + AllocGlobal + Threads + Wait + Sync + Abort>(
     false
 }
 
-// One source of a large graph starts threads where there are several processors.
+// Whether a batch starts threads where there are several processors, and gives what one worker does.
+fn starts_threads<R: Files + AllocGlobal + Threads + Wait + Sync + Abort>(
+    rt: &R,
+    case: Case,
+) -> bool {
+    let want = run::<28>(rt, case, width_of(rt, Some(500)), 1);
+    if want.answer.is_err() {
+        return false;
+    }
+    count_processors(rt) == 1 || is_shared(rt, case, 2, &want) && is_shared(rt, case, 64, &want)
+}
+
+// One source of a large graph.
 #[test]
 fn one_source_starts_threads(rt: HostRuntime) -> Result<(), Fail> {
-    let alloc = rt.alloc();
-    let gr = ring(alloc)?;
-    let gr = gr.as_bytes();
-    assert!(rt; gr.len() <= 10_000_000);
+    let gr = ring(rt.alloc())?;
     let case = Case {
-        gr,
+        gr: &gr,
         ss: ONE,
         room: AMPLE,
     };
-    let want = run_into::<28, _>(&rt, alloc, &case, 500, 1);
-    assert!(rt; want.answer.is_ok());
-    if count_processors(&rt) > 1 {
-        for workers in [2, 64] {
-            assert!(rt; is_shared(&rt, gr, workers, &want), "{workers} workers");
-        }
-    }
+    assert!(rt; starts_threads(&rt, case));
+    Ok(())
+}
+
+// Nine sources of a graph that is too small for several threads at one source.
+#[test]
+fn nine_sources_start_threads(rt: HostRuntime) -> Result<(), Fail> {
+    let gr = town(rt.alloc())?;
+    let case = Case {
+        gr: &gr,
+        ss: NINE,
+        room: AMPLE,
+    };
+    assert!(rt; starts_threads(&rt, case));
     Ok(())
 }

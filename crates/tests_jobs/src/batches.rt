@@ -1,0 +1,88 @@
+//! Batches over memory.
+ghost use Rattle.std.specs.Prelude.{◌≡◌, true};
+ghost use Rattle.sp_word.specs.Word.{is_layout};
+
+use sp_batch::{BatchError, BucketWidth, Summary, run_batch};
+use sp_device::{OfRead, UpToWriter};
+use sp_word::{Delta, Workers};
+use std::process::Abort;
+use std::sync::Wait;
+use std::thread::Threads;
+
+/// More bytes than any text here has.
+pub(crate) const AMPLE: u32 = 1 << 20;
+
+/// The texts of a graph and of its sources, and how many bytes the writer takes in all.
+#[derive(Clone, Copy)]
+pub(crate) struct Case<'t> {
+    pub(crate) gr: &'t str,
+    pub(crate) ss: &'t str,
+    pub(crate) room: u32,
+}
+
+/// What a batch gave.
+#[derive(Drop)]
+pub(crate) struct Ran {
+    pub(crate) answer: Result<Summary, BatchError>,
+    pub(crate) out: UpToWriter,
+}
+
+impl Ran {
+    /// Whether it was this answer and this text.
+    pub(crate) fn gave(&self, answer: Result<Summary, BatchError>, text: &str) -> bool {
+        self.answer == answer && self.out.taken() == text.as_bytes()
+    }
+}
+
+/// Makes a number of workers.
+pub(crate) fn crew(rt: &impl Abort, number: u32) -> Workers {
+    Workers::new(number).expect(rt, "a number of workers in range")
+}
+
+/// The width of a bucket, that of the graph's mean length where there is no number.
+pub(crate) fn width_of(rt: &impl Abort, delta: Option<u64>) -> BucketWidth<28> {
+    match delta {
+        Some(delta) => BucketWidth::Of(Delta::new(delta).expect(rt, "a width in range")),
+        None => BucketWidth::MeanLength,
+    }
+}
+
+/// Runs a batch.
+pub(crate) fn run<const P: u32>(
+    rt: &(impl Abort + AllocGlobal + Threads + Wait + Sync),
+    case: Case,
+    width: BucketWidth<P>,
+    workers: u32,
+) -> Ran
+    requires { is_layout P ≡ true }
+{
+    let mut out = UpToWriter::new(rt.alloc(), case.room as usize, AMPLE as usize);
+    let answer = run_batch(
+        rt,
+        rt.alloc(),
+        &mut OfRead::new(case.gr.as_bytes()),
+        &mut OfRead::new(case.ss.as_bytes()),
+        &mut out,
+        width,
+        crew(rt, workers),
+    );
+    Ran { answer, out }
+}
+
+/// Runs a batch in buckets of width 2.
+pub(crate) fn run_narrow(
+    rt: &(impl Abort + AllocGlobal + Threads + Wait + Sync),
+    case: Case,
+    workers: u32,
+) -> Ran {
+    run::<28>(rt, case, width_of(rt, Some(2)), workers)
+}
+
+/// The answer where all was written.
+pub(crate) fn summary(sources: u64, too_far: u64, bytes: u64) -> Result<Summary, BatchError> {
+    Ok(Summary {
+        sources,
+        too_far,
+        bytes,
+    })
+}

@@ -1,0 +1,94 @@
+//! Matrices over memory.
+
+use crate::batches::{crew, summary, width_of};
+use crate::graphs::{DIAMOND, TWO, WIDE};
+use sp_device::{OfRead, UpToWriter};
+use sp_matrix::{BatchError, Nobody, Settings, Summary, run_matrix_given_told, run_matrix_told};
+use std::process::Abort;
+use std::sync::Wait;
+use std::test::Fail;
+use std::thread::Threads;
+
+/// The targets 4, 1 and 4.
+const TARGETS: &str = "p aux sp ss 3\ns 4\ns 1\ns 4\n";
+
+/// The lines of the sources 1 and 4.
+const LINES: &str = "d 1 4 5 2\nd 1 1 0 0\nd 1 4 5 2\nd 4 4 0 0\nn 4 1\nd 4 4 0 0\n";
+
+fn settings(rt: &impl Abort, workers: u32) -> Settings<'static, 28, Nobody> {
+    Settings {
+        width: width_of(rt, Some(2)),
+        workers: crew(rt, workers),
+        listener: &Nobody,
+    }
+}
+
+// Whether so many workers give this answer for the sources 1 and 4, and this text to a writer that takes so many bytes.
+fn is_written(
+    rt: &(impl Abort + AllocGlobal + Threads + Wait + Sync),
+    (gr, room): (&str, u32),
+    workers: u32,
+    answer: Result<Summary, BatchError>,
+    text: &str,
+) -> bool {
+    let mut out = UpToWriter::new(rt.alloc(), room as usize, 1000);
+    let told = run_matrix_told(
+        rt,
+        rt.alloc(),
+        &mut OfRead::new(gr.as_bytes()),
+        &mut OfRead::new(TWO.as_bytes()),
+        &mut OfRead::new(TARGETS.as_bytes()),
+        None,
+        &mut out,
+        &settings(rt, workers),
+    );
+    told == answer && out.taken() == text.as_bytes()
+}
+
+#[test]
+fn matrix_of_two_sources_and_three_targets(rt: HostRuntime) -> Result<(), Fail> {
+    for workers in [1, 2, 64] {
+        assert!(rt; is_written(&rt, (DIAMOND, 56), workers, summary(6, 0, 56), LINES));
+    }
+    Ok(())
+}
+
+#[test]
+fn matrix_by_groups_of_sources(rt: HostRuntime) -> Result<(), Fail> {
+    let failed = Err(BatchError::Write);
+    for workers in [2, 64] {
+        assert!(rt; is_written(&rt, (WIDE, 56), workers, summary(6, 0, 56), LINES));
+        assert!(rt; is_written(&rt, (WIDE, 13), workers, failed, "d 1 4 5 2\nd 1"));
+    }
+    Ok(())
+}
+
+// Whether this is the answer, and the text, for the source 4 of the diamond, which is given in place of a list.
+fn is_written_of_4(
+    rt: &(impl Abort + AllocGlobal + Threads + Wait + Sync),
+    targets: &str,
+    answer: Result<Summary, BatchError>,
+    text: &str,
+) -> bool {
+    let mut out = UpToWriter::new(rt.alloc(), 1000, 1000);
+    let told = run_matrix_given_told(
+        rt,
+        rt.alloc(),
+        &mut OfRead::new(DIAMOND.as_bytes()),
+        &[4],
+        &mut OfRead::new(targets.as_bytes()),
+        &mut out,
+        &settings(rt, 1),
+    );
+    told == answer && out.taken() == text.as_bytes()
+}
+
+// The second list has a target that is no vertex.
+#[test]
+fn matrix_of_a_given_source(rt: HostRuntime) -> Result<(), Fail> {
+    let lines = "d 4 4 0 0\nn 4 1\nd 4 4 0 0\n";
+    let none = Err(BatchError::NoSuchVertex(5));
+    assert!(rt; is_written_of_4(&rt, TARGETS, summary(3, 0, 26), lines));
+    assert!(rt; is_written_of_4(&rt, "p aux sp ss 2\ns 1\ns 5\n", none, ""));
+    Ok(())
+}

@@ -1,0 +1,138 @@
+//! Several workers at work at once.
+ghost use Rattle.std.specs.Prelude.{◌≤◌, [], length};
+
+use crate::batches::{crew, summary};
+use crate::threads::count_processors;
+use sp_batch::{BatchError, Nobody, Progress, Summary};
+use sp_device::{UpToWriter, Write};
+use sp_sources::{Asked, LEAST_ITEMS, Question, answer_sources};
+use sp_word::Workers;
+use std::alloc::{AllocError, Global};
+use std::sync::Wait;
+use std::sync::atomic::{AtomicU64, Ordering};
+use std::test::Fail;
+use std::thread::Threads;
+
+// A source is held for no more loads than this.
+const MOST_LOADS: u64 = 1_000_000_000;
+
+/// Holds the first sources until so many are begun, for a bounded number of loads. It counts those that saw the others come.
+/// What answers a source is no text.
+#[derive(Drop)]
+struct Meeting {
+    wanted: u64,
+    begun: AtomicU64,
+    met: AtomicU64,
+}
+
+impl Meeting {
+    fn new(wanted: u64) -> Meeting {
+        Meeting {
+            wanted,
+            begun: AtomicU64::new(0),
+            met: AtomicU64::new(0),
+        }
+    }
+
+    fn met(&self) -> u64 {
+        self.met.load(Ordering::SeqCst)
+    }
+
+    fn meet(&self) {
+        if self.begun.fetch_add(1, Ordering::SeqCst) >= self.wanted {
+            return;
+        }
+        for _ in 0..MOST_LOADS {
+            if self.begun.load(Ordering::SeqCst) >= self.wanted {
+                self.met.fetch_add(1, Ordering::SeqCst);
+                return;
+            }
+        }
+    }
+}
+
+impl Question for Meeting {
+    type Found = u32;
+
+    ghost told = { λ _. record { count = 1; far = 0; text = [] } };
+
+    ghost can_ask = { λ _ _. Unit {0} };
+
+    ghost answers = { λ _ _ _. Unit {0} };
+
+    fn progress(written: Summary, count: usize) -> Progress {
+        Progress::Sources { written, count }
+    }
+
+    fn find<R: Threads + Wait + Sync>(
+        &self,
+        _rt: &R,
+        _alloc: Global,
+        _workers: Workers,
+        source: u32,
+    ) -> Result<u32, AllocError> {
+        self.meet();
+        Ok(source)
+    }
+
+    fn write<W: Write>(
+        &self,
+        _alloc: Global,
+        _found: &u32,
+        _out: &mut W,
+    ) -> Result<Summary, BatchError> {
+        Ok(Summary {
+            sources: 1,
+            too_far: 0,
+            bytes: 0,
+        })
+    }
+}
+
+// Whether as many of the sources as there are workers and processors are found at once, in a graph that is just large enough.
+fn do_meet(
+    rt: &(impl AllocGlobal + Threads + Wait + Sync),
+    sources: &[u32],
+    workers: Workers,
+) -> bool
+    requires { length sources.now ≤ 9 }
+{
+    let count = sources.len() as u64;
+    let wanted = count.min(workers.get() as u64).min(count_processors(rt));
+    let meeting = Meeting::new(wanted);
+    let asked = Asked {
+        sources,
+        count: sources.len(),
+        items: LEAST_ITEMS,
+        least_items: LEAST_ITEMS,
+        workers,
+        listener: &Nobody,
+    };
+    let mut out = UpToWriter::new(rt.alloc(), 0, 1);
+    let answer = answer_sources(rt, rt.alloc(), &meeting, &asked, &mut out);
+    answer == summary(count, 0, 0) && meeting.met() == wanted
+}
+
+// Two sources are found at once, by 2 workers and by 64.
+#[test]
+fn workers_meet_at_two_sources(rt: HostRuntime) -> Result<(), Fail> {
+    for workers in [2, 64] {
+        assert!(rt;
+            do_meet(&rt, &[1, 4], crew(&rt, workers)),
+            "{workers} workers did not meet"
+        );
+    }
+    Ok(())
+}
+
+#[test]
+fn workers_meet_at_nine_sources(rt: HostRuntime) -> Result<(), Fail> {
+    let sources = [1, 700, 1, 2951, 2000, 2950, 700, 2951, 3];
+    for workers in [2, 64] {
+        assert!(rt;
+            do_meet(&rt, &sources, crew(&rt, workers)),
+            "{workers} workers did not meet"
+        );
+    }
+    Ok(())
+}
