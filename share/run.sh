@@ -9,8 +9,11 @@ loader=/lib64/ld-linux-x86-64.so.2
 libraries='/lib/x86_64-linux-gnu/libc.so.6 /lib64/libc.so.6'
 
 run() {
-    # Large lists in large pages, where the system has them and nothing else is asked for (docs/BENCHMARKS.md).
-    export GLIBC_TUNABLES="${GLIBC_TUNABLES-glibc.malloc.hugetlb=1}"
+    # What is asked of the C library, where nothing else is: large lists in large pages; and of `pairs`, which makes a run for
+    # each source, one after the other, that the lists of a run stay for the next (docs/BENCHMARKS.md).
+    kept=
+    case ${2-} in pairs) kept=:glibc.malloc.mmap_threshold=1073741824:glibc.malloc.trim_threshold=1073741824 ;; esac
+    export GLIBC_TUNABLES="${GLIBC_TUNABLES-glibc.malloc.hugetlb=1$kept}"
     if may_fail && ! "$1" --version > /dev/null 2>&1; then
         echo "spt: the program doesn't run here: it needs the GNU C library 2.34 or later, on x86-64" >&2
         exit 126
