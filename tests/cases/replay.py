@@ -40,6 +40,12 @@ REPORTS = [
         "p rep 1 3\no 1 1 9 1\no 2 1 8 1\no 3 1 7 1\ns 1\ns 2\ns 3\ns 1\ns 2\ns 3\ns 2\ns 3\ns 3\n",
         "o 1 1 9 1 shorter 1 4\no 2 1 8 1 shorter 2 7\no 3 1 7 1 shorter 3 9\nw 1 7 1\nt 3 3\nclosed yes\n",
     ),
+    # in any order, with comments, tabs and a CR, and without the last LF
+    (
+        "lines",
+        "c a comment\np rep 2 2\r\ns 2\na 1 1 2 7\n\n i\t2 9 1 \nr 2 1\no 1 2 4 1\ns 1\nc\ns 1\ns 1",
+        "r 2 1 none 1 1\nr 1 1 none 2 2\no 1 2 4 1 shorter 3 4\nw 2 4 1\nt 1 0\nclosed yes\n",
+    ),
     ("problem lines", "p rep 65536 64\n", NOTHING),
     ("ranges", "p rep 2 2\ni 2 0 0\ni 1 0 0\n", "w 1 0 0\nw 2 0 0\nt 0 0\nclosed yes\n"),
     ("ranges", "p rep 2 2\na 2 2 2 4294967295\ns 2\n", "r 2 2 none 1 1\nt 0 0\nclosed yes\n"),

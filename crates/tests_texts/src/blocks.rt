@@ -1,36 +1,36 @@
 //! Files of several trees, however their device cuts them.
 use crate::answers::fault;
 use sp_device::UpTo;
-use sp_text::Kind;
+use sp_text::{DimacsError, Kind};
 use sp_tree::TreeBlocks;
-use std::test::Fail;
 
 const BLOCKS: &[u8] = b"p spt 2 1\nv 1 0 0\nv 2 7 1\ne 2\np spt 2 2\nv 2 0 0\ne 1\n";
 
+// The number of vertices of the next tree, its source, and the number of its rows.
+fn next(
+    blocks: &mut TreeBlocks<28>,
+    device: &mut UpTo,
+) -> Result<Option<(u32, u32, usize)>, DimacsError> {
+    match blocks.next(device)? {
+        Some(tree) => Ok(Some((tree.n(), tree.source(), tree.rows().len()))),
+        None => Ok(None),
+    }
+}
+
 #[test]
-fn cut_anywhere(rt: HostRuntime) -> Result<(), Fail> {
-    let alloc = rt.alloc();
+fn cut_anywhere(rt: HostRuntime) {
     for most in 1..60 {
         let mut device = UpTo::in_pieces(BLOCKS, most);
-        let mut blocks = TreeBlocks::<28>::new(alloc);
-        for (source, rows) in [(1, 2), (2, 1)] {
-            let given = blocks.next(&mut device)?;
-            assert!(rt; given.is_some());
-            if let Some(tree) = given {
-                assert_eq!(rt; (tree.n(), tree.source()), (2, source));
-                assert_eq!(rt; tree.rows().len(), rows);
-            }
+        let mut blocks = TreeBlocks::<28>::new(rt.alloc());
+        for want in [Some((2, 1, 2)), Some((2, 2, 1)), None, None] {
+            assert_eq!(rt; next(&mut blocks, &mut device), Ok(want));
         }
-        assert!(rt; blocks.next(&mut device)?.is_none());
-        assert!(rt; blocks.next(&mut device)?.is_none());
     }
-    Ok(())
 }
 
 // The line that is being read when the device fails, in the second block, and the same again.
 #[test]
-fn failing_anywhere(rt: HostRuntime) -> Result<(), Fail> {
-    let alloc = rt.alloc();
+fn failing_anywhere(rt: HostRuntime) {
     for (end, line) in [
         (30, 5),
         (39, 5),
@@ -41,14 +41,13 @@ fn failing_anywhere(rt: HostRuntime) -> Result<(), Fail> {
         (52, 8),
     ] {
         let mut device = UpTo::failing(&BLOCKS[..end]);
-        let mut blocks = TreeBlocks::<28>::new(alloc);
-        assert!(rt; blocks.next(&mut device)?.is_some());
+        let mut blocks = TreeBlocks::<28>::new(rt.alloc());
+        assert!(rt; next(&mut blocks, &mut device) == Ok(Some((2, 1, 2))));
         if end == BLOCKS.len() {
-            assert!(rt; blocks.next(&mut device)?.is_some());
+            assert!(rt; next(&mut blocks, &mut device) == Ok(Some((2, 2, 1))));
         }
-        let failed = Some(fault(line, Kind::Read));
-        assert_eq!(rt; blocks.next(&mut device).err(), failed);
-        assert_eq!(rt; blocks.next(&mut device).err(), failed);
+        let failed = Err(fault(line, Kind::Read));
+        assert!(rt; next(&mut blocks, &mut device) == failed);
+        assert!(rt; next(&mut blocks, &mut device) == failed);
     }
-    Ok(())
 }

@@ -1,4 +1,3 @@
 mod offers;
-mod read;
 mod refused;
 mod written;

@@ -1,34 +1,44 @@
-ghost use Rattle.std.specs.Prelude.{◌≤◌, ◌^◌, length};
+ghost use Rattle.std.specs.Prelude.{◌<◌, ◌≤◌, ◌^◌, length};
 
 use crate::answers::{failed_behind, fault};
-use sp_device::UpTo;
+use sp_device::{Buffer, UpTo};
 use sp_dimacs::{DimacsError, Kind, Lines};
-use std::alloc::Global;
-use std::test::Fail;
 use tests_samples::DIAMOND_GR;
 
-// The lines of a text one after the other, each between brackets, with a bar where it lacks its LF; and then
-// the fault, if there is one.
-fn shown(alloc: Global, reader: UpTo) -> Result<(Vec<u8>, Option<DimacsError>), Fail> {
-    let mut all = Vec::new(alloc);
-    let mut lines = Lines::new(reader);
-    for _ in 0..100 {
-        match lines.next() {
-            Ok(Some(line)) => {
-                all.push(b'[')?;
-                all.extend_from_slice(line)?;
-            }
-            Ok(None) => return Ok((all, None)),
-            Err(error) => return Ok((all, Some(error))),
-        }
-        all.push(if lines.ended() { b']' } else { b'|' })?;
+// Shows the next line between brackets, with a bar where it lacks its LF. Returns whether there is one, and room for it.
+fn show_next(lines: &mut Lines<UpTo>, shown: &mut Buffer<64>) -> Result<bool, DimacsError> {
+    let Some(line) = lines.next()? else {
+        return Ok(false);
+    };
+    let room = shown.room_left();
+    if room < 2 || line.len() > room - 2 {
+        return Ok(false);
     }
-    Ok((all, None))
+    shown.push(b"[");
+    shown.push(line);
+    shown.push(if lines.ended() { b"]" } else { b"|" });
+    Ok(true)
+}
+
+// Whether the lines of a text are shown so, where it comes in pieces of this size, and none has a fault.
+fn are_shown(text: &[u8], most: usize, want: &[u8]) -> bool
+    requires short { length text.now ≤ 2 ^ 62 }
+    requires some { 0 < most }
+{
+    let mut lines = Lines::new(UpTo::in_pieces(text, most));
+    let mut shown = Buffer::new();
+    for _ in 0..100 {
+        match show_next(&mut lines, &mut shown) {
+            Ok(true) => {}
+            Ok(false) => return shown.bytes() == want,
+            Err(_) => return false,
+        }
+    }
+    false
 }
 
 #[test]
-fn each_line(rt: HostRuntime) -> Result<(), Fail> {
-    let alloc = rt.alloc();
+fn each_line(rt: HostRuntime) {
     for (text, want) in [
         (b"".as_slice(), b"".as_slice()),
         (b"\n", b"[]"),
@@ -39,105 +49,108 @@ fn each_line(rt: HostRuntime) -> Result<(), Fail> {
         (b"\n\n", b"[][]"),
     ] {
         for most in 1..4 {
-            let (all, fault) = shown(alloc, UpTo::in_pieces(text, most))?;
-            assert_eq!(rt; all.as_slice(), want);
-            assert_eq!(rt; fault, None);
+            assert!(rt; are_shown(text, most, want));
         }
     }
-    Ok(())
+}
+
+// Whether the next line is this one, and then so many were returned, the last one with its LF or without.
+fn is_next(lines: &mut Lines<UpTo>, line: Option<&[u8]>, number: u64, has_end: bool) -> bool {
+    let is_line = lines.next() == Ok(line);
+    is_line && lines.line() == number && lines.ended() == has_end
 }
 
 #[test]
-fn numbers_of_lines(rt: HostRuntime) -> Result<(), Fail> {
+fn numbers_of_lines(rt: HostRuntime) {
     let mut lines = Lines::new(UpTo::whole(b"p\n\nq"));
-    assert_eq!(rt; lines.line(), 0);
-    assert_eq!(rt; lines.next(), Ok(Some(b"p".as_slice())));
-    assert_eq!(rt; (lines.line(), lines.ended()), (1, true));
-    assert_eq!(rt; lines.next(), Ok(Some(b"".as_slice())));
-    assert_eq!(rt; (lines.line(), lines.ended()), (2, true));
-    assert_eq!(rt; lines.next(), Ok(Some(b"q".as_slice())));
-    assert_eq!(rt; (lines.line(), lines.ended()), (3, false));
-    assert_eq!(rt; lines.next(), Ok(None));
-    assert_eq!(rt; (lines.line(), lines.ended()), (3, false));
-    assert_eq!(rt; lines.next(), Ok(None));
-    Ok(())
+    assert!(rt; lines.line() == 0);
+    for (line, number, has_end) in [
+        (Some(b"p".as_slice()), 1, true),
+        (Some(b""), 2, true),
+        (Some(b"q"), 3, false),
+        (None, 3, false),
+        (None, 3, false),
+    ] {
+        assert!(rt; is_next(&mut lines, line, number, has_end));
+    }
 }
 
-// A line of one byte, and then one of so many bytes and perhaps its LF.
-fn two_lines(bytes: &mut [u8; 1030], len: usize, has_end: bool)
-    requires { len ≤ 1026 }
+// Whether a text has two lines, `y` and this one, with its LF or without.
+fn are_two(text: &[u8], most: usize, line: &[u8], has_end: bool) -> bool
+    requires short { length text.now ≤ 2 ^ 62 }
+    requires some { 0 < most }
 {
+    let mut lines = Lines::new(UpTo::in_pieces(text, most));
+    is_next(&mut lines, Some(b"y"), 1, true)
+        && is_next(&mut lines, Some(line), 2, has_end)
+        && is_next(&mut lines, None, 2, has_end)
+}
+
+#[test]
+fn longest_lines(rt: HostRuntime) {
+    let mut bytes = [b'x'; 1030];
     bytes[0] = b'y';
     bytes[1] = b'\n';
-    if has_end {
-        bytes[2 + len] = b'\n';
-    }
-}
-
-#[test]
-fn longest_lines(rt: HostRuntime) -> Result<(), Fail> {
-    let mut bytes = [b'x'; 1030];
-    two_lines(&mut bytes, 1024, true);
+    bytes[1026] = b'\n';
     let line = [b'x'; 1024];
-    let open_text = &bytes[..1026];
-    let whole_text = &bytes[..1027];
     for most in [1, 7, 1024, 2000] {
-        let mut open = Lines::new(UpTo::in_pieces(open_text, most));
-        assert_eq!(rt; open.next(), Ok(Some(b"y".as_slice())));
-        assert_eq!(rt; open.next(), Ok(Some(line.as_slice())));
-        assert_eq!(rt; open.ended(), false);
-        assert_eq!(rt; open.next(), Ok(None));
-        let mut whole = Lines::new(UpTo::in_pieces(whole_text, most));
-        assert_eq!(rt; whole.next(), Ok(Some(b"y".as_slice())));
-        assert_eq!(rt; whole.next(), Ok(Some(line.as_slice())));
-        assert_eq!(rt; whole.ended(), true);
-        assert_eq!(rt; whole.next(), Ok(None));
+        assert!(rt; are_two(&bytes[..1026], most, &line, false));
+        assert!(rt; are_two(&bytes[..1027], most, &line, true));
     }
-    Ok(())
+}
+
+// Whether the second line of a text is too long, behind `y`, and again.
+fn is_long(text: &[u8], most: usize) -> bool
+    requires short { length text.now ≤ 2 ^ 62 }
+    requires some { 0 < most }
+{
+    let long = Err(fault(2, Kind::LongLine));
+    let mut lines = Lines::new(UpTo::in_pieces(text, most));
+    let is_first = is_next(&mut lines, Some(b"y"), 1, true);
+    is_first && lines.next() == long && lines.next() == long && lines.line() == 1
 }
 
 #[test]
-fn long_lines(rt: HostRuntime) -> Result<(), Fail> {
+fn long_lines(rt: HostRuntime) {
     let mut bytes = [b'x'; 1030];
-    two_lines(&mut bytes, 1025, true);
-    let long = fault(2, Kind::LongLine);
+    bytes[0] = b'y';
+    bytes[1] = b'\n';
+    bytes[1027] = b'\n';
     for most in [1, 7, 1024, 2000] {
-        for end in 1027..1029 {
-            let mut lines = Lines::new(UpTo::in_pieces(&bytes[..end], most));
-            assert_eq!(rt; lines.next(), Ok(Some(b"y".as_slice())));
-            assert_eq!(rt; lines.next(), Err(long));
-            assert_eq!(rt; lines.next(), Err(long));
-            assert_eq!(rt; lines.line(), 1);
-        }
+        assert!(rt; is_long(&bytes[..1027], most));
+        assert!(rt; is_long(&bytes[..1028], most));
     }
-    Ok(())
 }
 
 #[test]
-fn long_before_failure(rt: HostRuntime) -> Result<(), Fail> {
-    let alloc = rt.alloc();
+fn long_before_failure(rt: HostRuntime) {
     let text = [b'x'; 1025];
-    let (_, long) = shown(alloc, UpTo::failing(&text))?;
-    assert_eq!(rt; long, Some(fault(1, Kind::LongLine)));
-    let (_, read) = shown(alloc, UpTo::failing(&text[..1024]))?;
-    assert_eq!(rt; read, Some(fault(1, Kind::Read)));
-    Ok(())
+    let mut long = Lines::new(UpTo::failing(&text));
+    assert!(rt; long.next() == Err(fault(1, Kind::LongLine)));
+    let mut open = Lines::new(UpTo::failing(&text[..1024]));
+    assert!(rt; open.next() == Err(fault(1, Kind::Read)));
+}
+
+// Whether a device that fails behind this text, which has no fault, is told at the line that is being read, and again.
+fn is_told(text: &[u8]) -> bool
+    requires { length text.now ≤ 2 ^ 62 }
+{
+    let read = failed_behind(text);
+    let mut lines = Lines::new(UpTo::failing(text));
+    for _ in 1..read.line {
+        if lines.next().is_err() || !lines.ended() {
+            return false;
+        }
+    }
+    let is_failed = lines.next() == Err(read) && lines.next() == Err(read);
+    is_failed && lines.line().checked_add(1) == Some(read.line)
 }
 
 #[test]
-fn failing_after_each_byte(rt: HostRuntime) -> Result<(), Fail> {
+fn failing_after_each_byte(rt: HostRuntime) {
     let text = DIAMOND_GR.as_bytes();
-    assert_eq!(rt; text.len(), 49);
+    assert!(rt; text.len() == 49);
     for k in 0..49 {
-        let mut lines = Lines::new(UpTo::failing(&text[..k]));
-        let read = failed_behind(&text[..k]);
-        for _ in 1..read.line {
-            assert_eq!(rt; lines.next().is_ok(), true);
-            assert_eq!(rt; lines.ended(), true);
-        }
-        assert_eq!(rt; lines.next(), Err(read));
-        assert_eq!(rt; lines.next(), Err(read));
-        assert_eq!(rt; lines.line().checked_add(1), Some(read.line));
+        assert!(rt; is_told(&text[..k]));
     }
-    Ok(())
 }

@@ -1,70 +1,53 @@
 ghost use Rattle.std.specs.Prelude.{◌<◌};
 
-use super::counts::{arcs, fed};
+use super::counts::{arcs, fed, fed_by, is_read};
 use crate::answers::{fault, out, told};
 use sp_device::{Read, UpTo};
-use sp_dimacs::{DimacsError, GrReader, Kind, read_gr};
+use sp_dimacs::{Arc, DimacsError, GrReader, Kind, read_gr};
 use std::alloc::Global;
 use std::test::Fail;
 use tests_samples::{DIAMOND, DIAMOND_GR, arcs_of};
 
+// Whether a reader that is fed these two pieces reads these arcs.
+fn has_arcs(reader: &mut GrReader<28>, front: &[u8], rest: &[u8], arcs: &[Arc]) -> bool {
+    reader.feed(front).is_ok() && reader.feed(rest).is_ok() && is_read(reader.finish(), arcs)
+}
+
+// One reader after all, which begins anew behind each text.
 #[test]
 fn cut_anywhere(rt: HostRuntime) -> Result<(), Fail> {
     let alloc = rt.alloc();
     let arcs = arcs_of(alloc, 4, &DIAMOND)?;
     let text = DIAMOND_GR.as_bytes();
-    assert_eq!(rt; text.len(), 49);
+    assert!(rt; text.len() == 49);
     let mut reader = GrReader::<28>::new(alloc);
     for k in 0..50 {
-        reader.feed(&text[..k])?;
-        reader.feed(&text[k..])?;
-        let file = reader.finish()?;
-        assert_eq!(rt; file.n, 4);
-        assert_eq!(rt; file.arcs.as_slice(), arcs.as_slice());
+        assert!(rt; has_arcs(&mut reader, &text[..k], &text[k..], &arcs));
     }
     for size in 1..50 {
-        for piece in text.chunks(size) {
-            reader.feed(piece)?;
-        }
-        let file = reader.finish()?;
-        assert_eq!(rt; file.arcs.as_slice(), arcs.as_slice());
+        assert!(rt; is_read(fed_by(&mut reader, text, size), &arcs));
     }
     Ok(())
 }
 
 #[test]
-fn an_arc_in_two_pieces(rt: HostRuntime) -> Result<(), Fail> {
-    let alloc = rt.alloc();
-    let mut reader = GrReader::<28>::new(alloc);
-    reader.feed(b"p sp 2 1\na 1")?;
-    reader.feed(b" 2 5")?;
-    let file = reader.finish()?;
-    assert_eq!(rt; file.n, 2);
-    assert_eq!(rt; file.arcs.len(), 1);
-    let arc = file.arcs[0];
-    assert_eq!(rt; (arc.tail, arc.head, arc.len), (1, 2, 5));
-    reader.feed(b"p sp 1 0\n")?;
-    let again = reader.finish()?;
-    assert_eq!(rt; (again.n, again.arcs.len()), (1, 0));
-    Ok(())
+fn refused_once_and_for_all(rt: HostRuntime) {
+    let long = fault(1, Kind::LongLine);
+    let mut reader = GrReader::<28>::new(rt.alloc());
+    assert!(rt; reader.feed(&[b'c'; 1025]) == Err(long));
+    assert!(rt; reader.feed(b"\n") == Err(long));
+    assert!(rt; reader.finish().err() == Some(long));
+    assert!(rt; reader.fail() == long);
 }
 
 #[test]
-fn refused_once_and_for_all(rt: HostRuntime) -> Result<(), Fail> {
-    let alloc = rt.alloc();
-    let long = fault(1, Kind::LongLine);
-    let mut reader = GrReader::<28>::new(alloc);
-    assert_eq!(rt; reader.feed(&[b'c'; 1025]), Err(long));
-    assert_eq!(rt; reader.feed(b"\n"), Err(long));
-    assert_eq!(rt; reader.finish().err(), Some(long));
-    assert_eq!(rt; reader.fail(), long);
+fn failed_once_and_for_all(rt: HostRuntime) {
     let read = fault(2, Kind::Read);
-    let mut cut = GrReader::<28>::new(alloc);
-    assert_eq!(rt; cut.feed(b"p sp 1 0\n"), Ok(()));
-    assert_eq!(rt; cut.fail(), read);
-    assert_eq!(rt; cut.feed(b""), Err(read));
-    assert_eq!(rt; cut.finish().err(), Some(read));
-    Ok(())
+    let mut cut = GrReader::<28>::new(rt.alloc());
+    assert!(rt; cut.feed(b"p sp 1 0\n") == Ok(()));
+    assert!(rt; cut.fail() == read);
+    assert!(rt; cut.feed(b"") == Err(read));
+    assert!(rt; cut.finish().err() == Some(read));
 }
 
 // The number of arcs of a start, a byte so many times, and an end, in pieces of this many bytes.
@@ -75,13 +58,11 @@ fn grown(
     times: usize,
     end: &[u8],
     size: usize,
-) -> Result<usize, DimacsError>
-    requires { 0 < size }
-{
+) -> Result<usize, DimacsError> {
     let mut reader = GrReader::<28>::new(alloc);
     reader.feed(start)?;
     let bytes = [byte; 1100];
-    for piece in bytes[..times.min(1100)].chunks(size) {
+    for piece in bytes[..times.min(1100)].chunks(size.max(1)) {
         reader.feed(piece)?;
     }
     reader.feed(end)?;
@@ -90,90 +71,81 @@ fn grown(
 }
 
 #[test]
-fn long_comment(rt: HostRuntime) -> Result<(), Fail> {
-    let alloc = rt.alloc();
+fn long_comment(rt: HostRuntime) {
     let long = told(2, Kind::LongLine);
-    for (times, want) in [(1022, Ok(0)), (1023, long)] {
+    for (times, end, want) in [
+        (1022, b"\n".as_slice(), Ok(0)),
+        (1022, b"", Ok(0)),
+        (1023, b"\n", long),
+        (1023, b"", long),
+        (1022, b"\r\n", long),
+    ] {
         for size in [1, 2, 3, 1100] {
-            let size = if size == 0 { 1 } else { size };
-            for end in [b"\n".as_slice(), b""] {
-                let answer = grown(alloc, b"p sp 1 0\nc ", b'x', times, end, size);
-                assert_eq!(rt; answer, want);
-            }
+            let answer = grown(rt.alloc(), b"p sp 1 0\nc ", b'x', times, end, size);
+            assert_eq!(rt; answer, want);
         }
     }
-    let bad = grown(alloc, b"p sp 1 0\n", b'c', 1024, b"\n", 1100);
-    assert_eq!(rt; bad, told(2, Kind::BadLine));
-    let ended = grown(alloc, b"p sp 1 0\nc ", b'x', 1022, b"\r\n", 1100);
-    assert_eq!(rt; ended, long);
-    Ok(())
 }
 
 #[test]
-fn many_digits(rt: HostRuntime) -> Result<(), Fail> {
-    let alloc = rt.alloc();
+fn long_lines(rt: HostRuntime) {
     let out = out(2, b'W');
     let long = told(2, Kind::LongLine);
-    for (times, end, size, want) in [
-        (1018, b"\n".as_slice(), 1, out),
-        (1019, b"\n", 1, long),
-        (1018, b"", 1100, out),
-        (1019, b"", 1100, long),
+    let bad = told(2, Kind::BadLine);
+    for (start, byte, times, end, want) in [
+        (
+            b"p sp 2 1\na 1 2 ".as_slice(),
+            b'9',
+            1018,
+            b"\n".as_slice(),
+            out,
+        ),
+        (b"p sp 2 1\na 1 2 ", b'9', 1019, b"\n", long),
+        (b"p sp 2 1\na 1 2 ", b'9', 1018, b"", out),
+        (b"p sp 2 1\na 1 2 ", b'9', 1019, b"", long),
+        (b"p sp 1 0\n", b'c', 1024, b"\n", bad),
     ] {
-        let size = if size == 0 { 1 } else { size };
-        let answer = grown(alloc, b"p sp 2 1\na 1 2 ", b'9', times, end, size);
-        assert_eq!(rt; answer, want);
+        for size in [1, 1100] {
+            let answer = grown(rt.alloc(), start, byte, times, end, size);
+            assert_eq!(rt; answer, want);
+        }
     }
-    Ok(())
 }
 
 #[test]
-fn fed_from_a_text(rt: HostRuntime) -> Result<(), Fail> {
-    let alloc = rt.alloc();
-    for size in 1..3 {
-        assert_eq!(rt; fed(alloc, b"p sp 2 1\na 1 2 5", size), Ok(1));
-        assert_eq!(rt; fed(alloc, b"a 1 2 3\n", size), told(1, Kind::NoProblem));
-        assert_eq!(rt;
-            fed(alloc, b"p sp 2 2\na 1 2 5", size),
-            told(3, Kind::TooFew)
-        );
+fn fed_from_a_text(rt: HostRuntime) {
+    for (text, want) in [
+        (b"p sp 2 1\na 1 2 5".as_slice(), Ok(1)),
+        (b"a 1 2 3\n", told(1, Kind::NoProblem)),
+        (b"p sp 2 2\na 1 2 5", told(3, Kind::TooFew)),
+    ] {
+        for size in 1..3 {
+            assert_eq!(rt; fed(rt.alloc(), text, size), want);
+        }
     }
-    Ok(())
 }
 
 // A comment behind the problem line, in one text: 9 bytes and the comment.
 #[test]
-fn long_comment_whole(rt: HostRuntime) -> Result<(), Fail> {
+fn long_comment_whole(rt: HostRuntime) {
     let alloc = rt.alloc();
     let mut text = [b'x'; 1_035];
     text[..11].copy_from_slice(b"p sp 1 0\nc ");
     let long = told(2, Kind::LongLine);
-    assert_eq!(rt; arcs::<28>(alloc, &text[..1_033]), Ok(0));
-    assert_eq!(rt; arcs::<28>(alloc, &text[..1_034]), long);
-    let mut fits = text;
-    fits[1_033] = b'\n';
-    assert_eq!(rt; arcs::<28>(alloc, &fits[..1_034]), Ok(0));
-    let mut too_long = text;
-    too_long[1_034] = b'\n';
-    assert_eq!(rt; arcs::<28>(alloc, &too_long), long);
-    Ok(())
+    assert!(rt; arcs::<28>(alloc, &text[..1_033]) == Ok(0));
+    assert!(rt; arcs::<28>(alloc, &text[..1_034]) == long);
+    text[1_034] = b'\n';
+    assert!(rt; arcs::<28>(alloc, &text) == long);
+    text[1_033] = b'\n';
+    assert!(rt; arcs::<28>(alloc, &text[..1_034]) == Ok(0));
 }
 
 // Of a device that has passed a header the rest is read, and lines are counted from there.
 #[test]
-fn behind_a_header(rt: HostRuntime) -> Result<(), Fail> {
-    let alloc = rt.alloc();
+fn behind_a_header(rt: HostRuntime) {
     let mut header = [0u8; 5];
-    let mut device = UpTo::whole(b"spt1\np sp 2 1\na 1 2 3\n");
-    assert_eq!(rt; device.read(&mut header), Ok(5));
-    assert_eq!(rt; header, *b"spt1\n");
-    let file = read_gr::<28, _>(alloc, &mut device)?;
-    assert_eq!(rt; (file.n, file.arcs.len()), (2, 1));
-    let arc = file.arcs[0];
-    assert_eq!(rt; (arc.tail, arc.head, arc.len), (1, 2, 3));
-    let mut faulty = UpTo::whole(b"spt1\np sp 2 1\na 1 3 3\n");
-    assert_eq!(rt; faulty.read(&mut header), Ok(5));
-    let told = read_gr::<28, _>(alloc, &mut faulty).err();
-    assert_eq!(rt; told, Some(fault(2, Kind::OutOfRange(b'V'))));
-    Ok(())
+    let mut device = UpTo::whole(b"spt1\np sp 2 1\na 1 3 3\n");
+    assert!(rt; device.read(&mut header) == Ok(5));
+    let told = read_gr::<28, _>(rt.alloc(), &mut device).err();
+    assert!(rt; told == Some(fault(2, Kind::OutOfRange(b'V'))));
 }

@@ -1,11 +1,11 @@
 //! A file to try the engine on: arcs, and words at the start.
-ghost use Rattle.std.specs.Prelude.{◌≡◌, ◌≤◌, ◌<◌, ◌^◌, ◌==◌, ◌&&◌, ℕ, List, [], length};
+ghost use Rattle.std.specs.Prelude.{◌≡◌, ◌==◌, ◌&&◌, ℕ, List, []};
 ghost use Rattle.std.specs.List.{list_any};
 ghost use Rattle.sp_text.specs.Formats.{format_of};
 ghost use Rattle.tests_texts.specs.Samples.{sample, usual, AreEntries};
 ghost use Rattle.sp_text.specs.Text.{Item};
 
-use sp_device::{Read, UpTo};
+use sp_device::Read;
 use sp_text::{
     Collector, DimacsError, Feeder, Field, FileFormat, Form, Keep, Ranges, Top, Values, read_items,
     read_text,
@@ -165,12 +165,4 @@ pub fn read_entries<R: Read>(alloc: Global, reader: &mut R) -> Result<Vec<Entry>
 /// The same by `read_items`.
 pub fn read_quickly<R: Read>(alloc: Global, reader: &mut R) -> Result<Vec<Entry>, DimacsError> {
     read_items(reader, Feeder::new(Collector::new(Entries::new(alloc))))
-}
-
-/// The number of items of a text, or its fault.
-pub fn items(alloc: Global, text: &[u8]) -> Result<usize, DimacsError>
-    requires { length text.now ≤ 2 ^ 62 }
-{
-    let entries = read_entries(alloc, &mut UpTo::whole(text))?;
-    Ok(entries.len())
 }

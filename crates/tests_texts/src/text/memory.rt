@@ -5,7 +5,6 @@ use super::entries::{Entries, Entry};
 use crate::answers::fault;
 use sp_text::{Collector, DimacsError, Feeder, FileFormat, Keep, Kind, Ranges, Values};
 use std::alloc::{AllocError, Global};
-use std::test::Fail;
 
 // Keeps so many items more.
 #[derive(Drop)]
@@ -60,27 +59,24 @@ fn memory(line: u64) -> DimacsError {
 }
 
 #[test]
-fn the_line_without_room(rt: HostRuntime) -> Result<(), Fail> {
+fn the_line_without_room(rt: HostRuntime) {
     let mut reader = new_reader(rt.alloc(), 1);
-    assert_eq!(rt; reader.feed(b"p sp 2 3\na 1 2 5\n"), Ok(()));
-    assert_eq!(rt; reader.feed(b"c\na 2 1 5\n\nx\n"), Err(memory(4)));
-    assert_eq!(rt; reader.feed(b"c\n"), Err(memory(4)));
-    assert_eq!(rt; reader.finish().err(), Some(memory(4)));
-    Ok(())
+    assert!(rt; reader.feed(b"p sp 2 3\na 1 2 5\n") == Ok(()));
+    assert!(rt; reader.feed(b"c\na 2 1 5\n\nx\n") == Err(memory(4)));
+    assert!(rt; reader.feed(b"c\n") == Err(memory(4)));
+    assert!(rt; reader.finish().err() == Some(memory(4)));
 }
 
 #[test]
-fn the_last_line_without_room(rt: HostRuntime) -> Result<(), Fail> {
+fn the_last_line_without_room(rt: HostRuntime) {
     let mut reader = new_reader(rt.alloc(), 1);
-    assert_eq!(rt; reader.feed(b"p sp 2 2\na 1 2 5\na 2 1 5"), Ok(()));
-    assert_eq!(rt; reader.finish().err(), Some(memory(3)));
-    Ok(())
+    assert!(rt; reader.feed(b"p sp 2 2\na 1 2 5\na 2 1 5") == Ok(()));
+    assert!(rt; reader.finish().err() == Some(memory(3)));
 }
 
 #[test]
-fn earlier_faults_are_told(rt: HostRuntime) -> Result<(), Fail> {
+fn earlier_faults_are_told(rt: HostRuntime) {
     let mut reader = new_reader(rt.alloc(), 0);
     let fed = reader.feed(b"p sp 2 2\nx\na 1 2 5\n");
-    assert_eq!(rt; fed, Err(fault(2, Kind::BadLine)));
-    Ok(())
+    assert!(rt; fed == Err(fault(2, Kind::BadLine)));
 }

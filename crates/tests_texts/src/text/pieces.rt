@@ -1,11 +1,10 @@
 ghost use Rattle.std.specs.Prelude.{◌<◌, ◌≤◌, ◌^◌, length};
 
-use super::entries::{Entry, new_reader, read_entries};
+use super::entries::{new_reader, read_entries};
 use crate::answers::{failed_behind, fault, out, told};
 use sp_device::UpTo;
 use sp_text::{DimacsError, Kind};
 use std::alloc::Global;
-use std::test::Fail;
 use tests_samples::DIAMOND_GR;
 
 // The number of items of a text that is fed in pieces of this many bytes.
@@ -21,99 +20,85 @@ fn fed(alloc: Global, text: &[u8], size: usize) -> Result<usize, DimacsError>
 }
 
 #[test]
-fn fed_in_pieces(rt: HostRuntime) -> Result<(), Fail> {
-    let alloc = rt.alloc();
+fn fed_in_pieces(rt: HostRuntime) {
     for size in 1..50 {
-        assert_eq!(rt; fed(alloc, DIAMOND_GR.as_bytes(), size), Ok(5));
+        assert!(rt; fed(rt.alloc(), DIAMOND_GR.as_bytes(), size) == Ok(5));
     }
-    let mut reader = new_reader(alloc);
-    reader.feed(b"p sp 2 1\na 1")?;
-    reader.feed(b" 2 5")?;
-    let entries: Vec<Entry> = reader.finish()?;
-    assert_eq!(rt; entries.as_slice(), [(0, 1, 2, 5)].as_slice());
-    reader.feed(b"p sp 1 0\n")?;
-    let again = reader.finish()?;
-    assert_eq!(rt; again.len(), 0);
-    Ok(())
+}
+
+// The number of items of a text of which a device passes so many bytes at a time.
+fn read(alloc: Global, text: &[u8], most: usize) -> Result<usize, DimacsError>
+    requires short { length text.now ≤ 2 ^ 62 }
+    requires some { 0 < most }
+{
+    let entries = read_entries(alloc, &mut UpTo::in_pieces(text, most))?;
+    Ok(entries.len())
 }
 
 #[test]
-fn read_in_pieces(rt: HostRuntime) -> Result<(), Fail> {
-    let alloc = rt.alloc();
+fn read_in_pieces(rt: HostRuntime) {
     let text = DIAMOND_GR.as_bytes();
-    assert_eq!(rt; text.len(), 49);
+    assert!(rt; text.len() == 49);
     for most in 1..50 {
-        let entries = read_entries(alloc, &mut UpTo::in_pieces(text, most))?;
-        assert_eq!(rt; entries.len(), 5);
+        assert!(rt; read(rt.alloc(), text, most) == Ok(5));
     }
-    Ok(())
 }
 
 #[test]
-fn long_lines(rt: HostRuntime) -> Result<(), Fail> {
-    let alloc = rt.alloc();
-    let mut reader = new_reader(alloc);
+fn long_lines(rt: HostRuntime) {
+    let mut reader = new_reader(rt.alloc());
     for _ in 0..1024 {
-        reader.feed(b"c")?;
+        assert!(rt; reader.feed(b"c") == Ok(()));
     }
     let long = fault(1, Kind::LongLine);
-    assert_eq!(rt; reader.feed(b"c"), Err(long));
-    assert_eq!(rt; reader.feed(b"\n"), Err(long));
-    assert_eq!(rt; reader.fail(), long);
-    Ok(())
+    assert!(rt; reader.feed(b"c") == Err(long));
+    assert!(rt; reader.feed(b"\n") == Err(long));
+    assert!(rt; reader.fail() == long);
 }
 
 #[test]
-fn failing_readers(rt: HostRuntime) -> Result<(), Fail> {
+fn failing_readers(rt: HostRuntime) {
     let alloc = rt.alloc();
     let text = DIAMOND_GR.as_bytes();
-    assert_eq!(rt; text.len(), 49);
+    assert!(rt; text.len() == 49);
     for k in 0..50 {
         let file = read_entries(alloc, &mut UpTo::failing(&text[..k]));
-        assert_eq!(rt; file.err(), Some(failed_behind(&text[..k])));
+        assert!(rt; file.err() == Some(failed_behind(&text[..k])));
     }
     let early = read_entries(alloc, &mut UpTo::failing(b"a 1 2 3\n"));
-    assert_eq!(rt; early.err(), Some(fault(1, Kind::NoProblem)));
-    Ok(())
+    assert!(rt; early.err() == Some(fault(1, Kind::NoProblem)));
 }
 
-// The answer to a text whose last line goes on with a byte so many times, in one piece or singly.
+// The answer to a text whose last line goes on with a byte so many times, in pieces of this many bytes.
 fn grown(
     alloc: Global,
     start: &[u8],
     byte: u8,
     times: usize,
     size: usize,
-) -> Result<usize, DimacsError>
-    requires { 0 < size }
-{
+) -> Result<usize, DimacsError> {
     let mut reader = new_reader(alloc);
     reader.feed(start)?;
     let bytes = [byte; 1100];
-    if times <= 1100 {
-        for piece in bytes[..times].chunks(size) {
-            reader.feed(piece)?;
-        }
+    for piece in bytes[..times.min(1100)].chunks(size.max(1)) {
+        reader.feed(piece)?;
     }
     let entries = reader.finish()?;
     Ok(entries.len())
 }
 
 #[test]
-fn lines_at_the_limit(rt: HostRuntime) -> Result<(), Fail> {
-    let alloc = rt.alloc();
+fn lines_at_the_limit(rt: HostRuntime) {
     let long = told(2, Kind::LongLine);
     let out = out(2, b'W');
-    for size in [1, 7, 1100] {
-        let size = if size == 0 { 1 } else { size };
-        for (start, byte, times, want) in [
-            (b"p sp 1 0\nc ".as_slice(), b'x', 1022, Ok(0)),
-            (b"p sp 1 0\nc ", b'x', 1023, long),
-            (b"p sp 2 1\na 1 2 ", b'9', 1018, out),
-            (b"p sp 2 1\na 1 2 ", b'9', 1019, long),
-        ] {
-            assert_eq!(rt; grown(alloc, start, byte, times, size), want);
+    for (start, byte, times, want) in [
+        (b"p sp 1 0\nc ".as_slice(), b'x', 1022, Ok(0)),
+        (b"p sp 1 0\nc ", b'x', 1023, long),
+        (b"p sp 2 1\na 1 2 ", b'9', 1018, out),
+        (b"p sp 2 1\na 1 2 ", b'9', 1019, long),
+    ] {
+        for size in [1, 7, 1100] {
+            assert_eq!(rt; grown(rt.alloc(), start, byte, times, size), want);
         }
     }
-    Ok(())
 }

@@ -6,7 +6,6 @@ use crate::answers::fault;
 use sp_device::UpTo;
 use sp_text::{DimacsError, Kind};
 use std::alloc::Global;
-use std::test::Fail;
 
 // One item may stand, and vertices have up to seven digits.
 const SEVEN: &[u8] = b"p sp 9999999 1\n";
@@ -98,163 +97,161 @@ fn item(alloc: Global, problem: &[u8], line: &[u8]) -> Option<Answer> {
     Some(whole)
 }
 
-fn arc(tail: u64, head: u64, len: u64) -> Option<Answer> {
-    Some(Ok(Some((0, tail, head, len))))
-}
-
-fn word(vertex: u64, dist: u64, pred: u64) -> Option<Answer> {
-    Some(Ok(Some((1, vertex, dist, pred))))
-}
-
 // The line behind the problem line has this fault.
 fn refused(kind: Kind) -> Option<Answer> {
     Some(Err(fault(2, kind)))
 }
 
 #[test]
-fn few_and_many_digits(rt: HostRuntime) -> Result<(), Fail> {
+fn few_and_many_digits(rt: HostRuntime) {
     let a = rt.alloc();
-    for (problem, line, want) in [
-        (SEVEN, b"a 1 2 3\n".as_slice(), arc(1, 2, 3)),
-        (SEVEN, b"a 12 21 45\n", arc(12, 21, 45)),
-        (SEVEN, b"a 123 321 456\n", arc(123, 321, 456)),
-        (SEVEN, b"a 1234 4321 5678\n", arc(1_234, 4_321, 5_678)),
-        (SEVEN, b"a 12345 54321 56789\n", arc(12_345, 54_321, 56_789)),
+    for (problem, line, entry) in [
+        (SEVEN, b"a 1 2 3\n".as_slice(), (0, 1, 2, 3)),
+        (SEVEN, b"a 12 21 45\n", (0, 12, 21, 45)),
+        (SEVEN, b"a 123 321 456\n", (0, 123, 321, 456)),
+        (SEVEN, b"a 1234 4321 5678\n", (0, 1_234, 4_321, 5_678)),
+        (SEVEN, b"a 12345 54321 56789\n", (0, 12_345, 54_321, 56_789)),
         (
             SEVEN,
             b"a 123456 654321 567890\n",
-            arc(123_456, 654_321, 567_890),
+            (0, 123_456, 654_321, 567_890),
         ),
         (
             SEVEN,
             b"a 1234567 7654321 5678901\n",
-            arc(1_234_567, 7_654_321, 5_678_901),
+            (0, 1_234_567, 7_654_321, 5_678_901),
         ),
         (
             EIGHT,
             b"a 12345678 87654321 56789012\n",
-            arc(12_345_678, 87_654_321, 56_789_012),
+            (0, 12_345_678, 87_654_321, 56_789_012),
         ),
-        (EIGHT, b"a 7 1 123456789\n", arc(7, 1, 123_456_789)),
-        (EIGHT, b"a 7 1 4294967295\n", arc(7, 1, 4_294_967_295)),
-        (
-            NONE,
-            b"i 1 68719476734 268435454\n",
-            word(1, 68_719_476_734, 268_435_454),
-        ),
-    ] {
-        assert_eq!(rt; item(a, problem, line), want, "in {line:?}");
-    }
-    Ok(())
-}
-
-#[test]
-fn greatest_and_least(rt: HostRuntime) -> Result<(), Fail> {
-    let a = rt.alloc();
-    let out = |letter: u8| refused(Kind::OutOfRange(letter));
-    for (problem, line, want) in [
+        (EIGHT, b"a 7 1 123456789\n", (0, 7, 1, 123_456_789)),
+        (SEVEN, b"a 10 200 3000000\n", (0, 10, 200, 3_000_000)),
+        (NONE, b"i 1 0 0\n", (1, 1, 0, 0)),
         (
             SEVEN,
-            b"a 9999999 9999999 1\n".as_slice(),
-            arc(9_999_999, 9_999_999, 1),
+            b"a 9999999 9999999 1\n",
+            (0, 9_999_999, 9_999_999, 1),
         ),
-        (SEVEN, b"a 10000000 1 1\n", out(b'U')),
-        (SEVEN, b"a 1 10000000 1\n", out(b'V')),
         (
             EIGHT,
             b"a 99999999 99999999 1\n",
-            arc(99_999_999, 99_999_999, 1),
+            (0, 99_999_999, 99_999_999, 1),
         ),
-        (EIGHT, b"a 100000000 1 1\n", out(b'U')),
-        (EIGHT, b"a 1 100000000 1\n", out(b'V')),
-        (SEVEN, b"a 0 1 1\n", out(b'U')),
-        (SEVEN, b"a 1 0 1\n", out(b'V')),
-        (SEVEN, b"a 1 2 0\n", out(b'W')),
-        (SEVEN, b"a 1 2 4294967296\n", out(b'W')),
-        (SEVEN, b"a 1 2 18446744073709551616\n", out(b'W')),
-        (SEVEN, b"a 1 2 18446744073709551617\n", out(b'W')),
-        (NONE, b"i 0 0 0\n", out(b'V')),
-        (NONE, b"i 3 0 0\n", out(b'V')),
-        (NONE, b"i 1 68719476735 0\n", out(b'D')),
-        (NONE, b"i 1 0 268435455\n", out(b'P')),
+        (EIGHT, b"a 7 1 4294967295\n", (0, 7, 1, 4_294_967_295)),
+        (
+            NONE,
+            b"i 1 68719476734 268435454\n",
+            (1, 1, 68_719_476_734, 268_435_454),
+        ),
     ] {
-        assert_eq!(rt; item(a, problem, line), want, "in {line:?}");
+        assert_eq!(rt;
+            item(a, problem, line),
+            Some(Ok(Some(entry))),
+            "in {line:?}"
+        );
     }
-    Ok(())
 }
 
 #[test]
-fn zeros(rt: HostRuntime) -> Result<(), Fail> {
+fn too_great_and_too_small(rt: HostRuntime) {
     let a = rt.alloc();
-    let bad = refused(Kind::BadLine);
-    for (problem, line, want) in [
-        (NONE, b"i 1 0 0\n".as_slice(), word(1, 0, 0)),
-        (NONE, b"i 1 0 00\n", bad),
-        (NONE, b"i 1 00 0\n", bad),
-        (SEVEN, b"a 01 2 3\n", bad),
-        (SEVEN, b"a 1 02 3\n", bad),
-        (SEVEN, b"a 1 2 03\n", bad),
-        (SEVEN, b"a 0000001 2 3\n", bad),
-        (SEVEN, b"a 00000001 2 3\n", bad),
-        (SEVEN, b"a 10 200 3000000\n", arc(10, 200, 3_000_000)),
+    for (problem, line, letter) in [
+        (SEVEN, b"a 10000000 1 1\n".as_slice(), b'U'),
+        (SEVEN, b"a 1 10000000 1\n", b'V'),
+        (EIGHT, b"a 100000000 1 1\n", b'U'),
+        (EIGHT, b"a 1 100000000 1\n", b'V'),
+        (SEVEN, b"a 0 1 1\n", b'U'),
+        (SEVEN, b"a 1 0 1\n", b'V'),
+        (SEVEN, b"a 1 2 0\n", b'W'),
+        (SEVEN, b"a 1 2 4294967296\n", b'W'),
+        (SEVEN, b"a 1 2 18446744073709551616\n", b'W'),
+        (SEVEN, b"a 1 2 18446744073709551617\n", b'W'),
+        (NONE, b"i 0 0 0\n", b'V'),
+        (NONE, b"i 3 0 0\n", b'V'),
+        (NONE, b"i 1 68719476735 0\n", b'D'),
+        (NONE, b"i 1 0 268435455\n", b'P'),
     ] {
+        let want = refused(Kind::OutOfRange(letter));
         assert_eq!(rt; item(a, problem, line), want, "in {line:?}");
     }
-    Ok(())
 }
 
 #[test]
-fn blanks_and_ends(rt: HostRuntime) -> Result<(), Fail> {
+fn leading_zeros(rt: HostRuntime) {
     let a = rt.alloc();
-    let bad = refused(Kind::BadLine);
-    let good = arc(12, 345, 6_789);
-    for (problem, line, want) in [
-        (SEVEN, b"a 12 345 6789\n".as_slice(), good),
-        (SEVEN, b"a 12 345 6789", good),
-        (SEVEN, b"a 12 345 6789\r\n", good),
-        (SEVEN, b"a 12 345 6789\r", good),
-        (SEVEN, b"a 12 345 6789 \n", good),
-        (SEVEN, b"a 12 345 6789 \t \r\n", good),
-        (SEVEN, b"a  12  345  6789\n", good),
-        (SEVEN, b"a\t12\t345\t6789\n", good),
-        (SEVEN, b"a 12\t345 \t6789\n", good),
-        (SEVEN, b" a 12 345 6789\n", good),
-        (SEVEN, b"\n\nc x\na 12 345 6789\n\n", good),
-        (SEVEN, b"a 12 345 6789\r\r\n", bad),
-        (SEVEN, b"a 12 345 6789\r \n", bad),
-        (SEVEN, b"a 12\r 345 6789\n", bad),
-        (SEVEN, b"a 12 345 6789\x0b\n", bad),
+    for (problem, line) in [
+        (NONE, b"i 1 0 00\n".as_slice()),
+        (NONE, b"i 1 00 0\n"),
+        (SEVEN, b"a 01 2 3\n"),
+        (SEVEN, b"a 1 02 3\n"),
+        (SEVEN, b"a 1 2 03\n"),
+        (SEVEN, b"a 0000001 2 3\n"),
+        (SEVEN, b"a 00000001 2 3\n"),
     ] {
-        assert_eq!(rt; item(a, problem, line), want, "in {line:?}");
+        assert_eq!(rt;
+            item(a, problem, line),
+            refused(Kind::BadLine),
+            "in {line:?}"
+        );
     }
-    Ok(())
 }
 
 #[test]
-fn other_spellings(rt: HostRuntime) -> Result<(), Fail> {
+fn blanks_and_ends(rt: HostRuntime) {
     let a = rt.alloc();
     let bad = refused(Kind::BadLine);
-    for (problem, line, want) in [
-        (SEVEN, b"a 12 345\n".as_slice(), bad),
-        (SEVEN, b"a 12 345 6789 1\n", bad),
-        (SEVEN, b"a 12 3456789\n", bad),
-        (SEVEN, b"a 12,345 6789\n", bad),
-        (SEVEN, b"a12 345 6789\n", bad),
-        (SEVEN, b"aa 12 345 6789\n", bad),
-        (SEVEN, b"b 12 345 6789\n", bad),
-        (SEVEN, b"A 12 345 6789\n", bad),
-        (SEVEN, b"a +12 345 6789\n", bad),
-        (SEVEN, b"a -12 345 6789\n", bad),
-        (SEVEN, b"a 1/ 345 6789\n", bad),
-        (SEVEN, b"a 1: 345 6789\n", bad),
-        (SEVEN, b"a : 345 6789\n", bad),
-        (SEVEN, b"a 12 345 6789x\n", bad),
-        (SEVEN, b"a 12 345 1234567x\n", bad),
-        (SEVEN, b"a 12 345 12345678x\n", bad),
-        (SEVEN, b"a 12 345 \xb1\xb2\n", bad),
-        (SEVEN, b"p sp 2 1\n", refused(Kind::SecondProblem)),
+    let good = Some(Ok(Some((0, 12, 345, 6_789))));
+    for (line, want) in [
+        (b"a 12 345 6789\n".as_slice(), good),
+        (b"a 12 345 6789", good),
+        (b"a 12 345 6789\r\n", good),
+        (b"a 12 345 6789\r", good),
+        (b"a 12 345 6789 \n", good),
+        (b"a 12 345 6789 \t \r\n", good),
+        (b"a  12  345  6789\n", good),
+        (b"a\t12\t345\t6789\n", good),
+        (b"a 12\t345 \t6789\n", good),
+        (b" a 12 345 6789\n", good),
+        (b"\n\nc x\na 12 345 6789\n\n", good),
+        (b"a 12 345 6789\r\r\n", bad),
+        (b"a 12 345 6789\r \n", bad),
+        (b"a 12\r 345 6789\n", bad),
+        (b"a 12 345 6789\x0b\n", bad),
     ] {
-        assert_eq!(rt; item(a, problem, line), want, "in {line:?}");
+        assert_eq!(rt; item(a, SEVEN, line), want, "in {line:?}");
     }
-    Ok(())
+}
+
+#[test]
+fn other_spellings(rt: HostRuntime) {
+    let a = rt.alloc();
+    for line in [
+        b"a 12 345\n".as_slice(),
+        b"a 12 345 6789 1\n",
+        b"a 12 3456789\n",
+        b"a 12,345 6789\n",
+        b"a12 345 6789\n",
+        b"aa 12 345 6789\n",
+        b"b 12 345 6789\n",
+        b"A 12 345 6789\n",
+        b"a +12 345 6789\n",
+        b"a -12 345 6789\n",
+        b"a 1/ 345 6789\n",
+        b"a 1: 345 6789\n",
+        b"a : 345 6789\n",
+        b"a 12 345 6789x\n",
+        b"a 12 345 1234567x\n",
+        b"a 12 345 12345678x\n",
+        b"a 12 345 \xb1\xb2\n",
+    ] {
+        assert_eq!(rt; item(a, SEVEN, line), refused(Kind::BadLine), "in {line:?}");
+    }
+}
+
+#[test]
+fn second_problem_line(rt: HostRuntime) {
+    let told = item(rt.alloc(), SEVEN, b"p sp 2 1\n");
+    assert!(rt; told == refused(Kind::SecondProblem));
 }

@@ -26,14 +26,33 @@ pub fn cut_off(alloc: Global, text: &[u8]) -> Result<usize, DimacsError>
     Ok(tree.rows().len())
 }
 
+/// The tree of a text that a reader is fed in pieces of this many bytes.
+pub fn fed_by(
+    reader: &mut TreeReader<28>,
+    text: &[u8],
+    size: usize,
+) -> Result<Tree<28>, DimacsError>
+    requires { 0 < size }
+{
+    for piece in text.chunks(size) {
+        reader.feed(piece)?;
+    }
+    reader.finish()
+}
+
 /// The number of rows of a text that is fed in pieces of this many bytes.
 pub fn fed(alloc: Global, text: &[u8], size: usize) -> Result<usize, DimacsError>
     requires { 0 < size }
 {
     let mut reader = TreeReader::<28>::new(alloc);
-    for piece in text.chunks(size) {
-        reader.feed(piece)?;
-    }
-    let tree = reader.finish()?;
+    let tree = fed_by(&mut reader, text, size)?;
     Ok(tree.rows().len())
+}
+
+/// Whether the tree of four vertices was read.
+pub fn is_read(tree: Result<Tree<28>, DimacsError>, same: &Tree<28>) -> bool {
+    match tree {
+        Ok(tree) => tree.n() == 4 && tree.source() == 1 && tree.rows() == same.rows(),
+        Err(_) => false,
+    }
 }

@@ -1,4 +1,5 @@
 //! Trees of several pages.
+ghost use Rattle.std.specs.Prelude.{◌≤◌, ◌^◌};
 
 use sp_device::{UpToWriter, WriteFault};
 use sp_tree::{Tree, write_tree, write_tree_in_pages};
@@ -41,19 +42,33 @@ fn ends_of_pages(alloc: Global, text: &[u8]) -> Result<Vec<usize>, AllocError> {
     Ok(ends)
 }
 
+// Whether a tree is written in pages as it is line by line.
+fn is_same(alloc: Global, tree: &Tree<28>) -> bool {
+    let mut by_lines = UpToWriter::new(alloc, AMPLE, AMPLE);
+    let mut by_pages = UpToWriter::new(alloc, AMPLE, 50_000);
+    let told = write_tree(tree, &mut by_lines);
+    told == Ok(by_lines.taken().len() as u64)
+        && write_tree_in_pages(alloc, tree, &mut by_pages) == told
+        && by_pages.taken() == by_lines.taken()
+}
+
 #[test]
 fn same_bytes(rt: HostRuntime) -> Result<(), Fail> {
     let alloc = rt.alloc();
     for n in [1, 2, 600, 8199, 8200, 8201, 30_000] {
         let tree = tall(alloc, n)?;
-        let mut by_lines = UpToWriter::new(alloc, AMPLE, AMPLE);
-        let mut by_pages = UpToWriter::new(alloc, AMPLE, 50_000);
-        let told = write_tree(&tree, &mut by_lines);
-        assert_eq!(rt; told, Ok(by_lines.taken().len() as u64));
-        assert_eq!(rt; write_tree_in_pages(alloc, &tree, &mut by_pages), told);
-        assert_eq!(rt; by_pages.taken(), by_lines.taken());
+        assert!(rt; is_same(alloc, &tree));
     }
     Ok(())
+}
+
+// Whether a device that closes where it has no more room keeps so much of the text of a tree.
+fn stands(alloc: Global, tree: &Tree<28>, text: &[u8], room: usize) -> bool
+    requires { room ≤ 2 ^ 62 }
+{
+    let mut out = UpToWriter::new(alloc, room, AMPLE);
+    let told = write_tree_in_pages(alloc, tree, &mut out);
+    told == Err(WriteFault) && Some(out.taken()) == text.get(..room)
 }
 
 // Closes the device before and behind each place where a page ends.
@@ -65,16 +80,11 @@ fn closed_between_pages(rt: HostRuntime) -> Result<(), Fail> {
     assert!(rt; write_tree(&tree, &mut whole).is_ok());
     let text = whole.taken();
     let ends = ends_of_pages(alloc, text)?;
-    assert_eq!(rt; ends.len(), 4);
+    assert!(rt; ends.len() == 4);
     for end in ends {
         assert!(rt; end < AMPLE);
         for room in end..end + 3 {
-            let mut out = UpToWriter::new(alloc, room, AMPLE);
-            assert_eq!(rt;
-                write_tree_in_pages(alloc, &tree, &mut out),
-                Err(WriteFault)
-            );
-            assert_eq!(rt; Some(out.taken()), text.get(..room));
+            assert!(rt; stands(alloc, &tree, text, room));
         }
     }
     Ok(())
