@@ -2,58 +2,91 @@
 
 use sp_bucket::{Bins, Entry};
 use std::alloc::{AllocError, Global};
-use std::process::Abort;
 use std::test::Fail;
 
-// Takes out all entries of the next bucket, which must lie beyond the last one, and counts them by vertex.
+// Whether all of these entries lie in the bucket.
+fn lie_in(bins: &Bins, list: &[Entry], bucket: u64) -> bool {
+    for entry in list {
+        if bins.bucket_of(entry.dist) != bucket {
+            return false;
+        }
+    }
+    true
+}
+
+// Counts the entries by vertex.
+fn count(list: &[Entry], counts: &mut [u32]) {
+    for entry in list {
+        let vertex = entry.vertex as usize;
+        if vertex < counts.len() {
+            counts[vertex] = counts[vertex].saturating_add(1);
+        }
+    }
+}
+
+fn are_all_one(counts: &[u32]) -> bool {
+    for count in counts {
+        if *count != 1 {
+            return false;
+        }
+    }
+    true
+}
+
+// Takes out all entries of the bucket that is being emptied, and counts them. It tells whether there are some, and all of
+// them lie there.
 fn take_bucket(
-    rt: &impl Abort,
     alloc: Global,
     bins: &mut Bins,
     bucket: u64,
     counts: &mut [u32],
-) -> Result<usize, Fail> {
+) -> Result<bool, AllocError> {
     let mut list = Vec::new(alloc);
     bins.refill(&mut list)?;
-    assert!(rt; !list.is_empty());
-    for entry in &list {
-        assert_eq!(rt; bins.bucket_of(entry.dist), bucket);
-        if let Some(count) = counts.get_mut(entry.vertex as usize) {
-            *count = count.saturating_add(1);
-        }
-    }
-    Ok(list.len())
+    count(&list, counts);
+    Ok(!list.is_empty() && lie_in(bins, &list, bucket))
 }
 
-// Puts entries at these distances, and takes them out bucket by bucket.
-fn drain(rt: &impl Abort, alloc: Global, shift: u32, dists: &[u64]) -> Result<(), Fail> {
-    let mut bins = Bins::new(alloc, shift)?;
-    for (vertex, dist) in dists.iter().enumerate() {
-        let vertex = u32::try_from(vertex).unwrap_or(0);
+// Puts an entry at each of these distances, the vertices being numbered from 0.
+fn put_all(bins: &mut Bins, dists: &[u64]) -> Result<(), AllocError> {
+    let mut vertex = 0u32;
+    for dist in dists {
         bins.put(Entry {
             vertex,
             dist: *dist,
         })?;
+        vertex = vertex.saturating_add(1);
     }
-    let mut counts = vec![in alloc; 0; dists.len()]?;
-    let mut last = None;
-    for _ in 0..dists.len() {
-        let Some(bucket) = bins.advance()? else {
-            break;
-        };
-        assert!(rt; last.is_none_or(|before| before < bucket));
-        last = Some(bucket);
-        let taken = take_bucket(rt, alloc, &mut bins, bucket, &mut counts)?;
-        assert!(rt; taken > 0);
-    }
-    assert_eq!(rt; bins.advance()?, None);
-    assert!(rt; counts.iter().all(|count| *count == 1));
     Ok(())
 }
 
-#[test]
-fn entries_come_by_bucket(rt: HostRuntime) -> Result<(), Fail> {
-    let mut dists = Vec::new(rt.alloc());
+// Takes out so many entries, bucket by bucket, each bucket beyond the one before, and tells whether they come so.
+fn take_all(alloc: Global, bins: &mut Bins, entries: usize) -> Result<bool, AllocError> {
+    let mut counts = vec![in alloc; 0; entries]?;
+    let mut next = 0;
+    for _ in 0..entries {
+        let Some(bucket) = bins.advance()? else {
+            break;
+        };
+        if bucket < next || !take_bucket(alloc, bins, bucket, &mut counts)? {
+            return Ok(false);
+        }
+        next = bucket.saturating_add(1);
+    }
+    Ok(are_all_one(&counts))
+}
+
+// Whether entries at these distances come out bucket by bucket, and then none is left.
+fn drains(alloc: Global, shift: u32, dists: &[u64]) -> Result<bool, AllocError> {
+    let mut bins = Bins::new(alloc, shift)?;
+    put_all(&mut bins, dists)?;
+    let all = take_all(alloc, &mut bins, dists.len())?;
+    Ok(all && bins.advance()?.is_none())
+}
+
+// Distances of all magnitudes that look random.
+fn random_dists(alloc: Global) -> Result<Vec<u64>, AllocError> {
+    let mut dists = Vec::new(alloc);
     let mut state: u64 = 1;
     for place in 0..600u32 {
         state = state
@@ -61,8 +94,17 @@ fn entries_come_by_bucket(rt: HostRuntime) -> Result<(), Fail> {
             .wrapping_add(1442695040888963407);
         dists.push((state >> 20) >> (place % 44))?;
     }
+    Ok(dists)
+}
+
+#[test]
+fn entries_come_by_bucket(rt: HostRuntime) -> Result<(), Fail> {
+    let dists = random_dists(rt.alloc())?;
     for shift in [0, 3, 8, 30, 63] {
-        drain(&rt, rt.alloc(), shift, &dists)?;
+        assert!(rt;
+            drains(rt.alloc(), shift, &dists)?,
+            "width 2 to the power of {shift}"
+        );
     }
     Ok(())
 }
@@ -81,24 +123,31 @@ fn neighbouring_and_far_buckets(rt: HostRuntime) -> Result<(), Fail> {
         17592186044414,
         17592186044414,
     ];
-    drain(&rt, rt.alloc(), 0, &dists)?;
-    drain(&rt, rt.alloc(), 4, &dists)
+    assert!(rt; drains(rt.alloc(), 0, &dists)?);
+    assert!(rt; drains(rt.alloc(), 4, &dists)?);
+    Ok(())
 }
 
-#[test]
-fn entries_below_the_lowest_come_at_once(rt: HostRuntime) -> Result<(), Fail> {
-    let mut bins = Bins::new(rt.alloc(), 0)?;
+// Puts an entry below the lowest bucket, and one above it. It tells which buckets come, and what the first of them gives.
+fn take_below_the_lowest(alloc: Global) -> Result<([Option<u64>; 2], Vec<Entry>), AllocError> {
+    let mut bins = Bins::new(alloc, 0)?;
     bins.open(1000, 0);
     bins.put(Entry { vertex: 1, dist: 7 })?;
     bins.put(Entry {
         vertex: 2,
         dist: 1001,
     })?;
-    assert_eq!(rt; bins.advance()?, Some(1000));
-    let mut list = Vec::new(rt.alloc());
+    let first = bins.advance()?;
+    let mut list = Vec::new(alloc);
     bins.refill(&mut list)?;
-    assert!(rt; list.iter().all(|entry| entry.vertex == 1) && list.len() == 1);
-    assert_eq!(rt; bins.advance()?, Some(1001));
+    Ok(([first, bins.advance()?], list))
+}
+
+#[test]
+fn entries_below_the_lowest_come_at_once(rt: HostRuntime) -> Result<(), Fail> {
+    let (buckets, list) = take_below_the_lowest(rt.alloc())?;
+    assert!(rt; buckets == [Some(1000), Some(1001)]);
+    assert!(rt; list.as_slice() == [Entry { vertex: 1, dist: 7 }].as_slice());
     Ok(())
 }
 
@@ -107,47 +156,75 @@ fn put_head(bins: &mut Bins, dist: u64, length: u64) -> Result<(), AllocError> {
     bins.put_head(Entry { vertex: 1, dist }, dist.saturating_sub(length))
 }
 
-// Where most heads fall into their tail's bucket, the buckets become narrower; where none does, wider.
-#[test]
-fn buckets_find_their_width(rt: HostRuntime) -> Result<(), Fail> {
-    let mut bins = Bins::new(rt.alloc(), 20)?;
+// Puts a thousand heads, all of them into their tail's bucket.
+fn put_near_heads(bins: &mut Bins) -> Result<(), AllocError> {
     for dist in 1..1001u64 {
-        put_head(&mut bins, dist, 1)?;
+        put_head(bins, dist, 1)?;
     }
-    bins.adjust()?;
-    assert_eq!(rt; bins.shift(), 16);
+    Ok(())
+}
+
+// Puts one head less than a thousand, none of them into its tail's bucket.
+fn put_far_heads(bins: &mut Bins) -> Result<(), AllocError> {
     for bucket in 1..1000u64 {
-        put_head(&mut bins, bucket << 16, 1)?;
+        put_head(bins, bucket << 16, 1)?;
     }
-    // a thousand entries were moved, and so many more have to be put first
+    Ok(())
+}
+
+// The width after a thousand near heads, after one head less that is far, and after one more.
+fn widths(alloc: Global) -> Result<[u32; 3], AllocError> {
+    let mut bins = Bins::new(alloc, 20)?;
+    put_near_heads(&mut bins)?;
     bins.adjust()?;
-    assert_eq!(rt; bins.shift(), 16);
+    let narrow = bins.shift();
+    put_far_heads(&mut bins)?;
+    bins.adjust()?;
+    let same = bins.shift();
     put_head(&mut bins, 1000 << 16, 1)?;
     bins.adjust()?;
-    assert_eq!(rt; bins.shift(), 17);
+    Ok([narrow, same, bins.shift()])
+}
+
+// Where most heads fall into their tail's bucket, the buckets become narrower; where none does, wider. For the first width a
+// thousand entries are moved, and so many more have to be put before the next.
+#[test]
+fn buckets_find_their_width(rt: HostRuntime) -> Result<(), Fail> {
+    assert!(rt; widths(rt.alloc())? == [16, 16, 17]);
     Ok(())
+}
+
+// Bins with a thousand entries of heads near their tails.
+fn bins_of_heads(alloc: Global) -> Result<Bins, AllocError> {
+    let mut bins = Bins::new(alloc, 30)?;
+    for dist in 0..1000u64 {
+        put_head(&mut bins, 1 + dist * 7919 % 1000, 1)?;
+    }
+    Ok(bins)
+}
+
+// Empties the bins, whose width may change before each bucket, and counts the entries: 0 where one comes out of its bucket.
+fn count_while_adjusted(alloc: Global, bins: &mut Bins) -> Result<usize, AllocError> {
+    let mut list = Vec::new(alloc);
+    let mut seen = 0usize;
+    for _ in 0..2000 {
+        bins.adjust()?;
+        bins.refill(&mut list)?;
+        if !lie_in(bins, &list, bins.bucket_of(bins.start())) {
+            return Ok(0);
+        }
+        seen = seen.saturating_add(list.len());
+        if bins.advance()?.is_none() {
+            break;
+        }
+    }
+    Ok(seen)
 }
 
 // No entry is lost where the width changes, and they still come by bucket.
 #[test]
 fn a_change_of_width_loses_nothing(rt: HostRuntime) -> Result<(), Fail> {
-    let mut bins = Bins::new(rt.alloc(), 30)?;
-    for dist in 0..1000u64 {
-        put_head(&mut bins, 1 + dist * 7919 % 1000, 1)?;
-    }
-    let mut list = Vec::new(rt.alloc());
-    let mut seen = 0u64;
-    for _ in 0..2000 {
-        bins.adjust()?;
-        bins.refill(&mut list)?;
-        for entry in &list {
-            assert!(rt; bins.bucket_of(entry.dist) == bins.bucket_of(bins.start()));
-            seen = seen.saturating_add(1);
-        }
-        if bins.advance()?.is_none() {
-            break;
-        }
-    }
-    assert_eq!(rt; seen, 1000);
+    let mut bins = bins_of_heads(rt.alloc())?;
+    assert!(rt; count_while_adjusted(rt.alloc(), &mut bins)? == 1000);
     Ok(())
 }

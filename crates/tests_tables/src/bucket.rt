@@ -1,115 +1,92 @@
+//! Entries in buckets, and the length of their ring.
+ghost use Rattle.std.specs.Prelude.{◌<◌};
+
 use sp_bucket::{Buckets, Entry};
-use std::process::Abort;
+use std::alloc::{AllocError, Global};
 use std::test::Fail;
 
 fn entry(vertex: u32, dist: u64) -> Entry {
     Entry { vertex, dist }
 }
 
-// Lowest buckets and what is taken of them, of three entries with width 3.
-fn three_entries(rt: &impl Abort, buckets: Buckets) -> Result<(), Fail> {
-    let mut buckets = buckets;
-    for queued in [entry(2, 4), entry(7, 5), entry(9, 6)] {
-        buckets.put(queued)?;
+fn put_all(buckets: &mut Buckets, entries: &[Entry]) -> Result<(), AllocError> {
+    for queued in entries {
+        buckets.put(*queued)?;
     }
-    assert_eq!(rt; buckets.lowest(), Some(1));
-    let taken = buckets.take(1);
-    assert!(rt; taken.len() == 2 && taken.contains(&entry(2, 4)) && taken.contains(&entry(7, 5)));
-    assert_eq!(rt; buckets.take(1).len(), 0);
-    assert_eq!(rt; buckets.lowest(), Some(2));
-    assert_eq!(rt; buckets.take(2).as_slice(), [entry(9, 6)].as_slice());
-    assert_eq!(rt; buckets.lowest(), None);
     Ok(())
+}
+
+// Whether this is the lowest bucket, of which exactly this entry is taken.
+fn gives_one(buckets: &mut Buckets, bucket: u64, want: Entry) -> bool {
+    let is_lowest = buckets.lowest() == Some(bucket);
+    let taken = buckets.take(bucket);
+    is_lowest && taken.as_slice() == [want].as_slice()
+}
+
+// Whether the lowest buckets, and the entries of them, are these in turn.
+fn give_in_turn(buckets: &mut Buckets, wanted: &[(u64, Entry)]) -> bool {
+    for (bucket, want) in wanted {
+        if !gives_one(buckets, *bucket, *want) {
+            return false;
+        }
+    }
+    true
+}
+
+// Whether these two entries, in either order, are taken of the bucket, and then none.
+fn gives_two(buckets: &mut Buckets, bucket: u64, one: Entry, other: Entry) -> bool {
+    let taken = buckets.take(bucket);
+    let again = buckets.take(bucket);
+    again.is_empty() && taken.len() == 2 && taken.contains(&one) && taken.contains(&other)
+}
+
+// Whether three entries come out of buckets of width 3 as they should.
+fn takes_three(mut buckets: Buckets) -> Result<bool, AllocError> {
+    put_all(&mut buckets, &[entry(2, 4), entry(7, 5), entry(9, 6)])?;
+    let first = buckets.lowest() == Some(1);
+    let two = gives_two(&mut buckets, 1, entry(2, 4), entry(7, 5));
+    let one = gives_one(&mut buckets, 2, entry(9, 6));
+    Ok(first && two && one && buckets.lowest().is_none())
 }
 
 #[test]
 fn buckets(rt: HostRuntime) -> Result<(), Fail> {
-    three_entries(&rt, Buckets::new(rt.alloc(), 3))?;
-    three_entries(&rt, Buckets::with_longest(rt.alloc(), 3, 7)?)?;
-    three_entries(&rt, Buckets::with_longest(rt.alloc(), 3, 0)?)
+    assert!(rt; takes_three(Buckets::new(rt.alloc(), 3))?);
+    assert!(rt; takes_three(Buckets::with_longest(rt.alloc(), 3, 7)?)?);
+    assert!(rt; takes_three(Buckets::with_longest(rt.alloc(), 3, 0)?)?);
+    Ok(())
+}
+
+// How many buckets the ring has for a width and a longest arc, if there is one.
+fn ring_len(alloc: Global, delta: u64, longest: u64) -> Result<Option<u32>, AllocError>
+    requires { 0 < delta }
+{
+    let buckets = Buckets::with_longest(alloc, delta, longest)?;
+    Ok(buckets.ring_len())
 }
 
 #[test]
-fn ring_of_buckets(rt: HostRuntime) -> Result<(), Fail> {
+fn ring_of_buckets(rt: HostRuntime) {
     let alloc = rt.alloc();
-    let longest = 4_294_967_295;
-    assert_eq!(rt;
-        Buckets::with_longest(alloc, 65_537, longest)?.ring_len(),
-        Some(65_536)
-    );
-    assert_eq!(rt;
-        Buckets::with_longest(alloc, 65_536, longest)?.ring_len(),
-        None
-    );
-    assert_eq!(rt; Buckets::with_longest(alloc, 3, 7)?.ring_len(), Some(4));
-    assert_eq!(rt; Buckets::with_longest(alloc, 3, 0)?.ring_len(), Some(1));
-    assert_eq!(rt; Buckets::new(alloc, 3).ring_len(), None);
-    Ok(())
+    assert!(rt; ring_len(alloc, 65_537, 4_294_967_295) == Ok(Some(65_536)));
+    assert!(rt; ring_len(alloc, 65_536, 4_294_967_295) == Ok(None));
+    assert!(rt; ring_len(alloc, 3, 7) == Ok(Some(4)));
+    assert!(rt; ring_len(alloc, 3, 0) == Ok(Some(1)));
+}
+
+// Whether entries within the window of a ring, and beyond it, come out as they should.
+fn takes_outside_the_window(mut buckets: Buckets) -> Result<bool, AllocError> {
+    put_all(&mut buckets, &[entry(1, 0), entry(2, 8), entry(3, 30)])?;
+    let first = give_in_turn(&mut buckets, &[(0, entry(1, 0)), (2, entry(2, 8))]);
+    let far = buckets.lowest() == Some(10);
+    buckets.put(entry(4, 1))?;
+    let last = give_in_turn(&mut buckets, &[(0, entry(4, 1)), (10, entry(3, 30))]);
+    Ok(first && far && last && buckets.lowest().is_none())
 }
 
 #[test]
 fn outside_the_window(rt: HostRuntime) -> Result<(), Fail> {
-    let mut buckets = Buckets::with_longest(rt.alloc(), 3, 7)?;
-    for queued in [entry(1, 0), entry(2, 8), entry(3, 30)] {
-        buckets.put(queued)?;
-    }
-    assert_eq!(rt; buckets.lowest(), Some(0));
-    assert_eq!(rt; buckets.take(0).as_slice(), [entry(1, 0)].as_slice());
-    assert_eq!(rt; buckets.lowest(), Some(2));
-    assert_eq!(rt; buckets.take(2).as_slice(), [entry(2, 8)].as_slice());
-    assert_eq!(rt; buckets.lowest(), Some(10));
-    buckets.put(entry(4, 1))?;
-    assert_eq!(rt; buckets.lowest(), Some(0));
-    assert_eq!(rt; buckets.take(0).as_slice(), [entry(4, 1)].as_slice());
-    assert_eq!(rt; buckets.take(10).as_slice(), [entry(3, 30)].as_slice());
-    assert_eq!(rt; buckets.lowest(), None);
-    Ok(())
-}
-
-#[test]
-fn greatest_distance(rt: HostRuntime) -> Result<(), Fail> {
-    let mut buckets = Buckets::with_longest(rt.alloc(), 1, 0)?;
-    buckets.put(entry(1, u64::MAX))?;
-    assert_eq!(rt; buckets.take(u64::MAX - 1).len(), 0);
-    buckets.put(entry(2, u64::MAX))?;
-    assert_eq!(rt; buckets.lowest(), Some(u64::MAX));
-    assert_eq!(rt; buckets.take(u64::MAX).len(), 2);
-    Ok(())
-}
-
-// Both have the same lowest bucket, and the same entries are taken out of it.
-fn same_lowest(rt: &impl Abort, map: &mut Buckets, ring: &mut Buckets) {
-    assert_eq!(rt; map.lowest(), ring.lowest());
-    let Some(lowest) = map.lowest() else {
-        return;
-    };
-    let one = map.take(lowest);
-    let other = ring.take(lowest);
-    assert_eq!(rt; one.len(), other.len());
-    for queued in &one {
-        assert!(rt; other.contains(queued));
-    }
-}
-
-#[test]
-fn map_and_ring_alike(rt: HostRuntime) -> Result<(), Fail> {
-    let mut map = Buckets::new(rt.alloc(), 5);
-    let mut ring = Buckets::with_longest(rt.alloc(), 5, 60)?;
-    let mut random = 1u64;
-    for vertex in 0..4_000 {
-        random = random
-            .wrapping_mul(6_364_136_223_846_793_005)
-            .wrapping_add(1_442_695_040_888_963_407);
-        let queued = entry(vertex, (random >> 33) % 300);
-        map.put(queued)?;
-        ring.put(queued)?;
-        if (random >> 60) < 3 {
-            same_lowest(&rt, &mut map, &mut ring);
-        }
-    }
-    for _ in 0..61 {
-        same_lowest(&rt, &mut map, &mut ring);
-    }
-    assert_eq!(rt; (map.lowest(), ring.lowest()), (None, None));
+    let buckets = Buckets::with_longest(rt.alloc(), 3, 7)?;
+    assert!(rt; takes_outside_the_window(buckets)?);
     Ok(())
 }

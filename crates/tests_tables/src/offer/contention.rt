@@ -1,11 +1,10 @@
 //! Many threads on few vertices.
 ghost use Rattle.std.specs.Prelude.{◌≡◌, ℕ, ◌+◌, ◌<◌, ◌≤◌, IfSome};
 
-use sp_offer::{AnyWord, Caller, Loop, OfferTable, OneMin};
+use sp_offer::{AnyWord, Caller, Loop, Lowering, OfferTable, OneMin};
 use sp_word::Word;
 use std::sync::Wait;
 use std::sync::atomic::{AtomicU64, Ordering};
-use std::test::Fail;
 use std::thread::{Threads, join};
 
 const OFFERS: u32 = 100_000;
@@ -45,63 +44,56 @@ fn offer_of(k: u32, j: u32) -> (u32, u64, u32)
     (j % 3 + 1, (101_000 - j + mixed) as u64, mixed % 17 + k + 1)
 }
 
-// The offers of thread k, by Loop where k is even and by OneMin where it is odd; and the tries.
-fn offer_all(
+// The offers of thread k.
+fn offer_all<M: Lowering>(
     table: &OfferTable<AnyWord, 28>,
     start: &StartingLine,
     mut me: Caller,
     k: u32,
-) -> (Caller, u64)
+) -> Caller
     requires caller { me.table ≡ table.now.id }
     requires three { table.now.vertices ≡ 3 }
     requires few { k < 8 }
-    ensures { result.0.table ≡ me.table }
+    ensures { result.table ≡ me.table }
 {
     start.wait();
-    let mut tries = 0u64;
     for j in 0..OFFERS {
         let (vertex, dist, pred) = offer_of(k, j);
-        let word = Word::pack(dist, pred);
-        let answer = if k % 2 == 0 {
-            table.offer_by::<Loop>(&mut me, vertex, word)
-        } else {
-            table.offer_by::<OneMin>(&mut me, vertex, word)
-        };
-        tries = tries.wrapping_add(answer.tries);
+        table.offer_by::<M>(&mut me, vertex, Word::pack(dist, pred));
     }
-    (me, tries)
+    me
 }
 
+// Threads k and k + 1, the first by Loop and the second by OneMin.
 fn by_two<R: Threads + Wait + Sync>(
     rt: &R,
     table: &OfferTable<AnyWord, 28>,
     start: &StartingLine,
     me: Caller,
     k: u32,
-) -> Option<(Caller, u64)>
+) -> Option<Caller>
     requires caller { me.table ≡ table.now.id }
     requires three { table.now.vertices ≡ 3 }
     requires few { k + 2 ≤ 8 }
-    ensures { IfSome result (λ r. r.0.table ≡ table.now.id) }
+    ensures { IfSome result (λ r. r.table ≡ table.now.id) }
 {
     let (one, two) = table.split(me).ok()?;
     let (one, two) = join(
         rt,
-        || -> (Caller, u64)
+        || -> Caller
             requires caller { one.table ≡ table.now.id }
             requires three { table.now.vertices ≡ 3 }
             requires few { k + 2 ≤ 8 }
-            ensures { result.0.table ≡ table.entry.now.id }
-        { offer_all(table, start, one, k) },
-        || -> (Caller, u64)
+            ensures { result.table ≡ table.entry.now.id }
+        { offer_all::<Loop>(table, start, one, k) },
+        || -> Caller
             requires caller { two.table ≡ table.now.id }
             requires three { table.now.vertices ≡ 3 }
             requires few { k + 2 ≤ 8 }
-            ensures { result.0.table ≡ table.entry.now.id }
-        { offer_all(table, start, two, k + 1) },
+            ensures { result.table ≡ table.entry.now.id }
+        { offer_all::<OneMin>(table, start, two, k + 1) },
     );
-    let ((one, a), (two, b)) = (one, two);
-    Some((table.join(one, two), a.wrapping_add(b)))
+    Some(table.join(one, two))
 }
 
 fn by_four<R: Threads + Wait + Sync>(
@@ -110,30 +102,29 @@ fn by_four<R: Threads + Wait + Sync>(
     start: &StartingLine,
     me: Caller,
     k: u32,
-) -> Option<(Caller, u64)>
+) -> Option<Caller>
     requires caller { me.table ≡ table.now.id }
     requires three { table.now.vertices ≡ 3 }
     requires few { k + 4 ≤ 8 }
-    ensures { IfSome result (λ r. r.0.table ≡ table.now.id) }
+    ensures { IfSome result (λ r. r.table ≡ table.now.id) }
 {
     let (one, two) = table.split(me).ok()?;
     let (one, two) = join(
         rt,
-        || -> Option<(Caller, u64)>
+        || -> Option<Caller>
             requires caller { one.table ≡ table.now.id }
             requires three { table.now.vertices ≡ 3 }
             requires few { k + 4 ≤ 8 }
-            ensures { IfSome result (λ r. r.0.table ≡ table.entry.now.id) }
+            ensures { IfSome result (λ r. r.table ≡ table.entry.now.id) }
         { by_two::<R>(rt, table, start, one, k) },
-        || -> Option<(Caller, u64)>
+        || -> Option<Caller>
             requires caller { two.table ≡ table.now.id }
             requires three { table.now.vertices ≡ 3 }
             requires few { k + 4 ≤ 8 }
-            ensures { IfSome result (λ r. r.0.table ≡ table.entry.now.id) }
+            ensures { IfSome result (λ r. r.table ≡ table.entry.now.id) }
         { by_two::<R>(rt, table, start, two, k + 2) },
     );
-    let ((one, a), (two, b)) = (one?, two?);
-    Some((table.join(one, two), a.wrapping_add(b)))
+    Some(table.join(one?, two?))
 }
 
 fn by_eight<R: Threads + Wait + Sync>(
@@ -142,30 +133,29 @@ fn by_eight<R: Threads + Wait + Sync>(
     start: &StartingLine,
     me: Caller,
     k: u32,
-) -> Option<(Caller, u64)>
+) -> Option<Caller>
     requires caller { me.table ≡ table.now.id }
     requires three { table.now.vertices ≡ 3 }
     requires few { k + 8 ≤ 8 }
-    ensures { IfSome result (λ r. r.0.table ≡ table.now.id) }
+    ensures { IfSome result (λ r. r.table ≡ table.now.id) }
 {
     let (one, two) = table.split(me).ok()?;
     let (one, two) = join(
         rt,
-        || -> Option<(Caller, u64)>
+        || -> Option<Caller>
             requires caller { one.table ≡ table.now.id }
             requires three { table.now.vertices ≡ 3 }
             requires few { k + 8 ≤ 8 }
-            ensures { IfSome result (λ r. r.0.table ≡ table.entry.now.id) }
+            ensures { IfSome result (λ r. r.table ≡ table.entry.now.id) }
         { by_four::<R>(rt, table, start, one, k) },
-        || -> Option<(Caller, u64)>
+        || -> Option<Caller>
             requires caller { two.table ≡ table.now.id }
             requires three { table.now.vertices ≡ 3 }
             requires few { k + 8 ≤ 8 }
-            ensures { IfSome result (λ r. r.0.table ≡ table.entry.now.id) }
+            ensures { IfSome result (λ r. r.table ≡ table.entry.now.id) }
         { by_four::<R>(rt, table, start, two, k + 4) },
     );
-    let ((one, a), (two, b)) = (one?, two?);
-    Some((table.join(one, two), a.wrapping_add(b)))
+    Some(table.join(one?, two?))
 }
 
 // The least distance, and of that the least predecessor, that the first threads offer to a vertex.
@@ -184,25 +174,43 @@ fn least(threads: u32, vertex: u32) -> (u64, u32)
     best
 }
 
-#[test]
-fn contention(rt: HostRuntime) -> Result<(), Fail> {
-    for threads in [2u32, 4, 8] {
-        let (table, me) = OfferTable::<AnyWord, 28>::new(rt.alloc(), 3, AnyWord)?;
-        let start = StartingLine::new(threads as u64);
-        let run = match threads {
-            2 => by_two(&rt, &table, &start, me, 0),
-            4 => by_four(&rt, &table, &start, me, 0),
-            _ => by_eight(&rt, &table, &start, me, 0),
-        };
-        let (mut me, tries) = run.ok_or("split refused")?;
-        let mut words = [Word::unreached(); 3];
-        table.copy_words(&mut me, &mut words);
-        for vertex in 1..4u32 {
-            let (dist, pred) = least(threads.min(8), vertex);
-            let word = words[vertex as usize - 1];
-            assert_eq!(rt; (word.dist(), word.pred()), (Some(dist), Some(pred)));
+// The words that so many threads leave: 2, 4 or 8.
+fn words_left<R: Threads + Wait + Sync + AllocGlobal>(
+    rt: &R,
+    threads: u32,
+) -> Option<[Word<28>; 3]> {
+    let (table, me) = OfferTable::<AnyWord, 28>::new(rt.alloc(), 3, AnyWord).ok()?;
+    let start = StartingLine::new(u64::from(threads));
+    let mut me = match threads {
+        2 => by_two(rt, &table, &start, me, 0),
+        4 => by_four(rt, &table, &start, me, 0),
+        _ => by_eight(rt, &table, &start, me, 0),
+    }?;
+    let mut words = [Word::unreached(); 3];
+    table.copy_words(&mut me, &mut words);
+    Some(words)
+}
+
+// Whether the words are the least that the first threads offer.
+fn are_least(threads: u32, words: [Word<28>; 3]) -> bool
+    requires { threads ≤ 8 }
+{
+    for place in 0..3usize {
+        let (dist, pred) = least(threads, place as u32 + 1);
+        if (words[place].dist(), words[place].pred()) != (Some(dist), Some(pred)) {
+            return false;
         }
-        println!(rt; "{threads} threads: {tries} tries")?;
     }
-    Ok(())
+    true
+}
+
+#[test]
+fn contention(rt: HostRuntime) {
+    for threads in [2u32, 4, 8] {
+        let left = words_left(&rt, threads);
+        assert!(rt;
+            left.is_some_and(|words| are_least(threads.min(8), words)),
+            "{threads} threads"
+        );
+    }
 }

@@ -76,6 +76,6 @@ fn a_law_that_borrows(rt: HostRuntime) -> Result<(), Fail> {
     let mut me = offer_both(&rt, &table, me, Word::pack(5, 1), Word::pack(3, 2)).ok_or(
         "split refused",
     )?;
-    assert_eq!(rt; table.read(&mut me, 1), Word::pack(3, 2));
+    assert!(rt; table.read(&mut me, 1) == Word::pack(3, 2));
     Ok(())
 }

@@ -56,7 +56,7 @@ fn offer_by_both<R: Threads + Wait + Sync>(
 fn one_step_lowering(rt: HostRuntime) -> Result<(), Fail> {
     let (table, me) = OfferTable::<AnyWord, 28>::new(rt.alloc(), 1, AnyWord)?;
     let mut me = offer_by_both(&rt, &table, me).ok_or("split refused")?;
-    assert_eq!(rt; table.read(&mut me, 1), Word::pack(7, 2));
+    assert!(rt; table.read(&mut me, 1) == Word::pack(7, 2));
     Ok(())
 }
 
@@ -137,6 +137,6 @@ fn four_callers_with_mixed_lowerings(rt: HostRuntime) -> Result<(), Fail> {
     let mut words = [Word::unreached()];
     table.copy_words(&mut me, &mut words);
     let [word] = words;
-    assert_eq!(rt; word, Word::pack(37, 4));
+    assert!(rt; word == Word::pack(37, 4));
     Ok(())
 }
