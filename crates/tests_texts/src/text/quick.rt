@@ -1,7 +1,7 @@
 //! Lines in the usual spelling and in others, whole and cut at each byte.
 ghost use Rattle.std.specs.Prelude.{◌<◌, ◌≤◌, ◌^◌, length};
 
-use super::entries::{Entry, new_reader, read_quickly};
+use super::entries::{Entry, Reader, new_reader, read_quickly};
 use crate::answers::fault;
 use sp_device::UpTo;
 use sp_text::{DimacsError, Kind};
@@ -18,6 +18,12 @@ const NONE: &[u8] = b"p sp 2 0\n";
 
 type Answer = Result<Option<Entry>, DimacsError>;
 
+// The first item of the text that a reader was fed.
+fn first_item(reader: &mut Reader) -> Answer {
+    let entries = reader.finish()?;
+    Ok(entries.first().copied())
+}
+
 // The item of a line behind a problem line, where the line comes in these two pieces.
 fn cut_at(alloc: Global, problem: &[u8], line: &[u8], end: usize) -> Answer
     requires { end ≤ length line.now }
@@ -27,21 +33,23 @@ fn cut_at(alloc: Global, problem: &[u8], line: &[u8], end: usize) -> Answer
     reader.feed(problem)?;
     reader.feed(front)?;
     reader.feed(back)?;
-    let entries = reader.finish()?;
-    Ok(entries.first().copied())
+    first_item(&mut reader)
 }
 
-// The same, where each byte comes by itself.
+// Feeds a reader each byte by itself.
+fn feed_singly(reader: &mut Reader, text: &[u8]) -> Result<(), DimacsError> {
+    for byte in text.chunks(1) {
+        reader.feed(byte)?;
+    }
+    Ok(())
+}
+
+// The item of a line behind a problem line, where each byte comes by itself.
 fn singly(alloc: Global, problem: &[u8], line: &[u8]) -> Answer {
     let mut reader = new_reader(alloc);
-    for byte in problem.chunks(1) {
-        reader.feed(byte)?;
-    }
-    for byte in line.chunks(1) {
-        reader.feed(byte)?;
-    }
-    let entries = reader.finish()?;
-    Ok(entries.first().copied())
+    feed_singly(&mut reader, problem)?;
+    feed_singly(&mut reader, line)?;
+    first_item(&mut reader)
 }
 
 // Behind a line with its LF: there are enough bytes for the line to be read at once.
@@ -83,23 +91,19 @@ fn is_passed(alloc: Global, problem: &[u8], line: &[u8], whole: &Answer) -> bool
     true
 }
 
-// The item of a line, if it is the same however the line is cut, and read.
-fn item(alloc: Global, problem: &[u8], line: &[u8]) -> Option<Answer> {
-    let whole = cut_at(alloc, problem, line, 0);
-    for end in 1..line.len() {
-        if cut_at(alloc, problem, line, end) != whole {
-            return None;
+// Whether this is the item of a line, however the line is cut, and read.
+fn is_item(alloc: Global, problem: &[u8], line: &[u8], want: &Answer) -> bool {
+    for end in 0..line.len() {
+        if cut_at(alloc, problem, line, end) != *want {
+            return false;
         }
     }
-    if singly(alloc, problem, line) != whole || !is_passed(alloc, problem, line, &whole) {
-        return None;
-    }
-    Some(whole)
+    singly(alloc, problem, line) == *want && is_passed(alloc, problem, line, want)
 }
 
 // The line behind the problem line has this fault.
-fn refused(kind: Kind) -> Option<Answer> {
-    Some(Err(fault(2, kind)))
+fn refused(kind: Kind) -> Answer {
+    Err(fault(2, kind))
 }
 
 #[test]
@@ -146,11 +150,7 @@ fn few_and_many_digits(rt: HostRuntime) {
             (1, 1, 68_719_476_734, 268_435_454),
         ),
     ] {
-        assert_eq!(rt;
-            item(a, problem, line),
-            Some(Ok(Some(entry))),
-            "in {line:?}"
-        );
+        assert!(rt; is_item(a, problem, line, &Ok(Some(entry))), "in {line:?}");
     }
 }
 
@@ -174,13 +174,14 @@ fn too_great_and_too_small(rt: HostRuntime) {
         (NONE, b"i 1 0 268435455\n", b'P'),
     ] {
         let want = refused(Kind::OutOfRange(letter));
-        assert_eq!(rt; item(a, problem, line), want, "in {line:?}");
+        assert!(rt; is_item(a, problem, line, &want), "in {line:?}");
     }
 }
 
 #[test]
 fn leading_zeros(rt: HostRuntime) {
     let a = rt.alloc();
+    let bad = refused(Kind::BadLine);
     for (problem, line) in [
         (NONE, b"i 1 0 00\n".as_slice()),
         (NONE, b"i 1 00 0\n"),
@@ -190,11 +191,7 @@ fn leading_zeros(rt: HostRuntime) {
         (SEVEN, b"a 0000001 2 3\n"),
         (SEVEN, b"a 00000001 2 3\n"),
     ] {
-        assert_eq!(rt;
-            item(a, problem, line),
-            refused(Kind::BadLine),
-            "in {line:?}"
-        );
+        assert!(rt; is_item(a, problem, line, &bad), "in {line:?}");
     }
 }
 
@@ -202,7 +199,7 @@ fn leading_zeros(rt: HostRuntime) {
 fn blanks_and_ends(rt: HostRuntime) {
     let a = rt.alloc();
     let bad = refused(Kind::BadLine);
-    let good = Some(Ok(Some((0, 12, 345, 6_789))));
+    let good = Ok(Some((0, 12, 345, 6_789)));
     for (line, want) in [
         (b"a 12 345 6789\n".as_slice(), good),
         (b"a 12 345 6789", good),
@@ -220,13 +217,14 @@ fn blanks_and_ends(rt: HostRuntime) {
         (b"a 12\r 345 6789\n", bad),
         (b"a 12 345 6789\x0b\n", bad),
     ] {
-        assert_eq!(rt; item(a, SEVEN, line), want, "in {line:?}");
+        assert!(rt; is_item(a, SEVEN, line, &want), "in {line:?}");
     }
 }
 
 #[test]
 fn other_spellings(rt: HostRuntime) {
     let a = rt.alloc();
+    let bad = refused(Kind::BadLine);
     for line in [
         b"a 12 345\n".as_slice(),
         b"a 12 345 6789 1\n",
@@ -246,12 +244,12 @@ fn other_spellings(rt: HostRuntime) {
         b"a 12 345 12345678x\n",
         b"a 12 345 \xb1\xb2\n",
     ] {
-        assert_eq!(rt; item(a, SEVEN, line), refused(Kind::BadLine), "in {line:?}");
+        assert!(rt; is_item(a, SEVEN, line, &bad), "in {line:?}");
     }
 }
 
 #[test]
 fn second_problem_line(rt: HostRuntime) {
-    let told = item(rt.alloc(), SEVEN, b"p sp 2 1\n");
-    assert!(rt; told == refused(Kind::SecondProblem));
+    let want = refused(Kind::SecondProblem);
+    assert!(rt; is_item(rt.alloc(), SEVEN, b"p sp 2 1\n", &want));
 }
