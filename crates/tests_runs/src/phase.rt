@@ -1,6 +1,5 @@
 //! Runs on small graphs, for several numbers of workers and widths of a bucket.
-ghost use Rattle.std.specs.Prelude.{◌≡◌, ◌≤◌, true, IfOk};
-ghost use Rattle.sp_word.specs.Word.{is_layout};
+ghost use Rattle.std.specs.Prelude.{◌≡◌, ◌≤◌, IfOk};
 
 use sp_graph::Graph;
 use sp_offer::Caller;
@@ -8,14 +7,14 @@ use sp_phase::{RunError, Store, run_source, run_source_with};
 use sp_task::OpenGate;
 use sp_team::Team;
 use sp_tree::Tree;
-use sp_word::{Delta, Meter, Word, Workers};
+use sp_word::{Delta, Meter, Workers};
+use std::alloc::{AllocError, Global};
 use std::process::Abort;
 use std::sync::Wait;
 use std::test::Fail;
 use std::thread::Threads;
-use tests_samples::{DIAMOND, DIAMOND_ROWS, Triple, long_path};
+use tests_samples::{DIAMOND, DIAMOND_ROWS, Triple, graph_of, long_path};
 
-mod compare;
 mod lending;
 mod meeting;
 mod pairs;
@@ -26,13 +25,11 @@ mod watching;
 
 const WORKERS: [u32; 3] = [1, 2, 64];
 
-// The graph of arcs that are given by tail, head and length.
-fn graph_of(rt: &(impl Abort + AllocGlobal), n: u32, arcs: &[Triple]) -> Result<Graph, Fail>
-    ensures { IfOk result (λ graph. graph.n ≤ 10000) }
-{
-    assert!(rt; 1 <= n && n <= 10_000);
-    Ok(tests_samples::graph_of(rt.alloc(), n, arcs)?)
-}
+// A row of a tree: vertex, distance, predecessor.
+type Row = (u32, u64, u32);
+
+// What is told of a run: the rows of the tree, or why there is none.
+type Told<'w> = Result<&'w [Row], RunError>;
 
 // So many workers.
 pub(crate) fn crew(rt: &impl Abort, number: u32) -> Workers {
@@ -40,43 +37,38 @@ pub(crate) fn crew(rt: &impl Abort, number: u32) -> Workers {
 }
 
 // Buckets so wide.
-fn width<const P: u32>(rt: &impl Abort, width: u64) -> Delta<P>
-    requires { is_layout P ≡ true }
-{
+fn width(rt: &impl Abort, width: u64) -> Delta<28> {
     Delta::new(width).expect(rt, "a width in range")
 }
 
 // What a run tells, every round of which is shared among the workers.
-fn run<const P: u32>(
+fn run(
     rt: &(impl Abort + AllocGlobal + Threads + Wait + Sync),
     graph: &Graph,
     delta: u64,
     workers: u32,
     source: u32,
-) -> Result<Tree<P>, RunError>
-    requires { is_layout P ≡ true }
+) -> Result<Tree<28>, RunError>
+    requires { graph.now.n ≤ 10000 }
 {
-    assert!(rt; graph.n() <= Word::<P>::max_pred());
     let (delta, workers) = (width(rt, delta), crew(rt, workers));
     run_source_with(rt, rt.alloc(), graph, delta, workers, source, &OpenGate)
 }
 
-// The same, by a team that lasts.
-fn run_by_team<const P: u32>(
+// The same, by a team that lasts, which counts on a meter.
+fn run_by_team(
     rt: &(impl Abort + AllocGlobal + Threads + Wait + Sync),
     graph: &Graph,
-    delta: u64,
     workers: u32,
-    source: u32,
-) -> Result<Tree<P>, RunError>
-    requires { is_layout P ≡ true }
+    meter: &Meter,
+) -> Result<Tree<28>, RunError>
+    requires { graph.now.n ≤ 10000 }
 {
-    assert!(rt; graph.n() <= Word::<P>::max_pred());
     let team = Team {
-        delta: width(rt, delta),
+        delta: width(rt, 2),
         workers: crew(rt, workers),
     };
-    sp_solve::run_by_team(rt, rt.alloc(), graph, team, &Meter::new(), source)
+    sp_solve::run_by_team(rt, rt.alloc(), graph, team, meter, 1)
 }
 
 // The first caller of a store, and another.
@@ -91,135 +83,176 @@ fn split(store: &Store<28>, caller: Caller) -> (Caller, Caller)
     both
 }
 
-// What a run of every round shared tells of the graph of these arcs, in words of 28 bits of predecessor.
-fn answer(
-    rt: &(impl Abort + AllocGlobal + Threads + Wait + Sync),
-    n: u32,
-    arcs: &[Triple],
-    delta: u64,
-    workers: u32,
-    source: u32,
-) -> Result<Result<Tree<28>, RunError>, Fail> {
-    let graph = graph_of(rt, n, arcs)?;
-    Ok(run(rt, &graph, delta, workers, source))
-}
-
-// Whether the tree has these rows: vertex, distance, predecessor.
-fn has_rows(tree: &Tree<28>, want: &[(u32, u64, u32)]) -> bool {
+// Whether the tree has these rows.
+fn has_rows(tree: &Tree<28>, want: &[Row]) -> bool {
     tree.rows().len() == want.len()
         && tree.rows().iter().zip(want).all(|(row, want)| {
             row.0 == want.0 && row.1.dist() == Some(want.1) && row.1.pred() == Some(want.2)
         })
 }
 
+// Whether a run tells this.
+fn is_told(told: &Result<Tree<28>, RunError>, want: Told<'_>) -> bool {
+    match (told, want) {
+        (Ok(tree), Ok(rows)) => has_rows(tree, rows),
+        (Err(error), Err(wanted)) => *error == wanted,
+        _ => false,
+    }
+}
+
+// Whether runs by every number of workers tell this.
+fn crews_tell(
+    rt: &(impl Abort + AllocGlobal + Threads + Wait + Sync),
+    graph: &Graph,
+    delta: u64,
+    source: u32,
+    want: Told<'_>,
+) -> bool
+    requires { graph.now.n ≤ 10000 }
+{
+    for workers in WORKERS {
+        let told = run(rt, graph, delta, workers, source);
+        if !is_told(&told, want) {
+            return false;
+        }
+    }
+    true
+}
+
+// Whether runs on the graph of these arcs do, with each of these widths.
+fn all_tell(
+    rt: &(impl Abort + AllocGlobal + Threads + Wait + Sync),
+    n: u32,
+    arcs: &[Triple],
+    deltas: &[u64],
+    source: u32,
+    want: Told<'_>,
+) -> Result<bool, AllocError>
+    requires { (1 ≤ n) × (n ≤ 10000) }
+{
+    let graph = graph_of(rt.alloc(), n, arcs)?;
+    for delta in deltas {
+        if !crews_tell(rt, &graph, *delta, source, want) {
+            return Ok(false);
+        }
+    }
+    Ok(true)
+}
+
+// The rows of the long path from its first vertex, the last one's distance and predecessor being these.
+fn path_rows(alloc: Global, dist: u64, pred: u32) -> Result<Vec<Row>, AllocError> {
+    let mut rows = Vec::new(alloc);
+    for place in 0..17u32 {
+        rows.push((place + 1, u64::from(place) * 4_294_967_295, place))?;
+    }
+    rows.push((18, dist, pred))?;
+    Ok(rows)
+}
+
 const WIDE: [u64; 3] = [1, 4_294_967_295, 68_719_476_734];
 
 #[test]
 fn diamond(rt: HostRuntime) -> Result<(), Fail> {
+    assert!(rt; all_tell(&rt, 4, &DIAMOND, &[1, 2, 100], 1, Ok(&DIAMOND_ROWS))?);
+    Ok(())
+}
+
+// Whether teams of every number of workers find the diamond's tree.
+fn teams_find_it(rt: &(impl Abort + AllocGlobal + Threads + Wait + Sync), graph: &Graph) -> bool
+    requires { graph.now.n ≤ 10000 }
+{
     for workers in WORKERS {
-        for delta in [1u64, 2, 100] {
-            let tree = answer(&rt, 4, &DIAMOND, delta, workers, 1)??;
-            assert!(rt; has_rows(&tree, &DIAMOND_ROWS));
+        let told = run_by_team(rt, graph, workers, &Meter::new());
+        if !is_told(&told, Ok(&DIAMOND_ROWS)) {
+            return false;
         }
     }
-    Ok(())
+    true
 }
 
 #[test]
 fn by_a_team(rt: HostRuntime) -> Result<(), Fail> {
-    let graph = graph_of(&rt, 4, &DIAMOND)?;
-    for workers in WORKERS {
-        let tree = run_by_team(&rt, &graph, 2, workers, 1)?;
-        assert!(rt; has_rows(&tree, &DIAMOND_ROWS));
-    }
-    let (delta, workers) = (width::<28>(&rt, 2), crew(&rt, 64));
-    let tree = run_source(&rt, rt.alloc(), &graph, delta, workers, 1)?;
-    assert!(rt; has_rows(&tree, &DIAMOND_ROWS));
+    let graph = graph_of(rt.alloc(), 4, &DIAMOND)?;
+    assert!(rt; teams_find_it(&rt, &graph));
+    let (delta, workers) = (width(&rt, 2), crew(&rt, 64));
+    let told = run_source(&rt, rt.alloc(), &graph, delta, workers, 1);
+    assert!(rt; is_told(&told, Ok(&DIAMOND_ROWS)));
     Ok(())
+}
+
+// The graph of a path of 1,000 vertices, and one that isn't reached.
+fn path(alloc: Global) -> Result<Graph, AllocError>
+    ensures { IfOk result (λ graph. graph.n ≡ 1001) }
+{
+    let mut arcs = Vec::new(alloc);
+    for tail in 1u32..1000 {
+        arcs.push((tail, tail + 1, 1))?;
+    }
+    graph_of(alloc, 1001, &arcs)
+}
+
+// How many vertices a team reaches, and how many it counts.
+fn count(
+    rt: &(impl Abort + AllocGlobal + Threads + Wait + Sync),
+    graph: &Graph,
+    workers: u32,
+) -> Result<(usize, u64), RunError>
+    requires { graph.now.n ≤ 10000 }
+{
+    let meter = Meter::new();
+    let tree = run_by_team(rt, graph, workers, &meter)?;
+    Ok((tree.rows().len(), meter.count()))
 }
 
 #[test]
 fn meter_counts_each_vertex_of_a_path(rt: HostRuntime) -> Result<(), Fail> {
-    let mut arcs = Vec::new(rt.alloc());
-    for tail in 1u32..1000 {
-        arcs.push((tail, tail + 1, 1))?;
-    }
-    let graph = graph_of(&rt, 1001, &arcs)?;
-    assert!(rt; graph.n() <= Word::<28>::max_pred());
+    let graph = path(rt.alloc())?;
     for workers in WORKERS {
-        let meter = Meter::new();
-        let team = Team {
-            delta: width::<28>(&rt, 2),
-            workers: crew(&rt, workers),
-        };
-        let tree = sp_solve::run_by_team(&rt, rt.alloc(), &graph, team, &meter, 1)?;
-        assert!(rt; tree.rows().len() == 1000);
-        assert!(rt; meter.count() == 1000);
+        assert!(rt; count(&rt, &graph, workers) == Ok((1000, 1000)));
     }
     Ok(())
 }
 
 #[test]
 fn no_such_vertex(rt: HostRuntime) -> Result<(), Fail> {
-    for workers in WORKERS {
-        for source in [0u32, 5] {
-            let told = answer(&rt, 4, &DIAMOND, 2, workers, source)?;
-            assert!(rt; matches!(&told, Err(RunError::NoSuchVertex)));
-        }
-    }
+    let none = Err(RunError::NoSuchVertex);
+    assert!(rt; all_tell(&rt, 4, &DIAMOND, &[2], 0, none)?);
+    assert!(rt; all_tell(&rt, 4, &DIAMOND, &[2], 5, none)?);
     Ok(())
 }
 
 #[test]
 fn parallel_arcs(rt: HostRuntime) -> Result<(), Fail> {
-    for workers in WORKERS {
-        let tree = answer(&rt, 2, &[(1, 2, 5), (1, 2, 4), (1, 1, 1)], 1, workers, 1)??;
-        assert!(rt; has_rows(&tree, &[(1, 0, 0), (2, 4, 1)]));
-    }
+    let arcs = [(1, 2, 5), (1, 2, 4), (1, 1, 1)];
+    assert!(rt; all_tell(&rt, 2, &arcs, &[1], 1, Ok(&[(1, 0, 0), (2, 4, 1)]))?);
     Ok(())
 }
 
 #[test]
 fn unreached(rt: HostRuntime) -> Result<(), Fail> {
-    for workers in WORKERS {
-        let tree = answer(&rt, 3, &[(1, 2, 7)], 1, workers, 2)??;
-        assert!(rt; has_rows(&tree, &[(2, 0, 0)]));
-    }
+    assert!(rt; all_tell(&rt, 3, &[(1, 2, 7)], &[1], 2, Ok(&[(2, 0, 0)]))?);
     Ok(())
 }
 
 #[test]
 fn light_and_heavy(rt: HostRuntime) -> Result<(), Fail> {
-    for workers in WORKERS {
-        let tree = answer(&rt, 3, &[(1, 2, 3), (1, 3, 4)], 3, workers, 1)??;
-        assert!(rt; has_rows(&tree, &[(1, 0, 0), (2, 3, 1), (3, 4, 1)]));
-    }
+    let rows = [(1, 0, 0), (2, 3, 1), (3, 4, 1)];
+    assert!(rt; all_tell(&rt, 3, &[(1, 2, 3), (1, 3, 4)], &[3], 1, Ok(&rows))?);
     Ok(())
 }
 
 #[test]
 fn at_the_limit(rt: HostRuntime) -> Result<(), Fail> {
     let arcs = long_path(rt.alloc(), 14)?;
-    for workers in WORKERS {
-        for delta in WIDE {
-            let tree = answer(&rt, 18, &arcs, delta, workers, 1)??;
-            assert_eq!(rt; tree.rows().len(), 18);
-            let last = tree.rows().last().copied();
-            assert!(rt; last == Some((18, Word::pack(68_719_476_734, 17))));
-        }
-    }
+    let rows = path_rows(rt.alloc(), 68_719_476_734, 17)?;
+    assert!(rt; all_tell(&rt, 18, &arcs, &WIDE, 1, Ok(&rows))?);
     Ok(())
 }
 
 #[test]
 fn beyond_the_limit(rt: HostRuntime) -> Result<(), Fail> {
     let arcs = long_path(rt.alloc(), 15)?;
-    for workers in WORKERS {
-        for delta in WIDE {
-            let told = answer(&rt, 18, &arcs, delta, workers, 1)?;
-            assert!(rt; matches!(&told, Err(RunError::TooFar(18))));
-        }
-    }
+    assert!(rt; all_tell(&rt, 18, &arcs, &WIDE, 1, Err(RunError::TooFar(18)))?);
     Ok(())
 }
 
@@ -227,12 +260,7 @@ fn beyond_the_limit(rt: HostRuntime) -> Result<(), Fail> {
 fn short_way_round(rt: HostRuntime) -> Result<(), Fail> {
     let mut arcs = long_path(rt.alloc(), 15)?;
     arcs.push((1, 18, 9))?;
-    for workers in WORKERS {
-        for delta in WIDE {
-            let tree = answer(&rt, 18, &arcs, delta, workers, 1)??;
-            let last = tree.rows().last().copied();
-            assert!(rt; last == Some((18, Word::pack(9, 1))));
-        }
-    }
+    let rows = path_rows(rt.alloc(), 9, 1)?;
+    assert!(rt; all_tell(&rt, 18, &arcs, &WIDE, 1, Ok(&rows))?);
     Ok(())
 }

@@ -1,84 +1,97 @@
 //! What arcs show of words, by one thread and by several.
-ghost use Rattle.std.specs.Prelude.{◌≡◌, IfOk, length};
+ghost use Rattle.std.specs.Prelude.{◌≤◌, length, All};
+ghost use Rattle.sp_paths.specs.Paths.{IsArc};
 
+use sp_paths::Arc;
 use sp_scan::{Scan, open_tails, scan_arcs};
 use sp_word::Word;
-use std::process::Abort;
+use std::alloc::AllocError;
 use std::test::Fail;
 use std::thread::Threads;
 use tests_samples::{DIAMOND, Triple, arcs_of};
 
-// Words of vertices 1, 2 and so on, a vertex without one being unreached.
-fn words_of(
-    rt: &(impl Abort + AllocGlobal),
-    pairs: &[Option<(u64, u32)>],
-) -> Result<Vec<Word<28>>, Fail>
-    ensures { IfOk result (λ words. length words.items ≡ length pairs.now) }
+// Whether arcs show this with several numbers of threads.
+fn all_show<R: Threads + Sync>(rt: &R, words: &[Word<28>], arcs: &[Arc], told: Scan) -> bool
+    requires few { length words.now ≤ 1000 }
+    requires arcs { All (IsArc (length words.now)) arcs.now }
 {
-    let mut words = Vec::new(rt.alloc());
-    for pair in pairs {
-        let word = match *pair {
-            Some((dist, pred)) => {
-                assert!(rt; dist <= Word::<28>::max_dist() && pred <= Word::<28>::max_pred());
-                Word::pack(dist, pred)
-            }
-            None => Word::unreached(),
-        };
-        words.push(word)?;
+    for threads in [1, 2, 5, 64] {
+        if scan_arcs(rt, words, arcs, threads) != told {
+            return false;
+        }
     }
-    Ok(words)
+    true
 }
 
-// Asserts what arcs show of words with several numbers of threads, and which tails are open.
-fn expect<R: Threads + Abort + AllocGlobal + Sync>(
+// Whether these arcs show this of the words of vertices 1, 2 and so on, and these tails are open.
+fn show<R: Threads + AllocGlobal + Sync>(
     rt: &R,
     arcs: &[Triple],
-    pairs: &[Option<(u64, u32)>],
+    words: &[Word<28>],
     told: Scan,
     open: &[u32],
-) -> Result<(), Fail> {
-    let words = words_of(rt, pairs)?;
-    let n = words.len();
-    assert!(rt; n <= 1000);
-    let arcs = arcs_of(rt.alloc(), n as u32, arcs)?;
-    for threads in [1, 2, 5, 64] {
-        assert_eq!(rt;
-            scan_arcs(rt, words.as_slice(), arcs.as_slice(), threads),
-            told
-        );
-    }
-    let tails = open_tails(rt.alloc(), words.as_slice(), arcs.as_slice())?;
-    assert_eq!(rt; tails.as_slice(), open);
-    Ok(())
+) -> Result<bool, AllocError>
+    requires { length words.now ≤ 1000 }
+{
+    let arcs = arcs_of(rt.alloc(), words.len() as u32, arcs)?;
+    let tails = open_tails(rt.alloc(), words, &arcs)?;
+    Ok(all_show(rt, words, &arcs, told) && tails.as_slice() == open)
 }
 
 #[test]
 fn diamond_is_whole(rt: HostRuntime) -> Result<(), Fail> {
-    let tree = [Some((0, 0)), Some((3, 1)), Some((3, 1)), Some((5, 2))];
-    expect(&rt, &DIAMOND, &tree, Scan::Whole, &[])
+    let tree = [
+        Word::pack(0, 0),
+        Word::pack(3, 1),
+        Word::pack(3, 1),
+        Word::pack(5, 2),
+    ];
+    assert!(rt; show(&rt, &DIAMOND, &tree, Scan::Whole, &[])?);
+    Ok(())
 }
 
 #[test]
 fn greater_predecessor_is_open(rt: HostRuntime) -> Result<(), Fail> {
-    let words = [Some((0, 0)), Some((3, 1)), Some((3, 1)), Some((5, 3))];
-    expect(&rt, &DIAMOND, &words, Scan::Open, &[2])
+    let words = [
+        Word::pack(0, 0),
+        Word::pack(3, 1),
+        Word::pack(3, 1),
+        Word::pack(5, 3),
+    ];
+    assert!(rt; show(&rt, &DIAMOND, &words, Scan::Open, &[2])?);
+    Ok(())
 }
 
 #[test]
 fn unreached_head_is_open(rt: HostRuntime) -> Result<(), Fail> {
-    let words = [Some((0, 0)), Some((3, 1)), Some((3, 1)), None];
-    expect(&rt, &DIAMOND, &words, Scan::Open, &[2, 3, 1])
+    let words = [
+        Word::pack(0, 0),
+        Word::pack(3, 1),
+        Word::pack(3, 1),
+        Word::unreached(),
+    ];
+    assert!(rt; show(&rt, &DIAMOND, &words, Scan::Open, &[2, 3, 1])?);
+    Ok(())
 }
 
 #[test]
 fn parts_without_an_arc_from_the_source_show_nothing(rt: HostRuntime) -> Result<(), Fail> {
-    let words = [None, None, None, Some((0, 0))];
-    expect(&rt, &DIAMOND, &words, Scan::Whole, &[])
+    let none = Word::unreached();
+    let words = [none, none, none, Word::pack(0, 0)];
+    assert!(rt; show(&rt, &DIAMOND, &words, Scan::Whole, &[])?);
+    Ok(())
 }
 
 #[test]
 fn smallest_vertex_too_far_is_left_out(rt: HostRuntime) -> Result<(), Fail> {
     let arcs = [(1, 4, 9), (2, 3, 5), (2, 1, 5), (4, 2, 1)];
-    let words = [None, Some((68719476730, 4)), None, Some((68719476729, 1))];
-    expect(&rt, &arcs, &words, Scan::LeavesOut(1), &[])
+    let none = Word::unreached();
+    let words = [
+        none,
+        Word::pack(68719476730, 4),
+        none,
+        Word::pack(68719476729, 1),
+    ];
+    assert!(rt; show(&rt, &arcs, &words, Scan::LeavesOut(1), &[])?);
+    Ok(())
 }

@@ -104,6 +104,21 @@ fn offer(bench: &mut Bench, vertex: u32, dist: u64, pred: u32) {
         .offer(&mut bench.caller, vertex, Word::pack(dist, pred));
 }
 
+/// A bench where the leader has made these offers, by vertex, distance and predecessor.
+fn opened(
+    alloc: Global,
+    n: u32,
+    arcs: &[Triple],
+    delta: u64,
+    offers: &[(u32, u64, u32)],
+) -> Result<Bench, AllocError> {
+    let mut bench = set_up(alloc, n, arcs, delta)?;
+    for (vertex, dist, pred) in offers {
+        offer(&mut bench, *vertex, *dist, *pred);
+    }
+    Ok(bench)
+}
+
 /// The bits of all words, by rising vertex.
 fn words(alloc: Global, bench: &mut Bench) -> Result<Vec<u64>, AllocError> {
     let n = bench.rows.n();
@@ -164,26 +179,27 @@ fn are_entries(found: &[Entry], wanted: &[Entry]) -> bool {
     found.len() == wanted.len()
 }
 
+// Two arcs from vertex 1, and one from the head of each.
+const TWO_ARMS: [Triple; 4] = [(1, 2, 1), (1, 3, 1), (2, 4, 1), (3, 5, 1)];
+
+// What is offered there before a round.
+const OFFERS: [(u32, u64, u32); 3] = [(1, 0, 0), (2, 1, 1), (3, 1, 1)];
+
 #[test]
 fn two_workers_meet(rt: HostRuntime) -> Result<(), Fail> {
     let alloc = rt.alloc();
-    let arcs = [(1, 2, 1), (1, 3, 1), (2, 4, 1), (3, 5, 1)];
-    let mut bench = set_up(alloc, 5, &arcs, 1)?;
-    offer(&mut bench, 1, 0, 0);
-    offer(&mut bench, 2, 1, 1);
-    offer(&mut bench, 3, 1, 1);
+    let bench = opened(alloc, 5, &TWO_ARMS, 1, &OFFERS)?;
     let gate = Meeting::new();
-    let tasks = [light(2, 1), light(3, 1)];
     let plan = Plan {
-        tasks: &tasks,
+        tasks: &[light(2, 1), light(3, 1)],
         number: 1,
         workers: crew(&rt, 2),
     };
     let played = play::<Loop, HostRuntime, Meeting>(&rt, alloc, bench, &plan, &gate);
     assert!(rt; !played.refused, "no memory");
     assert!(rt; gate.met(), "the workers did not meet");
-    assert_eq!(rt; played.started, 2);
-    assert!(rt; are_entries(played.found.as_slice(), &[entry(4, 2), entry(5, 2)]));
+    assert!(rt; played.started == 2);
+    assert!(rt; are_entries(&played.found, &[entry(4, 2), entry(5, 2)]));
     Ok(())
 }
 
@@ -198,61 +214,62 @@ fn thief_takes(rt: HostRuntime) -> Result<(), Fail> {
         (3, 6, 1),
         (4, 7, 1),
     ];
-    let mut bench = set_up(alloc, 7, &arcs, 1)?;
-    offer(&mut bench, 1, 0, 0);
-    offer(&mut bench, 2, 1, 1);
-    offer(&mut bench, 3, 1, 1);
-    offer(&mut bench, 4, 1, 1);
+    let offers = [(1, 0, 0), (2, 1, 1), (3, 1, 1), (4, 1, 1)];
+    let bench = opened(alloc, 7, &arcs, 1, &offers)?;
     let gate = Thief::new();
-    let tasks = [light(2, 1), light(3, 1), light(4, 1)];
     let plan = Plan {
-        tasks: &tasks,
+        tasks: &[light(2, 1), light(3, 1), light(4, 1)],
         number: 1,
         workers: crew(&rt, 2),
     };
     let played = play::<Loop, HostRuntime, Thief>(&rt, alloc, bench, &plan, &gate);
     assert!(rt; !played.refused, "no memory");
     assert!(rt; gate.came() >= 2, "no task was taken from the leader");
-    let wanted = [entry(5, 2), entry(6, 2), entry(7, 2)];
-    assert!(rt; are_entries(played.found.as_slice(), &wanted));
+    assert!(rt; are_entries(&played.found, &[entry(5, 2), entry(6, 2), entry(7, 2)]));
     Ok(())
 }
 
+/// Plays a round, and once more, where every claim is refused, so that the leader makes all offers. It tells whether the first
+/// had all of its workers and found these entries, and the second found none by so many offers.
+fn play_twice<M: Lowering + Send + Sync, R: Threads + Wait + Sync>(
+    rt: &R,
+    alloc: Global,
+    bench: Bench,
+    plan: &Plan<'_>,
+    wanted: &[Entry],
+    offers: u64,
+) -> (Bench, bool) {
+    let first = play::<M, R, OpenGate>(rt, alloc, bench, plan, &OpenGate);
+    let is_found = are_entries(&first.found, wanted) && first.started == plan.workers.get();
+    let gate = Count::new();
+    let again = play::<M, R, Count>(rt, alloc, first.bench, plan, &gate);
+    let is_alone = again.found.is_empty() && !again.refused && gate.is_leader_alone(offers);
+    (again.bench, is_found && is_alone)
+}
+
 /// Whether the rounds on the graph of the diamond find what they should, with any lowering: round 1 of the first tasks,
-/// which relax the arcs of vertex 1, and then round 2.
+/// which relax the arcs of vertex 1, and then round 2, where both offers of 5 to 4 are made, and the first alone is shorter.
 fn diamond<M: Lowering + Send + Sync, R: Threads + Wait + Sync>(
     rt: &R,
     alloc: Global,
     first: &[Task],
     workers: Workers,
 ) -> Result<bool, AllocError> {
-    let mut bench = set_up(alloc, 4, &DIAMOND, 100)?;
-    offer(&mut bench, 1, 0, 0);
+    let bench = opened(alloc, 4, &DIAMOND, 100, &[(1, 0, 0)])?;
     let round_1 = Plan {
         tasks: first,
         number: 1,
         workers,
     };
-    let one = play::<M, R, OpenGate>(rt, alloc, bench, &round_1, &OpenGate);
     let wanted = [entry(2, 3), entry(3, 3), entry(4, 6)];
-    let first_found = are_entries(one.found.as_slice(), &wanted) && one.started == workers.get();
-    // every claim of round 1 would be refused now, so the leader makes all three offers
-    let again_by = Count::new();
-    let again = play::<M, R, Count>(rt, alloc, one.bench, &round_1, &again_by);
-    let none_found = again.found.is_empty() && !again.refused && again_by.is_leader_alone(3);
-    // both offers of 5 to 4 are made, and the first alone is shorter
-    let second = [light(2, 3), light(3, 3), light(4, 6)];
+    let (bench, is_first_right) = play_twice::<M, R>(rt, alloc, bench, &round_1, &wanted, 3);
     let round_2 = Plan {
-        tasks: &second,
+        tasks: &[light(2, 3), light(3, 3), light(4, 6)],
         number: 2,
         workers: Workers::new(2).unwrap(),
     };
-    let two = play::<M, R, OpenGate>(rt, alloc, again.bench, &round_2, &OpenGate);
-    let last_found = are_entries(two.found.as_slice(), &[entry(4, 5)]);
-    let more_by = Count::new();
-    let more = play::<M, R, Count>(rt, alloc, two.bench, &round_2, &more_by);
-    let no_more = more.found.is_empty() && !more.refused && more_by.is_leader_alone(2);
-    Ok(first_found && none_found && last_found && no_more)
+    let (_, is_second_right) = play_twice::<M, R>(rt, alloc, bench, &round_2, &[entry(4, 5)], 2);
+    Ok(is_first_right && is_second_right)
 }
 
 #[test]
@@ -304,32 +321,55 @@ fn random_tasks(alloc: Global) -> Result<Vec<Task>, AllocError> {
     Ok(tasks)
 }
 
+/// Whether a round of these tasks leaves these words.
+fn leaves<R: Threads + Wait + Sync>(
+    rt: &R,
+    alloc: Global,
+    arcs: &[Triple],
+    plan: &Plan<'_>,
+    wanted: &[u64],
+) -> Result<bool, AllocError> {
+    let bench = set_up(alloc, MANY, arcs, 25)?;
+    let played = play::<Loop, R, OpenGate>(rt, alloc, bench, plan, &OpenGate);
+    let is_played = !played.refused && 1 <= played.started && played.started <= plan.workers.get();
+    let mut bench = played.bench;
+    let left = words(alloc, &mut bench)?;
+    Ok(is_played && left.as_slice() == wanted)
+}
+
+/// The words that one caller leaves by the same offers.
+fn words_of_one(alloc: Global, arcs: &[Triple], tasks: &[Task]) -> Result<Vec<u64>, AllocError> {
+    let mut bench = set_up(alloc, MANY, arcs, 25)?;
+    offer_in_order(&mut bench, tasks);
+    words(alloc, &mut bench)
+}
+
 #[test]
 fn many_workers_leave_the_words_of_one_caller(rt: HostRuntime) -> Result<(), Fail> {
     let alloc = rt.alloc();
     let arcs = random_arcs(alloc)?;
     let tasks = random_tasks(alloc)?;
-    let mut plain = set_up(alloc, MANY, arcs.as_slice(), 25)?;
-    offer_in_order(&mut plain, tasks.as_slice());
-    let wanted = words(alloc, &mut plain)?;
+    let wanted = words_of_one(alloc, &arcs, &tasks)?;
     for workers in [1, 2, 4, 64] {
-        let bench = set_up(alloc, MANY, arcs.as_slice(), 25)?;
         let plan = Plan {
-            tasks: tasks.as_slice(),
+            tasks: &tasks,
             number: 1,
             workers: crew(&rt, workers),
         };
-        let played = play::<Loop, HostRuntime, OpenGate>(&rt, alloc, bench, &plan, &OpenGate);
-        assert!(rt; !played.refused, "no memory");
-        assert!(rt; 1 <= played.started && played.started <= workers);
-        let mut bench = played.bench;
-        let left = words(alloc, &mut bench)?;
         assert!(rt;
-            left.as_slice() == wanted.as_slice(),
-            "other words with {workers} workers"
+            leaves(&rt, alloc, &arcs, &plan, &wanted)?,
+            "{workers} workers"
         );
     }
     Ok(())
+}
+
+/// Whether the words are those that the offers and the tasks of the two arms leave.
+fn has_reached_all(alloc: Global, bench: &mut Bench) -> Result<bool, AllocError> {
+    let pair = |dist: u64, pred: u64| (dist << 28) | pred;
+    let made = [pair(0, 0), pair(1, 1), pair(1, 1), pair(2, 2), pair(2, 3)];
+    let left = words(alloc, bench)?;
+    Ok(left.as_slice() == made.as_slice())
 }
 
 /// The round of two workers, and the same tasks under the next number. Whatever memory is refused, the words are
@@ -337,30 +377,18 @@ fn many_workers_leave_the_words_of_one_caller(rt: HostRuntime) -> Result<(), Fai
 #[test]
 fn refused_rounds_are_made_up_for(rt: HostRuntime) -> Result<(), Fail> {
     let alloc = rt.alloc();
-    let arcs = [(1, 2, 1), (1, 3, 1), (2, 4, 1), (3, 5, 1)];
-    let mut bench = set_up(alloc, 5, &arcs, 1)?;
-    offer(&mut bench, 1, 0, 0);
-    offer(&mut bench, 2, 1, 1);
-    offer(&mut bench, 3, 1, 1);
+    let bench = opened(alloc, 5, &TWO_ARMS, 1, &OFFERS)?;
     let tasks = [light(2, 1), light(3, 1)];
-    let wanted = [entry(4, 2), entry(5, 2)];
     let plan = Plan {
         tasks: &tasks,
         number: 1,
         workers: crew(&rt, 2),
     };
     let first = play::<Loop, HostRuntime, OpenGate>(&rt, alloc, bench, &plan, &OpenGate);
-    assert!(rt; first.refused || are_entries(first.found.as_slice(), &wanted));
-    let plan = Plan {
-        tasks: &tasks,
-        number: 2,
-        workers: crew(&rt, 2),
-    };
+    assert!(rt; first.refused || are_entries(&first.found, &[entry(4, 2), entry(5, 2)]));
+    let plan = Plan { number: 2, ..plan };
     let second = play::<Loop, HostRuntime, OpenGate>(&rt, alloc, first.bench, &plan, &OpenGate);
     let mut bench = second.bench;
-    let left = words(alloc, &mut bench)?;
-    let pair = |dist: u64, pred: u64| (dist << 28) | pred;
-    let made = [pair(0, 0), pair(1, 1), pair(1, 1), pair(2, 2), pair(2, 3)];
-    assert!(rt; second.refused || left.as_slice() == &made[..]);
+    assert!(rt; has_reached_all(alloc, &mut bench)? || second.refused);
     Ok(())
 }

@@ -1,35 +1,44 @@
 //! Runs from several sources over the same rows.
-use super::{crew, graph_of, run, width};
+ghost use Rattle.std.specs.Prelude.{◌≡◌};
+
+use super::{crew, is_told, width};
+use sp_claim::Claimer;
 use sp_graph::Rows;
+use sp_offer::Caller;
 use sp_phase::{Run, RunError, Store};
 use sp_task::OpenGate;
 use sp_tree::Tree;
+use std::process::Abort;
+use std::sync::Wait;
 use std::test::Fail;
-use tests_samples::DIAMOND;
+use std::thread::Threads;
+use tests_samples::{DIAMOND, DIAMOND_ROWS, graph_of};
 
-#[test]
-fn sources_over_lent_rows(rt: HostRuntime) -> Result<(), Fail> {
-    let graph = graph_of(&rt, 4, &DIAMOND)?;
-    let delta = width::<28>(&rt, 2);
-    let rows = Rows::split(rt.alloc(), &graph, delta.get())?;
-    for source in [1, 2] {
-        let (store, caller, claimer) = Store::over(rt.alloc(), &graph, &rows, delta, source)?;
-        let over = Run::begin(rt.alloc(), &store, caller, claimer, crew(&rt, 2))?;
-        let (lent, _) = over.finish(&rt, &OpenGate)?;
-        let own: Tree<28> = run(&rt, &graph, 2, 2, source)?;
-        assert!(rt; lent.source() == source && lent.rows() == own.rows());
-    }
-    Ok(())
+// What a run over a store tells, by two workers.
+fn finish(
+    rt: &(impl Abort + AllocGlobal + Threads + Wait + Sync),
+    store: &Store<28>,
+    caller: Caller,
+    claimer: Claimer,
+) -> Result<Tree<28>, RunError>
+    requires caller { caller.table ≡ store.now.table }
+    requires claimer { claimer.table ≡ store.now.claims }
+{
+    let run = Run::begin(rt.alloc(), store, caller, claimer, crew(rt, 2))?;
+    let (tree, _) = run.finish(rt, &OpenGate)?;
+    Ok(tree)
 }
 
 #[test]
-fn no_vertex_over_lent_rows(rt: HostRuntime) -> Result<(), Fail> {
-    let graph = graph_of(&rt, 4, &DIAMOND)?;
-    let delta = width::<28>(&rt, 2);
+fn sources_over_lent_rows(rt: HostRuntime) -> Result<(), Fail> {
+    let graph = graph_of(rt.alloc(), 4, &DIAMOND)?;
+    let delta = width(&rt, 2);
     let rows = Rows::split(rt.alloc(), &graph, delta.get())?;
-    for source in [0, 5] {
-        let made = Store::over(rt.alloc(), &graph, &rows, delta, source);
-        assert!(rt; matches!(made, Err(RunError::NoSuchVertex)));
+    let second = [(2, 0, 0), (4, 2, 2)];
+    for (source, want) in [(1, DIAMOND_ROWS.as_slice()), (2, second.as_slice())] {
+        let (store, caller, claimer) = Store::over(rt.alloc(), &graph, &rows, delta, source)?;
+        let told = finish(&rt, &store, caller, claimer);
+        assert!(rt; is_told(&told, Ok(want)), "source {source}");
     }
     Ok(())
 }

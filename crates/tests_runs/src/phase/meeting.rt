@@ -1,9 +1,10 @@
 //! Two workers of a run meet, at a gate that holds the first for a bounded number of loads.
-use super::{crew, graph_of, width};
+use super::{crew, width};
 use sp_phase::run_source_with;
 use sp_task::Gate;
 use std::sync::atomic::{AtomicBool, AtomicU64, Ordering};
 use std::test::Fail;
+use tests_samples::graph_of;
 
 const MOST_LOADS: u64 = 1_000_000_000;
 
@@ -62,12 +63,12 @@ impl Gate for Meeting {
 
 #[test]
 fn run_meets(rt: HostRuntime) -> Result<(), Fail> {
-    let graph = graph_of(&rt, 5, &[(1, 2, 1), (1, 3, 1), (2, 4, 1), (3, 5, 1)])?;
+    let graph = graph_of(rt.alloc(), 5, &[(1, 2, 1), (1, 3, 1), (2, 4, 1), (3, 5, 1)])?;
     let gate = Meeting::new();
-    let (delta, workers) = (width::<28>(&rt, 1), crew(&rt, 2));
+    let (delta, workers) = (width(&rt, 1), crew(&rt, 2));
     let tree = run_source_with(&rt, rt.alloc(), &graph, delta, workers, 1, &gate)?;
-    assert_eq!(rt; tree.rows().len(), 5);
+    assert!(rt; tree.rows().len() == 5);
     assert!(rt; gate.met.load(Ordering::SeqCst));
-    assert_eq!(rt; gate.offers.load(Ordering::SeqCst), 4);
+    assert!(rt; gate.offers.load(Ordering::SeqCst) == 4);
     Ok(())
 }

@@ -1,20 +1,19 @@
 //! Runs for one target.
-ghost use Rattle.std.specs.Prelude.{◌≡◌, true};
-ghost use Rattle.sp_word.specs.Word.{is_layout};
+ghost use Rattle.std.specs.Prelude.{◌≤◌};
 
-use super::compare::plain;
-use super::{WIDE, WORKERS, crew, graph_of, width};
+use super::{WIDE, WORKERS, crew, width};
 use sp_graph::Graph;
 use sp_phase::{RunError, run_pair, run_pair_with};
-use sp_plain::{Answer, GraphKind, Random, random_graph};
+use sp_plain::{Answer, GraphKind, Random, plain_tree, random_graph};
 use sp_task::Gate;
 use sp_word::Word;
+use std::alloc::AllocError;
 use std::process::Abort;
 use std::sync::Wait;
 use std::sync::atomic::{AtomicU64, Ordering};
 use std::test::Fail;
 use std::thread::Threads;
-use tests_samples::{DIAMOND, Triple, long_path};
+use tests_samples::{DIAMOND, Triple, graph_of, long_path};
 
 const DELTAS: [u64; 3] = [1, 5, 100];
 
@@ -39,27 +38,44 @@ impl Gate for Counter {
 }
 
 // A word's distance and predecessor.
-fn parts<const P: u32>(word: Word<P>) -> Option<(u64, u32)> {
+pub(super) fn parts(word: Word<28>) -> Option<(u64, u32)> {
     Some((word.dist()?, word.pred()?))
 }
 
 // What a run tells of the second of two vertices from the first.
-fn pair<const P: u32>(
+fn pair(
     rt: &(impl Abort + AllocGlobal + Threads + Wait + Sync),
     graph: &Graph,
     delta: u64,
     workers: u32,
     ends: (u32, u32),
 ) -> Told
-    requires { is_layout P ≡ true }
+    requires { graph.now.n ≤ 10000 }
 {
-    assert!(rt; graph.n() <= Word::<P>::max_pred());
-    let (delta, workers) = (width::<P>(rt, delta), crew(rt, workers));
+    let (delta, workers) = (width(rt, delta), crew(rt, workers));
     let found = run_pair(rt, rt.alloc(), graph, delta, workers, ends.0, ends.1)?;
     Ok(found.and_then(parts))
 }
 
-// Whether this is told of two vertices of a graph of these arcs, for all numbers of workers and these widths.
+// Whether runs by every number of workers tell this.
+fn crews_tell(
+    rt: &(impl Abort + AllocGlobal + Threads + Wait + Sync),
+    graph: &Graph,
+    delta: u64,
+    ends: (u32, u32),
+    want: Told,
+) -> bool
+    requires { graph.now.n ≤ 10000 }
+{
+    for workers in WORKERS {
+        if pair(rt, graph, delta, workers, ends) != want {
+            return false;
+        }
+    }
+    true
+}
+
+// Whether runs on the graph of these arcs do, with each of these widths.
 fn all_tell(
     rt: &(impl Abort + AllocGlobal + Threads + Wait + Sync),
     n: u32,
@@ -67,41 +83,40 @@ fn all_tell(
     deltas: &[u64],
     ends: (u32, u32),
     want: Told,
-) -> Result<bool, Fail> {
-    let graph = graph_of(rt, n, arcs)?;
-    let mut all = true;
-    for workers in WORKERS {
-        for delta in deltas {
-            all = all && pair::<28>(rt, &graph, *delta, workers, ends) == want;
+) -> Result<bool, AllocError>
+    requires { (1 ≤ n) × (n ≤ 10000) }
+{
+    let graph = graph_of(rt.alloc(), n, arcs)?;
+    for delta in deltas {
+        if !crews_tell(rt, &graph, *delta, ends, want) {
+            return Ok(false);
         }
     }
-    Ok(all)
+    Ok(true)
 }
 
 #[test]
 fn diamond(rt: HostRuntime) -> Result<(), Fail> {
-    assert!(rt; all_tell(&rt, 4, &DIAMOND, &DELTAS, (1, 4), Ok(Some((5, 2))))?);
-    assert!(rt; all_tell(&rt, 4, &DIAMOND, &DELTAS, (1, 1), Ok(Some((0, 0))))?);
-    assert!(rt; all_tell(&rt, 4, &DIAMOND, &DELTAS, (4, 1), Ok(None))?);
+    for (ends, told) in [
+        ((1, 4), Some((5, 2))),
+        ((1, 1), Some((0, 0))),
+        ((4, 1), None),
+    ] {
+        assert!(rt; all_tell(&rt, 4, &DIAMOND, &DELTAS, ends, Ok(told))?);
+    }
     Ok(())
 }
 
 #[test]
 fn beyond_the_limit(rt: HostRuntime) -> Result<(), Fail> {
     let arcs = long_path(rt.alloc(), 15)?;
-    let arcs = arcs.as_slice();
-    assert!(rt;
-        all_tell(
-            &rt,
-            18,
-            arcs,
-            &WIDE,
-            (1, 17),
-            Ok(Some((68_719_476_720, 16)))
-        )?
-    );
-    assert!(rt; all_tell(&rt, 18, arcs, &WIDE, (1, 18), Err(RunError::TooFar(18)))?);
-    assert!(rt; all_tell(&rt, 18, arcs, &WIDE, (18, 1), Ok(None))?);
+    for (ends, told) in [
+        ((1, 17), Ok(Some((68_719_476_720, 16)))),
+        ((1, 18), Err(RunError::TooFar(18))),
+        ((18, 1), Ok(None)),
+    ] {
+        assert!(rt; all_tell(&rt, 18, &arcs, &WIDE, ends, told)?);
+    }
     Ok(())
 }
 
@@ -113,30 +128,39 @@ fn first_word_is_not_final(rt: HostRuntime) -> Result<(), Fail> {
 
 #[test]
 fn no_such_vertex(rt: HostRuntime) -> Result<(), Fail> {
-    for ends in [(0u32, 1u32), (5, 1), (1, 0), (1, 5)] {
-        let told = Err(RunError::NoSuchVertex);
-        assert!(rt; all_tell(&rt, 4, &DIAMOND, &DELTAS, ends, told)?);
+    for ends in [(0, 1), (5, 1), (1, 0), (1, 5)] {
+        assert!(rt; all_tell(&rt, 4, &DIAMOND, &DELTAS, ends, Err(RunError::NoSuchVertex))?);
     }
     Ok(())
 }
 
+// What a run from 1 to 2 tells, and how many offers it makes.
+fn count_offers(
+    rt: &(impl Abort + AllocGlobal + Threads + Wait + Sync),
+    graph: &Graph,
+    workers: u32,
+) -> Result<(Option<(u64, u32)>, u64), RunError>
+    requires { graph.now.n ≤ 10000 }
+{
+    let gate = Counter {
+        offers: AtomicU64::new(0),
+    };
+    let (delta, workers) = (width(rt, 1), crew(rt, workers));
+    let found = run_pair_with(rt, rt.alloc(), graph, delta, workers, 1, 2, &gate)?;
+    Ok((found.and_then(parts), gate.offers.load(Ordering::SeqCst)))
+}
+
 #[test]
 fn ends_with_the_target(rt: HostRuntime) -> Result<(), Fail> {
-    let graph = graph_of(&rt, 4, &[(1, 2, 5), (2, 3, 5), (3, 4, 5)])?;
+    let graph = graph_of(rt.alloc(), 4, &[(1, 2, 5), (2, 3, 5), (3, 4, 5)])?;
     for workers in WORKERS {
-        let gate = Counter {
-            offers: AtomicU64::new(0),
-        };
-        let (delta, workers) = (width::<28>(&rt, 1), crew(&rt, workers));
-        let found = run_pair_with(&rt, rt.alloc(), &graph, delta, workers, 1, 2, &gate)?;
-        assert!(rt; found.and_then(parts) == Some((5, 1)));
-        assert_eq!(rt; gate.offers.load(Ordering::SeqCst), 1);
+        assert!(rt; count_offers(&rt, &graph, workers) == Ok((Some((5, 1)), 1)));
     }
     Ok(())
 }
 
 // What the plain program tells of a target.
-fn plain_pair<const P: u32>(answer: &Answer<P>, target: u32) -> Told {
+fn plain_pair(answer: &Answer<28>, target: u32) -> Told {
     let Answer::Tree(words) = answer else {
         return Err(RunError::Memory);
     };
@@ -144,32 +168,55 @@ fn plain_pair<const P: u32>(answer: &Answer<P>, target: u32) -> Told {
     Ok(word.and_then(|word| parts(*word)))
 }
 
-// Compares each of some targets of a random graph with the plain program.
-fn compare(
+// Whether a run tells what the plain program does.
+fn agrees(
+    rt: &(impl Abort + AllocGlobal + Threads + Wait + Sync),
+    graph: &Graph,
+    answer: &Answer<28>,
+    workers: u32,
+    ends: (u32, u32),
+) -> bool
+    requires { graph.now.n ≤ 10000 }
+{
+    pair(rt, graph, graph.mean_length(), workers, ends) == plain_pair(answer, ends.1)
+}
+
+// Whether runs for two random targets of a random graph do, by one worker and by two.
+fn both_agree(
     rt: &(impl Abort + AllocGlobal + Threads + Wait + Sync),
     random: &mut Random,
     kind: GraphKind,
-) -> Result<bool, Fail> {
+) -> Result<bool, AllocError> {
     let n = random.up_to(200);
     let graph = random_graph(rt.alloc(), random, kind, n)?;
     let source = random.up_to(n);
-    let answer: Answer<28> = plain(rt, &graph, source)?;
-    let mut all = true;
-    for workers in [1u32, 2] {
-        let target = random.up_to(n);
-        let told = pair::<28>(rt, &graph, graph.mean_length(), workers, (source, target));
-        all = all && told == plain_pair(&answer, target);
+    let answer = plain_tree(rt.alloc(), &graph, source)?;
+    let (one, other) = (random.up_to(n), random.up_to(n));
+    Ok(
+        agrees(rt, &graph, &answer, 1, (source, one))
+            && agrees(rt, &graph, &answer, 2, (source, other)),
+    )
+}
+
+// Whether runs on many random graphs do.
+fn all_agree(
+    rt: &(impl Abort + AllocGlobal + Threads + Wait + Sync),
+    random: &mut Random,
+    kind: GraphKind,
+) -> Result<bool, AllocError> {
+    for _ in 0..40 {
+        if !both_agree(rt, random, kind)? {
+            return Ok(false);
+        }
     }
-    Ok(all)
+    Ok(true)
 }
 
 #[test]
 fn random_targets(rt: HostRuntime) -> Result<(), Fail> {
     let mut random = Random::new(11);
     for kind in [GraphKind::Sparse, GraphKind::Ties, GraphKind::Parts] {
-        for _ in 0..40 {
-            assert!(rt; compare(&rt, &mut random, kind)?);
-        }
+        assert!(rt; all_agree(&rt, &mut random, kind)?);
     }
     Ok(())
 }

@@ -2,85 +2,83 @@
 ghost use Rattle.std.specs.Prelude.{◌≡◌, ◌≤◌, OnOk};
 ghost use Rattle.sp_phase.specs.Progress.{IsUnspent};
 
-use super::{WORKERS, crew, graph_of, split, width};
+use super::{WORKERS, crew, split, width};
 use sp_claim::Claimer;
 use sp_graph::Graph;
 use sp_offer::Caller;
-use sp_phase::{Run, Store};
+use sp_phase::{Run, RunError, Store};
 use sp_task::OpenGate;
 use sp_word::Word;
 use std::process::Abort;
 use std::sync::Wait;
 use std::test::Fail;
 use std::thread::Threads;
-use tests_samples::DIAMOND;
+use tests_samples::{DIAMOND, graph_of};
 
-// One more answer of `settle`, followed by `heavy` where it tells a bucket.
-fn push_answer(
+// The words of vertices 2, 3 and 4.
+type Words = (Word<28>, Word<28>, Word<28>);
+
+// Whether `settle` tells this bucket; `heavy` follows.
+fn settles(
     rt: &(impl Abort + AllocGlobal + Threads + Wait + Sync),
     run: &mut Run<28>,
-    told: &mut Vec<Option<u64>>,
-) -> Result<(), Fail> {
-    let answer = run.settle(rt, &OpenGate)?;
-    told.push(answer)?;
-    if answer.is_some() {
-        run.heavy(rt, &OpenGate)?;
-    }
-    Ok(())
+    bucket: u64,
+) -> Result<bool, RunError> {
+    let told = run.settle(rt, &OpenGate)?;
+    run.heavy(rt, &OpenGate)?;
+    Ok(told == Some(bucket))
 }
 
-// The answers up to the one that tells no bucket.
-fn answers_of(
+// Whether it tells these buckets in turn, and then none.
+fn settles_all(
     rt: &(impl Abort + AllocGlobal + Threads + Wait + Sync),
     mut run: Run<28>,
-) -> Result<Vec<Option<u64>>, Fail> {
-    let mut told = Vec::new(rt.alloc());
-    for _ in 0..10 {
-        push_answer(rt, &mut run, &mut told)?;
-        if told.last() == Some(&None) {
-            break;
+    buckets: &[u64],
+) -> Result<bool, RunError> {
+    for bucket in buckets {
+        if !settles(rt, &mut run, *bucket)? {
+            return Ok(false);
         }
     }
-    Ok(told)
+    Ok(run.settle(rt, &OpenGate)?.is_none())
 }
 
-// The same for a run from vertex 1.
-fn answers(
+// Whether runs from vertex 1 by every number of workers do.
+fn crews_settle(
     rt: &(impl Abort + AllocGlobal + Threads + Wait + Sync),
     graph: &Graph,
     delta: u64,
-    workers: u32,
-) -> Result<Vec<Option<u64>>, Fail>
+    buckets: &[u64],
+) -> Result<bool, RunError>
     requires n { graph.now.n ≤ 10000 }
 {
-    let (store, caller, claimer) = Store::<28>::new(rt.alloc(), graph, width(rt, delta), 1)?;
-    let run = Run::begin(rt.alloc(), &store, caller, claimer, crew(rt, workers))?;
-    answers_of(rt, run)
+    for workers in WORKERS {
+        let (store, caller, claimer) = Store::new(rt.alloc(), graph, width(rt, delta), 1)?;
+        let run = Run::begin(rt.alloc(), &store, caller, claimer, crew(rt, workers))?;
+        if !settles_all(rt, run, buckets)? {
+            return Ok(false);
+        }
+    }
+    Ok(true)
 }
 
 #[test]
 fn settle_answers(rt: HostRuntime) -> Result<(), Fail> {
-    let graph = graph_of(&rt, 4, &DIAMOND)?;
-    for workers in WORKERS {
-        let told = answers(&rt, &graph, 1, workers)?;
-        assert!(rt; told.as_slice() == [Some(0u64), Some(3), Some(5), Some(6), None].as_slice());
-        let told = answers(&rt, &graph, 2, workers)?;
-        assert!(rt; told.as_slice() == [Some(0u64), Some(1), Some(2), Some(3), None].as_slice());
-        let told = answers(&rt, &graph, 100, workers)?;
-        assert!(rt; told.as_slice() == [Some(0u64), None].as_slice());
-    }
+    let graph = graph_of(rt.alloc(), 4, &DIAMOND)?;
+    assert!(rt; crews_settle(&rt, &graph, 1, &[0, 3, 5, 6])?);
+    assert!(rt; crews_settle(&rt, &graph, 2, &[0, 1, 2, 3])?);
+    assert!(rt; crews_settle(&rt, &graph, 100, &[0])?);
     Ok(())
 }
 
 // Rounds of fewer than 1,000 tasks are the leader's alone.
 #[test]
 fn short_rounds_alone(rt: HostRuntime) -> Result<(), Fail> {
-    let graph = graph_of(&rt, 4, &DIAMOND)?;
-    let (store, caller, claimer) = Store::<28>::new(rt.alloc(), &graph, width(&rt, 2), 1)?;
+    let graph = graph_of(rt.alloc(), 4, &DIAMOND)?;
+    let (store, caller, claimer) = Store::new(rt.alloc(), &graph, width(&rt, 2), 1)?;
     let store = store.sharing_from(1000);
     let run = Run::begin(rt.alloc(), &store, caller, claimer, crew(&rt, 64))?;
-    let told = answers_of(&rt, run)?;
-    assert!(rt; told.as_slice() == [Some(0u64), Some(1), Some(2), Some(3), None].as_slice());
+    assert!(rt; settles_all(&rt, run, &[0, 1, 2, 3])?);
     Ok(())
 }
 
@@ -99,7 +97,7 @@ fn settle_next(
 }
 
 // The words of vertices 2, 3 and 4.
-fn read_words(run: &mut Run<28>) -> (Word<28>, Word<28>, Word<28>)
+fn read_words(run: &mut Run<28>) -> Words
     requires n { 4 ≤ run.old.stage.graph.n }
     requires unspent { IsUnspent run.old }
     ensures { run.new.stage ≡ run.old.stage }
@@ -112,7 +110,7 @@ fn words_after(
     rt: &(impl Abort + AllocGlobal + Threads + Wait + Sync),
     run: &mut Run<28>,
     bucket: u64,
-) -> Result<(Word<28>, Word<28>, Word<28>), Fail>
+) -> Result<Words, Fail>
     requires { 4 ≤ run.old.stage.graph.n }
     ensures { run.new.stage ≡ run.old.stage }
 {
@@ -127,7 +125,7 @@ fn settled_words(
     caller: Caller,
     claimer: Claimer,
     workers: u32,
-) -> Result<[(Word<28>, Word<28>, Word<28>); 2], Fail>
+) -> Result<[Words; 2], Fail>
     requires n { 4 ≤ store.now.graph.n }
     requires caller { caller.table ≡ store.now.table }
     requires claimer { claimer.table ≡ store.now.claims }
@@ -139,16 +137,29 @@ fn settled_words(
     Ok([first, second])
 }
 
+// Whether these are the words of the diamond's tree.
+fn are_final(words: Words) -> bool {
+    words == (Word::pack(3, 1), Word::pack(3, 1), Word::pack(5, 2))
+}
+
+// The words after the first two buckets of a run in the diamond.
+fn words_of_run(
+    rt: &(impl Abort + AllocGlobal + Threads + Wait + Sync),
+    graph: &Graph,
+    workers: u32,
+) -> Result<[Words; 2], Fail>
+    requires { graph.now.n ≡ 4 }
+{
+    let (store, caller, claimer) = Store::new(rt.alloc(), graph, width(rt, 2), 1)?;
+    settled_words(rt, &store, caller, claimer, workers)
+}
+
 #[test]
 fn reads_after_settled_buckets(rt: HostRuntime) -> Result<(), Fail> {
-    let graph = graph_of(&rt, 4, &DIAMOND)?;
+    let graph = graph_of(rt.alloc(), 4, &DIAMOND)?;
     for workers in WORKERS {
-        assert!(rt; graph.n() == 4);
-        let (store, caller, claimer) = Store::<28>::new(rt.alloc(), &graph, width(&rt, 2), 1)?;
-        let [first, second] = settled_words(&rt, &store, caller, claimer, workers)?;
-        assert!(rt; first.0.is_unreached());
-        assert!(rt; second.0 == Word::pack(3, 1) && second.1 == Word::pack(3, 1));
-        assert!(rt; second.2 == Word::pack(5, 2));
+        let [first, second] = words_of_run(&rt, &graph, workers)?;
+        assert!(rt; first.0.is_unreached() && are_final(second));
     }
     Ok(())
 }
@@ -170,19 +181,26 @@ fn offer_first(graph: &Graph, source: u32, store: &Store<28>, caller: &mut Calle
     }
 }
 
-// Another caller, split off before the run began, offered (3, 1) to vertex 2.
+// The same where another caller, split off before the run began, offered (3, 1) to vertex 2.
+fn words_beside_another(
+    rt: &(impl Abort + AllocGlobal + Threads + Wait + Sync),
+    graph: &Graph,
+    workers: u32,
+) -> Result<[Words; 2], Fail>
+    requires { graph.now.n ≡ 4 }
+{
+    let (store, caller, claimer) = Store::new(rt.alloc(), graph, width(rt, 2), 1)?;
+    let (caller, mut other) = split(&store, caller);
+    offer_first(graph, 1, &store, &mut other, 2);
+    settled_words(rt, &store, caller, claimer, workers)
+}
+
 #[test]
 fn reads_beside_another_caller(rt: HostRuntime) -> Result<(), Fail> {
-    let graph = graph_of(&rt, 4, &DIAMOND)?;
+    let graph = graph_of(rt.alloc(), 4, &DIAMOND)?;
     for workers in WORKERS {
-        assert!(rt; graph.n() == 4);
-        let (store, caller, claimer) = Store::<28>::new(rt.alloc(), &graph, width(&rt, 2), 1)?;
-        let (caller, mut other) = split(&store, caller);
-        offer_first(&graph, 1, &store, &mut other, 2);
-        let [first, second] = settled_words(&rt, &store, caller, claimer, workers)?;
-        assert!(rt; first.0 == Word::pack(3, 1));
-        assert!(rt; second.0 == Word::pack(3, 1) && second.1 == Word::pack(3, 1));
-        assert!(rt; second.2 == Word::pack(5, 2));
+        let [first, second] = words_beside_another(&rt, &graph, workers)?;
+        assert!(rt; first.0 == Word::pack(3, 1) && are_final(second));
     }
     Ok(())
 }

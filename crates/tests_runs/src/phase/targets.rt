@@ -1,85 +1,112 @@
 //! Runs for some targets of one source.
-ghost use Rattle.std.specs.Prelude.{◌≡◌, true, All, IfOk};
-ghost use Rattle.sp_word.specs.Word.{is_layout};
+ghost use Rattle.std.specs.Prelude.{◌≤◌, All, IfOk};
 ghost use Rattle.sp_paths.specs.Paths.{IsVertex};
 
-use super::compare::plain;
-use super::{WORKERS, crew, graph_of, width};
+use super::pairs::parts;
+use super::{WORKERS, crew, width};
 use sp_graph::Graph;
-use sp_plain::{Answer, GraphKind, Random, random_graph};
-use sp_solve::{PairAnswer, Query, run_targets};
-use sp_word::{Meter, Team, Word};
+use sp_plain::{Answer, GraphKind, Random, plain_tree, random_graph};
+use sp_solve::{PairAnswer, Query, Reach, run_targets};
+use sp_word::{Meter, Team};
+use std::alloc::{AllocError, Global};
 use std::process::Abort;
 use std::sync::Wait;
 use std::test::Fail;
 use std::thread::Threads;
-use tests_samples::{DIAMOND, Triple, long_path};
+use tests_samples::{DIAMOND, Triple, graph_of, long_path};
 
 const DELTAS: [u64; 3] = [1, 5, 100];
 
-// A list of these vertices.
-fn vertices(
-    rt: &(impl Abort + AllocGlobal),
-    graph: &Graph,
-    targets: &[u32],
-) -> Result<Vec<u32>, Fail>
+// What a run is asked, and what it should tell.
+#[derive(Clone, Copy)]
+struct Case<'c> {
+    source: u32,
+    targets: &'c [u32],
+    want: &'c [PairAnswer],
+}
+
+// Those of the targets that are vertices.
+fn vertices(alloc: Global, graph: &Graph, targets: &[u32]) -> Result<Vec<u32>, AllocError>
     ensures { IfOk result (λ list. All (IsVertex graph.now.n) list.items) }
 {
-    let mut list = Vec::new(rt.alloc());
+    let mut list = Vec::new(alloc);
     for target in targets {
-        assert!(rt; 1 <= *target && *target <= graph.n());
-        list.push(*target)?;
+        if graph.has_vertex(*target) {
+            list.push(*target)?;
+        }
     }
     Ok(list)
 }
 
-// What a run from a source tells of some targets, in their order.
-fn told<const P: u32>(
+// Whether these are the answers, in the order of the targets.
+fn are_answers(reach: &Reach<28>, want: &[PairAnswer]) -> bool {
+    let targets = reach.targets().len();
+    for place in 0..targets {
+        if want.get(place) != Some(&reach.answer(place)) {
+            return false;
+        }
+    }
+    want.len() == targets
+}
+
+// Whether a run tells what it should.
+fn tells(
     rt: &(impl Abort + AllocGlobal + Threads + Wait + Sync),
     graph: &Graph,
     delta: u64,
     workers: u32,
-    source: u32,
-    targets: &[u32],
-) -> Result<Vec<PairAnswer>, Fail>
-    requires { is_layout P ≡ true }
+    case: Case<'_>,
+) -> Result<bool, AllocError>
+    requires n { graph.now.n ≤ 10000 }
+    requires source { IsVertex graph.now.n case.source }
 {
-    assert!(rt; graph.n() <= Word::<P>::max_pred());
-    assert!(rt; 1 <= source && source <= graph.n());
     let query = Query {
-        source,
-        targets: vertices(rt, graph, targets)?,
+        source: case.source,
+        targets: vertices(rt.alloc(), graph, case.targets)?,
     };
     let team = Team {
-        delta: width::<P>(rt, delta),
+        delta: width(rt, delta),
         workers: crew(rt, workers),
     };
-    let reach = run_targets::<P, _>(rt, rt.alloc(), graph, team, &Meter::new(), query)?;
-    let mut answers = Vec::new(rt.alloc());
-    for place in 0..reach.targets().len() {
-        answers.push(reach.answer(place))?;
-    }
-    Ok(answers)
+    let reach = run_targets(rt, rt.alloc(), graph, team, &Meter::new(), query)?;
+    Ok(are_answers(&reach, case.want))
 }
 
-// Whether runs from a source tell this of some targets, for all numbers of workers and some widths.
+// Whether runs by every number of workers do.
+fn crews_tell(
+    rt: &(impl Abort + AllocGlobal + Threads + Wait + Sync),
+    graph: &Graph,
+    delta: u64,
+    case: Case<'_>,
+) -> Result<bool, AllocError>
+    requires n { graph.now.n ≤ 10000 }
+    requires source { IsVertex graph.now.n case.source }
+{
+    for workers in WORKERS {
+        if !tells(rt, graph, delta, workers, case)? {
+            return Ok(false);
+        }
+    }
+    Ok(true)
+}
+
+// Whether runs on the graph of these arcs do, with several widths.
 fn all_tell(
     rt: &(impl Abort + AllocGlobal + Threads + Wait + Sync),
     n: u32,
     arcs: &[Triple],
-    source: u32,
-    targets: &[u32],
-    want: &[PairAnswer],
-) -> Result<bool, Fail> {
-    let graph = graph_of(rt, n, arcs)?;
-    let mut all = true;
-    for workers in WORKERS {
-        for delta in DELTAS {
-            let answers = told::<28>(rt, &graph, delta, workers, source, targets)?;
-            all = all && answers.as_slice() == want;
+    case: Case<'_>,
+) -> Result<bool, AllocError>
+    requires n { n ≤ 10000 }
+    requires source { IsVertex n case.source }
+{
+    let graph = graph_of(rt.alloc(), n, arcs)?;
+    for delta in DELTAS {
+        if !crews_tell(rt, &graph, delta, case)? {
+            return Ok(false);
         }
     }
-    Ok(all)
+    Ok(true)
 }
 
 fn found(dist: u64, pred: u32) -> PairAnswer {
@@ -88,90 +115,140 @@ fn found(dist: u64, pred: u32) -> PairAnswer {
 
 #[test]
 fn targets_of_diamond(rt: HostRuntime) -> Result<(), Fail> {
-    let want = [found(5, 2), found(0, 0), found(3, 1), found(5, 2)];
-    assert!(rt; all_tell(&rt, 4, &DIAMOND, 1, &[4, 1, 3, 4], &want)?);
-    assert!(rt; all_tell(&rt, 4, &DIAMOND, 4, &[1], &[PairAnswer::NoWalk])?);
-    assert!(rt; all_tell(&rt, 4, &DIAMOND, 1, &[], &[])?);
+    let all = Case {
+        source: 1,
+        targets: &[4, 1, 3, 4],
+        want: &[found(5, 2), found(0, 0), found(3, 1), found(5, 2)],
+    };
+    let back = Case {
+        source: 4,
+        targets: &[1],
+        want: &[PairAnswer::NoWalk],
+    };
+    let none = Case {
+        source: 1,
+        targets: &[],
+        want: &[],
+    };
+    assert!(rt; all_tell(&rt, 4, &DIAMOND, all)?);
+    assert!(rt; all_tell(&rt, 4, &DIAMOND, back)?);
+    assert!(rt; all_tell(&rt, 4, &DIAMOND, none)?);
     Ok(())
 }
 
 #[test]
 fn targets_beyond_the_limit(rt: HostRuntime) -> Result<(), Fail> {
     let arcs = long_path(rt.alloc(), 15)?;
-    let arcs = arcs.as_slice();
     let near = found(68_719_476_720, 16);
-    let far = PairAnswer::TooFar(18);
-    assert!(rt; all_tell(&rt, 18, arcs, 1, &[17], &[near])?);
-    assert!(rt; all_tell(&rt, 18, arcs, 1, &[18, 17], &[far, near])?);
-    assert!(rt;
-        all_tell(
-            &rt,
-            18,
-            arcs,
-            18,
-            &[1, 18],
-            &[PairAnswer::NoWalk, found(0, 0)]
-        )?
-    );
+    let one = Case {
+        source: 1,
+        targets: &[17],
+        want: &[near],
+    };
+    let both = Case {
+        source: 1,
+        targets: &[18, 17],
+        want: &[PairAnswer::TooFar(18), near],
+    };
+    let back = Case {
+        source: 18,
+        targets: &[1, 18],
+        want: &[PairAnswer::NoWalk, found(0, 0)],
+    };
+    assert!(rt; all_tell(&rt, 18, &arcs, one)?);
+    assert!(rt; all_tell(&rt, 18, &arcs, both)?);
+    assert!(rt; all_tell(&rt, 18, &arcs, back)?);
     Ok(())
 }
 
 #[test]
 fn first_words_are_not_final(rt: HostRuntime) -> Result<(), Fail> {
-    let triangle = [(1, 3, 10), (1, 2, 1), (2, 3, 1)];
-    assert!(rt; all_tell(&rt, 3, &triangle, 1, &[3], &[found(2, 2)])?);
+    let case = Case {
+        source: 1,
+        targets: &[3],
+        want: &[found(2, 2)],
+    };
+    assert!(rt; all_tell(&rt, 3, &[(1, 3, 10), (1, 2, 1), (2, 3, 1)], case)?);
     Ok(())
 }
 
-// What the plain program tells of a target, where no vertex is too far.
-fn plain_answer<const P: u32>(answer: &Answer<P>, target: u32) -> Option<PairAnswer> {
-    let Answer::Tree(words) = answer else {
-        return None;
+// What the plain program tells of a target.
+fn plain_answer(answer: &Answer<28>, target: u32) -> PairAnswer {
+    let words = match answer {
+        Answer::TooFar(vertex) => return PairAnswer::TooFar(*vertex),
+        Answer::Tree(words) => words,
     };
-    let word = words.get((target as usize).wrapping_sub(1))?;
-    match (word.dist(), word.pred()) {
-        (Some(dist), Some(pred)) => Some(found(dist, pred)),
-        _ => Some(PairAnswer::NoWalk),
+    let word = words.get((target as usize).wrapping_sub(1));
+    match word.and_then(|word| parts(*word)) {
+        Some((dist, pred)) => found(dist, pred),
+        None => PairAnswer::NoWalk,
     }
 }
 
-// Compares some targets of a random graph with the plain program.
-fn compare(
+// From 1 to 20 random targets.
+fn random_vertices(alloc: Global, random: &mut Random, n: u32) -> Result<Vec<u32>, AllocError>
+    requires { 1 ≤ n }
+{
+    let mut list = Vec::new(alloc);
+    for _ in 0..random.up_to(20) {
+        list.push(random.up_to(n))?;
+    }
+    Ok(list)
+}
+
+// What the plain program tells of these targets.
+fn plain_answers(
+    alloc: Global,
+    answer: &Answer<28>,
+    targets: &[u32],
+) -> Result<Vec<PairAnswer>, AllocError> {
+    let mut answers = Vec::new(alloc);
+    for target in targets {
+        answers.push(plain_answer(answer, *target))?;
+    }
+    Ok(answers)
+}
+
+// Whether runs for some targets of a random graph tell what the plain program does, by one worker and by four.
+fn both_agree(
     rt: &(impl Abort + AllocGlobal + Threads + Wait + Sync),
     random: &mut Random,
     kind: GraphKind,
-) -> Result<bool, Fail> {
+) -> Result<bool, AllocError> {
     let n = random.up_to(200);
     let graph = random_graph(rt.alloc(), random, kind, n)?;
     let source = random.up_to(n);
-    let answer: Answer<28> = plain(rt, &graph, source)?;
-    let mut targets = Vec::new(rt.alloc());
-    let mut want = Vec::new(rt.alloc());
-    for _ in 0..random.up_to(20) {
-        let target = random.up_to(n);
-        targets.push(target)?;
-        want.push(plain_answer(&answer, target))?;
+    let answer = plain_tree(rt.alloc(), &graph, source)?;
+    let targets = random_vertices(rt.alloc(), random, n)?;
+    let want = plain_answers(rt.alloc(), &answer, &targets)?;
+    let case = Case {
+        source,
+        targets: &targets,
+        want: &want,
+    };
+    let delta = graph.mean_length();
+    Ok(tells(rt, &graph, delta, 1, case)? && tells(rt, &graph, delta, 4, case)?)
+}
+
+// Whether runs on many random graphs do.
+fn all_agree(
+    rt: &(impl Abort + AllocGlobal + Threads + Wait + Sync),
+    random: &mut Random,
+    kind: GraphKind,
+) -> Result<bool, AllocError> {
+    for _ in 0..40 {
+        if !both_agree(rt, random, kind)? {
+            return Ok(false);
+        }
     }
-    let mut all = true;
-    for workers in [1u32, 4] {
-        let answers = told::<28>(rt, &graph, graph.mean_length(), workers, source, &targets)?;
-        all = all
-            && answers.len() == want.len()
-            && answers
-                .iter()
-                .zip(want.iter())
-                .all(|both| Some(*both.0) == *both.1);
-    }
-    Ok(all)
+    Ok(true)
 }
 
 #[test]
 fn random_lists_of_targets(rt: HostRuntime) -> Result<(), Fail> {
     let mut random = Random::new(12);
     for kind in [GraphKind::Sparse, GraphKind::Ties, GraphKind::Parts] {
-        for _ in 0..40 {
-            assert!(rt; compare(&rt, &mut random, kind)?);
-        }
+        assert!(rt; all_agree(&rt, &mut random, kind)?);
     }
     Ok(())
 }

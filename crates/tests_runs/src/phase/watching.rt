@@ -1,7 +1,7 @@
 //! A caller that watches a run.
 ghost use Rattle.std.specs.Prelude.{◌≡◌, ◌≤◌, IfOk};
 
-use super::{crew, graph_of, has_rows, split, width};
+use super::{crew, has_rows, split, width};
 use sp_claim::Claimer;
 use sp_offer::{Caller, Lawful, OfferTable};
 use sp_phase::{Run, RunError, Store};
@@ -12,7 +12,7 @@ use std::process::Abort;
 use std::sync::Wait;
 use std::test::Fail;
 use std::thread::{Threads, join};
-use tests_samples::{DIAMOND, DIAMOND_ROWS};
+use tests_samples::{DIAMOND, DIAMOND_ROWS, graph_of};
 
 // Reads vertices 1 to 4, and tells whether no word is greater than the one before.
 fn read_four<L: Lawful>(
@@ -111,9 +111,8 @@ fn watched(
 
 #[test]
 fn watcher_sees_falling_words(rt: HostRuntime) -> Result<(), Fail> {
-    let graph = graph_of(&rt, 4, &DIAMOND)?;
-    assert!(rt; graph.n() == 4);
-    let (store, caller, claimer) = Store::<28>::new(rt.alloc(), &graph, width(&rt, 2), 1)?;
+    let graph = graph_of(rt.alloc(), 4, &DIAMOND)?;
+    let (store, caller, claimer) = Store::new(rt.alloc(), &graph, width(&rt, 2), 1)?;
     let mut watcher = watched(&rt, &store, caller, claimer)?;
     assert!(rt; reads_the_tree(&store, &mut watcher));
     Ok(())
