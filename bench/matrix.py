@@ -109,8 +109,8 @@ def measure(chosen, folder):
         return lambda: asked(program, graph, list_of_sources, targets, out, workers)[0]
 
     read, alone, several = median_of(chosen.runs, [job(none, 1), job(sources, 1), job(sources, chosen.workers)])
-    memory = [asked(program, graph, it, targets, out, chosen.workers)[1] for it in (sources, more)]
-    asked(program, graph, sources, targets, out, chosen.workers)
+    # (the lines that are compared with SciPy's are those of the last of these)
+    of_more, of_few = (asked(program, graph, it, targets, out, chosen.workers)[1] for it in (more, sources))
     with open(out) as file:
         theirs = by_scipy(graph, chosen.vertices, rows[: chosen.rows], ends, file)
     print(f"{chosen.vertices:,} vertices, a matrix of {chosen.side} by {chosen.side} in a tenth of them; medians of {chosen.runs} in turn\n")
@@ -120,7 +120,7 @@ def measure(chosen, folder):
     print(f"| {chosen.workers} workers | {several:.2f} | {(several - read) / (alone - read):.2f} |")
     if theirs is not None:
         print(f"| SciPy, as many rows | {theirs * chosen.side:.2f} | {theirs * chosen.side / (alone - read):.2f} |")
-    print(f"\nMemory with ten times as many rows: {memory[1] / memory[0]:.2f} of that of {chosen.side} ({memory[0] // 1024} MB)")
+    print(f"\nMemory with ten times as many rows: {of_more / of_few:.2f} of that of {chosen.side} ({of_few // 1024} MB)")
 
 
 def main():
