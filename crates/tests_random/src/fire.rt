@@ -1,14 +1,14 @@
 //! Threads under fire: teams of several sizes and the plain program tell the same of 1,000 random graphs of every kind.
-ghost use Rattle.std.specs.Prelude.{◌≡◌, true};
-ghost use Rattle.sp_word.specs.Word.{is_layout};
+ghost use Rattle.std.specs.Prelude.{◌≡◌, ◌≤◌, true};
+ghost use Rattle.sp_word.specs.Word.{is_layout, max_pred};
 
-use crate::runs::{plain, run_by_team, same};
+use crate::runs::{run_by_team, same};
 use sp_graph::Graph;
-use sp_plain::{Answer, GraphKind, Random, random_graph};
+use sp_plain::{Answer, GraphKind, Random, plain_tree, random_graph};
 use sp_word::Word;
+use std::alloc::AllocError;
 use std::process::Abort;
 use std::sync::Wait;
-use std::test::Fail;
 use std::thread::Threads;
 
 const TEAMS: [u32; 5] = [1, 2, 3, 8, 64];
@@ -29,29 +29,25 @@ fn width_of<const P: u32>(graph: &Graph, number: u32) -> u64
     }
 }
 
-// Lets each team answer.
+// Lets each team answer for the graph of this number.
 fn compare_teams<const P: u32>(
     rt: &(impl Abort + AllocGlobal + Threads + Wait + Sync),
     graph: &Graph,
+    number: u32,
     source: u32,
-    name: (u64, u32),
-) -> Result<(), Fail>
-    requires { is_layout P ≡ true }
+    want: &Answer<P>,
+)
+    requires layout { is_layout P ≡ true }
+    requires n { graph.now.n ≤ max_pred P }
 {
-    let (seed, number) = name;
-    let want: Answer<P> = plain(rt, graph, source)?;
     let delta = width_of::<P>(graph, number);
     for workers in TEAMS {
         if workers > MANY && number % 5 > 0 {
             continue;
         }
         let told = run_by_team(rt, graph, delta, workers, source);
-        assert!(rt;
-            same(&told, &want),
-            "graph {number} of seed {seed}, a team of {workers}"
-        );
+        assert!(rt; same(&told, want), "graph {number}, a team of {workers}");
     }
-    Ok(())
 }
 
 // The same for random graphs of a kind, from a random source each.
@@ -60,65 +56,67 @@ fn fire<const P: u32>(
     kind: GraphKind,
     seed: u64,
     graphs: u32,
-) -> Result<(), Fail>
+) -> Result<(), AllocError>
     requires { is_layout P ≡ true }
 {
     let mut random = Random::new(seed);
     for number in 0..graphs {
         let n = random.up_to(2000);
         let graph = random_graph(rt.alloc(), &mut random, kind, n)?;
+        assert!(rt; graph.n() <= Word::<P>::max_pred());
         let source = random.up_to(n);
-        compare_teams::<P>(rt, &graph, source, (seed, number))?;
+        let want = plain_tree::<P>(rt.alloc(), &graph, source)?;
+        compare_teams(rt, &graph, number, source, &want);
     }
     Ok(())
 }
 
 #[test]
-fn sparse_under_fire(rt: HostRuntime) -> Result<(), Fail> {
+fn sparse_under_fire(rt: HostRuntime) -> Result<(), AllocError> {
     fire::<28>(&rt, GraphKind::Sparse, 1, 125)
 }
 
 #[test]
-fn wide_words_under_fire(rt: HostRuntime) -> Result<(), Fail> {
+fn wide_words_under_fire(rt: HostRuntime) -> Result<(), AllocError> {
     fire::<20>(&rt, GraphKind::Sparse, 2, 100)
 }
 
 #[test]
-fn dense_under_fire(rt: HostRuntime) -> Result<(), Fail> {
+fn dense_under_fire(rt: HostRuntime) -> Result<(), AllocError> {
     fire::<28>(&rt, GraphKind::Dense, 3, 65)
 }
 
 #[test]
-fn more_dense_under_fire(rt: HostRuntime) -> Result<(), Fail> {
+fn more_dense_under_fire(rt: HostRuntime) -> Result<(), AllocError> {
     fire::<24>(&rt, GraphKind::Dense, 9, 60)
 }
 
 #[test]
-fn ties_under_fire(rt: HostRuntime) -> Result<(), Fail> {
+fn ties_under_fire(rt: HostRuntime) -> Result<(), AllocError> {
     fire::<24>(&rt, GraphKind::Ties, 4, 150)
 }
 
 #[test]
-fn parallel_arcs_under_fire(rt: HostRuntime) -> Result<(), Fail> {
+fn parallel_arcs_under_fire(rt: HostRuntime) -> Result<(), AllocError> {
     fire::<32>(&rt, GraphKind::Parallel, 5, 125)
 }
 
 #[test]
-fn parts_under_fire(rt: HostRuntime) -> Result<(), Fail> {
+fn parts_under_fire(rt: HostRuntime) -> Result<(), AllocError> {
     fire::<28>(&rt, GraphKind::Parts, 6, 125)
 }
 
 #[test]
-fn long_arcs_under_fire(rt: HostRuntime) -> Result<(), Fail> {
+fn long_arcs_under_fire(rt: HostRuntime) -> Result<(), AllocError> {
     fire::<28>(&rt, GraphKind::Long, 7, 65)
 }
 
 #[test]
-fn more_long_arcs_under_fire(rt: HostRuntime) -> Result<(), Fail> {
+fn more_long_arcs_under_fire(rt: HostRuntime) -> Result<(), AllocError> {
     fire::<28>(&rt, GraphKind::Long, 10, 60)
 }
 
 #[test]
-fn short_words_under_fire(rt: HostRuntime) -> Result<(), Fail> {
+fn short_words_under_fire(rt: HostRuntime) -> Result<(), AllocError> {
     fire::<32>(&rt, GraphKind::Long, 8, 125)
 }

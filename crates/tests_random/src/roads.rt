@@ -1,15 +1,15 @@
 //! The engine and the plain program tell the same of graphs of the size and the shape of a town's roads.
-ghost use Rattle.std.specs.Prelude.{◌≤◌};
+ghost use Rattle.std.specs.Prelude.{◌≡◌, ◌≤◌, IfOk};
 
-use crate::runs::{graph_of, plain, run, run_by_team, same};
+use crate::runs::{run, run_by_team, same};
 use sp_graph::Graph;
-use sp_plain::{Answer, Random};
+use sp_plain::{Answer, Random, plain_tree};
 use sp_word::Word;
-use std::alloc::AllocError;
+use std::alloc::{AllocError, Global};
 use std::process::Abort;
 use std::sync::Wait;
-use std::test::Fail;
 use std::thread::Threads;
+use tests_samples::{Triple, graph_of};
 
 // Vertices stand on a square grid, row by row.
 const SIDE: u32 = 100;
@@ -56,12 +56,7 @@ const PARTS: RoadMap = RoadMap {
     parts: 7,
 };
 
-fn push_both(
-    arcs: &mut Vec<(u32, u32, u32)>,
-    one: u32,
-    other: u32,
-    len: u32,
-) -> Result<(), AllocError> {
+fn push_both(arcs: &mut Vec<Triple>, one: u32, other: u32, len: u32) -> Result<(), AllocError> {
     arcs.push((one, other, len))?;
     arcs.push((other, one, len))?;
     Ok(())
@@ -76,7 +71,7 @@ fn part_of(map: RoadMap, vertex: u32) -> u64 {
 fn push_street(
     map: RoadMap,
     random: &mut Random,
-    arcs: &mut Vec<(u32, u32, u32)>,
+    arcs: &mut Vec<Triple>,
     tail: u32,
     step: u32,
 ) -> Result<(), AllocError> {
@@ -90,26 +85,36 @@ fn push_street(
     push_both(arcs, tail, head, len)
 }
 
-fn graph_by(
-    rt: &(impl Abort + AllocGlobal),
+// Adds the streets.
+fn push_streets(
     map: RoadMap,
     random: &mut Random,
-) -> Result<Graph, Fail> {
-    let mut arcs = Vec::new(rt.alloc());
+    arcs: &mut Vec<Triple>,
+) -> Result<(), AllocError> {
     for place in 0..N {
-        push_street(map, random, &mut arcs, place + 1, 1)?;
-        push_street(map, random, &mut arcs, place + 1, SIDE)?;
+        push_street(map, random, arcs, place + 1, 1)?;
+        push_street(map, random, arcs, place + 1, SIDE)?;
     }
+    Ok(())
+}
+
+// Adds the roads.
+fn push_roads(map: RoadMap, random: &mut Random, arcs: &mut Vec<Triple>) -> Result<(), AllocError> {
     for _ in 0..map.roads {
         let (tail, head) = (random.up_to(N), random.up_to(N));
-        push_both(
-            &mut arcs,
-            tail,
-            head,
-            random.up_to(45_001).saturating_add(4_999),
-        )?;
+        let len = random.up_to(45_001).saturating_add(4_999);
+        push_both(arcs, tail, head, len)?;
     }
-    graph_of(rt, N, &arcs)
+    Ok(())
+}
+
+fn graph_by(alloc: Global, map: RoadMap, random: &mut Random) -> Result<Graph, AllocError>
+    ensures { IfOk result (λ graph. graph.n ≡ 10000) }
+{
+    let mut arcs = Vec::new(alloc);
+    push_streets(map, random, &mut arcs)?;
+    push_roads(map, random, &mut arcs)?;
+    graph_of(alloc, N, &arcs)
 }
 
 // Short rounds are the leader's alone, for several widths of a bucket.
@@ -118,7 +123,9 @@ fn compare_widths(
     graph: &Graph,
     source: u32,
     want: &Answer<28>,
-) {
+)
+    requires { graph.now.n ≡ 10000 }
+{
     let mean = graph.mean_length();
     let deltas = [
         (mean / 3).max(1),
@@ -141,7 +148,9 @@ fn compare_shared(
     graph: &Graph,
     source: u32,
     want: &Answer<28>,
-) {
+)
+    requires { graph.now.n ≡ 10000 }
+{
     let delta = graph.mean_length().saturating_mul(3);
     for workers in [1, 2, 8] {
         let told = run(rt, graph, delta, workers, source);
@@ -155,37 +164,37 @@ fn compare(
     rt: &(impl Abort + AllocGlobal + Threads + Wait + Sync),
     map: RoadMap,
     seed: u64,
-) -> Result<(), Fail> {
+) -> Result<(), AllocError> {
     let mut random = Random::new(seed);
-    let graph = graph_by(rt, map, &mut random)?;
+    let graph = graph_by(rt.alloc(), map, &mut random)?;
     let source = random.up_to(N);
-    let want = plain(rt, &graph, source)?;
+    let want = plain_tree(rt.alloc(), &graph, source)?;
     compare_widths(rt, &graph, source, &want);
     compare_shared(rt, &graph, source, &want);
     Ok(())
 }
 
 #[test]
-fn town(rt: HostRuntime) -> Result<(), Fail> {
+fn town(rt: HostRuntime) -> Result<(), AllocError> {
     compare(&rt, TOWN, 1)
 }
 
 #[test]
-fn second_town(rt: HostRuntime) -> Result<(), Fail> {
+fn second_town(rt: HostRuntime) -> Result<(), AllocError> {
     compare(&rt, TOWN, 2)
 }
 
 #[test]
-fn third_town(rt: HostRuntime) -> Result<(), Fail> {
+fn third_town(rt: HostRuntime) -> Result<(), AllocError> {
     compare(&rt, TOWN, 3)
 }
 
 #[test]
-fn grid_of_ties(rt: HostRuntime) -> Result<(), Fail> {
+fn grid_of_ties(rt: HostRuntime) -> Result<(), AllocError> {
     compare(&rt, TIES, 4)
 }
 
 #[test]
-fn grids_apart(rt: HostRuntime) -> Result<(), Fail> {
+fn grids_apart(rt: HostRuntime) -> Result<(), AllocError> {
     compare(&rt, PARTS, 5)
 }

@@ -1,15 +1,16 @@
 //! The engine and the plain program tell the same of random graphs.
-ghost use Rattle.std.specs.Prelude.{◌≡◌, ◌≤◌, true};
-ghost use Rattle.sp_word.specs.Word.{is_layout};
+ghost use Rattle.std.specs.Prelude.{◌≡◌, ◌≤◌, true, IfOk};
+ghost use Rattle.sp_word.specs.Word.{is_layout, max_pred};
 
-use crate::runs::{graph_of, plain, run, run_by_team, same};
+use crate::runs::{run, run_by_team, same};
 use sp_graph::Graph;
-use sp_plain::{Answer, Random};
+use sp_plain::{Answer, Random, plain_tree};
 use sp_word::Word;
+use std::alloc::{AllocError, Global};
 use std::process::Abort;
 use std::sync::Wait;
-use std::test::Fail;
 use std::thread::Threads;
+use tests_samples::graph_of;
 
 // A run by rounds starts its threads anew in each round, which takes long on a busy machine: several workers run so for one graph in
 // this many.
@@ -24,50 +25,62 @@ fn random_arc(random: &mut Random, n: u32, longest: u32) -> (u32, u32, u32)
 
 // A graph of 1 to 200 vertices with up to three arcs a vertex: loops, parallel arcs, ties and unreached parts come by
 // themselves.
-fn random_graph(
-    rt: &(impl Abort + AllocGlobal),
-    random: &mut Random,
-    longest: u32,
-) -> Result<Graph, Fail>
+fn random_graph(alloc: Global, random: &mut Random, longest: u32) -> Result<Graph, AllocError>
     requires { 1 ≤ longest }
+    ensures { IfOk result (λ graph. (1 ≤ graph.n) × (graph.n ≤ 200)) }
 {
     let n = random.up_to(200);
     let m = random.below(n * 3);
-    let mut arcs = Vec::new(rt.alloc());
+    let mut arcs = Vec::new(alloc);
     for _ in 0..m {
         arcs.push(random_arc(random, n, longest))?;
     }
-    graph_of(rt, n, &arcs)
+    graph_of(alloc, n, &arcs)
 }
 
-// Every width of a bucket with every number of workers, by a team, and by rounds that are all shared where that isn't left out.
+// Every number of workers with this width of a bucket, by a team, and by rounds that are all shared where that isn't left out.
+fn compare_crews<const P: u32>(
+    rt: &(impl Abort + AllocGlobal + Threads + Wait + Sync),
+    graph: &Graph,
+    number: u32,
+    source: u32,
+    delta: u64,
+    want: &Answer<P>,
+)
+    requires layout { is_layout P ≡ true }
+    requires n { graph.now.n ≤ max_pred P }
+{
+    for workers in [1, 2, 3, 8] {
+        if workers == 1 || number % SHARED == 0 {
+            let told = run(rt, graph, delta, workers, source);
+            assert!(rt;
+                same(&told, want),
+                "graph {number}, delta {delta}, {workers} workers"
+            );
+        }
+        let told = run_by_team(rt, graph, delta, workers, source);
+        assert!(rt;
+            same(&told, want),
+            "graph {number}, delta {delta}, a team of {workers}"
+        );
+    }
+}
+
+// The same with several widths.
 fn compare_runs<const P: u32>(
     rt: &(impl Abort + AllocGlobal + Threads + Wait + Sync),
     graph: &Graph,
+    number: u32,
     source: u32,
     want: &Answer<P>,
-    name: (u64, u32),
 )
-    requires { is_layout P ≡ true }
+    requires layout { is_layout P ≡ true }
+    requires n { graph.now.n ≤ max_pred P }
 {
-    let (seed, number) = name;
     let most = Word::<P>::max_dist();
     let longest = u64::from(graph.longest()).max(1);
     for delta in [1, 2, graph.mean_length(), longest, most] {
-        for workers in [1, 2, 3, 8] {
-            if workers == 1 || number % SHARED == 0 {
-                let told = run(rt, graph, delta.min(most), workers, source);
-                assert!(rt;
-                    same(&told, want),
-                    "graph {number} of seed {seed}, delta {delta}, {workers} workers"
-                );
-            }
-            let told = run_by_team(rt, graph, delta.min(most), workers, source);
-            assert!(rt;
-                same(&told, want),
-                "graph {number} of seed {seed}, delta {delta}, a team of {workers}"
-            );
-        }
+        compare_crews(rt, graph, number, source, delta.min(most), want);
     }
 }
 
@@ -77,67 +90,68 @@ fn compare<const P: u32>(
     seed: u64,
     graphs: u32,
     longest: u32,
-) -> Result<(), Fail>
+) -> Result<(), AllocError>
     requires layout { is_layout P ≡ true }
     requires longest { 1 ≤ longest }
 {
     let mut random = Random::new(seed);
     for number in 0..graphs {
-        let graph = random_graph(rt, &mut random, longest)?;
+        let graph = random_graph(rt.alloc(), &mut random, longest)?;
+        assert!(rt; graph.n() <= Word::<P>::max_pred());
         let source = random.up_to(graph.n());
-        let want: Answer<P> = plain(rt, &graph, source)?;
-        compare_runs(rt, &graph, source, &want, (seed, number));
+        let want = plain_tree::<P>(rt.alloc(), &graph, source)?;
+        compare_runs(rt, &graph, number, source, &want);
     }
     Ok(())
 }
 
 // Short arcs make many ties, and many rounds of several tasks.
 #[test]
-fn short_arcs(rt: HostRuntime) -> Result<(), Fail> {
+fn short_arcs(rt: HostRuntime) -> Result<(), AllocError> {
     compare::<28>(&rt, 1, 65, 3)
 }
 
 #[test]
-fn more_short_arcs(rt: HostRuntime) -> Result<(), Fail> {
+fn more_short_arcs(rt: HostRuntime) -> Result<(), AllocError> {
     compare::<28>(&rt, 2, 65, 3)
 }
 
 #[test]
-fn arcs_up_to_5(rt: HostRuntime) -> Result<(), Fail> {
+fn arcs_up_to_5(rt: HostRuntime) -> Result<(), AllocError> {
     compare::<28>(&rt, 3, 65, 5)
 }
 
 #[test]
-fn arcs_up_to_10(rt: HostRuntime) -> Result<(), Fail> {
+fn arcs_up_to_10(rt: HostRuntime) -> Result<(), AllocError> {
     compare::<28>(&rt, 4, 65, 10)
 }
 
 #[test]
-fn middling_arcs(rt: HostRuntime) -> Result<(), Fail> {
+fn middling_arcs(rt: HostRuntime) -> Result<(), AllocError> {
     compare::<28>(&rt, 5, 120, 100)
 }
 
 #[test]
-fn more_middling_arcs(rt: HostRuntime) -> Result<(), Fail> {
+fn more_middling_arcs(rt: HostRuntime) -> Result<(), AllocError> {
     compare::<28>(&rt, 6, 120, 1000)
 }
 
 #[test]
-fn long_arcs(rt: HostRuntime) -> Result<(), Fail> {
+fn long_arcs(rt: HostRuntime) -> Result<(), AllocError> {
     compare::<28>(&rt, 7, 125, u32::MAX)
 }
 
 #[test]
-fn more_long_arcs(rt: HostRuntime) -> Result<(), Fail> {
+fn more_long_arcs(rt: HostRuntime) -> Result<(), AllocError> {
     compare::<28>(&rt, 8, 125, u32::MAX)
 }
 
 #[test]
-fn sums_that_overflow(rt: HostRuntime) -> Result<(), Fail> {
+fn sums_that_overflow(rt: HostRuntime) -> Result<(), AllocError> {
     compare::<32>(&rt, 9, 125, u32::MAX)
 }
 
 #[test]
-fn more_sums_that_overflow(rt: HostRuntime) -> Result<(), Fail> {
+fn more_sums_that_overflow(rt: HostRuntime) -> Result<(), AllocError> {
     compare::<32>(&rt, 10, 125, u32::MAX)
 }
