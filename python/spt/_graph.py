@@ -13,7 +13,7 @@ from concurrent.futures import Future, ThreadPoolExecutor
 from dataclasses import dataclass
 from math import inf
 from time import perf_counter
-from typing import Any, BinaryIO, Iterable, Iterator, List, NamedTuple, Optional, Tuple, Union
+from typing import Any, BinaryIO, ClassVar, Iterable, Iterator, List, NamedTuple, Optional, Tuple, Union
 
 from . import _convert
 from ._buffers import address, column, in_bytes, is_buffer, words, zeros
@@ -54,10 +54,24 @@ class _Reached:
 
     distances: memoryview
     predecessors: memoryview
+    # what is told, in the order in which it is made of it: the format of each list, nothing for a number
+    _formats: ClassVar[dict[str, str]]
+
+    def __post_init__(self) -> None:
+        for name, format in self._formats.items():
+            if format:
+                object.__setattr__(self, name, column(getattr(self, name), format))
 
     def _values(self) -> tuple[Any, ...]:
         """What is told, whose lists are only read."""
-        raise NotImplementedError
+        return tuple(getattr(self, name) for name in self._formats)
+
+    def __reduce_ex__(self, protocol: Any) -> tuple[Any, ...]:
+        return type(self)._again, tuple(_pickled(it, protocol) if isinstance(it, memoryview) else it for it in self._values())
+
+    @classmethod
+    def _again(cls: Any, *values: Any) -> Any:
+        return cls(*(in_bytes(it, format) if format else it for it, format in zip(values, cls._formats.values())))
 
     def __eq__(self, other: object) -> bool:
         return self._values() == other._values() if isinstance(other, type(self)) else NotImplemented
@@ -130,25 +144,12 @@ class Tree(_Reached):
     source: int
     distances: memoryview
     predecessors: memoryview
-
-    def __post_init__(self) -> None:
-        object.__setattr__(self, "distances", column(self.distances, "Q"))
-        object.__setattr__(self, "predecessors", column(self.predecessors, "I"))
+    _formats = {"source": "", "distances": "Q", "predecessors": "I"}
 
     def __repr__(self) -> str:
         distances = _shown(self.distances, {UNREACHED: "unreached"})
         told = f"distances {distances}; predecessors {_shown(self.predecessors, {})}"
         return f"Tree from {self.source} over {len(self.distances)} vertices: {told}"
-
-    def _values(self) -> tuple[Any, ...]:
-        return self.source, self.distances, self.predecessors
-
-    def __reduce_ex__(self, protocol: Any) -> tuple[Any, ...]:
-        return type(self)._again, (self.source, _pickled(self.distances, protocol), _pickled(self.predecessors, protocol))
-
-    @classmethod
-    def _again(cls, source: int, distances: Any, predecessors: Any) -> Tree:
-        return cls(source, in_bytes(distances, "Q"), in_bytes(predecessors, "I"))
 
     def path(self, target: int) -> Optional[list[int]]:
         """The vertices of the tree's walk from the source to a target, None where no walk leads to it.
@@ -178,25 +179,12 @@ class Forest(_Reached):
     distances: memoryview
     predecessors: memoryview
     sources: memoryview
-
-    def __post_init__(self) -> None:
-        for name, format in (("distances", "Q"), ("predecessors", "I"), ("sources", "I")):
-            object.__setattr__(self, name, column(getattr(self, name), format))
+    _formats = {"distances": "Q", "predecessors": "I", "sources": "I"}
 
     def __repr__(self) -> str:
         distances = _shown(self.distances, {UNREACHED: "unreached"})
         told = f"distances {distances}; predecessors {_shown(self.predecessors, {})}; sources {_shown(self.sources, {})}"
         return f"Forest over {len(self.distances)} vertices: {told}"
-
-    def _values(self) -> tuple[Any, ...]:
-        return self.distances, self.predecessors, self.sources
-
-    def __reduce_ex__(self, protocol: Any) -> tuple[Any, ...]:
-        return type(self)._again, tuple(_pickled(it, protocol) for it in self._values())
-
-    @classmethod
-    def _again(cls, distances: Any, predecessors: Any, sources: Any) -> Forest:
-        return cls(in_bytes(distances, "Q"), in_bytes(predecessors, "I"), in_bytes(sources, "I"))
 
     def source(self, target: int) -> Optional[int]:
         """The source that a target is reached from, None where no walk leads to it."""
