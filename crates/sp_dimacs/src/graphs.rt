@@ -11,13 +11,16 @@ ghost use Rattle.sp_dimacs.specs.Graph.{arc_of, IsGraph, SpellsGraph, GraphRead,
 use crate::formats::gr_format;
 use crate::readers::TextReader;
 use sp_device::Read;
+use sp_parts::{SIZES, read_items_by};
 use sp_paths::Arc;
 use sp_text::{
-    Collector, DimacsError, FileFormat, Keep, Kind, LineTaker, Ranges, Values, ranges_of,
-    read_items,
+    Collector, DimacsError, FileFormat, Keep, KeepParts, Kind, LineTaker, Ranges, Values,
+    ranges_of, read_items,
 };
+use sp_word::Workers;
 use std::alloc::{AllocError, Global};
 use std::mem;
+use std::thread::Threads;
 
 /// What a `.gr` file spells: the number of vertices, and the arcs in the order of their lines.
 #[derive(Drop)]
@@ -91,6 +94,26 @@ impl<const P: u32> Keep for ArcKeeper<P> {
     }
 }
 
+// An arc's line has about this many bytes. Room that is missing or left over costs time alone.
+const BYTES_OF_LINE: usize = 16;
+
+impl<const P: u32> KeepParts for ArcKeeper<P> {
+    fn fresh(&self, bytes: usize) -> Result<Self, AllocError> {
+        Ok(ArcKeeper {
+            alloc: self.alloc,
+            arcs: Vec::with_capacity(self.alloc, bytes / BYTES_OF_LINE)?,
+        })
+    }
+
+    fn count(&self) -> u64 {
+        self.arcs.len() as u64
+    }
+
+    fn append(&mut self, other: &Self) -> Result<(), AllocError> {
+        self.arcs.extend_from_slice(&other.arcs)
+    }
+}
+
 /// A reader of a `.gr` text that comes in pieces, for words of `P` bits of predecessor.
 pub type GrReader<const P: u32> = TextReader<Collector<ArcKeeper<P>>>;
 
@@ -118,4 +141,25 @@ pub fn read_gr<const P: u32, R: Read>(alloc: Global, reader: &mut R) -> Result<G
     ensures never { NeverRead (R.failing reader.old) result }
 {
     read_items(reader, GrReader::<P>::new(alloc).into_feeder())
+}
+
+/// Reads the rest of a device's bytes as `read_gr` does, by so many workers, this thread among them. This thread alone reads
+/// the device.
+#[tactic(auto, using(crate::proofs::Limits::graph_read))]
+pub fn read_gr_by<const P: u32, H: Threads + Sync, R: Read>(
+    rt: &H,
+    alloc: Global,
+    reader: &mut R,
+    workers: Workers,
+) -> Result<GrFile, DimacsError>
+    requires { is_layout P ≡ true }
+    ensures exact { (text : List ℕ) → R.left reader.old ≡ Some text
+        → GraphRead P text (R.left reader.new) (R.has_failed reader.new) result }
+    ensures found { IfOk result (λ file. (text : List ℕ) × SpellsGraph P text file) }
+    ensures graph { IfOk result (IsNetwork P) }
+    ensures read { IfErr result (λ e. e.kind ≡ Kind.Read → R.has_failed reader.new ≡ true) }
+    ensures never { NeverRead (R.failing reader.old) result }
+{
+    let feeder = GrReader::<P>::new(alloc).into_feeder();
+    read_items_by(rt, alloc, reader, feeder, workers, SIZES)
 }

@@ -11,7 +11,7 @@ mod piece;
 mod readers;
 mod sources;
 
-pub use graphs::{GrFile, GrReader, read_gr};
+pub use graphs::{GrFile, GrReader, read_gr, read_gr_by};
 pub use laws::{spelled_graph_is_within, spelled_pairs_are_within, spelled_sources_are_within};
 pub use lines::Lines;
 pub use pairs::{PairsFile, PairsReader, read_pairs};

@@ -36,7 +36,7 @@ line_is text ends small is = omega (arith, ended_short text)
 same_error : (line other : ℕ) (kind : Kind) → other ≡ line → ◌≡◌ {A = Option DimacsError} (Some (record { line = line; kind = kind })) (Some (record { line = other; kind = kind }))
 same_error line other kind e = ap (λ (n : ℕ). Some (record { line = n; kind = kind })) (sym e)
 
-short_line : (judge : Judge) (before : List (List ℕ)) (line : List ℕ) → judge.closed before ≡ false → length line ≤ 1024 → line_fault judge before line ≡ judge.fault before line
+pub short_line : (judge : Judge) (before : List (List ℕ)) (line : List ℕ) → judge.closed before ≡ false → length line ≤ 1024 → line_fault judge before line ≡ judge.fault before line
 short_line judge before line goes short = rw (goes, le-ltb 1024 (length line) short) refl
 
 -- the fault of the line whose LF comes now
@@ -128,7 +128,7 @@ closed_err judge After text b old small closed h = inl (⊎_elim
 
 -- A refusal stays, whatever comes.
 
-ended-append : (text more : List ℕ) → (later : List (List ℕ)) × (ended (text ++ more) ≡ ended text ++ later)
+pub ended-append : (text more : List ℕ) → (later : List (List ℕ)) × (ended (text ++ more) ≡ ended text ++ later)
 unfolding ended
 ended-append text more = ((cut (cut [] text).1 more).0, ap (λ (c : List (List ℕ) × List ℕ). c.0) (cut-append [] text more))
 
@@ -239,7 +239,7 @@ closed_whole judge After text old h empty =
     }
 
 -- A text that ends with an LF has no fault but in its lines.
-early_whole : (judge : Judge) (text : List ℕ) → rest text ≡ [] → fault_so_far judge text ≡ first_fault judge (ended text)
+pub early_whole : (judge : Judge) (text : List ℕ) → rest text ≡ [] → fault_so_far judge text ≡ first_fault judge (ended text)
 unfolding fault_so_far
 early_whole judge text none = rw none (or_else_none (first_fault judge (ended text)))
 

@@ -136,7 +136,7 @@ unfolding problem_last
 last_comment None = refl
 last_comment (Some ps) = refl
 
-first_items : (r : Reading) (xs ys : List Item) → items_first r (xs ++ ys) ≡ items_first r xs ++ ys
+pub first_items : (r : Reading) (xs ys : List Item) → items_first r (xs ++ ys) ≡ items_first r xs ++ ys
 first_items Comment xs ys = refl
 first_items Bad xs ys = refl
 first_items (IsProblem ns) xs ys = refl

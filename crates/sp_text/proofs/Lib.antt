@@ -14,3 +14,5 @@ pub mod EarlyFaults
 pub mod FaultlessText
 pub mod Silent
 pub mod DeviceBytes
+pub mod PlainLines
+pub mod PlainText

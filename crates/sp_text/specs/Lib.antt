@@ -12,3 +12,4 @@ pub mod Whole
 pub mod Meaning
 pub mod Accepted
 pub mod Silence
+pub mod Plain

@@ -63,9 +63,9 @@ pub trait Keep {
 /// Takes the lines of a file, and keeps the items.
 #[derive(Drop)]
 pub struct Collector<K: Keep> {
-    keep: K,
-    problem: Option<Values>,
-    counts: [u64; 3],
+    pub(crate) keep: K,
+    pub(crate) problem: Option<Values>,
+    pub(crate) counts: [u64; 3],
     ghost in_range: { (ps : List ℕ) → problem ≡ Some ps
         → first_out K.ranges [] K.format.problem.fields ps ≡ None },
 }
@@ -119,7 +119,10 @@ impl<K: Keep> Collector<K> {
 
     // Returns the same of the line at the front of a text, with the text after it.
     #[inline(always)]
-    fn front_item<'a>(&self, text: &'a [u8]) -> Option<(usize, &'static Form, Values, &'a [u8])>
+    pub(crate) fn front_item<'a>(
+        &self,
+        text: &'a [u8],
+    ) -> Option<(usize, &'static Form, Values, &'a [u8])>
         ensures { IfSome result (FindsFrontItem self.now text.now) }
     {
         let problem = self.problem.as_ref()?;

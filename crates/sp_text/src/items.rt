@@ -38,9 +38,10 @@ impl<K: Keep> Feeder<Collector<K>> {
         }
     }
 
-    // Takes the next piece of the text, as `feed` does.
+    /// Takes the next piece of the text, as `feed` does, unless a fault was met before: sooner where most lines are items in
+    /// the usual spelling.
     #[inline(never)]
-    fn feed_items(&mut self, piece: &[u8]) -> Result<(), DimacsError>
+    pub fn feed_items(&mut self, piece: &[u8]) -> Result<(), DimacsError>
         ensures { Reads (judge K.format K.ranges) ⟦<Collector<K> as LineTaker>⟧.After
             piece.now self.old result self.new }
     {

@@ -12,6 +12,7 @@ mod laws;
 mod matching;
 mod numbers;
 mod packed;
+mod plain;
 mod reading;
 mod rooms;
 mod whole;
@@ -27,6 +28,7 @@ pub use laws::{
     accepted_text_is_in_range, early_fault_is_first, first_fault_is_least, text_is_its_lines,
 };
 pub use numbers::{Numeral, leading_number, number};
+pub use plain::KeepParts;
 pub use rooms::{LONGEST_LINE, LineBuffer, Values, extend_line};
 pub use whole::{PIECE, read_text};
 pub use writing::push_number;

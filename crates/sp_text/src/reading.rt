@@ -23,7 +23,7 @@ pub enum LineContent {
 }
 
 #[inline(always)]
-fn is_remark(text: &[u8]) -> bool
+pub(crate) fn is_remark(text: &[u8]) -> bool
     ensures { result ≡ is_comment (fields_from [] text.now) }
 {
     if starts_otherwise(text, b'c') {
