@@ -4,6 +4,9 @@ pub mod Keys
 pub mod KeyOrder
 pub mod Scatter
 pub mod SortedRows
+pub mod Parts
+pub mod Shares
+pub mod Groups
 pub mod Starts
 pub mod Cuts
 pub mod LeftOut

@@ -4,6 +4,7 @@ pub mod Longest
 pub mod Mean
 pub mod Keys
 pub mod Index
+pub mod Shares
 pub mod Split
 pub mod RowsValue
 pub mod GraphView

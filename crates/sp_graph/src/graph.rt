@@ -11,9 +11,12 @@ ghost use Rattle.sp_graph.specs.Index.{IsRowAt};
 use crate::index::greatest_length;
 use crate::mean::mean_length;
 use crate::ordering::put_in_order;
+use crate::sharing::put_in_order_by;
 use sp_paths::Arc;
+use sp_word::Workers;
 use std::alloc::{AllocError, Global};
 use std::marker::Model;
+use std::thread::Threads;
 
 /// A graph with its arcs sorted by tail, then by head, then by length, so that the arcs that leave a vertex are one
 /// slice, its row. Parallel arcs and loops are kept, each as often as it was given.
@@ -79,6 +82,35 @@ impl Graph {
             arcs: rows.arcs,
             ends: rows.ends,
             longest,
+        })
+    }
+
+    /// Builds the graph of `n` vertices with these arcs, each as often as it is given, as `from_arcs` does: by as many
+    /// threads as there are workers, or fewer where there are fewer processors or few arcs. It fails where `from_arcs`
+    /// does, and the graph is the same.
+    #[tactic(auto, using(std::proofs::lemmas::List::Sorted::length_permutation))]
+    pub fn from_arcs_by<R: Threads + Sync>(
+        rt: &R,
+        alloc: Global,
+        n: u32,
+        arcs: Vec<Arc>,
+        workers: Workers,
+    ) -> Result<Graph, AllocError>
+        requires some { 1 ≤ n }
+        requires arcs { All (IsArc n) arcs.items }
+        ensures n { IfOk result (λ graph. graph.n ≡ n) }
+        ensures arcs { IfOk result (λ graph. IsPermutation arcs.items graph.arcs) }
+        ensures order { IfOk result (λ graph. IsInOrder graph.arcs) }
+    {
+        if arcs.len() > u32::MAX as usize {
+            return Err(AllocError);
+        }
+        let all = put_in_order_by(rt, alloc, n, arcs, workers)?;
+        Ok(Graph {
+            n,
+            arcs: all.rows.arcs,
+            ends: all.rows.ends,
+            longest: all.longest,
         })
     }
 

@@ -6,7 +6,13 @@ mod graph;
 mod index;
 mod mean;
 mod ordering;
+mod placing;
+mod row_sorting;
 mod rows;
+mod sharing;
+mod sharing_counts;
+mod sharing_groups;
+mod sharing_places;
 mod words;
 
 pub use graph::Graph;
