@@ -1,8 +1,8 @@
 //! Relaxation of one arc, in a table of words that another program lowers.
-ghost use Rattle.std.specs.Prelude.{◌≡◌, ◌≤◌, true, vec_len, IfOk};
-ghost use Rattle.sp_word.specs.Word.{is_layout, max_dist, max_pred};
+ghost use Rattle.std.specs.Prelude.{◌≡◌, ◌≢◌, ℕ, ◌≤◌, true, vec_len, IfOk, IfSome, IfNone};
+ghost use Rattle.sp_word.specs.Word.{dist_of, is_layout, max_dist, max_pred};
 ghost use Rattle.sp_paths.specs.Paths.{IsArc, IsVertex};
-ghost use Rattle.sp_plain.specs.Lowering.{IsLoweredBy};
+ghost use Rattle.sp_plain.specs.Lowering.{IsLoweredBy, TakesLesser, KeepsUnlessLesser, IsShorterDist, HasSameDist};
 ghost use Rattle.sp_plain.specs.Passing.{IsTableOfWalks, KeepsWalks};
 
 use crate::pass::{first_table, lesser_offer};
@@ -26,8 +26,17 @@ pub fn open_table<const P: u32>(
 }
 
 // Returns the distance of `word` if it differs from that of the word found.
-fn distance_below<const P: u32>(found: Word<P>, word: Word<P>) -> Option<u64> {
-    word.dist().filter(|dist| found.dist() != Some(*dist))
+fn distance_below<const P: u32>(found: Word<P>, word: Word<P>) -> Option<u64>
+    ensures dist { IfSome result (λ dist. dist_of word.entry ≡ Some dist) }
+    ensures other { IfSome result (λ dist. dist_of found.entry ≢ Some dist) }
+    ensures same { IfNone result
+        ((dist : ℕ) → dist_of word.entry ≡ Some dist → dist_of found.entry ≡ Some dist) }
+{
+    if word.dist() == found.dist() {
+        None
+    } else {
+        word.dist()
+    }
 }
 
 /// Relaxes an arc: if the pair that it makes of its tail's word is within the greatest distance and less than its
@@ -39,6 +48,10 @@ pub fn relax<const P: u32>(words: &mut Vec<Word<P>>, arc: Arc) -> Option<u64>
     ensures size { vec_len words.new ≡ vec_len words.old }
     ensures kept { KeepsWalks (max_dist P) arc words.old.items words.new.items }
     ensures lowered { IsLoweredBy (max_dist P) arc words.old.items words.new.items }
+    ensures lesser { TakesLesser (max_dist P) arc words.old.items words.new.items }
+    ensures no_lesser { KeepsUnlessLesser (max_dist P) arc words.old.items words.new.items }
+    ensures shorter { IfSome result (IsShorterDist arc.head words.old.items words.new.items) }
+    ensures same_dist { IfNone result (HasSameDist arc.head words.old.items words.new.items) }
 {
     let found = look_up(words, arc.head);
     let word = lesser_offer(look_up(words, arc.tail), arc, found)?;
