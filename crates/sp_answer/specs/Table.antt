@@ -64,3 +64,8 @@ tree_of source words = record { n = length words; source = source; rows = rows_f
 abbrev pub HasPredWithin : (n : ℕ) → Word → Type 0
 HasPredWithin n Unreached = Unit {0}
 HasPredWithin n (Pair d p) = p ≤ n
+
+-- The words make a table within the limits of words with P bits for the predecessor, and so many vertices of it are reached.
+pub record IsCounted (P : ℕ) (source : ℕ) (words : List Word) (reached : ℕ) : Type 0 where
+  pub table : IsTable P (tree_of source words)
+  pub count : reached ≡ length (rows_from 1 words)

@@ -5,7 +5,9 @@ mod answer;
 mod pair;
 mod rows;
 mod tree;
+mod words;
 
 pub use answer::RunError;
 pub use pair::PairAnswer;
 pub use tree::Tree;
+pub use words::WordTree;

@@ -12,9 +12,9 @@ use std::marker::Model;
 /// A tree of shortest paths: the number of vertices, the source, and a row for each vertex that is reached.
 #[derive(Drop)]
 pub struct Tree<const P: u32> {
-    n: u32,
-    source: u32,
-    rows: Vec<(u32, Word<P>)>,
+    pub(crate) n: u32,
+    pub(crate) source: u32,
+    pub(crate) rows: Vec<(u32, Word<P>)>,
 }
 
 impl<const P: u32> Model for Tree<P> {

@@ -4,7 +4,7 @@ ghost use Rattle.sp_word.specs.Word.{is_layout, max_pred};
 ghost use Rattle.sp_answer.specs.Answer.{IsAnswer, IsRefusal};
 
 use crate::whole::WholeRun;
-use sp_answer::{RunError, Tree};
+use sp_answer::{RunError, Tree, WordTree};
 use sp_graph::Graph;
 use sp_word::{Delta, Meter, Team, Workers};
 use std::alloc::Global;
@@ -74,6 +74,27 @@ pub fn run_by_team<const P: u32, R: Threads + Wait + Sync>(
     meter: &Meter,
     source: u32,
 ) -> Result<Tree<P>, RunError>
+    requires layout { is_layout P ≡ true }
+    requires n { graph.now.n ≤ max_pred P }
+    ensures tree { IfOk result (IsAnswer P graph.now source) }
+    ensures refused { IfErr result (IsRefusal P graph.now source) }
+{
+    let words = words_by_team(rt, alloc, graph, team, meter, source)?;
+    match words.to_tree(alloc) {
+        Ok(tree) => Ok(tree),
+        Err(_) => Err(RunError::Memory),
+    }
+}
+
+/// Returns what `run_by_team` does, as the words of all vertices: the tree's rows, which take time and memory, aren't made.
+pub fn words_by_team<const P: u32, R: Threads + Wait + Sync>(
+    rt: &R,
+    alloc: Global,
+    graph: &Graph,
+    team: Team<P>,
+    meter: &Meter,
+    source: u32,
+) -> Result<WordTree<P>, RunError>
     requires layout { is_layout P ≡ true }
     requires n { graph.now.n ≤ max_pred P }
     ensures tree { IfOk result (IsAnswer P graph.now source) }

@@ -8,7 +8,7 @@ ghost use Rattle.sp_paths.specs.Paths.{IsVertex};
 ghost use Rattle.sp_answer.specs.Answer.{IsAnswer, IsRefusal};
 ghost use Rattle.sp_solve.specs.Reach.{IsFinal};
 
-use sp_answer::{RunError, Tree};
+use sp_answer::{RunError, WordTree};
 use sp_graph::Graph;
 use sp_paths::finished_table;
 use sp_word::{Meter, Team, Word};
@@ -65,34 +65,31 @@ impl<'g, const P: u32> WholeRun<'g, P> {
     }
 
     // Makes the tree of words in which every arc is relaxed, and which leave no vertex out.
-    fn tree_of(&self, words: &[Word<P>]) -> Result<Tree<P>, AllocError>
-        requires { IsFinal P self.now [] words.now None }
-        ensures { IfOk result (IsAnswer P self.now.graph self.now.source) }
+    fn tree_of(&self, words: Vec<Word<P>>) -> WordTree<P>
+        requires { IsFinal P self.now [] words.items None }
+        ensures { IsAnswer P self.now.graph self.now.source result }
     {
         finished_table();
         let _ = self.graph.n();
-        let tree = Tree::of_words(self.alloc, self.source, words)?;
-        Ok(tree)
+        let tree = WordTree::of_words(self.source, words);
+        tree
     }
 
     // Answers by words in which every arc is relaxed, and by the smallest vertex that they leave out, if one is.
-    fn answer_of(&self, words: &[Word<P>], left: Option<u32>) -> Result<Tree<P>, RunError>
-        requires { IsFinal P self.now [] words.now left }
+    fn answer_of(&self, words: Vec<Word<P>>, left: Option<u32>) -> Result<WordTree<P>, RunError>
+        requires { IsFinal P self.now [] words.items left }
         ensures tree { IfOk result (IsAnswer P self.now.graph self.now.source) }
         ensures refused { IfErr result (IsRefusal P self.now.graph self.now.source) }
     {
         finished_table();
         match left {
             Some(vertex) => Err(RunError::TooFar(vertex)),
-            None => match self.tree_of(words) {
-                Ok(tree) => Ok(tree),
-                Err(_) => Err(RunError::Memory),
-            },
+            None => Ok(self.tree_of(words)),
         }
     }
 
     /// Runs until all words are final, and returns the tree, or the vertex that is too far.
-    pub(crate) fn solve<R: Threads + Wait + Sync>(&self, rt: &R) -> Result<Tree<P>, RunError>
+    pub(crate) fn solve<R: Threads + Wait + Sync>(&self, rt: &R) -> Result<WordTree<P>, RunError>
         ensures tree { IfOk result (IsAnswer P self.now.graph self.now.source) }
         ensures refused { IfErr result (IsRefusal P self.now.graph self.now.source) }
     {
@@ -100,6 +97,6 @@ impl<'g, const P: u32> WholeRun<'g, P> {
         let Ok((words, left)) = self.relax(rt, &[]) else {
             return Err(RunError::Memory);
         };
-        self.answer_of(words.as_slice(), left)
+        self.answer_of(words, left)
     }
 }

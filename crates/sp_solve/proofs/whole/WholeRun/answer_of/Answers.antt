@@ -7,8 +7,8 @@ use Rattle.sp_solve.proofs.whole.WholeRun.answer_of.Goals as goal
 pub returns-in-Some-clause-refused : goal.returns-in-Some-clause-refused
 returns-in-Some-clause-refused g c =
     let run = c.args.self.now in
-    let words = word_at c.args.words.now in
-    let F : Option ℕ → Type 0 = λ o. IsFinal g.row.P run [] c.args.words.now o in
+    let words = word_at c.args.words.items in
+    let F : Option ℕ → Type 0 = λ o. IsFinal g.row.P run [] c.args.words.items o in
     let final : F (Some c.in-Some.vertex) = subst F c.in-Some.is c.requires in
     let finished = final.relaxed refl in
     let left = final.least refl in
