@@ -1,8 +1,9 @@
 //! The lines of rows, made in memory from the end to the front: so no number's length is needed before its digits, and no digit
 //! is moved.
-ghost use Rattle.std.specs.Prelude.{◌≡◌, ◌+◌, ◌*◌, ◌≤◌, ◌∷◌, ◌++◌, length, drop};
+ghost use Rattle.std.specs.Prelude.{◌≡◌, ◌+◌, ◌*◌, ◌≤◌, ◌<◌, ◌^◌, ◌∷◌, ◌++◌, length, drop};
 ghost use Rattle.std.specs.List.{flat_map};
 ghost use Rattle.sp_text.specs.Numeral.{number_text};
+ghost use Rattle.sp_answer.specs.Table.{rows_from};
 ghost use Rattle.sp_tree.specs.TreeText.{reached_text, row_text};
 
 use itoa::write_digits;
@@ -81,6 +82,23 @@ pub(crate) fn put_rows<const P: u32>(rows: &[(u32, Word<P>)], bytes: &mut [u8]) 
         left -= 1;
         let (vertex, word) = rows[left];
         start = put_row(vertex, word, bytes, start);
+    }
+    start
+}
+
+/// Puts the lines of the reached vertices among those from `first` on, which have these words, at the end of these bytes, and
+/// returns where they begin.
+pub(crate) fn put_words<const P: u32>(first: u32, words: &[Word<P>], bytes: &mut [u8]) -> usize
+    requires numbered { first + length words.now < 2 ^ 32 }
+    requires room { length words.now * 45 ≤ length bytes.old }
+    ensures within { result ≤ length bytes.new }
+    ensures text { drop result bytes.new ≡ flat_map row_text (rows_from first words.now) }
+{
+    let mut start = bytes.len();
+    let mut place = words.len();
+    while place > 0 {
+        place -= 1;
+        start = put_row(first + place as u32, words[place], bytes, start);
     }
     start
 }

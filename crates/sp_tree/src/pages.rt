@@ -11,11 +11,11 @@ use sp_device::{Printer, Write, WriteFault, finish, print_text};
 use sp_word::Word;
 use std::alloc::{AllocError, Global};
 
-// The greatest number of rows of a page. Their lines have 64 KiB or more: a system takes large pieces in less time than small ones.
-const PAGE_ROWS: usize = 8192;
+/// The greatest number of rows of a page. Their lines have 64 KiB or more: a system takes large pieces in less time than small ones.
+pub(crate) const PAGE_ROWS: usize = 8192;
 
-// Returns a page for the lines of some rows.
-fn new_page(alloc: Global, rows: usize) -> Result<Vec<u8>, AllocError>
+/// Returns a page for the lines of some rows.
+pub(crate) fn new_page(alloc: Global, rows: usize) -> Result<Vec<u8>, AllocError>
     requires { rows ≤ 8192 }
     ensures { IfOk result (λ page. length page.items ≡ rows * 45) }
 {
@@ -72,8 +72,8 @@ pub fn write_tree_in_pages<const P: u32, W: Write>(
     ensures passed { Counted W.Write out.old result out.new }
 {
     let mut printer = Printer::new();
-    send_problem(out, &mut printer, tree);
+    send_problem(out, &mut printer, tree.n(), tree.source());
     send_pages(alloc, out, &mut printer, tree.rows());
-    send_end(out, &mut printer, tree);
+    send_end(out, &mut printer, tree.rows().len());
     finish(out, printer)
 }

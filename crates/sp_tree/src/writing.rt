@@ -1,7 +1,8 @@
 //! Trees that are written to a device.
-ghost use Rattle.std.specs.Prelude.{◌++◌, ◌≡◌, ◌≤◌, ◌+◌, length};
+ghost use Rattle.std.specs.Prelude.{◌++◌, ◌≡◌, ◌≤◌, ◌<◌, ◌^◌, ◌+◌, length};
 ghost use Rattle.std.specs.List.{flat_map};
 ghost use Rattle.sp_device.specs.Printing.{Sends, Finished as Written, Counted};
+ghost use Rattle.sp_answer.specs.Table.{rows_from};
 ghost use Rattle.sp_tree.specs.TreeText.{problem_text, reached_text, row_text, end_text, tree_text, far_text};
 
 use sp_answer::Tree;
@@ -9,10 +10,11 @@ use sp_device::{Block, Printer, Write, WriteFault, finish, make_room};
 use sp_text::push_number;
 use sp_word::Word;
 
-// The greatest number of bytes of a line.
-const LINE_ROOM: usize = 65;
+/// The greatest number of bytes of a line.
+pub(crate) const LINE_ROOM: usize = 65;
 
-fn push_problem(block: &mut Block, n: u32, source: u32)
+/// Appends the problem line of a tree.
+pub(crate) fn push_problem(block: &mut Block, n: u32, source: u32)
     requires { length block.old + LINE_ROOM ≤ 8192 }
     ensures { block.new ≡ block.old ++ problem_text n source }
 {
@@ -36,7 +38,8 @@ fn push_row<const P: u32>(block: &mut Block, vertex: u32, word: Word<P>)
     block.push(b"\n");
 }
 
-fn push_end(block: &mut Block, count: u64)
+/// Appends the last line of a tree of so many rows.
+pub(crate) fn push_end(block: &mut Block, count: u64)
     requires { length block.old + LINE_ROOM ≤ 8192 }
     ensures { block.new ≡ block.old ++ end_text count }
 {
@@ -77,26 +80,36 @@ pub(crate) fn send_rows<const P: u32, W: Write>(
     }
 }
 
-/// Sends the problem line of a tree.
-pub(crate) fn send_problem<const P: u32, W: Write>(
+/// Sends the lines of the reached vertices among those from `first` on, which have these words, one after the other.
+pub(crate) fn send_words<const P: u32, W: Write>(
     out: &mut W,
     printer: &mut Printer,
-    tree: &Tree<P>,
+    first: u32,
+    words: &[Word<P>],
 )
-    ensures { Sends W.Write (problem_text tree.now.n tree.now.source)
+    requires { first + length words.now < 2 ^ 32 }
+    ensures { Sends W.Write (flat_map row_text (rows_from first words.now))
         out.old printer.old out.new printer.new }
 {
+    for (place, word) in words.iter().enumerate() {
+        send_row(out, printer, first + place as u32, *word);
+    }
+}
+
+/// Sends the problem line of a tree.
+pub(crate) fn send_problem<W: Write>(out: &mut W, printer: &mut Printer, n: u32, source: u32)
+    ensures { Sends W.Write (problem_text n source) out.old printer.old out.new printer.new }
+{
     make_room(out, printer, LINE_ROOM);
-    push_problem(&mut printer.block, tree.n(), tree.source());
+    push_problem(&mut printer.block, n, source);
 }
 
 /// Sends the last line of a tree, with the number of its rows.
-pub(crate) fn send_end<const P: u32, W: Write>(out: &mut W, printer: &mut Printer, tree: &Tree<P>)
-    ensures { Sends W.Write (end_text (length tree.now.rows))
-        out.old printer.old out.new printer.new }
+pub(crate) fn send_end<W: Write>(out: &mut W, printer: &mut Printer, rows: usize)
+    ensures { Sends W.Write (end_text rows) out.old printer.old out.new printer.new }
 {
     make_room(out, printer, LINE_ROOM);
-    push_end(&mut printer.block, tree.rows().len() as u64);
+    push_end(&mut printer.block, rows as u64);
 }
 
 /// Writes the block of a tree, and returns its number of bytes.
@@ -107,9 +120,9 @@ pub fn write_tree<const P: u32, W: Write>(tree: &Tree<P>, out: &mut W) -> Result
     ensures passed { Counted W.Write out.old result out.new }
 {
     let mut printer = Printer::new();
-    send_problem(out, &mut printer, tree);
+    send_problem(out, &mut printer, tree.n(), tree.source());
     send_rows(out, &mut printer, tree.rows());
-    send_end(out, &mut printer, tree);
+    send_end(out, &mut printer, tree.rows().len());
     finish(out, printer)
 }
 
