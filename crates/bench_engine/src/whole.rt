@@ -4,10 +4,10 @@ ghost use Rattle.sp_word.specs.Word.{max_pred};
 ghost use Rattle.sp_dimacs.specs.Graph.{IsNetwork};
 
 use crate::report::{print_each, print_share};
-use sp_dimacs::{GrFile, OfRead, OfWrite, SsFile, Write, read_gr, read_ss};
+use sp_dimacs::{GrFile, OfRead, OfWrite, SsFile, Write, read_gr_by, read_ss};
 use sp_graph::Graph;
 use sp_solve::{run_by_team, useful_team};
-use sp_tree::{Tree, write_tree};
+use sp_tree::{Tree, write_tree_in_pages};
 use sp_word::{Delta, Meter, Team, Workers};
 use std::rt::Files;
 use std::sync::Wait;
@@ -57,7 +57,7 @@ pub fn time_whole<R: AllocGlobal + Clock + Files + Print + Threads + Wait + Sync
 ) -> io::Result<()> {
     let start = Instant::now(rt)?;
     let mut file = OfRead::new(fs::open(rt, paths.graph)?);
-    let Ok(graph) = read_gr::<28, _>(rt.alloc(), &mut file) else {
+    let Ok(graph) = read_gr_by::<28, R, _>(rt, rt.alloc(), &mut file, plan.workers) else {
         return Err(io::Error::other("the graph is refused"));
     };
     let mut file = OfRead::new(fs::open(rt, paths.sources)?);
@@ -79,7 +79,7 @@ fn time_trees<R: AllocGlobal + Clock + Files + Print + Threads + Wait + Sync>(
     requires { IsNetwork 28 file }
 {
     let start = Instant::now(rt)?;
-    let graph = Graph::from_arcs(rt.alloc(), file.n, file.arcs)?;
+    let graph = Graph::from_arcs_by(rt, rt.alloc(), file.n, file.arcs, plan.workers)?;
     print_each(rt, "rows", start.elapsed(rt)?, 1_000_000, "ms")?;
     let mut out = OfWrite::new(fs::create(rt, trees)?);
     let taken = answer_all(rt, &graph, &sources.sources, plan, &mut out)?;
@@ -111,7 +111,7 @@ fn answer_all<R: AllocGlobal + Clock + Threads + Wait + Sync, W: Write>(
         taken.solving = taken.solving.saturating_add(start.elapsed(rt)?);
         taken.reached = taken.reached.saturating_add(tree.rows().len() as u64);
         let start = Instant::now(rt)?;
-        if write_tree(&tree, out).is_err() {
+        if write_tree_in_pages(rt.alloc(), &tree, out).is_err() {
             return Err(io::Error::other("the trees can't be written"));
         }
         taken.writing = taken.writing.saturating_add(start.elapsed(rt)?);

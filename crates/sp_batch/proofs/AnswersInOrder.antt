@@ -42,6 +42,9 @@ far_within (FarFrom s v) = omega arith
 pub found_due : (P : ℕ) (limit : Option ℕ) (g : Graph) (s : ℕ) (answer : Answer) → IsAnswerTo P limit g s answer → IsDue (λ s told. IsTold P limit g s told) s (told_of answer)
 found_due P limit g s answer is = record { answers = record { answer = answer; is = is; tells = refl }; few = omega arith; far = far_within answer }
 
+pub told_due : (P : ℕ) (limit : Option ℕ) (g : Graph) (s : ℕ) (told : Told) → IsTold P limit g s told → IsDue (λ s told. IsTold P limit g s told) s told
+told_due P limit g s told h = rw h.tells (found_due P limit g s h.answer h.is)
+
 told_texts : (answers : List Answer) → told_text (map told_of answers) ≡ batch_text answers
 told_texts [] = refl
 told_texts (a ∷ answers) = ap (λ (l : List ℕ). answer_text a ++ l) (told_texts answers)

@@ -8,17 +8,19 @@ use Rattle.sp_answer.specs.Within.{IsRefusalWithin}
 use Rattle.sp_job.specs.Ready.{IsReady}
 use Rattle.sp_sources.specs.Told.{Told}
 use Rattle.sp_batch.specs.declared.finding.SourceAnswer.{SourceAnswer}
-use Rattle.sp_batch.specs.declared.finding.SourceAnswer.TheVariants.{Tree, TooFar}
+use Rattle.sp_batch.specs.declared.finding.SourceAnswer.TheVariants.{Tree, Part, Text, TooFar}
 use Rattle.sp_batch.specs.Batch.{Answer, TreeOf, FarFrom, IsAnswerTo, answer_text, is_far}
-
--- the answer that it is
-abbrev pub answer_of : {P : ℕ} → SourceAnswer P → Answer
-answer_of (Tree t) = TreeOf t
-answer_of (TooFar source vertex) = FarFrom source vertex
 
 -- what an answer tells
 abbrev pub told_of : Answer → Told
 told_of answer = record { count = 1; far = cond (is_far answer) 1 0; text = answer_text answer }
+
+-- what it tells as it is kept: as a tree or its part, as the text of one, or as the vertex that is too far
+abbrev pub told_by : {P : ℕ} → SourceAnswer P → Told
+told_by (Tree t) = told_of (TreeOf t)
+told_by (Part t) = told_of (TreeOf t)
+told_by (Text text) = record { count = 1; far = 0; text = text.items }
+told_by (TooFar source vertex) = told_of (FarFrom source vertex)
 
 -- An answer to the source tells that.
 pub record IsTold (P : ℕ) (limit : Option ℕ) (g : Graph) (s : ℕ) (told : Told) : Type 0 where

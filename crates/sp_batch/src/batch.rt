@@ -9,7 +9,7 @@ ghost use Rattle.sp_batch.specs.Answered.{BatchAnswered, BatchOfSome, GivenAnswe
 
 use crate::finding::TreeQuestion;
 use crate::watch::{Unwatched, Watch};
-use sp_dimacs::{GrFile, Read, Write, read_gr, read_ss};
+use sp_dimacs::{GrFile, Read, Write, read_gr_by, read_ss};
 use sp_graph::Graph;
 use sp_job::{
     BatchError, BucketWidth, Listener, Nobody, Places, Progress, Settings, Summary, chosen,
@@ -61,7 +61,7 @@ pub(crate) fn answer_file<
     if let Some(source) = first_above(batch.sources, file.n) {
         return Err(BatchError::NoSuchVertex(source));
     }
-    let graph = Graph::from_arcs(alloc, file.n, file.arcs)?;
+    let graph = Graph::from_arcs_by(rt, alloc, file.n, file.arcs, settings.workers)?;
     settings.listener.hear(Progress::Graph {
         vertices: graph.n(),
         arcs: graph.m(),
@@ -152,7 +152,7 @@ pub fn run_batch_told<
     ensures found { BatchOfSome P places limit W.Write out.old out.new result }
     ensures may_fail { IfErr result (MayFail (G.failing gr.old) (S.failing ss.old)) }
 {
-    let file = match read_gr::<P, G>(alloc, gr) {
+    let file = match read_gr_by::<P, R, G>(rt, alloc, gr, settings.workers) {
         Ok(file) => file,
         Err(error) => return Err(BatchError::Gr(error)),
     };
@@ -194,7 +194,7 @@ pub fn run_given_told<const P: u32, R: Threads + Wait + Sync, G: Read, W: Write,
         least_items: LEAST_ITEMS,
         watch: &Unwatched,
     };
-    match read_gr::<P, G>(alloc, gr) {
+    match read_gr_by::<P, R, G>(rt, alloc, gr, settings.workers) {
         Ok(file) => { answer_file::<P, R, Unwatched, W, L>(rt, alloc, file, &batch, settings, out) }
         Err(error) => Err(BatchError::Gr(error)),
     }

@@ -1,18 +1,17 @@
 //! The question of a batch: what is the tree of a source.
-ghost use Rattle.std.specs.Prelude.{[], ◌∷◌, IfOk, IfErr};
+ghost use Rattle.std.specs.Prelude.{◌≡◌, [], ◌∷◌, IfOk, IfErr};
 ghost use denote.Param.Send.{IsSync};
 ghost use Rattle.sp_sources.specs.Told.{IsDue, AreWritten};
-ghost use Rattle.sp_batch.specs.Batch.{IsAnswerTo, TreeOf};
-ghost use Rattle.sp_batch.specs.Found.{answer_of, told_of, IsTold, CanFind, IsRefusalUpTo};
+ghost use Rattle.sp_batch.specs.Found.{told_by, IsTold, CanFind, IsRefusalUpTo};
 
 use crate::watch::Watch;
-use sp_answer::Tree;
-use sp_device::Write;
+use sp_answer::{Tree, WordTree};
+use sp_device::{Write, write_all};
 use sp_graph::Graph;
 use sp_job::{BatchError, Progress, Summary};
-use sp_solve::{Part, RunError, run_by_team, run_within_metered, useful_team};
+use sp_solve::{Part, RunError, run_within_metered, useful_team, words_by_team};
 use sp_sources::Question;
-use sp_tree::{write_far, write_tree_in_pages};
+use sp_tree::{text_of, text_of_words, write_far, write_tree_in_pages, write_words_in_pages};
 use sp_word::{Delta, Meter, Team, Workers};
 use std::alloc::{AllocError, Global};
 use std::sync::Wait;
@@ -21,8 +20,12 @@ use std::thread::Threads;
 /// The answer for a source.
 #[derive(Drop)]
 pub(crate) enum SourceAnswer<const P: u32> {
-    /// The shortest-path tree of the source, or its part within the limit.
-    Tree(Tree<P>),
+    /// The shortest-path tree of the source.
+    Tree(WordTree<P>),
+    /// The part of that tree within the limit.
+    Part(Tree<P>),
+    /// The text of the tree, or of its part.
+    Text(Vec<u8>),
     /// The smallest vertex that is too far from the source.
     TooFar { source: u32, vertex: u32 },
 }
@@ -49,17 +52,23 @@ impl<const P: u32, V> TreeQuestion<'_, P, V> {
         alloc: Global,
         team: Team<P>,
         source: u32,
-    ) -> Result<Tree<P>, RunError>
+    ) -> Result<SourceAnswer<P>, RunError>
         requires { CanFind P self.now.limit self.now.graph.now source }
         ensures tree { IfOk result
-            (λ tree. IsAnswerTo P self.now.limit self.now.graph.now source (TreeOf tree)) }
+            (λ found. IsTold P self.now.limit self.now.graph.now source (told_by found)) }
         ensures refused { IfErr result (IsRefusalUpTo P self.now.limit self.now.graph.now source) }
     {
         match self.limit {
-            None => run_by_team::<P, R>(rt, alloc, self.graph, team, self.meter, source),
+            None => {
+                let tree = words_by_team::<P, R>(rt, alloc, self.graph, team, self.meter, source)?;
+                Ok(SourceAnswer::Tree(tree))
+            }
             Some(limit) => {
                 let part = Part { source, limit };
-                run_within_metered::<P, R>(rt, alloc, self.graph, team, self.meter, part)
+                let tree = run_within_metered::<P, R>(
+                    rt, alloc, self.graph, team, self.meter, part,
+                )?;
+                Ok(SourceAnswer::Part(tree))
             }
         }
     }
@@ -68,7 +77,7 @@ impl<const P: u32, V> TreeQuestion<'_, P, V> {
 impl<'a, const P: u32, V: Watch + Sync> Question for TreeQuestion<'a, P, V> {
     type Found = SourceAnswer<P>;
 
-    ghost told = { λ found. told_of (answer_of found) };
+    ghost told = { told_by };
 
     ghost can_ask = { λ question s. CanFind P question.limit question.graph.now s };
 
@@ -89,7 +98,7 @@ impl<'a, const P: u32, V: Watch + Sync> Question for TreeQuestion<'a, P, V> {
         requires sync { IsSync R.row }
         ensures { IfOk result (λ found. IsDue
             (λ s told. IsTold P self.now.limit self.now.graph.now s told)
-            source (told_of (answer_of found))) }
+            source (told_by found)) }
     {
         self.watch.before_source(source);
         let asked = Team {
@@ -98,10 +107,27 @@ impl<'a, const P: u32, V: Watch + Sync> Question for TreeQuestion<'a, P, V> {
         };
         let team = useful_team(rt, self.graph.n(), &asked);
         match self.run::<R>(rt, alloc, team, source) {
-            Ok(tree) => Ok(SourceAnswer::Tree(tree)),
+            Ok(found) => Ok(found),
             Err(RunError::TooFar(vertex)) => Ok(SourceAnswer::TooFar { source, vertex }),
             Err(RunError::NoSuchVertex) => unreachable!(),
             Err(RunError::Memory) => Err(AllocError),
+        }
+    }
+
+    // Makes the text of a tree, and lets go of the tree. Where memory for the text is refused, the tree stays.
+    fn ready(&self, alloc: Global, found: SourceAnswer<P>) -> SourceAnswer<P>
+        ensures { told_by result ≡ told_by found.entry }
+    {
+        match found {
+            SourceAnswer::Tree(tree) => match text_of_words(alloc, &tree) {
+                Ok(text) => SourceAnswer::Text(text),
+                Err(AllocError) => SourceAnswer::Tree(tree),
+            },
+            SourceAnswer::Part(tree) => match text_of(alloc, &tree) {
+                Ok(text) => SourceAnswer::Text(text),
+                Err(AllocError) => SourceAnswer::Part(tree),
+            },
+            found => found,
         }
     }
 
@@ -111,15 +137,27 @@ impl<'a, const P: u32, V: Watch + Sync> Question for TreeQuestion<'a, P, V> {
         found: &SourceAnswer<P>,
         out: &mut W,
     ) -> Result<Summary, BatchError>
-        ensures { AreWritten W.Write (told_of (answer_of found.now) ∷ [])
-            out.old result out.new }
+        ensures { AreWritten W.Write (told_by found.now ∷ []) out.old result out.new }
     {
         match found {
             SourceAnswer::Tree(tree) => Ok(Summary {
                 sources: 1,
                 too_far: 0,
+                bytes: write_words_in_pages(alloc, tree, out)?,
+            }),
+            SourceAnswer::Part(tree) => Ok(Summary {
+                sources: 1,
+                too_far: 0,
                 bytes: write_tree_in_pages(alloc, tree, out)?,
             }),
+            SourceAnswer::Text(text) => {
+                write_all(out, text)?;
+                Ok(Summary {
+                    sources: 1,
+                    too_far: 0,
+                    bytes: text.len() as u64,
+                })
+            }
             SourceAnswer::TooFar { source, vertex } => Ok(Summary {
                 sources: 1,
                 too_far: 1,

@@ -10,7 +10,7 @@ ghost use Rattle.sp_matrix.specs.Matrix.{IsMatrix};
 ghost use Rattle.sp_matrix.specs.Answered.{Texts, MatrixAnswered, MatrixOfSome, GivenMatrixAnswered, GivenMatrixOfSome, MayFail};
 
 use crate::row::RowQuestion;
-use sp_dimacs::{GrFile, Read, SsFile, Write, read_gr, read_ss};
+use sp_dimacs::{GrFile, Read, SsFile, Write, read_gr_by, read_ss};
 use sp_graph::Graph;
 use sp_job::{BatchError, Listener, Places, Progress, Settings, Summary, chosen, first_above};
 use sp_sources::{Asked, LEAST_ITEMS, answer_sources};
@@ -59,7 +59,7 @@ pub(crate) fn answer_matrix<'a, const P: u32, R: Threads + Wait + Sync, W: Write
     if let Some(target) = first_above(&targets, file.n) {
         return Err(BatchError::NoSuchVertex(target));
     }
-    let graph = Graph::from_arcs(alloc, file.n, file.arcs)?;
+    let graph = Graph::from_arcs_by(rt, alloc, file.n, file.arcs, settings.workers)?;
     settings.listener.hear(Progress::Graph {
         vertices: graph.n(),
         arcs: graph.m(),
@@ -154,7 +154,7 @@ pub fn run_matrix_told<
     ensures may_fail { IfErr result
         (MayFail (G.failing gr.old) (S.failing ss.old) (T.failing targets.old)) }
 {
-    let file = match read_gr::<P, G>(alloc, gr) {
+    let file = match read_gr_by::<P, R, G>(rt, alloc, gr, settings.workers) {
         Ok(file) => file,
         Err(error) => return Err(BatchError::Gr(error)),
     };
@@ -202,7 +202,7 @@ pub fn run_matrix_given_told<
     ensures may_fail { IfErr result
         (MayFail (G.failing gr.old) Anytime (T.failing targets.old)) }
 {
-    let file = match read_gr::<P, G>(alloc, gr) {
+    let file = match read_gr_by::<P, R, G>(rt, alloc, gr, settings.workers) {
         Ok(file) => file,
         Err(error) => return Err(BatchError::Gr(error)),
     };

@@ -8,7 +8,7 @@ ghost use Rattle.sp_job.specs.Answers.{is_early};
 ghost use Rattle.sp_nearest.specs.Answered.{IsForestRun, ForestAnswered, ForestOfSome, GivenAnswered, GivenOfSome, MayFail};
 
 use crate::answer::{find_answer, write_answer};
-use sp_dimacs::{GrFile, Read, Write, read_gr, read_ss};
+use sp_dimacs::{GrFile, Read, Write, read_gr_by, read_ss};
 use sp_graph::Graph;
 use sp_job::{BatchError, Listener, Places, Progress, Settings, Summary, chosen, first_above};
 use sp_near::Nearest;
@@ -43,7 +43,7 @@ fn answer_file<const P: u32, R: Threads + Wait + Sync, W: Write, L: Listener>(
     if let Some(source) = first_above(asked.sources, file.n) {
         return Err(BatchError::NoSuchVertex(source));
     }
-    let graph = Graph::from_arcs(alloc, file.n, file.arcs)?;
+    let graph = Graph::from_arcs_by(rt, alloc, file.n, file.arcs, settings.workers)?;
     settings.listener.hear(Progress::Graph {
         vertices: graph.n(),
         arcs: graph.m(),
@@ -94,7 +94,7 @@ pub fn run_nearest_told<
     ensures found { ForestOfSome P places limit W.Write out.old out.new result }
     ensures may_fail { IfErr result (MayFail (G.failing gr.old) (S.failing ss.old)) }
 {
-    let file = match read_gr::<P, G>(alloc, gr) {
+    let file = match read_gr_by::<P, R, G>(rt, alloc, gr, settings.workers) {
         Ok(file) => file,
         Err(error) => return Err(BatchError::Gr(error)),
     };
@@ -134,7 +134,7 @@ pub fn run_nearest_given_told<
     ensures found { GivenOfSome P limit sources.now W.Write out.old out.new result }
     ensures may_fail { IfErr result (MayFail (G.failing gr.old) Anytime) }
 {
-    let file = match read_gr::<P, G>(alloc, gr) {
+    let file = match read_gr_by::<P, R, G>(rt, alloc, gr, settings.workers) {
         Ok(file) => file,
         Err(error) => return Err(BatchError::Gr(error)),
     };

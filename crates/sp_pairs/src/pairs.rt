@@ -8,7 +8,7 @@ ghost use Rattle.sp_pairs.specs.Pairs.{IsPairUpTo, IsFirstPairAbove, ArePairsDon
 
 use crate::asking::find_answers;
 use crate::pair_lines::write_pairs;
-use sp_dimacs::{GrFile, PairsFile, Read, Write, read_gr, read_pairs};
+use sp_dimacs::{GrFile, PairsFile, Read, Write, read_gr_by, read_pairs};
 use sp_graph::Graph;
 use sp_job::{BatchError, BucketWidth, Job, Listener, Nobody, Progress, Settings, Summary};
 use sp_word::{Meter, Workers};
@@ -51,7 +51,7 @@ fn answer_pairs<const P: u32, R: Threads + Wait + Sync, W: Write, L: Listener>(
     if let Some(vertex) = first_pair_above(&list.pairs, file.n) {
         return Err(BatchError::NoSuchVertex(vertex));
     }
-    let graph = Graph::from_arcs(alloc, file.n, file.arcs)?;
+    let graph = Graph::from_arcs_by(rt, alloc, file.n, file.arcs, settings.workers)?;
     settings.listener.hear(Progress::Graph {
         vertices: graph.n(),
         arcs: graph.m(),
@@ -127,7 +127,7 @@ pub fn run_pairs_told<
     ensures found { PairsOfSome P W.Write out.old out.new result }
     ensures may_fail { IfErr result (MayFail (G.failing gr.old) (S.failing pairs.old)) }
 {
-    let file = match read_gr::<P, G>(alloc, gr) {
+    let file = match read_gr_by::<P, R, G>(rt, alloc, gr, settings.workers) {
         Ok(file) => file,
         Err(error) => return Err(BatchError::Gr(error)),
     };

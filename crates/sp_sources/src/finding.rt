@@ -9,7 +9,7 @@ use std::alloc::{AllocError, Global};
 use std::sync::Wait;
 use std::thread::{Threads, join};
 
-// Finds the answers for sources, one after the other.
+// Finds the answers for sources, one after the other, and makes them ready to be written.
 fn find_in_turn<Q: Question, R: Threads + Wait + Sync>(
     rt: &R,
     alloc: Global,
@@ -23,7 +23,8 @@ fn find_in_turn<Q: Question, R: Threads + Wait + Sync>(
 {
     let mut group = Vec::new(alloc);
     for source in sources {
-        group.push(question.find(rt, alloc, *workers, *source)?)?;
+        let found = question.find(rt, alloc, *workers, *source)?;
+        group.push(question.ready(alloc, found))?;
     }
     Ok(group)
 }

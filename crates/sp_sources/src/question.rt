@@ -1,5 +1,5 @@
 //! What is asked of each source.
-ghost use Rattle.std.specs.Prelude.{ℕ, [], ◌∷◌, IfOk};
+ghost use Rattle.std.specs.Prelude.{◌≡◌, ℕ, [], ◌∷◌, IfOk};
 ghost use denote.Param.Send.{IsSync};
 ghost use Rattle.sp_sources.specs.Told.{Told, IsDue, AreWritten};
 
@@ -39,6 +39,13 @@ pub trait Question: Sync {
         requires source { can_ask self.now source }
         requires sync { IsSync R.row }
         ensures { IfOk result (λ found. IsDue (answers self.now) source (told found)) };
+
+    /// Makes an answer that waits for others ready to be written, on the thread that found it. By default it stays as it was found.
+    fn ready(&self, _alloc: Global, found: Self::Found) -> Self::Found
+        ensures { told result ≡ told found }
+    {
+        found
+    }
 
     /// Writes the answer of one source, and counts it.
     fn write<W: Write>(

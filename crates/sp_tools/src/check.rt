@@ -7,7 +7,7 @@ ghost use Rattle.sp_command.specs.Faults.{is_done};
 ghost use Rattle.sp_command.specs.Scene.{scene};
 ghost use Rattle.sp_command.specs.Answers.{Hinders};
 ghost use Rattle.sp_tools.specs.Verdict.{IsVerdict, IsForestVerdict, IsVerdictOn, IsVerdictOf, verdict_text, verdict_end};
-ghost use Rattle.sp_tools.specs.CheckAnswers.{TreeJudged, IsTreeRefused, TellsVerdict, GiveTexts, SaysOfSome, CheckAnswers, check_paths, check_faults};
+ghost use Rattle.sp_tools.specs.CheckAnswers.{TreeJudged, IsTreeRefused, TellsVerdict, GiveTexts, SaysOf, SaysOfSome, CheckAnswers, check_paths, check_faults};
 ghost use Rattle.sp_options.specs.Within.{IsLimit};
 ghost use Rattle.sp_tools.specs.Early.{IsEarly};
 
@@ -163,11 +163,38 @@ impl<const P: u32> Run<P> for CheckCommand<'_> {
         out: &mut W,
     ) -> Result<Status, Fault> {
         let limit = self.within.limit_for::<P>()?;
-        if self.all {
-            check_all_files::<P, R, F, W>(rt, alloc, self, limit, files, out)
-        } else {
-            check_file::<P, R, F, W>(rt, alloc, self, limit, files, out)
-        }
+        check_blocks::<P, R, F, W>(rt, alloc, self, limit, files, out)
+    }
+}
+
+// Checks the only block against the graph, or with `--all` each block, and writes the verdicts.
+fn check_blocks<const P: u32, R: Threads + Sync, F: Inputs, W: Write>(
+    rt: &R,
+    alloc: Global,
+    given: &CheckCommand<'_>,
+    limit: Option<u64>,
+    files: &F,
+    out: &mut W,
+) -> Result<Status, Fault>
+    requires layout { is_layout P ≡ true }
+    requires limit { IsLimit P limit }
+    ensures answered { (gr tree : List ℕ) → GiveTexts (F.files files.now).text given.now gr tree
+        → SaysOf P given.now.all limit gr tree
+        (scene (F.files files.now)
+        (W.written out.old) (W.written out.new) (W.has_failed out.new)) result }
+    ensures of_some { IfOk result (SaysOfSome P given.now.all limit
+        (scene (F.files files.now)
+        (W.written out.old) (W.written out.new) (W.has_failed out.new))) }
+    ensures borne_out { IfErr result (IsBorneOut (check_paths given.now) (check_faults P given.now)
+        (scene (F.files files.now)
+        (W.written out.old) (W.written out.new) (W.has_failed out.new))) }
+    ensures done { IfOk result (λ status. is_done status ≡ true) }
+    ensures unwritten { IfErr result (λ fault. fault ≢ Fault.WriteFailed → out.new ≡ out.old) }
+{
+    if given.all {
+        check_all_files::<P, R, F, W>(rt, alloc, given, limit, files, out)
+    } else {
+        check_file::<P, R, F, W>(rt, alloc, given, limit, files, out)
     }
 }
 
@@ -220,7 +247,7 @@ fn find_verdict<const P: u32, R: Threads + Sync, F: Inputs>(
         (IsEarly (check_paths given.now) (check_faults P given.now) (F.files files.now)) }
 {
     let (mut gr, mut tree) = FileKind::Tree.open_with_graph(files, given.graph, given.tree)?;
-    let graph = read_graph::<P, _>(alloc, &mut gr)?;
+    let graph = read_graph::<P, R, _>(rt, alloc, &mut gr)?;
     let held = match read_tree_or_forest::<P, _>(alloc, &mut tree) {
         Ok(held) => held,
         Err(error) => return Err(FileKind::Tree.fault(error)),

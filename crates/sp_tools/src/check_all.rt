@@ -79,7 +79,7 @@ fn find_verdicts<const P: u32, R: Threads + Sync, F: Inputs>(
         (IsEarly (check_paths given.now) (check_faults P given.now) (F.files files.now)) }
 {
     let (mut gr, mut trees) = FileKind::Tree.open_with_graph(files, given.graph, given.tree)?;
-    let graph = read_graph::<P, _>(alloc, &mut gr)?;
+    let graph = read_graph::<P, R, _>(rt, alloc, &mut gr)?;
     judge_blocks::<P, R, _>(rt, alloc, &graph, limit, &mut trees)
 }
 

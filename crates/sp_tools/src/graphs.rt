@@ -7,12 +7,27 @@ ghost use Rattle.sp_tools.specs.Reading.{IsGraphIn, IsGraphFault};
 
 use sp_command::{Fault, FileKind};
 use sp_device::Read;
-use sp_dimacs::read_gr;
+use sp_dimacs::read_gr_by;
 use sp_graph::Graph;
+use sp_word::{MOST_WORKERS, Workers};
 use std::alloc::Global;
+use std::thread;
+use std::thread::Threads;
 
-/// Reads a graph, and builds its rows.
-pub fn read_graph<const P: u32, D: Read>(alloc: Global, gr: &mut D) -> Result<Graph, Fault>
+// Returns as many workers as there are processors.
+fn all_workers<R: Threads>(rt: &R) -> Workers {
+    let Ok(count) = thread::available_parallelism(rt) else {
+        return Workers::one();
+    };
+    Workers::new(count.get().min(MOST_WORKERS as usize) as u32).unwrap_or(Workers::one())
+}
+
+/// Reads a graph, and builds its rows, by as many workers as there are processors.
+pub fn read_graph<const P: u32, R: Threads + Sync, D: Read>(
+    rt: &R,
+    alloc: Global,
+    gr: &mut D,
+) -> Result<Graph, Fault>
     requires { is_layout P ≡ true }
     ensures graph { (text : List ℕ) → D.left gr.old ≡ Some text
         → IfOk result (IsGraphIn P text) }
@@ -22,9 +37,10 @@ pub fn read_graph<const P: u32, D: Read>(alloc: Global, gr: &mut D) -> Result<Gr
         → IfErr result (IsGraphFault P text) }
     ensures told { IfErr result (IsOfFile FileKind.Graph (D.failing gr.old)) }
 {
-    let file = match read_gr::<P, _>(alloc, gr) {
+    let workers = all_workers(rt);
+    let file = match read_gr_by::<P, R, _>(rt, alloc, gr, workers) {
         Ok(file) => file,
         Err(error) => return Err(FileKind::Graph.fault(error)),
     };
-    Ok(Graph::from_arcs(alloc, file.n, file.arcs)?)
+    Ok(Graph::from_arcs_by(rt, alloc, file.n, file.arcs, workers)?)
 }

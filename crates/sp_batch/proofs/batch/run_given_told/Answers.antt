@@ -5,8 +5,8 @@ use Rattle.sp_batch.proofs.batch.run_given_told.Goals as goal
 
 pub returns-in-Ok-clause-exact : goal.returns-in-Ok-clause-exact
 returns-in-Ok-clause-exact g c = λ gr_text gr_is.
-    given_answered g.row.P c.args.limit gr_text c.args.sources.now g.G.Read c.read_gr.new.reader g.W.Write c.args.out.now c.answer_file.new.out
-    c.in-Ok.file c.answer_file.result (graph_spelled g.row.P gr_text _ (g.G.Read.has_failed c.read_gr.new.reader) c.in-Ok.file (c.in-Ok.ensures.exact gr_text gr_is)) c.answer_file.ensures.batch
+    given_answered g.row.P c.args.limit gr_text c.args.sources.now g.G.Read c.read_gr_by.new.reader g.W.Write c.args.out.now c.answer_file.new.out
+    c.in-Ok.file c.answer_file.result (graph_spelled g.row.P gr_text _ (g.G.Read.has_failed c.read_gr_by.new.reader) c.in-Ok.file (c.in-Ok.ensures.exact gr_text gr_is)) c.answer_file.ensures.batch
 
 pub returns-in-Ok-clause-found : goal.returns-in-Ok-clause-found
 returns-in-Ok-clause-found g c =

@@ -5,14 +5,14 @@ use Rattle.sp_matrix.proofs.matrix.run_matrix_given_told.Goals as goal
 
 pub returns-in-Err-read_ss-clause-exact : goal.returns-in-Err-read_ss-clause-exact
 returns-in-Err-read_ss-clause-exact g c = λ gr_text targets_text gr_is targets_is.
-    (c.in-Ok.file, graph_spelled g.row.P gr_text _ (g.G.Read.has_failed c.read_gr.new.reader) c.in-Ok.file (c.in-Ok.ensures.exact gr_text gr_is), c.in-Err-read_ss.ensures.exact targets_text targets_is, refl)
+    (c.in-Ok.file, graph_spelled g.row.P gr_text _ (g.G.Read.has_failed c.read_gr_by.new.reader) c.in-Ok.file (c.in-Ok.ensures.exact gr_text gr_is), c.in-Err-read_ss.ensures.exact targets_text targets_is, refl)
 
 pub returns-clause-exact : goal.returns-clause-exact
 returns-clause-exact g c = λ gr_text targets_text gr_is targets_is.
-    given_answered g.row.P gr_text c.args.sources.now targets_text g.G.Read c.read_gr.new.reader g.T.Read c.read_ss.new.reader g.W.Write c.args.out.now c.answer_matrix.new.out c.answer_matrix.result (record {
+    given_answered g.row.P gr_text c.args.sources.now targets_text g.G.Read c.read_gr_by.new.reader g.T.Read c.read_ss.new.reader g.W.Write c.args.out.now c.answer_matrix.new.out c.answer_matrix.result (record {
       file = c.in-Ok.file;
       targets = c.in-Ok-read_ss.ends;
-      spells_graph = graph_spelled g.row.P gr_text _ (g.G.Read.has_failed c.read_gr.new.reader) c.in-Ok.file (c.in-Ok.ensures.exact gr_text gr_is);
+      spells_graph = graph_spelled g.row.P gr_text _ (g.G.Read.has_failed c.read_gr_by.new.reader) c.in-Ok.file (c.in-Ok.ensures.exact gr_text gr_is);
       spells_targets = sources_spelled g.row.P targets_text _ (g.T.Read.has_failed c.read_ss.new.reader) c.in-Ok-read_ss.ends (c.in-Ok-read_ss.ensures.exact targets_text targets_is);
       matrix = c.answer_matrix.ensures.matrix;
     })

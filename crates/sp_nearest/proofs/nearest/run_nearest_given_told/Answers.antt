@@ -5,8 +5,8 @@ use Rattle.sp_nearest.proofs.nearest.run_nearest_given_told.Goals as goal
 
 pub returns-clause-exact : goal.returns-clause-exact
 returns-clause-exact g c = λ gr_text gr_is.
-    given_answered g.row.P c.args.limit gr_text c.args.sources.now g.G.Read c.read_gr.new.reader g.W.Write c.args.out.now c.answer_file.new.out
-    c.in-Ok.file c.answer_file.result (graph_spelled g.row.P gr_text _ (g.G.Read.has_failed c.read_gr.new.reader) c.in-Ok.file (c.in-Ok.ensures.exact gr_text gr_is)) c.answer_file.ensures.forest
+    given_answered g.row.P c.args.limit gr_text c.args.sources.now g.G.Read c.read_gr_by.new.reader g.W.Write c.args.out.now c.answer_file.new.out
+    c.in-Ok.file c.answer_file.result (graph_spelled g.row.P gr_text _ (g.G.Read.has_failed c.read_gr_by.new.reader) c.in-Ok.file (c.in-Ok.ensures.exact gr_text gr_is)) c.answer_file.ensures.forest
 
 pub returns-clause-found : goal.returns-clause-found
 returns-clause-found g c =

@@ -5,12 +5,12 @@ use Rattle.sp_nearest.proofs.nearest.run_nearest_told.Goals as goal
 
 pub returns-in-Err-read_ss-clause-exact : goal.returns-in-Err-read_ss-clause-exact
 returns-in-Err-read_ss-clause-exact g c = λ gr_text ss_text gr_is ss_is.
-    (c.in-Ok.file, graph_spelled g.row.P gr_text _ (g.G.Read.has_failed c.read_gr.new.reader) c.in-Ok.file (c.in-Ok.ensures.exact gr_text gr_is), c.in-Err-read_ss.ensures.exact ss_text ss_is, refl)
+    (c.in-Ok.file, graph_spelled g.row.P gr_text _ (g.G.Read.has_failed c.read_gr_by.new.reader) c.in-Ok.file (c.in-Ok.ensures.exact gr_text gr_is), c.in-Err-read_ss.ensures.exact ss_text ss_is, refl)
 
 pub returns-clause-exact : goal.returns-clause-exact
 returns-clause-exact g c = λ gr_text ss_text gr_is ss_is.
-    answered g.row.P c.args.places c.args.limit gr_text ss_text g.G.Read c.read_gr.new.reader g.S.Read c.read_ss.new.reader g.W.Write c.args.out.now c.answer_file.new.out
-    c.in-Ok.file c.in-Ok-read_ss.list c.answer_file.result (graph_spelled g.row.P gr_text _ (g.G.Read.has_failed c.read_gr.new.reader) c.in-Ok.file (c.in-Ok.ensures.exact gr_text gr_is))
+    answered g.row.P c.args.places c.args.limit gr_text ss_text g.G.Read c.read_gr_by.new.reader g.S.Read c.read_ss.new.reader g.W.Write c.args.out.now c.answer_file.new.out
+    c.in-Ok.file c.in-Ok-read_ss.list c.answer_file.result (graph_spelled g.row.P gr_text _ (g.G.Read.has_failed c.read_gr_by.new.reader) c.in-Ok.file (c.in-Ok.ensures.exact gr_text gr_is))
     (sources_spelled g.row.P ss_text _ (g.S.Read.has_failed c.read_ss.new.reader) c.in-Ok-read_ss.list (c.in-Ok-read_ss.ensures.exact ss_text ss_is)) (rw c.chosen.ensures.part at c.answer_file.ensures.forest)
 
 pub returns-clause-found : goal.returns-clause-found

@@ -5,12 +5,12 @@ use Rattle.sp_pairs.proofs.pairs.run_pairs_told.Goals as goal
 
 pub returns-in-Err-read_pairs-clause-exact : goal.returns-in-Err-read_pairs-clause-exact
 returns-in-Err-read_pairs-clause-exact g c = λ gr_text list_text gr_is list_is.
-    (c.in-Ok.file, graph_spelled g.row.P gr_text _ (g.G.Read.has_failed c.read_gr.new.reader) c.in-Ok.file (c.in-Ok.ensures.exact gr_text gr_is), c.in-Err-read_pairs.ensures.exact list_text list_is, refl)
+    (c.in-Ok.file, graph_spelled g.row.P gr_text _ (g.G.Read.has_failed c.read_gr_by.new.reader) c.in-Ok.file (c.in-Ok.ensures.exact gr_text gr_is), c.in-Err-read_pairs.ensures.exact list_text list_is, refl)
 
 pub returns-clause-exact : goal.returns-clause-exact
 returns-clause-exact g c = λ gr_text list_text gr_is list_is.
-    pairs_answered g.row.P gr_text list_text g.G.Read c.read_gr.new.reader g.S.Read c.read_pairs.new.reader g.W.Write c.args.out.now c.answer_pairs.new.out
-    c.in-Ok.file c.in-Ok-read_pairs.list c.answer_pairs.result (graph_spelled g.row.P gr_text _ (g.G.Read.has_failed c.read_gr.new.reader) c.in-Ok.file (c.in-Ok.ensures.exact gr_text gr_is))
+    pairs_answered g.row.P gr_text list_text g.G.Read c.read_gr_by.new.reader g.S.Read c.read_pairs.new.reader g.W.Write c.args.out.now c.answer_pairs.new.out
+    c.in-Ok.file c.in-Ok-read_pairs.list c.answer_pairs.result (graph_spelled g.row.P gr_text _ (g.G.Read.has_failed c.read_gr_by.new.reader) c.in-Ok.file (c.in-Ok.ensures.exact gr_text gr_is))
     (pairs_spelled g.row.P list_text _ (g.S.Read.has_failed c.read_pairs.new.reader) c.in-Ok-read_pairs.list (c.in-Ok-read_pairs.ensures.exact list_text list_is)) c.answer_pairs.ensures.done
 
 pub returns-clause-found : goal.returns-clause-found

@@ -1,13 +1,13 @@
 use Rattle.std.proofs.Common.{rules}
 use Rattle.sp_answer.specs.declared.answer.RunError.TheVariants.{TooFar}
-use Rattle.sp_batch.specs.Batch.{TreeOf, FarFrom}
-use Rattle.sp_batch.specs.Found.{IsRefusalUpTo}
-use Rattle.sp_batch.proofs.AnswersInOrder.{found_due, far_answer}
+use Rattle.sp_batch.specs.Batch.{FarFrom}
+use Rattle.sp_batch.specs.Found.{IsRefusalUpTo, told_by}
+use Rattle.sp_batch.proofs.AnswersInOrder.{found_due, told_due, far_answer}
 use Rattle.sp_batch.proofs.finding.TreeQuestionQuestion.find.Goals as goal
 
 pub returns-in-Ok : goal.returns-in-Ok
 returns-in-Ok g c =
-    found_due g.row.P c.args.self.now.limit c.args.self.now.graph.now c.args.source (TreeOf c.in-Ok.tree) c.in-Ok.ensures.tree
+    told_due g.row.P c.args.self.now.limit c.args.self.now.graph.now c.args.source (told_by c.in-Ok.found) c.in-Ok.ensures.tree
 
 pub returns-in-Err-TooFar : goal.returns-in-Err-TooFar
 returns-in-Err-TooFar g c =
