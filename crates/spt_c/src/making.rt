@@ -60,8 +60,9 @@ pub(crate) fn share(alloc: Global, from: &mut KeptGraph, to: &mut KeptGraph) -> 
     ensures same { kept from.new ≡ kept from.old }
     ensures to { IsShared (kept from.old) (kept to.old) (kept to.new) result }
 {
-    match from.share(alloc, to) {
-        Ok(()) => Made::Kept,
-        Err(_) => Made::Memory,
+    if from.share(alloc, to).is_ok() {
+        Made::Kept
+    } else {
+        Made::Memory
     }
 }

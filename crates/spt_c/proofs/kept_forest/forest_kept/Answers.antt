@@ -2,7 +2,7 @@ use Rattle.std.proofs.Common.{Option, sym, subst}
 use Rattle.sp_paths.specs.Paths.{Graph}
 use Rattle.sp_lists.specs.Near.{lists, IsForestOf}
 use Rattle.spt_c.specs.KeptLists.{IsForestOfKept}
-use Rattle.spt_c.proofs.kept_lists.forest_kept.Goals as goal
+use Rattle.spt_c.proofs.kept_forest.forest_kept.Goals as goal
 
 pub returns-in-Some-clause-told : goal.returns-in-Some-clause-told
 returns-in-Some-clause-told c =
