@@ -17,6 +17,7 @@ NAME is one of
   sources   ten sources on the road-like graph, 1 and 4 workers
   cores     2 and 4 workers beside a C++ program that does every part by as many threads (`bench/whole.cpp`)
   together  two commands at once on the road-like graph, with 4 workers each and with 2 each
+  busy      1, 2 and 4 workers on the road-like graph, while another program keeps two processors busy
   memory    the peaks on both graphs (a peak counts what this program took before the start, some 20 MiB)
 
 `--plain` times the C++ program alone, on `roads`, `random` and `sources`. Without `--built-spt` the program is built by
@@ -26,6 +27,7 @@ in the folder that `--keep` names, and stay there.
 
 import argparse
 import collections
+import contextlib
 import filecmp
 import os
 import re
@@ -47,8 +49,8 @@ THREADS = (2, 4)
 
 # A job of ours: delta in mean lengths, and the aim: at most `bound` times the least of the jobs `than`.
 Job = collections.namedtuple("Job", "name share workers bound than at_once", defaults=[None, (PLAIN,), 1])
-# Jobs on one graph. `measure` is what the aims speak of: whole or peak.
-Comparison = collections.namedtuple("Comparison", "title kind sources jobs measure by_threads", defaults=["whole", False])
+# Jobs on one graph. `measure` is what the aims speak of: whole or peak; `busy` how many processors another program keeps busy meanwhile.
+Comparison = collections.namedtuple("Comparison", "title kind sources jobs measure by_threads busy", defaults=["whole", False, 0])
 Programs = collections.namedtuple("Programs", "plain spt bench threads", defaults=[None])
 Files = collections.namedtuple("Files", "gr ss expected trees")
 
@@ -65,7 +67,7 @@ def lengths(share):
 
 
 def roads(_chosen):
-    jobs = [Job(named(workers), 3, workers, bound) for workers, bound in ((1, 1.1), (2, 0.95), (4, 0.85))]
+    jobs = [Job(named(workers), 3, workers, bound) for workers, bound in ((1, 0.8), (2, 0.6), (4, 0.45))]
     jobs.append(Job(named(64), 3, 64, 1.5, (named(4),)))
     return [Comparison(f"roads, one source, delta of {lengths(3)}", "roads", 1, jobs)]
 
@@ -82,14 +84,14 @@ def deltas(_chosen):
 def at_random(chosen):
     jobs = []
     for share in sorted({0.3, 1, 3, chosen.random_delta}):
-        for workers, bound in ((1, 1.2), (2, 0.9), (4, 0.7)):
+        for workers, bound in ((1, 0.65), (2, 0.45), (4, 0.35)):
             aim = bound if share == chosen.random_delta else None
             jobs.append(Job(f"{named(workers)}, {lengths(share)}", share, workers, aim))
     return [Comparison("random, one source", "random", 1, jobs)]
 
 
 def sources(_chosen):
-    jobs = [Job(named(1), 3, 1), Job(named(4), 3, 4, 0.45, (named(1),))]
+    jobs = [Job(named(1), 3, 1), Job(named(4), 3, 4, 0.33, (named(1),))]
     return [Comparison(f"roads, ten sources, delta of {lengths(3)}", "roads", 10, jobs)]
 
 
@@ -108,6 +110,11 @@ def together(_chosen):
     return [Comparison(f"roads, two commands at once, delta of {lengths(3)}", "roads", 1, jobs)]
 
 
+def busy(_chosen):
+    jobs = [Job(named(1), 3, 1), *(Job(named(workers), 3, workers, 1.1, (named(1),)) for workers in THREADS)]
+    return [Comparison(f"roads, one source, beside a program that keeps two processors busy, delta of {lengths(3)}", "roads", 1, jobs, busy=2)]
+
+
 def memory(chosen):
     found = []
     for kind, share in (("roads", 3), ("random", chosen.random_delta)):
@@ -123,6 +130,7 @@ COMPARISONS = {
     "sources": sources,
     "cores": cores,
     "together": together,
+    "busy": busy,
     "memory": memory,
 }
 OF_PLAIN = ["roads", "random", "sources"]
@@ -238,6 +246,18 @@ def control(programs, files):
     return {threads: run_telling([programs.threads, "control", files.gr, str(threads)])["sum"] for threads in (1, *THREADS)}
 
 
+@contextlib.contextmanager
+def kept_busy(processors):
+    """Keeps so many processors busy until the end of the block."""
+    processes = [subprocess.Popen([sys.executable, "-c", "while True: pass"]) for _ in range(processors)]
+    try:
+        yield
+    finally:
+        for process in processes:
+            process.kill()
+            process.wait()
+
+
 def run_in_turn(programs, comparison, files, mean, runs):
     """What each run of each program took, by the names of the jobs."""
     found = collections.defaultdict(list)
@@ -319,7 +339,8 @@ def compare(chosen, folder):
     for name in chosen.only or (OF_PLAIN if chosen.plain else COMPARISONS):
         for comparison in COMPARISONS[name](chosen):
             files, told = files_of(chosen.keep or folder, folder, comparison.kind, chosen.vertices, comparison.sources)
-            found = run_in_turn(programs, comparison, files, mean_of(told), chosen.runs)
+            with kept_busy(comparison.busy):
+                found = run_in_turn(programs, comparison, files, mean_of(told), chosen.runs)
             met += print_table(comparison, told, chosen.runs, found)
     if not chosen.plain:
         print(f"{sum(met)} of {len(met)} aims met")

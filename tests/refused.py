@@ -25,6 +25,10 @@ WORKERS = (1, 2)
 MOST_REQUESTS = 100_000
 SECONDS = 60
 
+# a graph whose text several workers read in parts, and whose rows they make
+RING = 1_000
+RING_ARCS = 120_000
+
 # the status of crates/tests_refused where memory was refused before or after the call
 OUTSIDE = 9
 
@@ -132,8 +136,16 @@ def long_path():
     }
 
 
+def ring(vertices, arcs):
+    """The text of a graph that several workers read: a ring whose arcs stand many times over, and the text of its tree from 1."""
+    lines = "".join(f"a {number % vertices + 1} {(number + 1) % vertices + 1} {1 + number // vertices}\n" for number in range(arcs))
+    rows = "".join(f"v {vertex} {vertex - 1} {vertex - 1}\n" for vertex in range(1, vertices + 1))
+    return f"p sp {vertices} {arcs}\n{lines}", f"p spt {vertices} 1\n{rows}e {vertices}\n"
+
+
 def write_files(folder):
     files = long_path()
+    files["ring.gr"], _ = ring(RING, RING_ARCS)
     files["two.tree"] = example("diamond.tree") + "p spt 1 1\nv 1 0 0\ne 1\n"
     for name, text in files.items():
         with open(f"{folder}/{name}", "w") as it:
@@ -163,6 +175,11 @@ def commands(folder):
         yield ["nearest", f"{folder}/long.gr", "--source", "1", *crew], ((4, "x 18\n", ""), says_nothing_else)
         yield ["nearest", f"{folder}/long.gr", f"{folder}/long.ss", "--within", far, *crew], (
             (0, f"p near 18 1\nv 1 0 0 1\nv 2 {far} 1 1\ne 2\n", ""), says_nothing_else)
+    _, tree = ring(RING, RING_ARCS)
+    for workers in (2, 4):
+        crew = ["--workers", str(workers)]
+        yield ["tree", f"{folder}/ring.gr", "--source", "1", "--delta", "mean", *crew], ((0, tree, ""), ends_short)
+    yield ["tree", f"{folder}/ring.gr", "--source", "1", "--source", "1", "--delta", "mean", "--workers", "2"], ((0, 2 * tree, ""), ends_short)
     # a reader takes no memory by what is announced
     yield ["tree", f"{folder}/announced.gr", f"{folder}/long.ss", "--delta", far], (
         (2, "", f"spt: gr: line 2: 7 TooFew\nspt: {folder}/announced.gr: {MORE}\n"), words_end_short)
