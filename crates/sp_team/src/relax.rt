@@ -82,7 +82,7 @@ fn relax_row<L: Lawful, const P: u32>(
     Ok(())
 }
 
-// Reads the words of the heads.
+// Reads the words of the heads of some arcs.
 fn warm_heads<L: Lawful, const P: u32>(table: &OfferTable<L, P>, row: &[Arc], caller: &mut Caller)
     requires arcs { All (IsArc table.now.vertices) row.now }
     requires caller { caller.old.table ≡ table.now.id }
@@ -93,9 +93,82 @@ fn warm_heads<L: Lawful, const P: u32>(table: &OfferTable<L, P>, row: &[Arc], ca
     }
 }
 
-/// Reads what relaxing the entries will read, so that it lies in the cache then: these reads don't wait for one another, as
-/// they would between offers.
-pub(crate) fn warm<L: Lawful, const P: u32>(
+// Reads the word of an entry's vertex, and where its row begins and ends. Returns how many arcs that has.
+fn warm_tail<L: Lawful, const P: u32>(
+    graph: &Graph,
+    table: &OfferTable<L, P>,
+    entry: Entry,
+    caller: &mut Caller,
+) -> usize
+    requires ready { IsReady P (lawful P (L.allows table.now.law)) table.now.vertices graph.now }
+    requires caller { caller.old.table ≡ table.now.id }
+    ensures { IsLater (lawful P (L.allows table.now.law)) caller.old caller.new }
+{
+    if !graph.has_vertex(entry.vertex) {
+        return 0;
+    }
+    let _ = read_dist(table, entry.vertex, caller);
+    graph.row(entry.vertex).len()
+}
+
+// Reads the first and the last arc of an entry's row, and the words of their heads.
+fn warm_ends<L: Lawful, const P: u32>(
+    graph: &Graph,
+    table: &OfferTable<L, P>,
+    entry: Entry,
+    caller: &mut Caller,
+)
+    requires ready { IsReady P (lawful P (L.allows table.now.law)) table.now.vertices graph.now }
+    requires caller { caller.old.table ≡ table.now.id }
+    ensures { IsLater (lawful P (L.allows table.now.law)) caller.old caller.new }
+{
+    if !graph.has_vertex(entry.vertex) {
+        return;
+    }
+    let row = graph.row(entry.vertex);
+    let Some(last) = row.len().checked_sub(1) else {
+        return;
+    };
+    let _ = read_dist(table, row[0].head, caller);
+    let _ = read_dist(table, row[last].head, caller);
+}
+
+// Reads an entry's row, and the words of all its heads.
+fn warm_row<L: Lawful, const P: u32>(
+    graph: &Graph,
+    table: &OfferTable<L, P>,
+    entry: Entry,
+    caller: &mut Caller,
+)
+    requires ready { IsReady P (lawful P (L.allows table.now.law)) table.now.vertices graph.now }
+    requires caller { caller.old.table ≡ table.now.id }
+    ensures { IsLater (lawful P (L.allows table.now.law)) caller.old caller.new }
+{
+    if graph.has_vertex(entry.vertex) {
+        warm_heads(table, graph.row(entry.vertex), caller);
+    }
+}
+
+// Reads the words of the entries' vertices, and where their rows begin and end. Returns how many arcs these have.
+fn warm_tails<L: Lawful, const P: u32>(
+    graph: &Graph,
+    table: &OfferTable<L, P>,
+    entries: &[Entry],
+    caller: &mut Caller,
+) -> usize
+    requires ready { IsReady P (lawful P (L.allows table.now.law)) table.now.vertices graph.now }
+    requires caller { caller.old.table ≡ table.now.id }
+    ensures { IsLater (lawful P (L.allows table.now.law)) caller.old caller.new }
+{
+    let mut arcs: usize = 0;
+    for entry in entries {
+        arcs = arcs.wrapping_add(warm_tail(graph, table, *entry, caller));
+    }
+    arcs
+}
+
+// Reads the first and the last arc of the entries' rows, and the words of their heads.
+fn warm_all_ends<L: Lawful, const P: u32>(
     graph: &Graph,
     table: &OfferTable<L, P>,
     entries: &[Entry],
@@ -106,10 +179,29 @@ pub(crate) fn warm<L: Lawful, const P: u32>(
     ensures { IsLater (lawful P (L.allows table.now.law)) caller.old caller.new }
 {
     for entry in entries {
-        if graph.has_vertex(entry.vertex) {
-            let _ = read_dist(table, entry.vertex, caller);
-            warm_heads(table, graph.row(entry.vertex), caller);
-        }
+        warm_ends(graph, table, *entry, caller);
+    }
+}
+
+/// Reads what relaxing the entries will read, so that it lies in the cache then. It goes over the entries three times, and reads
+/// for all of them what the time before has told the places of: so these reads don't wait for one another, as they would between
+/// offers, and few branches wait for one.
+pub(crate) fn warm<L: Lawful, const P: u32>(
+    graph: &Graph,
+    table: &OfferTable<L, P>,
+    entries: &[Entry],
+    caller: &mut Caller,
+)
+    requires ready { IsReady P (lawful P (L.allows table.now.law)) table.now.vertices graph.now }
+    requires caller { caller.old.table ≡ table.now.id }
+    ensures { IsLater (lawful P (L.allows table.now.law)) caller.old caller.new }
+{
+    if warm_tails(graph, table, entries, caller) == 0 {
+        return;
+    }
+    warm_all_ends(graph, table, entries, caller);
+    for entry in entries {
+        warm_row(graph, table, *entry, caller);
     }
 }
 

@@ -1,16 +1,8 @@
-use Rattle.std.proofs.Common.{sym, subst}
-use Rattle.sp_offer.specs.Order.{lawful}
-use Rattle.sp_offer.specs.Story.{Knowledge}
-use Rattle.sp_team.specs.Later.{IsLater}
 use Rattle.sp_team.proofs.Later.{later_along}
 use Rattle.sp_team.proofs.relax.warm.Goals as goal
-use Rattle.sp_team.proofs.relax.warm.Goals.{then-has_vertex, else-has_vertex}
 
 pub loop-entry-preserved : goal.loop-entry-preserved
-loop-entry-preserved g c =
-    let law = lawful g.row.P (g.L.Lawful.allows c.args.table.now.law) in
-    let L : Knowledge → Type 0 = λ k. IsLater law c.args.caller.now k in
-    elim c.if-has_vertex.branch [
-      | then-has_vertex w ↦ subst L (sym w.caller-is) (later_along law _ _ _ c.loop-entry.invariant (later_along law _ _ _ w.read_dist.ensures.later w.warm_heads.ensures))
-      | else-has_vertex w ↦ subst L (sym w.caller-is) c.loop-entry.invariant
-    ]
+loop-entry-preserved g c = later_along _ _ _ _ c.loop-entry.invariant c.warm_row.ensures
+
+pub returns : goal.returns
+returns g c = later_along _ _ _ _ c.warm_tails.ensures (later_along _ _ _ _ c.warm_all_ends.ensures c.loop-entry.invariant)
