@@ -8,7 +8,7 @@ ghost use Rattle.sp_text.specs.Feeding.{IsBehind};
 ghost use Rattle.sp_text.specs.Whole.{AllRead, IsSpelled, ReadOn, NeverRead};
 ghost use Rattle.sp_parts.specs.Groups.{GoesOn, GroupRead};
 
-use crate::filling::{Filled, fill};
+use crate::receiving::{Received, receive};
 use crate::taking::take_piece;
 use sp_device::Read;
 use sp_text::{Collector, DimacsError, Feeder, KeepParts, LineTaker, PIECE, read_items};
@@ -22,7 +22,7 @@ use std::thread::Threads;
 pub struct Sizes {
     /// The number of bytes that one thread reads before others join.
     pub alone: usize,
-    /// The number of bytes that come of the device at a time, where there is memory for them.
+    /// The greatest number of bytes that come of the device at a time, where there is memory for them.
     pub group: usize,
     /// The number of bytes that a thread reads at a time.
     pub part: usize,
@@ -76,7 +76,7 @@ fn larger(alloc: Global, buffer: Vec<u8>, size: usize) -> Vec<u8>
     buffer
 }
 
-// Fills the buffer from the device, and takes what came.
+// Reads once from the device into the buffer, and takes what came.
 fn read_group<K: KeepParts + Send + Sync, H: Threads + Sync, R: Read>(
     rt: &H,
     alloc: Global,
@@ -84,7 +84,7 @@ fn read_group<K: KeepParts + Send + Sync, H: Threads + Sync, R: Read>(
     reader: &mut Feeder<Collector<K>>,
     buffer: &mut [u8],
     plan: &Plan,
-) -> Result<Filled, DimacsError>
+) -> Result<Received, DimacsError>
     requires { 0 < length buffer.old }
     ensures goes { IfOk result (GoesOn (R.left device.new) (R.has_failed device.new)
         (R.passed device.old) (R.passed device.new)) }
@@ -96,17 +96,17 @@ fn read_group<K: KeepParts + Send + Sync, H: Threads + Sync, R: Read>(
     ensures failing { R.failing device.new ≡ R.failing device.old }
     ensures never { R.failing device.old ≡ Never → R.has_failed device.new ≡ false }
 {
-    let (count, filled) = fill(device, buffer);
+    let (count, received) = receive(device, buffer);
     let piece = &buffer[..count];
     if count < plan.sizes.alone {
         reader.feed_items(piece)?;
     } else {
         take_piece(rt, alloc, reader, piece, plan.threads, plan.sizes.part)?;
     }
-    Ok(filled)
+    Ok(received)
 }
 
-// Reads to the end, a buffer at a time: pieces first, and then groups.
+// Reads to the end, what comes at a time: pieces first, and then groups.
 fn read_groups<K: KeepParts + Send + Sync, H: Threads + Sync, R: Read>(
     rt: &H,
     alloc: Global,
@@ -125,9 +125,9 @@ fn read_groups<K: KeepParts + Send + Sync, H: Threads + Sync, R: Read>(
     let mut alone = 0;
     loop {
         match read_group(rt, alloc, device, &mut reader, &mut buffer, plan)? {
-            Filled::Over => return reader.finish(),
-            Filled::Failed => return Err(reader.fail()),
-            Filled::Full => {}
+            Received::Over => return reader.finish(),
+            Received::Failed => return Err(reader.fail()),
+            Received::More => {}
         }
         alone = buffer.len().saturating_add(alone);
         if alone >= plan.sizes.alone && reader.has_problem() {
