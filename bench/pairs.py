@@ -1,9 +1,12 @@
 #!/usr/bin/env python3
 """Times pairs beside whole trees, and beside a plain Dijkstra in C++ on one thread that stops at its target.
 
-On a road-like graph: the solve of a whole tree from one source; a pair whose target is the farthest of the nearest 1 %; 1,000
-pairs of that source, drawn at random; a hundred pairs of a hundred sources. The programs run in turn, several times; the median of
-each solve counts (reading and rows are left out). The lines that `spt pairs` writes are compared with those of the plain program.
+On a road-like graph: the solve of a whole tree from one source; a pair whose target is the farthest of the nearest 1 %, by a run of the team
+(`crates/bench_engine`); 1,000 pairs of that source, drawn at random; a hundred pairs of a hundred sources. The programs run in turn, several
+times; the median of each solve counts (reading and rows are left out). The lines that `spt pairs` writes are compared with those of the plain program.
+
+What a near pair takes of the program itself stands in a table of its own: two hundred pairs of as many sources, each target the farthest of
+the nearest 1 %, by whole commands; from the time of each that of a command with the first pair alone is taken away.
 
 Usage: python3 bench/pairs.py [--vertices N] [--runs K] [--only NAME..] [--keep FOLDER] [--built-spt PROGRAM] [--built PROGRAM]
 """
@@ -11,12 +14,14 @@ Usage: python3 bench/pairs.py [--vertices N] [--runs K] [--only NAME..] [--keep 
 import argparse
 import collections
 import filecmp
+import heapq
 import os
 import random
 import statistics
 import subprocess
 import sys
 import tempfile
+import time
 
 sys.dont_write_bytecode = True
 import graphs  # noqa: E402
@@ -25,6 +30,9 @@ import whole  # noqa: E402
 
 SEED = 1
 WORKERS = (1, 2, 4)
+# how many near pairs the program answers in the table of its own, and at most which multiple of the plain program's time a pair may take
+AROUND = 200
+AROUND_BOUND = 1.5
 
 # What is asked, and at most how many times the solve of a whole tree by as many workers it may take, if there is an aim.
 Job = collections.namedtuple("Job", "title name bound", defaults=[None])
@@ -44,6 +52,33 @@ def distances(path):
     with open(path) as file:
         rows = [tuple(map(int, row.split()[1:3])) for row in file if row.startswith("v ")]
     return [vertex for vertex, _ in sorted(rows, key=lambda row: row[1])]
+
+
+def heads_by_tail(gr, n):
+    """The arcs of a graph, as lists of heads and lengths by tail."""
+    rows = [[] for _ in range(n + 1)]
+    with open(gr) as file:
+        for line in file:
+            if line.startswith("a "):
+                _, tail, head, length = line.split()
+                rows[int(tail)].append((int(head), int(length)))
+    return rows
+
+
+def farthest_of_nearest(rows, source, count):
+    """The farthest of so many vertices that are nearest to the source."""
+    least, done, heap = {source: 0}, set(), [(0, source)]
+    while heap and len(done) < count:
+        dist, vertex = heapq.heappop(heap)
+        if vertex in done:
+            continue
+        done.add(vertex)
+        farthest = vertex
+        for head, length in rows[vertex]:
+            if dist + length < least.get(head, dist + length + 1):
+                least[head] = dist + length
+                heapq.heappush(heap, (dist + length, head))
+    return farthest
 
 
 def write_pairs(path, pairs):
@@ -66,6 +101,11 @@ def make_files(chosen, folder, plain):
         "many": [(source, draw.randint(1, chosen.vertices)) for _ in range(1000)],
         "hundred": [(draw.randint(1, chosen.vertices), draw.randint(1, chosen.vertices)) for _ in range(100)],
     }
+    if not chosen.only or "around" in chosen.only:
+        rows = heads_by_tail(gr, chosen.vertices)
+        sources = [draw.randint(1, chosen.vertices) for _ in range(AROUND)]
+        lists["around"] = [(it, farthest_of_nearest(rows, it, chosen.vertices // 100)) for it in sources]
+        lists["first"] = lists["around"][:1]
     for name, pairs in lists.items():
         write_pairs(os.path.join(folder, f"{name}.pairs"), pairs)
     return gr, ss, mean
@@ -117,11 +157,35 @@ def print_rows(found, jobs):
     print(f"\n{sum(met)} of {len(met)} aims met")
 
 
+def milliseconds_of(programs, gr, pairs, delta, workers):
+    """What a whole command takes, as ./spt runs it."""
+    words = ["pairs", gr, pairs, "--delta", str(delta), "--workers", str(workers)]
+    start = time.monotonic()
+    subprocess.run(parts.as_users_run(programs.spt, words), check=True, stdout=subprocess.DEVNULL)
+    return (time.monotonic() - start) * 1000
+
+
+def print_around(programs, gr, delta, folder, runs):
+    """What a near pair takes of the program, beside the plain one."""
+    around, first, lines = (os.path.join(folder, name) for name in ("around.pairs", "first.pairs", "lines"))
+    found = collections.defaultdict(list)
+    for _ in range(runs):
+        for workers in WORKERS:
+            both = [milliseconds_of(programs, gr, pairs, delta, workers) for pairs in (around, first)]
+            found[workers].append((both[0] - both[1]) / (AROUND - 1))
+        found[0].append(solve(programs.plain, "pairs", gr, around, lines) / AROUND)
+    plain = statistics.median(found[0])
+    print(f"\n| {AROUND} pairs, each among the nearest 1 % of a source of its own | ms a pair | C++, ms | of C++ | aim, at most |\n|---|---|---|---|---|")
+    for workers in WORKERS:
+        taken = statistics.median(found[workers])
+        print(f"| {whole.named(workers)} | {taken:.2f} | {plain:.2f} | {taken / plain:.2f} | {AROUND_BOUND} |")
+
+
 def main():
     options = argparse.ArgumentParser(description=__doc__, formatter_class=argparse.RawDescriptionHelpFormatter)
     options.add_argument("--vertices", type=int, default=1_000_000)
     options.add_argument("--runs", type=int, default=5, help="how often each program runs")
-    options.add_argument("--only", nargs="+", choices=[job.name for job in JOBS], help="these jobs alone, beside the whole tree")
+    options.add_argument("--only", nargs="+", choices=[*(job.name for job in JOBS), "around"], help="these jobs alone, beside the whole tree; around is the table of the program")
     options.add_argument("--keep", metavar="FOLDER", type=os.path.abspath, help="where graphs stay")
     options.add_argument("--built-spt", metavar="PROGRAM", type=os.path.abspath, help="this spt, as it is, in place of a build")
     options.add_argument("--built", metavar="PROGRAM", type=os.path.abspath, help="this bench_engine, as it is, in place of a build")
@@ -138,7 +202,11 @@ def main():
         for job in jobs:
             same_lines(programs, gr, os.path.join(place, f"{job.name}.pairs"), delta, folder)
         print(f"{chosen.vertices:,} vertices, road-like, delta of 3 mean lengths; medians of {chosen.runs} runs in turn\n")
-        print_rows(time_all(programs, gr, ss, delta, place, chosen.runs, jobs), jobs)
+        if jobs:
+            print_rows(time_all(programs, gr, ss, delta, place, chosen.runs, jobs), jobs)
+        if not chosen.only or "around" in chosen.only:
+            same_lines(programs, gr, os.path.join(place, "around.pairs"), delta, folder)
+            print_around(programs, gr, delta, place, chosen.runs)
 
 
 if __name__ == "__main__":

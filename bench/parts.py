@@ -57,6 +57,11 @@ def program():
     return subprocess.run(words, check=True, capture_output=True, text=True).stdout.strip()
 
 
+def as_users_run(program, words):
+    """The words by which ./spt would run this program: what is asked of the C library is asked for it too (share/run.sh)."""
+    return ["sh", "-c", 'unset GLIBC_TUNABLES; run=$0; . "$run"; run "$@"', f"{HOME}/share/run.sh", program, *words]
+
+
 def build_ours(name="bench_engine", *words):
     """The program of a crate, proved, built and run with these words first where it isn't yet from these sources. It is kept as
     `spt` keeps its own."""

@@ -198,7 +198,7 @@ def run_telling(words):
 
 
 def start_spt(spt, files, delta, workers, trees):
-    words = [spt, "tree", files.gr, files.ss, "--delta", str(delta), "--workers", str(workers)]
+    words = parts.as_users_run(spt, ["tree", files.gr, files.ss, "--delta", str(delta), "--workers", str(workers)])
     with open(trees, "wb") as out:
         return subprocess.Popen(words, stdout=out)
 

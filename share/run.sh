@@ -9,11 +9,7 @@ loader=/lib64/ld-linux-x86-64.so.2
 libraries='/lib/x86_64-linux-gnu/libc.so.6 /lib64/libc.so.6'
 
 run() {
-    # What is asked of the C library, where nothing else is: large lists in large pages; and of `pairs`, which makes a run for
-    # each source, one after the other, that the lists of a run stay for the next (docs/BENCHMARKS.md).
-    kept=
-    case ${2-} in pairs) kept=:glibc.malloc.mmap_threshold=1073741824:glibc.malloc.trim_threshold=1073741824 ;; esac
-    export GLIBC_TUNABLES="${GLIBC_TUNABLES-glibc.malloc.hugetlb=1$kept}"
+    export GLIBC_TUNABLES="${GLIBC_TUNABLES-$(tunables "$@")}"
     if may_fail && ! "$1" --version > /dev/null 2>&1; then
         echo "spt: the program doesn't run here: it needs the GNU C library 2.34 or later, on x86-64" >&2
         exit 126
@@ -22,6 +18,33 @@ run() {
     *[!\ -~]*) if ! is_utf8 "$*"; then run_by_other_names "$@"; fi ;;
     esac
     run_tidily "$@"
+}
+
+# tunables PROGRAM WORD..: what is asked of the C library, where nothing else is (docs/BENCHMARKS.md): large lists in large pages, and
+# that lists which are given back stay for those that come next, where one thread makes them. (Of several, each would keep its own.)
+tunables() {
+    kept=
+    if keeps_lists "${2-}" "$@"; then kept=:glibc.malloc.mmap_threshold=1073741824:glibc.malloc.trim_threshold=1073741824; fi
+    echo "glibc.malloc.hugetlb=1$kept"
+}
+
+# keeps_lists COMMAND WORD..: whether one thread makes the lists: those of `pairs`, which makes a run for each source, one after the
+# other; and those of `tree`, `nearest` and `matrix` by one worker
+keeps_lists() {
+    case $1 in
+    pairs) return 0 ;;
+    tree | nearest | matrix) ;;
+    *) return 1 ;;
+    esac
+    workers=1
+    while [ $# != 0 ]; do
+        case $1 in
+        --workers) workers=${2-} ;;
+        --workers=*) workers=${1#*=} ;;
+        esac
+        shift
+    done
+    [ "$workers" = 1 ]
 }
 
 # Whether this system may have another C library, or an older one, than the program needs.
