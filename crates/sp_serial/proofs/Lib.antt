@@ -4,3 +4,4 @@ pub mod ForestAnswers
 pub mod Targets
 pub mod TargetAnswers
 pub mod WordsOfTree
+pub mod Touching

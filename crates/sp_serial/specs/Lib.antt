@@ -3,3 +3,4 @@ pub mod TreeWords
 pub mod Asked
 pub mod Several
 pub mod Told
+pub mod Touched

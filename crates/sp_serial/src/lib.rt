@@ -11,17 +11,20 @@
 mod alone;
 mod asked;
 mod nearest;
+mod room;
 mod row;
 mod run;
 mod search;
 mod several;
 mod target;
+mod touched;
 mod vertices;
 mod within;
 
 pub use alone::run_source_alone;
 pub use asked::run_target_alone;
 pub use nearest::run_nearest_alone;
+pub use room::Room;
 pub use row::run_targets_alone;
 pub use run::solve_alone;
 pub use sp_answer::{PairAnswer, RunError};

@@ -16,8 +16,8 @@ use sp_scan::is_relaxed_up_to;
 use sp_word::{Delta, Word};
 use std::alloc::{AllocError, Global};
 
-// Returns the distance of the farthest target, if each of them has one.
-fn farthest<const P: u32>(words: &[Word<P>], targets: &[u32]) -> Option<u64>
+/// Returns the distance of the farthest target, if each of them has one.
+pub(crate) fn farthest<const P: u32>(words: &[Word<P>], targets: &[u32]) -> Option<u64>
     requires { All (IsVertex (length words.now)) targets.now }
     ensures { IfSome result (λ far. All (λ t. IsUpTo far (word_at words.now t)) targets.now) }
 {
@@ -45,8 +45,8 @@ fn are_near<const P: u32>(graph: &Graph, source: u32, targets: &[u32], words: &[
     }
 }
 
-// Returns the answers that the words tell, or the vertex that is too far.
-fn answers_of<const P: u32>(
+/// Returns the answers that the words tell, or the vertex that is too far.
+pub(crate) fn answers_of<const P: u32>(
     alloc: Global,
     words: &[Word<P>],
     far: Option<u32>,

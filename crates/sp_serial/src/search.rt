@@ -72,8 +72,8 @@ fn is_before<const P: u32>(words: &[Word<P>], target: u32, bins: &Bins, bucket: 
     }
 }
 
-// Returns the index of the first target, from this one on, that has no distance in a bucket before this one.
-fn first_open<const P: u32>(
+/// Returns the index of the first target, from this one on, that has no distance in a bucket before this one.
+pub(crate) fn first_open<const P: u32>(
     words: &[Word<P>],
     targets: &[u32],
     first: usize,

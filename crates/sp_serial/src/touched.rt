@@ -1,0 +1,193 @@
+//! Words of all vertices, with a list of those that a search has touched.
+ghost use Rattle.std.specs.Prelude.{◌≡◌, ◌≤◌, true, length, replicate, vec_len, All, OnOk};
+ghost use Rattle.std.specs.Bool.{OnTrue};
+ghost use Rattle.sp_word.specs.Word.{Unreached, is_layout, max_dist, max_pred};
+ghost use Rattle.sp_paths.specs.Paths.{IsArc, IsVertex, word_at};
+ghost use Rattle.sp_scan.specs.Shown.{IsRelaxedFrom, IsRowClosedUpTo, IsClosedUpTo};
+ghost use Rattle.sp_plain.specs.Lowering.{IsLowered, IsLoweredBy};
+ghost use Rattle.sp_serial.specs.Touched.{AreTouched, IsAmong};
+
+use sp_bins::{Bins, Entry};
+use sp_graph::{Graph, look_up};
+use sp_paths::{Arc, Offer};
+use sp_plain::relax;
+use sp_word::Word;
+use std::alloc::AllocError;
+
+/// The words of all vertices, and a list that has each vertex with a word: what touches few of them is put back in the time
+/// that it took.
+#[derive(Drop)]
+pub(crate) struct Touched<const P: u32> {
+    pub(crate) words: Vec<Word<P>>,
+    pub(crate) reached: Vec<u32>,
+}
+
+// Puts an unreached vertex into the list, since it may get a word.
+fn note<const P: u32>(touched: &mut Touched<P>, vertex: u32) -> Result<(), AllocError>
+    requires vertex { IsVertex (vec_len touched.old.words) vertex }
+    requires touched { AreTouched 0 touched.old.reached.items touched.old.words.items }
+    ensures words { touched.new.words ≡ touched.old.words }
+    ensures touched { AreTouched 0 touched.new.reached.items touched.new.words.items }
+    ensures among { OnOk result (IsAmong 0 touched.new.reached.items vertex) }
+{
+    if look_up(&touched.words, vertex).is_unreached() {
+        touched.reached.push(vertex)?;
+    }
+    Ok(())
+}
+
+// Relaxes an arc, and returns its head's distance if that became shorter. A head that was unreached stands in the list first.
+fn lower<const P: u32>(touched: &mut Touched<P>, arc: Arc) -> Result<Option<u64>, AllocError>
+    requires layout { is_layout P ≡ true }
+    requires room { vec_len touched.old.words ≤ max_pred P }
+    requires arc { IsArc (vec_len touched.old.words) arc }
+    requires touched { AreTouched 0 touched.old.reached.items touched.old.words.items }
+    ensures size { vec_len touched.new.words ≡ vec_len touched.old.words }
+    ensures lowered { IsLoweredBy (max_dist P) arc
+        touched.old.words.items touched.new.words.items }
+    ensures touched { AreTouched 0 touched.new.reached.items touched.new.words.items }
+{
+    note(touched, arc.head)?;
+    Ok(relax(&mut touched.words, arc))
+}
+
+// Relaxes the arcs of an entry's vertex, if the vertex still has the entry's distance. Heads that came nearer are put
+// into buckets.
+fn lower_row<const P: u32>(
+    graph: &Graph,
+    entry: Entry,
+    touched: &mut Touched<P>,
+    bins: &mut Bins,
+) -> Result<(), AllocError>
+    requires layout { is_layout P ≡ true }
+    requires room { graph.now.n ≤ max_pred P }
+    requires size { vec_len touched.old.words ≡ graph.now.n }
+    requires touched { AreTouched 0 touched.old.reached.items touched.old.words.items }
+    ensures size { vec_len touched.new.words ≡ graph.now.n }
+    ensures lowered { IsLowered (max_dist P) graph.now.arcs
+        touched.old.words.items touched.new.words.items }
+    ensures touched { AreTouched 0 touched.new.reached.items touched.new.words.items }
+{
+    let vertex = entry.vertex;
+    // The graph's arcs lead from vertices to vertices.
+    let _ = graph.n();
+    if !graph.has_vertex(vertex) || look_up(&touched.words, vertex).dist() != Some(entry.dist) {
+        return Ok(());
+    }
+    for arc in graph.row(vertex) {
+        if let Some(dist) = lower(touched, *arc)? {
+            let head = Entry {
+                vertex: arc.head,
+                dist,
+            };
+            bins.put_head(head, entry.dist)?;
+        }
+    }
+    Ok(())
+}
+
+/// Relaxes the arcs of the vertex of each entry.
+pub(crate) fn lower_rows<const P: u32>(
+    graph: &Graph,
+    entries: &[Entry],
+    touched: &mut Touched<P>,
+    bins: &mut Bins,
+) -> Result<(), AllocError>
+    requires layout { is_layout P ≡ true }
+    requires room { graph.now.n ≤ max_pred P }
+    requires size { vec_len touched.old.words ≡ graph.now.n }
+    requires touched { AreTouched 0 touched.old.reached.items touched.old.words.items }
+    ensures size { vec_len touched.new.words ≡ graph.now.n }
+    ensures lowered { IsLowered (max_dist P) graph.now.arcs
+        touched.old.words.items touched.new.words.items }
+    ensures touched { AreTouched 0 touched.new.reached.items touched.new.words.items }
+{
+    for entry in entries {
+        lower_row(graph, *entry, touched, bins)?;
+    }
+    Ok(())
+}
+
+// Whether an arc is relaxed, where its tail has this word.
+fn is_arc_relaxed<const P: u32>(words: &[Word<P>], arc: Arc, from: Word<P>) -> bool
+    requires layout { is_layout P ≡ true }
+    requires most { length words.now ≤ max_pred P }
+    requires arc { IsArc (length words.now) arc }
+    ensures { OnTrue result (IsRelaxedFrom (max_dist P) (word_at words.now) from.entry arc) }
+{
+    match arc.offer(from) {
+        Offer::Within(word) => !word.is_below(look_up(words, arc.head)),
+        Offer::NoTail | Offer::Beyond => true,
+    }
+}
+
+// Whether the arcs of a row are relaxed, where their tail has this word.
+fn is_row_relaxed<const P: u32>(words: &[Word<P>], row: &[Arc], from: Word<P>) -> bool
+    requires layout { is_layout P ≡ true }
+    requires most { length words.now ≤ max_pred P }
+    requires arcs { All (IsArc (length words.now)) row.now }
+    ensures { OnTrue result
+        (All (IsRelaxedFrom (max_dist P) (word_at words.now) from.entry) row.now) }
+{
+    for arc in row {
+        if !is_arc_relaxed(words, *arc, from) {
+            return false;
+        }
+    }
+    true
+}
+
+// Whether the arcs of a vertex are relaxed, if its distance is no greater than this one.
+fn is_vertex_relaxed<const P: u32>(words: &[Word<P>], graph: &Graph, far: u64, vertex: u32) -> bool
+    requires layout { is_layout P ≡ true }
+    requires most { graph.now.n ≤ max_pred P }
+    requires size { length words.now ≡ graph.now.n }
+    requires vertex { IsVertex graph.now.n vertex }
+    ensures { OnTrue result
+        (IsRowClosedUpTo graph.now (max_dist P) far (word_at words.now) vertex) }
+{
+    let from = look_up(words, vertex);
+    match from.dist() {
+        Some(dist) if dist <= far => is_row_relaxed(words, graph.row(vertex), from),
+        _ => true,
+    }
+}
+
+/// Returns whether each arc is relaxed whose tail has no greater distance than `far`. It looks at the listed vertices alone:
+/// every other is unreached.
+pub(crate) fn are_relaxed_up_to<const P: u32>(graph: &Graph, touched: &Touched<P>, far: u64) -> bool
+    requires layout { is_layout P ≡ true }
+    requires most { graph.now.n ≤ max_pred P }
+    requires size { vec_len touched.now.words ≡ graph.now.n }
+    requires touched { AreTouched 0 touched.now.reached.items touched.now.words.items }
+    ensures { OnTrue result
+        (IsClosedUpTo graph.now (max_dist P) far (word_at touched.now.words.items)) }
+{
+    for vertex in &touched.reached {
+        if !is_vertex_relaxed(&touched.words, graph, far, *vertex) {
+            return false;
+        }
+    }
+    true
+}
+
+// Makes the words of the listed vertices unreached, and so all words.
+fn unreach<const P: u32>(words: &mut Vec<Word<P>>, reached: &[u32])
+    requires layout { is_layout P ≡ true }
+    requires touched { AreTouched 0 reached.now words.old.items }
+    ensures { words.new.items ≡ replicate (vec_len words.old) Unreached }
+{
+    for vertex in reached {
+        words[(*vertex - 1) as usize] = Word::unreached();
+    }
+}
+
+/// Makes all words unreached, and empties the list. It takes time for the listed vertices alone.
+pub(crate) fn clear<const P: u32>(touched: &mut Touched<P>)
+    requires layout { is_layout P ≡ true }
+    requires touched { AreTouched 0 touched.old.reached.items touched.old.words.items }
+    ensures { touched.new.words.items ≡ replicate (vec_len touched.old.words) Unreached }
+{
+    unreach(&mut touched.words, &touched.reached);
+    touched.reached.clear();
+}
