@@ -2,3 +2,4 @@ pub mod TextsToPairs
 pub mod SlotSteps
 pub mod PairLines
 pub mod PairsOfFile
+pub mod KnownSteps

@@ -1,11 +1,14 @@
-//! The answers for pairs, found by one run from each source.
+//! The answers for pairs, found by one search or run from each source.
 ghost use Rattle.std.specs.Prelude.{◌≡◌, ◌+◌, ◌<◌, false, length, All, IfOk, IfSome};
+ghost use Rattle.sp_paths.specs.Paths.{IsVertex};
 ghost use Rattle.sp_job.specs.Ready.{IsReady};
 ghost use Rattle.sp_pairs.specs.Slots.{IsClosed, slot_of, IsPairOf, AreAllOpen, pair_at, AreHeld, AreFirstClosed, StayClosed, IsPlaceBehind, AreTargetsOf, IsFor, IsClosedAt};
 
+use crate::known::Known;
+use crate::near::NearSearch;
 use sp_graph::Graph;
 use sp_job::{Job, Listener, Progress};
-use sp_solve::{PairAnswer, Query, Reach, run_targets, useful_team};
+use sp_solve::{PairAnswer, Query, run_targets, useful_team};
 use std::alloc::{AllocError, Global};
 use std::sync::Wait;
 use std::thread::Threads;
@@ -106,44 +109,44 @@ fn targets_from(
 
 // Keeps the answer for the target number `k` as that of the pair at a place, if it is that pair's.
 fn keep_answer<const P: u32>(
-    reach: &Reach<P>,
+    known: &Known<P>,
     pairs: &[(u32, u32)],
     slots: &mut Vec<Slot>,
     place: usize,
     k: usize,
 )
-    requires k { k < length reach.now.targets }
+    requires k { k < length known.now.targets }
     requires here { place < length pairs.now }
-    requires held { AreHeld P reach.now.graph pairs.now slots.old.items }
-    ensures held { AreHeld P reach.now.graph pairs.now slots.new.items }
+    requires held { AreHeld P known.now.graph pairs.now slots.old.items }
+    ensures held { AreHeld P known.now.graph pairs.now slots.new.items }
     ensures stay { StayClosed slots.old.items slots.new.items }
-    ensures closed { IsFor (pair_at pairs.now place) k reach.now
+    ensures closed { IsFor (pair_at pairs.now place) k known.now
         → IsClosedAt place slots.new.items }
 {
     let (source, target) = pairs[place];
-    if source == reach.source() && target == reach.targets()[k] {
-        slots[place] = slot_of(reach.answer(k));
+    if source == known.source() && target == known.targets()[k] {
+        slots[place] = slot_of(known.answer(k));
     }
 }
 
-// Keeps the answers of a run for the pair at a place, and for those of the same source behind it.
+// Keeps the answers that were found for the pair at a place, and for those of the same source behind it.
 fn keep_answers<const P: u32>(
-    reach: &Reach<P>,
+    known: &Known<P>,
     pairs: &[(u32, u32)],
     slots: &mut Vec<Slot>,
     place: usize,
 )
     requires here { place < length pairs.now }
-    requires held { AreHeld P reach.now.graph pairs.now slots.old.items }
+    requires held { AreHeld P known.now.graph pairs.now slots.old.items }
     requires first { AreFirstClosed place slots.old.items }
-    requires reach { IsFor (pair_at pairs.now place) 0 reach.now }
-    ensures held { AreHeld P reach.now.graph pairs.now slots.new.items }
+    requires known { IsFor (pair_at pairs.now place) 0 known.now }
+    ensures held { AreHeld P known.now.graph pairs.now slots.new.items }
     ensures first { AreFirstClosed (place + 1) slots.new.items }
 {
     let mut at = place;
-    for k in 0..reach.targets().len() {
+    for k in 0..known.targets().len() {
         let next = next_place(pairs, slots, at);
-        keep_answer(reach, pairs, slots, at, k);
+        keep_answer(known, pairs, slots, at, k);
         match next {
             Some(place) => at = place,
             None => return,
@@ -151,31 +154,57 @@ fn keep_answers<const P: u32>(
     }
 }
 
-// Finds the answer for the pair at a place, and for those of the same source behind it.
-fn ask<const P: u32, R: Threads + Wait + Sync, L>(
+// Returns the answers for targets of a source: they are looked for near the source first, and by a team if that gives up.
+fn answer_targets<'g, const P: u32, R: Threads + Wait + Sync, L>(
     rt: &R,
     alloc: Global,
-    job: &Job<P, L>,
+    near: &mut NearSearch<'g, P>,
+    job: &Job<'g, P, L>,
+    source: u32,
+    targets: Vec<u32>,
+) -> Result<Known<'g, P>, AllocError>
+    requires ready { IsReady P job.now.graph.now }
+    requires near { near.old ≡ job.now.graph.now }
+    requires source { IsVertex job.now.graph.now.n source }
+    requires targets { All (IsVertex job.now.graph.now.n) targets.items }
+    ensures near { near.new ≡ near.old }
+    ensures graph { IfOk result (λ known. known.graph ≡ job.now.graph.now) }
+    ensures source { IfOk result (λ known. known.source ≡ source) }
+    ensures targets { IfOk result (λ known. known.targets ≡ targets.items) }
+{
+    let graph = job.graph;
+    if let Some(answers) = near.find(source, &targets) {
+        return Ok(Known::of_answers(graph, source, targets, answers));
+    }
+    let query = Query { source, targets };
+    let team = useful_team(rt, graph.n(), &job.team);
+    let reach = run_targets::<P, R>(rt, alloc, graph, team, job.meter, query)?;
+    Known::of_reach(alloc, graph, &reach)
+}
+
+// Finds the answer for the pair at a place, and for those of the same source behind it.
+fn ask<'g, const P: u32, R: Threads + Wait + Sync, L>(
+    rt: &R,
+    near: &mut NearSearch<'g, P>,
+    job: &Job<'g, P, L>,
     pairs: &[(u32, u32)],
     slots: &mut Vec<Slot>,
     place: usize,
 ) -> Result<(), AllocError>
     requires ready { IsReady P job.now.graph.now }
+    requires near { near.old ≡ job.now.graph.now }
     requires pairs { All (IsPairOf job.now.graph.now.n) pairs.now }
     requires here { place < length pairs.now }
     requires held { AreHeld P job.now.graph.now pairs.now slots.old.items }
     requires first { AreFirstClosed place slots.old.items }
+    ensures near { near.new ≡ near.old }
     ensures held { IfOk result (λ _. AreHeld P job.now.graph.now pairs.now slots.new.items) }
     ensures first { IfOk result (λ _. AreFirstClosed (place + 1) slots.new.items) }
 {
-    let graph = job.graph;
-    let query = Query {
-        source: pairs[place].0,
-        targets: targets_from(alloc, graph, pairs, slots, place)?,
-    };
-    let team = useful_team(rt, graph.n(), &job.team);
-    let reach = run_targets::<P, R>(rt, alloc, graph, team, job.meter, query)?;
-    keep_answers(&reach, pairs, slots, place);
+    let alloc = near.alloc();
+    let targets = targets_from(alloc, job.graph, pairs, slots, place)?;
+    let known = answer_targets(rt, alloc, near, job, pairs[place].0, targets)?;
+    keep_answers(&known, pairs, slots, place);
     Ok(())
 }
 
@@ -192,13 +221,14 @@ pub(crate) fn find_answers<const P: u32, R: Threads + Wait + Sync, L: Listener>(
     ensures closed { IfOk result (λ slots. All IsClosed slots.items) }
 {
     let mut slots = open_slots(alloc, job.graph.n(), pairs)?;
+    let mut near = NearSearch::new(alloc, job.graph);
     for place in 0..pairs.len() {
         if is_open(&slots[place]) {
             job.listener.hear(Progress::Pairs {
                 found: place,
                 count: pairs.len(),
             });
-            ask::<P, R, L>(rt, alloc, job, pairs, &mut slots, place)?;
+            ask::<P, R, L>(rt, &mut near, job, pairs, &mut slots, place)?;
         }
     }
     Ok(slots)

@@ -2,6 +2,8 @@
 #![tactic(auto)]
 
 mod asking;
+mod known;
+mod near;
 mod pair_lines;
 mod pairs;
 

@@ -26,8 +26,8 @@ pub struct Room<'g, const P: u32> {
     alloc: Global,
     graph: &'g Graph,
     touched: Touched<P>,
-    // what a search has left in them is taken out before the next one
-    bins: Bins,
+    // the width that the buckets of the last search have found, as a power of 2
+    shift: u32,
 }
 
 impl<'g, const P: u32> Model for Room<'g, P> {
@@ -41,20 +41,14 @@ impl<'g, const P: u32> Model for Room<'g, P> {
     ghost invariant = { λ r. IsClear P r.graph.now r.touched.words.items };
 }
 
-// Takes all entries out of the buckets, and puts the source there alone. Buckets stay as wide as they are.
-fn reopen(alloc: Global, bins: &mut Bins, source: u32) -> Result<(), AllocError> {
-    let mut entries = Vec::new(alloc);
-    for _ in 0..u64::MAX {
-        bins.refill(&mut entries)?;
-        if entries.is_empty() && bins.advance()?.is_none() {
-            break;
-        }
-    }
-    bins.open(0, bins.shift());
+// Returns buckets of this width in which the source waits.
+fn bins_from(alloc: Global, shift: u32, source: u32) -> Result<Bins, AllocError> {
+    let mut bins = Bins::new(alloc, shift)?;
     bins.put(Entry {
         vertex: source,
         dist: 0,
-    })
+    })?;
+    Ok(bins)
 }
 
 // Gives the source its word, where all vertices are unreached.
@@ -156,7 +150,7 @@ fn answers_shown<const P: u32>(
 }
 
 impl<'g, const P: u32> Room<'g, P> {
-    /// Makes a room for a graph: 8 bytes for each vertex. It fails only if there is no memory for them, or for the buckets.
+    /// Makes a room for a graph: 8 bytes for each vertex. It fails only if there is no memory for them.
     pub fn new(alloc: Global, graph: &'g Graph) -> Result<Room<'g, P>, AllocError>
         requires layout { is_layout P ≡ true }
         requires n { graph.now.n ≤ max_pred P }
@@ -169,8 +163,7 @@ impl<'g, const P: u32> Room<'g, P> {
                 words: vec![in alloc; Word::unreached(); graph.n() as usize]?,
                 reached: Vec::new(alloc),
             },
-            // The buckets find their width as they are worked off.
-            bins: Bins::new(alloc, 0)?,
+            shift: 0,
         })
     }
 
@@ -194,12 +187,13 @@ impl<'g, const P: u32> Room<'g, P> {
     {
         let graph = self.graph;
         let _ = graph.n();
-        reopen(self.alloc, &mut self.bins, source)?;
-        begin(graph, source, &mut self.touched)?;
+        let mut bins = bins_from(self.alloc, self.shift, source)?;
         let touched = &mut self.touched;
-        let ended = search(self.alloc, graph, targets, most, touched, &mut self.bins);
+        begin(graph, source, touched)?;
+        let ended = search(self.alloc, graph, targets, most, touched, &mut bins);
         let answers = answers_shown(self.alloc, graph, source, targets, touched, ended);
         clear(touched);
+        self.shift = bins.shift();
         answers
     }
 }

@@ -9,5 +9,5 @@ returns-in-None-clause-first g c =
     let mid = c.loop-k.slots.items in
     let new = c.keep_answer.new.slots.items in
     let low : c.args.place < length mid = omega (arith, c.requires.here, held.size) in
-    let there = closed_next c.args.reach.now c.args.pairs.now c.loop-k.k c.loop-k.at c.args.place mid new low c.keep_answer.ensures.stay c.requires.reach c.keep_answer.ensures.closed same before in
+    let there = closed_next c.args.known.now c.args.pairs.now c.loop-k.k c.loop-k.at c.args.place mid new low c.keep_answer.ensures.stay c.requires.known c.keep_answer.ensures.closed same before in
     first_more c.args.place old new c.requires.first (stay_both old mid new stay c.keep_answer.ensures.stay) there

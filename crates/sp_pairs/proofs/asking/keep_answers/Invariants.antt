@@ -5,7 +5,7 @@ use Rattle.sp_pairs.proofs.asking.keep_answers.Given as goal
 abbrev pub invariant-loop-k : goal.invariant-loop-k
 invariant-loop-k g l =
     (l.at < length l.pairs)
-    × AreHeld g.row.P l.reach.graph l.pairs l.slots.items
+    × AreHeld g.row.P l.known.graph l.pairs l.slots.items
     × StayClosed l.fn.slots.items l.slots.items
     × (l.k ≡ 0 → l.at ≡ l.place)
     × (0 < l.k → IsClosedAt l.place l.slots.items)
