@@ -12,7 +12,7 @@ use std::alloc::Global;
 use std::marker::Model;
 
 // A search gives up when it has relaxed one of this many vertices, since a run by a team is better there, ..
-const SHARE: u32 = 32;
+const SHARE: u32 = 64;
 
 // .. but not before so many, which take no longer than a run takes to begin.
 const LEAST: u32 = 1024;

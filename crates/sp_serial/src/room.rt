@@ -71,8 +71,8 @@ fn begin<const P: u32>(
     Ok(())
 }
 
-// Lowers words until no entry waits in the bucket of a target or before it, or no more than `most` entries were worked off.
-// Returns whether the first came.
+// Lowers words until no entry waits in the bucket of a target or before it, or more than `most` entries would be worked off.
+// Returns whether none waits.
 fn search<const P: u32>(
     alloc: Global,
     graph: &Graph,
