@@ -115,7 +115,7 @@ def run(program, words):
         sys.exit(f"{done.stderr}parts: {program} {' '.join(map(str, words))} ended with status {done.returncode}")
     found = {}
     for line in done.stdout.splitlines():
-        name, number, unit = line.split()
+        name, number, unit = line.split(maxsplit=2)
         found[name] = (float(number), unit)
     return found
 
