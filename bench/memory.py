@@ -1,5 +1,5 @@
 #!/usr/bin/env python3
-"""Measures how much memory the program takes at its peak for a vertex, an arc, a source, a pair and a worker.
+"""Measures how much memory the program takes at its peak for a vertex, an arc, a source, a pair and a worker, as `./spt` runs it.
 
 Usage: python3 bench/memory.py [--program PROGRAM]
 
@@ -36,7 +36,7 @@ def most_resident(process):
 def peak(program, *words):
     """Bytes of resident memory at the peak of a command that must be done, looked at every millisecond."""
     most = 0
-    process = subprocess.Popen([program, *words], stdout=subprocess.DEVNULL)
+    process = subprocess.Popen(parts.as_users_run(program, words), stdout=subprocess.DEVNULL)
     while process.poll() is None:
         most = max(most, most_resident(process.pid) or 0)
         time.sleep(0.001)

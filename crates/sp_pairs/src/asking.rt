@@ -2,9 +2,10 @@
 ghost use Rattle.std.specs.Prelude.{◌≡◌, ◌+◌, ◌<◌, false, length, All, IfOk, IfSome};
 ghost use Rattle.sp_paths.specs.Paths.{IsVertex};
 ghost use Rattle.sp_job.specs.Ready.{IsReady};
+ghost use Rattle.sp_pairs.specs.Known.{asked_of};
 ghost use Rattle.sp_pairs.specs.Slots.{IsClosed, slot_of, IsPairOf, AreAllOpen, pair_at, AreHeld, AreFirstClosed, StayClosed, IsPlaceBehind, AreTargetsOf, IsFor, IsClosedAt};
 
-use crate::known::Known;
+use crate::known::{Known, NearAnswers};
 use crate::near::NearSearch;
 use sp_graph::Graph;
 use sp_job::{Job, Listener, Progress};
@@ -115,12 +116,12 @@ fn keep_answer<const P: u32>(
     place: usize,
     k: usize,
 )
-    requires k { k < length known.now.targets }
+    requires k { k < length (asked_of known.now).targets }
     requires here { place < length pairs.now }
-    requires held { AreHeld P known.now.graph pairs.now slots.old.items }
-    ensures held { AreHeld P known.now.graph pairs.now slots.new.items }
+    requires held { AreHeld P (asked_of known.now).graph pairs.now slots.old.items }
+    ensures held { AreHeld P (asked_of known.now).graph pairs.now slots.new.items }
     ensures stay { StayClosed slots.old.items slots.new.items }
-    ensures closed { IsFor (pair_at pairs.now place) k known.now
+    ensures closed { IsFor (pair_at pairs.now place) k (asked_of known.now)
         → IsClosedAt place slots.new.items }
 {
     let (source, target) = pairs[place];
@@ -137,10 +138,10 @@ fn keep_answers<const P: u32>(
     place: usize,
 )
     requires here { place < length pairs.now }
-    requires held { AreHeld P known.now.graph pairs.now slots.old.items }
+    requires held { AreHeld P (asked_of known.now).graph pairs.now slots.old.items }
     requires first { AreFirstClosed place slots.old.items }
-    requires known { IsFor (pair_at pairs.now place) 0 known.now }
-    ensures held { AreHeld P known.now.graph pairs.now slots.new.items }
+    requires known { IsFor (pair_at pairs.now place) 0 (asked_of known.now) }
+    ensures held { AreHeld P (asked_of known.now).graph pairs.now slots.new.items }
     ensures first { AreFirstClosed (place + 1) slots.new.items }
 {
     let mut at = place;
@@ -168,18 +169,18 @@ fn answer_targets<'g, const P: u32, R: Threads + Wait + Sync, L>(
     requires source { IsVertex job.now.graph.now.n source }
     requires targets { All (IsVertex job.now.graph.now.n) targets.items }
     ensures near { near.new ≡ near.old }
-    ensures graph { IfOk result (λ known. known.graph ≡ job.now.graph.now) }
-    ensures source { IfOk result (λ known. known.source ≡ source) }
-    ensures targets { IfOk result (λ known. known.targets ≡ targets.items) }
+    ensures graph { IfOk result (λ known. (asked_of known).graph ≡ job.now.graph.now) }
+    ensures source { IfOk result (λ known. (asked_of known).source ≡ source) }
+    ensures targets { IfOk result (λ known. (asked_of known).targets ≡ targets.items) }
 {
     let graph = job.graph;
     if let Some(answers) = near.find(source, &targets) {
-        return Ok(Known::of_answers(graph, source, targets, answers));
+        return Ok(Known::Near(NearAnswers::new(graph, source, targets, answers)));
     }
     let query = Query { source, targets };
     let team = useful_team(rt, graph.n(), &job.team);
     let reach = run_targets::<P, R>(rt, alloc, graph, team, job.meter, query)?;
-    Known::of_reach(alloc, graph, &reach)
+    Ok(Known::Run(reach))
 }
 
 // Finds the answer for the pair at a place, and for those of the same source behind it.

@@ -1,21 +1,20 @@
 //! What was found for targets of a source.
-ghost use Rattle.std.specs.Prelude.{◌≡◌, ◌<◌, length, slice_index, IfOk};
+ghost use Rattle.std.specs.Prelude.{◌≡◌, ◌<◌, length, slice_index};
 ghost use Rattle.sp_word.specs.Word.{max_dist};
 ghost use Rattle.sp_serial.specs.Asked.{AreAnswersFor};
 ghost use Rattle.sp_solve.specs.Reach.{IsAnswerFor};
-ghost use Rattle.sp_pairs.specs.Known.{AreAnswersOf};
+ghost use Rattle.sp_pairs.specs.Known.{asked_of};
 
 use sp_answer::PairAnswer;
 use sp_graph::Graph;
 use sp_solve::Reach;
-use std::alloc::{AllocError, Global};
 use std::marker::Model;
 
-/// The answers for targets of a source, whatever has found them.
+/// The answers for near targets of a source.
 ///
 /// Contracts see the graph, the source and the targets.
 #[derive(Drop)]
-pub(crate) struct Known<'g, const P: u32> {
+pub(crate) struct NearAnswers<'g, const P: u32> {
     graph: &'g Graph,
     source: u32,
     targets: Vec<u32>,
@@ -23,9 +22,9 @@ pub(crate) struct Known<'g, const P: u32> {
     answers: Vec<PairAnswer>,
 }
 
-impl<'g, const P: u32> Model for Known<'g, P> {
+impl<'g, const P: u32> Model for NearAnswers<'g, P> {
     ghost use Rattle.sp_solve.specs.Reach.{Reached};
-    ghost use Rattle.sp_pairs.specs.Known.{AreAnswersOf};
+    ghost use Rattle.sp_pairs.specs.Near.{AreAnswersOf};
 
     ghost Value = { Reached };
 
@@ -43,31 +42,20 @@ impl<'g, const P: u32> Model for Known<'g, P> {
         in AreAnswersOf P reached r.answers.items };
 }
 
-// Returns the answers of a run, in the order of its targets.
-fn answers_of<const P: u32>(alloc: Global, reach: &Reach<P>) -> Result<Vec<PairAnswer>, AllocError>
-    ensures { IfOk result (λ answers. AreAnswersOf P reach.now answers.items) }
-{
-    let mut answers = Vec::with_capacity(alloc, reach.targets().len())?;
-    for place in 0..reach.targets().len() {
-        answers.push(reach.answer(place))?;
-    }
-    Ok(answers)
-}
-
-impl<'g, const P: u32> Known<'g, P> {
+impl<'g, const P: u32> NearAnswers<'g, P> {
     /// Takes the answers for targets, in their order.
-    pub(crate) fn of_answers(
+    pub(crate) fn new(
         graph: &'g Graph,
         source: u32,
         targets: Vec<u32>,
         answers: Vec<PairAnswer>,
-    ) -> Known<'g, P>
+    ) -> NearAnswers<'g, P>
         requires { AreAnswersFor graph.now source (max_dist P) targets.items answers.items }
         ensures graph { result.graph ≡ graph.entry.now }
         ensures source { result.source ≡ source }
         ensures targets { result.targets ≡ targets.items }
     {
-        Known {
+        NearAnswers {
             graph,
             source,
             targets,
@@ -75,45 +63,69 @@ impl<'g, const P: u32> Known<'g, P> {
         }
     }
 
-    /// Takes the answers of a run.
-    pub(crate) fn of_reach(
-        alloc: Global,
-        graph: &'g Graph,
-        reach: &Reach<P>,
-    ) -> Result<Known<'g, P>, AllocError>
-        requires { reach.now.graph ≡ graph.now }
-        ensures graph { IfOk result (λ known. known.graph ≡ graph.entry.now) }
-        ensures source { IfOk result (λ known. known.source ≡ reach.now.source) }
-        ensures targets { IfOk result (λ known. known.targets ≡ reach.now.targets) }
-    {
-        Ok(Known {
-            graph,
-            source: reach.source(),
-            targets: reach.targets().to_vec(alloc)?,
-            answers: answers_of(alloc, reach)?,
-        })
-    }
-
-    /// Returns the source.
-    pub(crate) fn source(&self) -> u32
+    // Returns the source.
+    fn source(&self) -> u32
         ensures { result ≡ self.now.source }
     {
         self.source
     }
 
-    /// Returns the targets, in the order in which they were given.
-    pub(crate) fn targets(&self) -> &[u32]
+    // Returns the targets, in the order in which they were given.
+    fn targets(&self) -> &[u32]
         ensures { result.now ≡ self.now.targets }
     {
         self.targets.as_slice()
     }
 
-    /// Returns the answer for the target at a place, counted from 0.
-    pub(crate) fn answer(&self, place: usize) -> PairAnswer
+    // Returns the answer for the target at a place, counted from 0.
+    fn answer(&self, place: usize) -> PairAnswer
         requires { place < length self.now.targets }
         ensures { let target = slice_index self.now.targets place in
             IsAnswerFor P self.now.graph self.now.source target result }
     {
         self.answers[place]
+    }
+}
+
+/// The answers for targets of a source, by what has found them.
+#[derive(Drop)]
+pub(crate) enum Known<'g, const P: u32> {
+    /// A search near the source.
+    Near(NearAnswers<'g, P>),
+    /// A run by a team.
+    Run(Reach<'g, P>),
+}
+
+impl<'g, const P: u32> Known<'g, P> {
+    /// Returns the source.
+    pub(crate) fn source(&self) -> u32
+        ensures { result ≡ (asked_of self.now).source }
+    {
+        match self {
+            Known::Near(near) => near.source(),
+            Known::Run(reach) => reach.source(),
+        }
+    }
+
+    /// Returns the targets, in the order in which they were given.
+    pub(crate) fn targets(&self) -> &[u32]
+        ensures { result.now ≡ (asked_of self.now).targets }
+    {
+        match self {
+            Known::Near(near) => near.targets(),
+            Known::Run(reach) => reach.targets(),
+        }
+    }
+
+    /// Returns the answer for the target at a place, counted from 0.
+    pub(crate) fn answer(&self, place: usize) -> PairAnswer
+        requires { place < length (asked_of self.now).targets }
+        ensures { let asked = asked_of self.now in
+            IsAnswerFor P asked.graph asked.source (slice_index asked.targets place) result }
+    {
+        match self {
+            Known::Near(near) => near.answer(place),
+            Known::Run(reach) => reach.answer(place),
+        }
     }
 }

@@ -17,6 +17,9 @@ const SHARE: u32 = 64;
 // .. but not before so many, which take no longer than a run takes to begin.
 const LEAST: u32 = 1024;
 
+// After searches that gave up in a row, so many at most that count, no search is made for twice as many sources each time.
+const MOST_MISSES: u32 = 3;
+
 /// Searches for near targets. Contracts see the graph.
 #[derive(Drop)]
 pub(crate) struct NearSearch<'g, const P: u32> {
@@ -24,11 +27,14 @@ pub(crate) struct NearSearch<'g, const P: u32> {
     graph: &'g Graph,
     // the room of the last search, if it has found its targets
     room: Option<Room<'g, P>>,
+    // how many searches gave up in a row, and for how many sources none is made now
+    misses: u32,
+    rest: u32,
 }
 
 impl<'g, const P: u32> Model for NearSearch<'g, P> {
     ghost use Rattle.sp_paths.specs.Paths.{Graph as Network};
-    ghost use Rattle.sp_pairs.specs.Known.{IsRoomOf};
+    ghost use Rattle.sp_pairs.specs.Near.{IsRoomOf};
 
     ghost Value = { Network };
 
@@ -47,6 +53,8 @@ impl<'g, const P: u32> NearSearch<'g, P> {
             alloc,
             graph,
             room: None,
+            misses: 0,
+            rest: 0,
         }
     }
 
@@ -69,9 +77,16 @@ impl<'g, const P: u32> NearSearch<'g, P> {
         }
     }
 
-    /// Returns the answers for targets that lie near their source. Where they don't, or where memory is refused, nothing is kept
-    /// of the search: then a run has as much memory as before.
-    pub(crate) fn find(&mut self, source: u32, targets: &[u32]) -> Option<Vec<PairAnswer>>
+    // Takes note of a search that gave up.
+    fn miss(&mut self)
+        ensures { self.new ≡ self.old }
+    {
+        self.misses = self.misses.saturating_add(1).min(MOST_MISSES);
+        self.rest = (1u32 << self.misses).saturating_sub(2);
+    }
+
+    // Looks for targets near their source, in a room that is kept if they are found.
+    fn look(&mut self, source: u32, targets: &[u32]) -> Option<Vec<PairAnswer>>
         requires source { IsVertex self.old.n source }
         requires targets { All (IsVertex self.old.n) targets.now }
         ensures same { self.new ≡ self.old }
@@ -81,9 +96,27 @@ impl<'g, const P: u32> NearSearch<'g, P> {
         let most = (self.graph.n() / SHARE).max(LEAST) as usize;
         let mut room = self.take_room()?;
         let Ok(Some(answers)) = room.find(source, targets, most) else {
+            self.miss();
             return None;
         };
         self.room = Some(room);
+        self.misses = 0;
         Some(answers)
+    }
+
+    /// Returns the answers for targets that lie near their source. Where they don't, or where memory is refused, nothing is kept
+    /// of the search: then a run has as much memory as before. Behind several that gave up, some sources are not searched from.
+    pub(crate) fn find(&mut self, source: u32, targets: &[u32]) -> Option<Vec<PairAnswer>>
+        requires source { IsVertex self.old.n source }
+        requires targets { All (IsVertex self.old.n) targets.now }
+        ensures same { self.new ≡ self.old }
+        ensures answers { IfSome result
+            (λ answers. AreAnswersFor self.old source (max_dist P) targets.now answers.items) }
+    {
+        if self.rest > 0 {
+            self.rest -= 1;
+            return None;
+        }
+        self.look(source, targets)
     }
 }

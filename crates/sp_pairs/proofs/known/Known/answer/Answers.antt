@@ -1,5 +1,7 @@
-use Rattle.sp_pairs.proofs.KnownSteps.{known_at}
 use Rattle.sp_pairs.proofs.known.Known.answer.Goals as goal
 
-pub returns : goal.returns
-returns g c = known_at g.row.P _ c.args.self.now c.self.inside.answers.items c.args.place c.index.result.now c.self.view_is c.self.invariant c.requires c.index.ensures
+pub returns-in-Near : goal.returns-in-Near
+returns-in-Near g c = rw c.in-Near.is c.answer.ensures
+
+pub returns-in-Run : goal.returns-in-Run
+returns-in-Run g c = rw c.in-Run.is c.answer-in-Run.ensures
