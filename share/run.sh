@@ -29,11 +29,11 @@ tunables() {
 }
 
 # keeps_lists COMMAND WORD..: whether one thread makes the lists: those of `pairs`, which makes a run for each source, one after the
-# other; and those of `tree`, `nearest` and `matrix` by one worker
+# other; and those of `tree` and `matrix` by one worker (`nearest` would take more memory than is promised)
 keeps_lists() {
     case $1 in
     pairs) return 0 ;;
-    tree | nearest | matrix) ;;
+    tree | matrix) ;;
     *) return 1 ;;
     esac
     workers=1
