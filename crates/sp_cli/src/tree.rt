@@ -87,8 +87,8 @@ With --within L a block has the vertices at distances up to L alone, and no
 source has a line x.
 
 It takes at most 28 bytes of memory a vertex, 24 an arc, 8 a source, and 4 MB;
-where several workers run several sources, 48 bytes a vertex more for each
-worker.
+where several workers run several sources, 16 bytes a vertex and the text of
+two trees more for each worker.
 
 Example: where diamond.gr and diamond.ss have the lines
   p sp 4 5
