@@ -82,7 +82,8 @@ def figures(program, folder):
     point = graph(folder, 1, 0)
     list_of_sources = sources(folder, MILLION)
     yield "a source", slope(("tree", point, list_of_sources, *tree), ("tree", point, one, *tree), MILLION)
-    asked, short = pairs(folder, MILLION, MILLION), pairs(folder, 1, 1)
+    # (no walk leads to the one target, so that a run is made for it too)
+    asked, short = pairs(folder, MILLION, MILLION), put(folder, "far.pairs", ["p pairs 1", "q 1 2"])
     yield "a pair", slope(("pairs", alone, asked, *tree), ("pairs", alone, short, *tree), MILLION)
     roads = f"{folder}/roads.gr"
     graphs.write_graph(roads, "roads", MILLION, 1)
