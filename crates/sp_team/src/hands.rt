@@ -109,9 +109,9 @@ impl<'m> Hands<'m> {
         Ok(!self.list.is_empty())
     }
 
-    /// Counts one vertex more that was relaxed.
-    pub fn count(&mut self) {
-        self.tally.count();
+    /// Counts so many vertices more that were relaxed.
+    pub fn count(&mut self, vertices: usize) {
+        self.tally.count(vertices);
     }
 
     // How many entries of the list are left.

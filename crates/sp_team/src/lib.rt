@@ -8,6 +8,7 @@
 mod chunk;
 mod common;
 mod deques;
+mod entries;
 mod hands;
 mod relax;
 mod search;

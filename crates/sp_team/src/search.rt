@@ -4,7 +4,7 @@ ghost use Rattle.sp_offer.specs.Order.{lawful};
 ghost use Rattle.sp_team.specs.Law.{IsReady};
 ghost use Rattle.sp_team.specs.Later.{IsLater};
 
-use crate::relax::read_dist;
+use crate::entries::read_dist;
 use sp_graph::Graph;
 use sp_offer::{Caller, Lawful, OfferTable};
 use sp_word::{Meter, Team};

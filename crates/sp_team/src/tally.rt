@@ -17,9 +17,9 @@ impl<'m> Tally<'m> {
         Tally { meter, untold: 0 }
     }
 
-    /// Counts one vertex more.
-    pub(crate) fn count(&mut self) {
-        self.untold = self.untold.saturating_add(1);
+    /// Counts so many vertices more.
+    pub(crate) fn count(&mut self, vertices: usize) {
+        self.untold = self.untold.saturating_add(vertices as u64);
         if self.untold >= LOT {
             self.tell();
         }

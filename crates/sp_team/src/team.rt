@@ -8,8 +8,9 @@ ghost use Rattle.sp_team.specs.Later.{IsLater};
 
 use crate::chunk::Chunk;
 use crate::common::Common;
+use crate::entries::{count_arcs, greatest_end, is_live, read_dist, warm_words};
 use crate::hands::Hands;
-use crate::relax::{read_dist, relax, warm};
+use crate::relax::{MOST, Request, answer, ask};
 use crate::search::{Horizon, Search};
 use crossbeam_deque::Worker;
 use sp_bins::Entry;
@@ -21,7 +22,7 @@ use std::sync::Wait;
 use std::thread::{Threads, join};
 
 /// How many entries a worker works off before it looks whether others want some.
-const STRETCH: usize = 16;
+const STRETCH: usize = 32;
 
 /// What a team leaves when it ends.
 #[derive(Drop)]
@@ -51,31 +52,92 @@ struct Squad {
     caller: Caller,
 }
 
-// Works off some entries, and drops those beyond the horizon.
-fn run_some<L: Lawful, const P: u32>(
+/// Room for what a worker works off at once.
+#[derive(Drop)]
+struct Batch {
+    // entries whose vertices still have their distances
+    live: Vec<Entry>,
+    requests: Vec<Request>,
+}
+
+impl Batch {
+    fn new(alloc: Global) -> Result<Batch, AllocError> {
+        Ok(Batch {
+            live: Vec::with_capacity(alloc, STRETCH)?,
+            requests: Vec::with_capacity(alloc, MOST)?,
+        })
+    }
+}
+
+// Takes some entries, and leaves those in the list that are within the horizon and whose vertices still have their distances.
+fn take_live<L: Lawful, const P: u32>(
     graph: &Graph,
     table: &OfferTable<L, P>,
     hands: &mut Hands,
     horizon: Horizon,
+    live: &mut Vec<Entry>,
     caller: &mut Caller,
 ) -> Result<(), AllocError>
     requires ready { IsReady P (lawful P (L.allows table.now.law)) table.now.vertices graph.now }
     requires caller { caller.old.table ≡ table.now.id }
     ensures { IsLater (lawful P (L.allows table.now.law)) caller.old caller.new }
 {
-    warm(graph, table, hands.upcoming(STRETCH), caller);
+    live.clear();
     for _ in 0..STRETCH {
         let Some(entry) = hands.take() else {
             return Ok(());
         };
-        if !horizon.reaches(entry.dist) {
-            continue;
-        }
-        if relax(graph, table, entry, caller, hands.bins())? {
-            hands.count();
+        let is_live = is_live(graph, table, entry, caller);
+        if is_live && horizon.reaches(entry.dist) {
+            live.push(entry)?;
         }
     }
     Ok(())
+}
+
+// Relaxes the vertices of entries.
+fn relax_live<L: Lawful, const P: u32>(
+    graph: &Graph,
+    table: &OfferTable<L, P>,
+    hands: &mut Hands,
+    batch: &mut Batch,
+    caller: &mut Caller,
+) -> Result<(), AllocError>
+    requires ready { IsReady P (lawful P (L.allows table.now.law)) table.now.vertices graph.now }
+    requires caller { caller.old.table ≡ table.now.id }
+    ensures { IsLater (lawful P (L.allows table.now.law)) caller.old caller.new }
+{
+    let Batch { live, requests } = batch;
+    requests.clear();
+    for entry in live.as_slice() {
+        if ask(graph, table, *entry, requests, caller, hands.bins())? {
+            hands.count(1);
+        }
+    }
+    answer(table, requests, caller, hands.bins())
+}
+
+// Works off some entries, and drops those beyond the horizon. It goes over them several times, and reads for all of them what
+// the time before has told the places of: so these reads don't wait for one another, and few branches wait for one.
+fn run_some<L: Lawful, const P: u32>(
+    graph: &Graph,
+    table: &OfferTable<L, P>,
+    hands: &mut Hands,
+    horizon: Horizon,
+    batch: &mut Batch,
+    caller: &mut Caller,
+) -> Result<(), AllocError>
+    requires ready { IsReady P (lawful P (L.allows table.now.law)) table.now.vertices graph.now }
+    requires caller { caller.old.table ≡ table.now.id }
+    ensures { IsLater (lawful P (L.allows table.now.law)) caller.old caller.new }
+{
+    warm_words(graph, table, hands.upcoming(STRETCH), caller);
+    take_live(graph, table, hands, horizon, &mut batch.live, caller)?;
+    if count_arcs(graph, &batch.live) == 0 || greatest_end(graph, &batch.live) == 0 {
+        hands.count(batch.live.len());
+        return Ok(());
+    }
+    relax_live(graph, table, hands, batch, caller)
 }
 
 // Puts the vertices of the queue that are reached among a worker's entries.
@@ -140,12 +202,13 @@ fn work<R: Wait, L: Lawful, const P: u32>(
         return Ok(());
     }
     let mut horizon = Horizon::new(common.limit);
+    let mut batch = Batch::new(common.alloc)?;
     for _ in rt.forever() {
         if !hands.find(rt, common)? {
             return Ok(());
         }
         horizon.look(graph, table, common.targets.as_slice(), caller);
-        run_some(graph, table, hands, horizon, caller)?;
+        run_some(graph, table, hands, horizon, &mut batch, caller)?;
     }
     unreachable!()
 }

@@ -1,0 +1,6 @@
+use Rattle.sp_offer.specs.Order.{lawful}
+use Rattle.sp_team.specs.Later.{IsLater}
+use Rattle.sp_team.proofs.relax.offer_all.Given as goal
+
+abbrev pub invariant-loop-request : goal.invariant-loop-request
+invariant-loop-request g l = IsLater (lawful g.row.P (g.L.Lawful.allows l.table.law)) l.initial.caller l.caller

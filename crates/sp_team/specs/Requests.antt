@@ -1,0 +1,16 @@
+-- What the arcs of vertices that are relaxed ask of their heads.
+use Rattle.std.specs.Prelude.{◌≡◌, ℕ, ◌+◌, ◌≤◌, ◌⊎◌, List, [], ◌∷◌, ◌++◌}
+use Rattle.sp_word.specs.Word.{Word, Pair}
+use Rattle.sp_paths.specs.declared.arc.Arc.{Arc}
+use Rattle.sp_paths.specs.Paths.{IsVertex}
+use Rattle.sp_team.specs.declared.relax.Request.{Request}
+
+-- the head is a vertex, and the law allows it what the arc makes of the distance, which is within the greatest one
+pub record IsRequest (law : ℕ → Word → Type 0) (max vertices : ℕ) (r : Request) : Type 0 where
+  pub head : IsVertex vertices r.arc.head
+  pub sum : r.dist + r.arc.len ≤ max
+  pub allowed : law r.arc.head (Pair (r.dist + r.arc.len) r.arc.tail)
+
+-- a request for the arc was put behind the others, its sum being within the greatest distance; or none was
+abbrev pub Asks : (max : ℕ) → Arc → (dist : ℕ) → (before after : List Request) → Type 0
+Asks max a dist before after = ((dist + a.len ≤ max) × (after ≡ before ++ record { arc = a; dist = dist } ∷ [])) ⊎ (after ≡ before)
