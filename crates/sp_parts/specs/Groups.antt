@@ -1,10 +1,8 @@
--- What comes of a device at a time, and a reader that takes it.
-use Rattle.std.specs.Prelude.{◌≡◌, ◌+◌, ◌<◌, ◌≤◌, ◌^◌, ℕ, Bool, true, List, [], ◌++◌, length, Option, Result, Ok, Err}
+-- What comes of a device at a time.
+use Rattle.std.specs.Prelude.{◌≡◌, ◌+◌, ◌<◌, ◌≤◌, ◌^◌, ℕ, Bool, true, false, List, length, Option}
 use Rattle.std.specs.Io.KnownBytes.{Consumes, IsAtEnd}
-use Rattle.sp_text.specs.declared.faults.DimacsError.{DimacsError}
-use Rattle.sp_text.specs.declared.feeding.Feeder.{Feeder}
-use Rattle.sp_text.specs.First.{Judge}
-use Rattle.sp_text.specs.Feeding.{IsBehind, Refused}
+use Rattle.sp_device.specs.declared.devices.Read.{Ghosts as Device}
+use Rattle.sp_device.specs.Failing.{Never}
 use Rattle.sp_parts.specs.declared.receiving.Received.{Received}
 use Rattle.sp_parts.specs.declared.receiving.Received.TheVariants.{More, Over, Failed}
 
@@ -14,13 +12,17 @@ EndsAs left has_failed count More = 0 < count
 EndsAs left has_failed count Over = IsAtEnd left
 EndsAs left has_failed count Failed = has_failed ≡ true
 
--- The device goes on and has passed more bytes than before; or it has ended, or failed.
-abbrev pub GoesOn : (left : Option (List ℕ)) → (has_failed : Bool) → (before passed : ℕ) → Received → Type 0
-GoesOn left has_failed before passed More = (before < passed) × (passed ≤ 2 ^ 62)
-GoesOn left has_failed before passed Over = IsAtEnd left
-GoesOn left has_failed before passed Failed = has_failed ≡ true
+-- The device has given these bytes and answered so.
+pub record Brings {R : Type 0} (r : Device R) (old new : R) (bytes : List ℕ) (received : Received) : Type 0 where
+  pub bytes_are : Consumes (r.left old) (r.left new) bytes
+  pub passed : r.passed new ≡ r.passed old + length bytes
+  pub limit : 0 < length bytes → r.passed new ≤ 2 ^ 62
+  pub end : EndsAs (r.left new) (r.has_failed new) (length bytes) received
+  pub lasting : r.failing new ≡ r.failing old
+  pub never : r.failing old ≡ Never → r.has_failed new ≡ false
 
--- After a text, a piece came of the device. The reader has read it too; or a fault shows in it.
-abbrev pub GroupRead : {T : Type 0} → Judge → (T → List (List ℕ) → Type 0) → (front : List ℕ) → (old left : Option (List ℕ)) → (before passed : ℕ) → Result Received DimacsError → Feeder T → Type 0
-GroupRead judge After front old left before passed (Ok _) new = (piece : List ℕ) × Consumes old left piece × (passed ≡ before + length piece) × (length (front ++ piece) ≤ 2 ^ 62) × IsBehind judge After (front ++ piece) new
-GroupRead judge After front old left before passed (Err e) new = (piece : List ℕ) × Consumes old left piece × Refused judge [] (front ++ piece) e
+-- This text has come of the device since it was in an earlier state.
+pub record HasCome {R : Type 0} (r : Device R) (begun device : R) (text : List ℕ) : Type 0 where
+  pub bytes_are : Consumes (r.left begun) (r.left device) text
+  pub passed : length text ≤ r.passed device
+  pub short : length text ≤ 2 ^ 62

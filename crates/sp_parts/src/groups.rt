@@ -1,137 +1,141 @@
-//! A text of which several workers read a buffer at a time.
-ghost use Rattle.std.specs.Prelude.{◌≡◌, ◌<◌, ◌≤◌, ◌^◌, ℕ, List, [], Some, true, false, length, IfOk, IfErr, vec_len};
+//! A text of which several workers read a group of bytes at a time, in stages.
+ghost use Rattle.std.specs.Prelude.{◌≡◌, ◌<◌, ℕ, List, [], Some, true, false, IfOk, IfErr};
 ghost use Rattle.sp_device.specs.Failing.{Never};
 ghost use Rattle.sp_text.specs.declared.faults.Kind.{Kind};
 ghost use Rattle.sp_text.specs.Text.{judge};
 ghost use Rattle.sp_text.specs.Collecting.{SpelledBy};
 ghost use Rattle.sp_text.specs.Feeding.{IsBehind};
+ghost use Rattle.sp_text.specs.Plain.{HasProblem};
 ghost use Rattle.sp_text.specs.Whole.{AllRead, IsSpelled, ReadOn, NeverRead};
-ghost use Rattle.sp_parts.specs.Groups.{GoesOn, GroupRead};
+ghost use Rattle.sp_parts.specs.Stands.{Stands};
 
-use crate::receiving::{Received, receive};
-use crate::taking::take_piece;
+use crate::crew::{Crew, Plan, Sizes, count_threads, crew_behind};
+use crate::receiving::{Group, Received};
+use crate::stages::read_stage;
+use crate::taking::Intake;
 use sp_device::Read;
 use sp_text::{Collector, DimacsError, Feeder, KeepParts, LineTaker, PIECE, read_items};
 use sp_word::Workers;
 use std::alloc::{AllocError, Global};
-use std::thread;
 use std::thread::Threads;
 
-/// How a text is cut. No answer depends on it.
-#[derive(Clone, Copy, Debug)]
-pub struct Sizes {
-    /// The number of bytes that one thread reads before others join.
-    pub alone: usize,
-    /// The greatest number of bytes that come of the device at a time, where there is memory for them.
-    pub group: usize,
-    /// The number of bytes that a thread reads at a time.
-    pub part: usize,
-}
-
-/// The sizes that read sooner than others.
-pub const SIZES: Sizes = Sizes {
-    alone: 262_144,
-    group: 2_097_152,
-    part: 131_072,
-};
-
-/// Who reads a text, and how it is cut.
+// What several threads need for the rest of a text: those who read parts, and buffers for the group that they read, the one
+// before it and the one after it.
 #[derive(Drop)]
-struct Plan {
-    threads: usize,
-    sizes: Sizes,
+struct Setup<K: KeepParts> {
+    crew: Crew<K>,
+    before: Group,
+    group: Group,
+    after: Group,
 }
 
-// Returns how many threads read: as many as there are workers, but no more than processors.
-fn count_threads<H: Threads>(rt: &H, workers: Workers) -> usize {
-    match thread::available_parallelism(rt) {
-        Ok(count) => workers.at_most(count.get()).get() as usize,
-        Err(_) => workers.get() as usize,
+// Returns whether a group is read by several threads.
+fn is_long(received: &Received, group: &Group, sizes: &Sizes) -> bool
+    ensures { result ≡ true → received.now ≡ Received.More }
+{
+    match received {
+        Received::More => sizes.alone <= group.bytes().len(),
+        _ => false,
     }
 }
 
-// Returns a buffer of this size.
-fn buffer_of(alloc: Global, size: usize) -> Result<Vec<u8>, AllocError>
-    requires { 0 < size }
-    ensures { IfOk result (λ buffer. 0 < vec_len buffer) }
-{
-    vec![in alloc; 0; size]
+// Returns how large the buffer of a group is, given how many bytes came: a quarter of them, so that a small text takes
+// little memory.
+fn buffer_size(came: usize, sizes: &Sizes) -> usize {
+    (came / 4).min(sizes.group)
 }
 
-// Returns a buffer of this size, or of a half, a quarter or an eighth of it; this one, where there is no memory for a
-// larger one.
-fn larger(alloc: Global, buffer: Vec<u8>, size: usize) -> Vec<u8>
-    requires { 0 < vec_len buffer }
-    ensures { 0 < vec_len result }
-{
-    for parts in [1, 2, 4, 8] {
-        let part = size / parts;
-        if part <= buffer.len() {
-            return buffer;
-        }
-        if let Ok(larger) = buffer_of(alloc, part) {
-            return larger;
-        }
-    }
-    buffer
-}
-
-// Reads once from the device into the buffer, and takes what came.
-fn read_group<K: KeepParts + Send + Sync, H: Threads + Sync, R: Read>(
-    rt: &H,
-    alloc: Global,
-    device: &mut R,
-    reader: &mut Feeder<Collector<K>>,
-    buffer: &mut [u8],
-    plan: &Plan,
-) -> Result<Received, DimacsError>
-    requires { 0 < length buffer.old }
-    ensures goes { IfOk result (GoesOn (R.left device.new) (R.has_failed device.new)
-        (R.passed device.old) (R.passed device.new)) }
-    ensures read { (front : List ℕ) → length front ≤ R.passed device.old → length front ≤ 2 ^ 62
-        → IsBehind (judge K.format K.ranges) ⟦<Collector<K> as LineTaker>⟧.After front reader.old
-        → GroupRead (judge K.format K.ranges) ⟦<Collector<K> as LineTaker>⟧.After front
-        (R.left device.old) (R.left device.new)
-        (R.passed device.old) (R.passed device.new) result reader.new }
-    ensures failing { R.failing device.new ≡ R.failing device.old }
-    ensures never { R.failing device.old ≡ Never → R.has_failed device.new ≡ false }
-{
-    let (count, received) = receive(device, buffer);
-    let piece = &buffer[..count];
-    if count < plan.sizes.alone {
-        reader.feed_items(piece)?;
-    } else {
-        take_piece(rt, alloc, reader, piece, plan.threads, plan.sizes.part)?;
-    }
-    Ok(received)
-}
-
-// Reads to the end, what comes at a time: pieces first, and then groups.
+// Reads the rest of a text by groups: a long one by several threads, a short one alone.
 fn read_groups<K: KeepParts + Send + Sync, H: Threads + Sync, R: Read>(
     rt: &H,
     alloc: Global,
     device: &mut R,
+    mut intake: Intake<K>,
+    mut group: Group,
+    crew: &Crew<K>,
+) -> Result<K::Value, DimacsError>
+    ensures read { (begun : R) → Stands R.Read begun device.old crew.now.plain
+        intake.reader intake.pending.group intake.pending.parts.items []
+        → ReadOn (judge K.format K.ranges) (SpelledBy K.format K.Spelled)
+        R.Read begun result device.new }
+    ensures never { R.failing device.old ≡ Never → R.has_failed device.new ≡ false }
+{
+    let mut came: usize = 0;
+    let mut received = group.receive(device);
+    loop {
+        came = came.saturating_add(group.bytes().len());
+        if is_long(&received, &group, &crew.plan.sizes) {
+            let stage = read_stage(rt, alloc, device, &mut intake, group.bytes(), crew)?;
+            received = stage.received;
+            let size = buffer_size(came, &crew.plan.sizes);
+            group = intake.turn(alloc, group, stage.parts, size);
+        } else {
+            intake.take_all(&group)?;
+            match received {
+                Received::Over => return intake.reader.finish(),
+                Received::Failed => return Err(intake.reader.fail()),
+                Received::More => {}
+            }
+            received = group.receive(device);
+        }
+    }
+}
+
+// Returns what several threads need for what comes behind the text that a reader has read.
+fn set_up<K: KeepParts>(
+    alloc: Global,
+    reader: &Feeder<Collector<K>>,
+    plan: &Plan,
+) -> Result<Setup<K>, AllocError>
+    ensures plain { IfOk result (λ setup.
+        (ps : List ℕ) → HasProblem reader.now ps → HasProblem setup.crew.plain ps) }
+    ensures before { IfOk result (λ setup. setup.before ≡ []) }
+{
+    let size = plan.sizes.alone.min(plan.sizes.group).max(1);
+    Ok(Setup {
+        crew: crew_behind(reader, plan)?,
+        before: Group::new(alloc, size)?,
+        group: Group::new(alloc, size)?,
+        after: Group::new(alloc, size)?,
+    })
+}
+
+// Reads a text alone, until so much came that others join.
+fn read_alone<K: KeepParts + Send + Sync, H: Threads + Sync, R: Read>(
+    rt: &H,
+    alloc: Global,
+    device: &mut R,
     mut reader: Feeder<Collector<K>>,
-    mut buffer: Vec<u8>,
+    mut group: Group,
     plan: &Plan,
 ) -> Result<K::Value, DimacsError>
-    requires some { 0 < vec_len buffer }
-    requires begins { IsBehind (judge K.format K.ranges)
-        ⟦<Collector<K> as LineTaker>⟧.After [] reader }
+    requires { IsBehind (judge K.format K.ranges) ⟦<Collector<K> as LineTaker>⟧.After [] reader }
     ensures read { ReadOn (judge K.format K.ranges) (SpelledBy K.format K.Spelled)
         R.Read device.old result device.new }
     ensures never { R.failing device.old ≡ Never → R.has_failed device.new ≡ false }
 {
-    let mut alone = 0;
+    let mut came: usize = 0;
     loop {
-        match read_group(rt, alloc, device, &mut reader, &mut buffer, plan)? {
+        let received = group.receive(device);
+        reader.feed_items(group.bytes())?;
+        match received {
             Received::Over => return reader.finish(),
             Received::Failed => return Err(reader.fail()),
             Received::More => {}
         }
-        alone = buffer.len().saturating_add(alone);
-        if alone >= plan.sizes.alone && reader.has_problem() {
-            buffer = larger(alloc, buffer, plan.sizes.group);
+        came = came.saturating_add(group.bytes().len());
+        if came < plan.sizes.alone || !reader.has_problem() {
+            continue;
+        }
+        if let Ok(setup) = set_up(alloc, &reader, plan) {
+            let Setup {
+                crew,
+                before,
+                group,
+                after,
+            } = setup;
+            let intake = Intake::new(alloc, reader, before, after);
+            return read_groups(rt, alloc, device, intake, group, &crew);
         }
     }
 }
@@ -161,8 +165,8 @@ pub fn read_items_by<K: KeepParts + Send + Sync, H: Threads + Sync, R: Read>(
     if threads <= 1 {
         return read_items(device, reader);
     }
-    let Ok(buffer) = buffer_of(alloc, PIECE.min(sizes.group).max(1)) else {
+    let Ok(group) = Group::new(alloc, PIECE.min(sizes.group).max(1)) else {
         return read_items(device, reader);
     };
-    read_groups(rt, alloc, device, reader, buffer, &Plan { threads, sizes })
+    read_alone(rt, alloc, device, reader, group, &Plan { threads, sizes })
 }

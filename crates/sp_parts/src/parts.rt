@@ -1,6 +1,6 @@
 //! Parts of a text, read side by side. Where a part begins and ends is a schedule, of which nothing is promised: each part tells
 //! which bytes were read.
-ghost use Rattle.std.specs.Prelude.{◌≡◌, ◌≤◌, length, All, IfOk};
+ghost use Rattle.std.specs.Prelude.{◌<◌, ◌≤◌, length, All, IfOk};
 ghost use Rattle.sp_parts.specs.Parts.{IsPart};
 
 use memchr::memchr;
@@ -22,10 +22,9 @@ pub struct Part<K> {
     pub(crate) to: usize,
 }
 
-/// A text that is cut into parts, which whoever is free reads next.
+/// How a text is cut into parts, which whoever is free reads next.
 #[derive(Drop)]
-pub(crate) struct Cut<'a> {
-    text: &'a [u8],
+pub(crate) struct Cut {
     /// The number of bytes of a part.
     size: usize,
     /// The number of parts.
@@ -34,16 +33,13 @@ pub(crate) struct Cut<'a> {
     next: AtomicU64,
 }
 
-impl<'a> Cut<'a> {
-    // Returns a text that is cut into parts of this size.
-    pub(crate) fn new(text: &'a [u8], size: usize) -> Cut<'a>
-        ensures { result.text.now ≡ text.now }
-    {
+impl Cut {
+    // Returns how a text of this length is cut into parts of this size.
+    pub(crate) fn new(length: usize, size: usize) -> Cut {
         let size = size.max(1);
         Cut {
-            text,
             size,
-            count: text.len().div_ceil(size) as u64,
+            count: length.div_ceil(size) as u64,
             next: AtomicU64::new(0),
         }
     }
@@ -59,13 +55,11 @@ impl<'a> Cut<'a> {
     }
 }
 
-/// Returns the position after the first LF at or after the byte before this position; the end, where there is none.
-pub(crate) fn line_start(text: &[u8], place: usize) -> usize
+// Returns the position after the first LF at or after the byte before this position; the end, where there is none.
+fn line_start(text: &[u8], place: usize) -> usize
+    requires { 0 < place }
     ensures { result ≤ length text.now }
 {
-    if place == 0 {
-        return 0;
-    }
     if place > text.len() {
         return text.len();
     }
@@ -105,28 +99,35 @@ fn read_part<K: KeepParts>(
     })
 }
 
-// Reads the part that begins at the first line from this position on.
+// Reads the part that begins at the first line from this position on. The line of the first byte may have begun before the
+// text, and belongs to no part.
 fn part_from<K: KeepParts>(
     reader: &Feeder<Collector<K>>,
-    cut: &Cut,
+    text: &[u8],
     place: usize,
+    size: usize,
 ) -> Result<Part<K>, AllocError>
-    ensures { IfOk result (IsPart reader.now cut.now.text.now) }
+    ensures { IfOk result (IsPart reader.now text.now) }
 {
-    let from = line_start(cut.text, place);
-    read_part(reader, cut.text, from, place.saturating_add(cut.size))
+    let from = line_start(text, place.max(1));
+    read_part(reader, text, from, place.saturating_add(size))
 }
 
-// Reads parts of a text until none is left, or there is no memory for one.
-fn read_some<K: KeepParts>(alloc: Global, reader: &Feeder<Collector<K>>, cut: &Cut) -> Vec<Part<K>>
-    ensures { All (IsPart reader.now cut.now.text.now) result.items }
+/// Reads parts of a text until none is left, or there is no memory for one.
+pub(crate) fn read_some<K: KeepParts>(
+    alloc: Global,
+    reader: &Feeder<Collector<K>>,
+    text: &[u8],
+    cut: &Cut,
+) -> Vec<Part<K>>
+    ensures { All (IsPart reader.now text.now) result.items }
 {
     let mut parts = Vec::new(alloc);
     for _ in 0..cut.count {
         let Some(place) = cut.take() else {
             break;
         };
-        let Ok(part) = part_from(reader, cut, place) else {
+        let Ok(part) = part_from(reader, text, place, cut.size) else {
             break;
         };
         if parts.push(part).is_err() {
@@ -136,37 +137,42 @@ fn read_some<K: KeepParts>(alloc: Global, reader: &Feeder<Collector<K>>, cut: &C
     parts
 }
 
-// Puts lists of parts together, in the order in which the parts begin.
-fn in_order<K: KeepParts>(
-    alloc: Global,
-    reader: &Feeder<Collector<K>>,
-    cut: &Cut,
-    mut lists: Vec<Vec<Part<K>>>,
-) -> Result<Vec<Part<K>>, AllocError>
-    requires { All (λ list. All (IsPart reader.now cut.now.text.now) list.items) lists.items }
-    ensures { IfOk result (λ parts. All (IsPart reader.now cut.now.text.now) parts.items) }
-{
-    let mut parts = Vec::new(alloc);
-    while let Some(mut list) = lists.pop() {
-        parts.append(&mut list)?;
-    }
-    parts.sort_unstable_by_key(|part| part.from);
-    Ok(parts)
-}
-
-/// Reads parts of a text by so many threads, this one among them, and returns them in the order in which they begin. What
-/// isn't plain is in no part.
-pub(crate) fn read_parts<K: KeepParts + Send + Sync, H: Threads + Sync>(
+/// Reads parts of a text by so many threads, this one among them, each of which returns a list of them. None is returned
+/// where there is no memory for the lists.
+pub(crate) fn read_by<K: KeepParts + Send + Sync, H: Threads + Sync>(
     rt: &H,
     alloc: Global,
     reader: &Feeder<Collector<K>>,
+    text: &[u8],
     cut: &Cut,
     threads: usize,
-) -> Result<Vec<Part<K>>, AllocError>
-    ensures { IfOk result (λ parts. All (IsPart reader.now cut.now.text.now) parts.items) }
+) -> Vec<Vec<Part<K>>>
+    ensures { All (λ list. All (IsPart reader.now text.now) list.items) result.items }
 {
     let read = |_number: usize| -> Vec<Part<K>>
-        ensures { All (IsPart reader.entry.now cut.entry.now.text.now) result.items }
-    { read_some(alloc, reader, cut) };
-    in_order(alloc, reader, cut, map_indices(rt, alloc, threads, &read)?)
+        ensures { All (IsPart reader.entry.now text.entry.now) result.items }
+    { read_some(alloc, reader, text, cut) };
+    match map_indices(rt, alloc, threads, &read) {
+        Ok(lists) => lists,
+        Err(AllocError) => Vec::new(alloc),
+    }
+}
+
+/// Puts lists of parts of a text together, as far as there is memory, in the order in which the parts begin. What isn't plain is
+/// in no part.
+pub(crate) fn in_order<K: KeepParts>(
+    reader: &Feeder<Collector<K>>,
+    text: &[u8],
+    mut parts: Vec<Part<K>>,
+    mut lists: Vec<Vec<Part<K>>>,
+) -> Vec<Part<K>>
+    requires parts { All (IsPart reader.now text.now) parts.items }
+    requires lists { All (λ list. All (IsPart reader.now text.now) list.items) lists.items }
+    ensures { All (IsPart reader.now text.now) result.items }
+{
+    while let Some(mut list) = lists.pop() {
+        let _ = parts.append(&mut list);
+    }
+    parts.sort_unstable_by_key(|part| part.from);
+    parts
 }

@@ -1,10 +1,12 @@
 //! What comes of a device at a time.
-ghost use Rattle.std.specs.Prelude.{◌≡◌, ◌+◌, ◌<◌, ◌≤◌, ◌^◌, length, take, false};
+ghost use Rattle.std.specs.Prelude.{◌≡◌, ◌+◌, ◌<◌, ◌≤◌, ◌^◌, [], ℕ, List, length, take, false, vec_len, IfOk};
 ghost use Rattle.std.specs.Io.KnownBytes.{Consumes};
 ghost use Rattle.sp_device.specs.Failing.{Never};
-ghost use Rattle.sp_parts.specs.Groups.{EndsAs};
+ghost use Rattle.sp_parts.specs.Groups.{EndsAs, Brings};
 
 use sp_device::Read;
+use std::alloc::{AllocError, Global};
+use std::marker::Model;
 
 /// How a device has answered.
 #[derive(Clone, Copy)]
@@ -19,7 +21,7 @@ pub enum Received {
 
 /// Reads once into the buffer, and returns how many bytes came. A file fills the buffer; of a pipe comes what there is, so that the
 /// program at its other end needn't wait while that is read.
-pub(crate) fn receive<R: Read>(reader: &mut R, buffer: &mut [u8]) -> (usize, Received)
+fn receive<R: Read>(reader: &mut R, buffer: &mut [u8]) -> (usize, Received)
     requires { 0 < length buffer.old }
     ensures within { result.0 ≤ length buffer.new }
     ensures bytes { Consumes (R.left reader.old) (R.left reader.new) (take result.0 buffer.new) }
@@ -33,5 +35,95 @@ pub(crate) fn receive<R: Read>(reader: &mut R, buffer: &mut [u8]) -> (usize, Rec
         Ok(0) => (0, Received::Over),
         Ok(count) => (count, Received::More),
         Err(_) => (0, Received::Failed),
+    }
+}
+
+// Returns a buffer of this size.
+fn buffer_of(alloc: Global, size: usize) -> Result<Vec<u8>, AllocError>
+    requires { 0 < size }
+    ensures { IfOk result (λ buffer. 0 < vec_len buffer) }
+{
+    vec![in alloc; 0; size]
+}
+
+// Returns a buffer of this size, or of a half, a quarter or an eighth of it; this one, where there is no memory for a
+// larger one.
+fn larger(alloc: Global, buffer: Vec<u8>, size: usize) -> Vec<u8>
+    requires { 0 < vec_len buffer }
+    ensures { 0 < vec_len result }
+{
+    for parts in [1, 2, 4, 8] {
+        let part = size / parts;
+        if part <= buffer.len() {
+            return buffer;
+        }
+        if let Ok(larger) = buffer_of(alloc, part) {
+            return larger;
+        }
+    }
+    buffer
+}
+
+/// What came of a device at a time, in its buffer.
+#[derive(Drop)]
+pub struct Group {
+    buffer: Vec<u8>,
+    /// The number of bytes that came.
+    count: usize,
+}
+
+impl Model for Group {
+    ghost Value = { List ℕ };
+
+    ghost view = { λ group. take group.count group.buffer.items };
+
+    ghost invariant = { λ group. (0 < vec_len group.buffer)
+        × (group.count ≤ vec_len group.buffer) };
+}
+
+impl Group {
+    /// Returns a group of no bytes, with a buffer of this size.
+    pub(crate) fn new(alloc: Global, size: usize) -> Result<Group, AllocError>
+        requires { 0 < size }
+        ensures { IfOk result (λ group. group ≡ []) }
+    {
+        Ok(Group {
+            buffer: buffer_of(alloc, size)?,
+            count: 0,
+        })
+    }
+
+    /// Returns the bytes that came.
+    pub(crate) fn bytes(&self) -> &[u8]
+        ensures { result.now ≡ self.now }
+    {
+        &self.buffer[..self.count]
+    }
+
+    /// Forgets what came.
+    pub(crate) fn clear(&mut self)
+        ensures { self.new ≡ [] }
+    {
+        self.count = 0;
+    }
+
+    /// Reads once from the device, in place of what came before.
+    pub(crate) fn receive<R: Read>(&mut self, device: &mut R) -> Received
+        ensures { Brings R.Read device.old device.new self.new result }
+    {
+        let (count, received) = receive(device, &mut self.buffer);
+        self.count = count;
+        received
+    }
+
+    /// Returns a group of no bytes, whose buffer is as large as this, where there is memory for it.
+    pub(crate) fn of_size(self, alloc: Global, size: usize) -> Group
+        ensures { result ≡ [] }
+    {
+        let Group { buffer, count: _ } = self;
+        Group {
+            buffer: larger(alloc, buffer, size),
+            count: 0,
+        }
     }
 }

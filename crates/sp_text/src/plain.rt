@@ -12,7 +12,7 @@ use crate::fields::drop_cr;
 use crate::formats::{FileFormat, Form};
 use crate::matching::greatest;
 use crate::reading::{is_remark, usual_item};
-use crate::rooms::{LONGEST_LINE, Values};
+use crate::rooms::{LONGEST_LINE, LineBuffer, Values};
 use std::alloc::AllocError;
 
 /// Keeps items that were read apart, too, and puts them behind its own.
@@ -140,6 +140,25 @@ impl<K: KeepParts> Feeder<Collector<K>> {
         ensures { IfOk result (λ keep. K.Kept keep []) }
     {
         self.taker.keep.fresh(bytes)
+    }
+
+    /// Returns a reader that has kept nothing, behind the problem line that this one has read, if any: others may read plain
+    /// lines by it while this one takes what was read before.
+    pub fn plain_reader(&self) -> Result<Feeder<Collector<K>>, AllocError>
+        ensures { IfOk result
+            (λ plain. (ps : List ℕ) → HasProblem self.now ps → HasProblem plain ps) }
+    {
+        let taker = Collector {
+            keep: self.taker.keep.fresh(0)?,
+            problem: self.taker.problem.as_ref().map(Values::copy),
+            counts: [0; 3],
+        };
+        Ok(Feeder {
+            taker,
+            room: LineBuffer::new(),
+            ends: 0,
+            spent: None,
+        })
     }
 
     /// Returns whether a problem line was read.

@@ -52,6 +52,16 @@ impl Values {
         }
     }
 
+    // Returns the same numbers.
+    pub(crate) fn copy(&self) -> Self
+        ensures { result ≡ self.now }
+    {
+        Self {
+            numbers: self.numbers,
+            len: self.len,
+        }
+    }
+
     /// Appends a number.
     pub fn push(&mut self, number: u64)
         requires { length self.old < 4 }

@@ -3,4 +3,4 @@ use Rattle.sp_parts.specs.Parts.{IsPart}
 use Rattle.sp_parts.proofs.parts.read_some.Given as goal
 
 abbrev pub invariant-loop : goal.invariant-loop
-invariant-loop g l = All (IsPart l.reader l.cut.text.now) l.parts.items
+invariant-loop g l = All (IsPart l.reader l.text) l.parts.items
