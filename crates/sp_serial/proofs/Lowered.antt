@@ -1,8 +1,8 @@
 -- Words that arcs lower.
-use Rattle.std.proofs.Common.{◌≡◌, ℕ, ◌+◌, ◌-◌, ◌<◌, ◌⊎◌, inl, inr, List, [], ◌∷◌, length, get_or, set, sym, subst, ◌∙◌, arith, length-set}
+use Rattle.std.proofs.Common.{◌≡◌, ℕ, ◌+◌, ◌-◌, ◌<◌, ◌⊎◌, inl, inr, List, [], ◌∷◌, ◌++◌, length, get_or, set, sym, subst, ◌∙◌, arith, length-set}
 use Rattle.std.specs.Prelude.{All, Contains}
 use Rattle.std.proofs.lemmas.Bool.{cases_eq}
-use Rattle.std.proofs.lemmas.List.Elements.{Contains-get_or, All-contains, All-set}
+use Rattle.std.proofs.lemmas.List.Elements.{Contains-get_or, All-contains, All-push, All-set}
 use Rattle.sp_word.specs.Word.{Word, Pair}
 use Rattle.sp_paths.specs.declared.arc.Arc.{Arc}
 use Rattle.sp_paths.specs.Paths.{Graph, IsGraph, IsArc, IsVertex, IsAtMost, word_at}
@@ -22,6 +22,28 @@ pub row_lowers : (g : Graph) (max v : ℕ) (row : List Arc) (i : ℕ) (none : Ar
 row_lowers g max v row i none first before after is low earlier by =
     let in' = in_row g.arcs v (get_or row i none) (subst (λ xs. Contains xs (get_or row i none)) is (Contains-get_or row i none low)) in
     lowered_then max g.arcs first before after earlier (by g.arcs in'.0)
+
+-- an arc of a list lowers words that arcs of the list have lowered
+pub arc_lowers : (max : ℕ) (arcs : List Arc) (i : ℕ) (none : Arc) (first before after : List Word) → i < length arcs → IsLowered max arcs first before → IsLoweredBy max (get_or arcs i none) before after → IsLowered max arcs first after
+arc_lowers max arcs i none first before after low earlier by = lowered_then max arcs first before after earlier (by arcs (Contains-get_or arcs i none low))
+
+steps_among : (max : ℕ) (arcs all : List Arc) → All (Contains all) arcs → (steps : List Step) (before after : List Word) → AreSteps max arcs steps before after → AreSteps max all steps before after
+steps_among max arcs all here [] before after is = is
+steps_among max arcs all here (x ∷ xs) before after h = (All-contains (Contains all) arcs x.0 here h.0, h.1, steps_among max arcs all here xs (set before (x.0.head - 1) x.1) after h.2)
+
+-- what arcs among others have lowered, those have
+pub lowered_among : (max : ℕ) (arcs all : List Arc) → All (Contains all) arcs → (before after : List Word) → IsLowered max arcs before after → IsLowered max all before after
+lowered_among max arcs all here before after h = (h.0, steps_among max arcs all here h.0 before after h.1)
+
+-- arcs of the graph lead from vertices to vertices
+pub all_ends : (g : Graph) → IsGraph g → (n : ℕ) → n ≡ g.n → (arcs : List Arc) → All (Contains g.arcs) arcs → All (IsArc n) arcs
+all_ends g fine n size arcs here = λ k none low. subst (λ m. IsArc m (get_or arcs k none)) (sym size) (All-contains (IsArc g.n) g.arcs (get_or arcs k none) fine (here k none low))
+
+-- an arc of a row stands behind arcs of the graph
+pub row_more : (g : Graph) (v : ℕ) (row : List Arc) (i : ℕ) (none : Arc) (arcs : List Arc) → row ≡ row_of g.arcs v → i < length row → All (Contains g.arcs) arcs → All (Contains g.arcs) (arcs ++ get_or row i none ∷ [])
+row_more g v row i none arcs is low here =
+    let in' = in_row g.arcs v (get_or row i none) (subst (λ xs. Contains xs (get_or row i none)) is (Contains-get_or row i none low)) in
+    All-push (Contains g.arcs) arcs (get_or row i none) here in'.0
 
 module _ (g : Graph) (fine : IsGraph g) (max : ℕ) where
   ends : (words : List Word) → length words ≡ g.n → (arc : Arc) → Contains g.arcs arc → IsArc (length words) arc

@@ -10,12 +10,15 @@
 
 mod alone;
 mod asked;
+mod batch;
+mod live;
 mod nearest;
 mod room;
 mod row;
 mod run;
 mod search;
 mod several;
+mod table;
 mod target;
 mod touched;
 mod vertices;

@@ -7,9 +7,10 @@ ghost use Rattle.sp_plain.specs.Lowering.{IsLowered};
 ghost use Rattle.sp_serial.specs.Asked.{AreAnswersFor};
 ghost use Rattle.sp_serial.specs.Touched.{AreTouched, IsClear};
 
+use crate::batch::{Batch, relax_rows};
 use crate::row::{answers_of, farthest};
 use crate::search::first_open;
-use crate::touched::{Touched, are_relaxed_up_to, clear, lower_rows};
+use crate::touched::{Touched, are_relaxed_up_to, clear};
 use sp_answer::PairAnswer;
 use sp_bins::{Bins, Entry};
 use sp_graph::Graph;
@@ -91,6 +92,7 @@ fn search<const P: u32>(
         touched.old.words.items touched.new.words.items }
     ensures touched { AreTouched 0 touched.new.reached.items touched.new.words.items }
 {
+    let mut batch = Batch::new(alloc);
     let mut entries = Vec::new(alloc);
     let mut left = most;
     let mut open = 0;
@@ -102,7 +104,7 @@ fn search<const P: u32>(
         }
         if !entries.is_empty() {
             left -= entries.len();
-            lower_rows(graph, &entries, touched, bins)?;
+            relax_rows(graph, &entries, &mut batch, touched, bins)?;
             continue;
         }
         let Some(bucket) = bins.advance()? else {

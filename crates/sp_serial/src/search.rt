@@ -5,62 +5,11 @@ ghost use Rattle.sp_paths.specs.Paths.{IsVertex};
 ghost use Rattle.sp_plain.specs.Passing.{IsTableOfWalks};
 ghost use Rattle.sp_plain.specs.Lowering.{IsLowered};
 
+use crate::batch::{Batch, relax_rows};
 use sp_bins::{Bins, Entry};
 use sp_graph::{Graph, look_up};
-use sp_plain::relax;
 use sp_word::Word;
 use std::alloc::{AllocError, Global};
-
-// Relaxes the arcs of an entry's vertex, if the vertex still has the entry's distance. Heads that came nearer are put
-// into buckets.
-fn relax_row<const P: u32>(
-    graph: &Graph,
-    entry: Entry,
-    words: &mut Vec<Word<P>>,
-    bins: &mut Bins,
-) -> Result<(), AllocError>
-    requires layout { is_layout P ≡ true }
-    requires room { graph.now.n ≤ max_pred P }
-    requires size { vec_len words.old ≡ graph.now.n }
-    ensures size { vec_len words.new ≡ graph.now.n }
-    ensures lowered { IsLowered (max_dist P) graph.now.arcs words.old.items words.new.items }
-{
-    let vertex = entry.vertex;
-    // The graph's arcs lead from vertices to vertices.
-    let _ = graph.n();
-    if !graph.has_vertex(vertex) || look_up(words, vertex).dist() != Some(entry.dist) {
-        return Ok(());
-    }
-    for arc in graph.row(vertex) {
-        if let Some(dist) = relax(words, *arc) {
-            let head = Entry {
-                vertex: arc.head,
-                dist,
-            };
-            bins.put_head(head, entry.dist)?;
-        }
-    }
-    Ok(())
-}
-
-// Relaxes the arcs of the vertex of each entry.
-fn relax_rows<const P: u32>(
-    graph: &Graph,
-    entries: &[Entry],
-    words: &mut Vec<Word<P>>,
-    bins: &mut Bins,
-) -> Result<(), AllocError>
-    requires layout { is_layout P ≡ true }
-    requires room { graph.now.n ≤ max_pred P }
-    requires size { vec_len words.old ≡ graph.now.n }
-    ensures size { vec_len words.new ≡ graph.now.n }
-    ensures lowered { IsLowered (max_dist P) graph.now.arcs words.old.items words.new.items }
-{
-    for entry in entries {
-        relax_row(graph, *entry, words, bins)?;
-    }
-    Ok(())
-}
 
 // Returns whether the target has a distance in a bucket before this one.
 fn is_before<const P: u32>(words: &[Word<P>], target: u32, bins: &Bins, bucket: u64) -> bool
@@ -121,6 +70,7 @@ pub(crate) fn search<const P: u32>(
     ensures lowered { IsLowered (max_dist P) graph.now.arcs words.old.items words.new.items }
 {
     let mut bins = open_bins(alloc, sources)?;
+    let mut batch = Batch::new(alloc);
     let mut entries = Vec::new(alloc);
     let mut open = 0;
     // If entries were left after so many buckets, the passes would still find what they lead to.
@@ -128,7 +78,7 @@ pub(crate) fn search<const P: u32>(
         bins.adjust()?;
         bins.refill(&mut entries)?;
         if !entries.is_empty() {
-            relax_rows(graph, &entries, words, &mut bins)?;
+            relax_rows(graph, &entries, &mut batch, words, &mut bins)?;
             continue;
         }
         match bins.advance()? {

@@ -4,10 +4,9 @@ ghost use Rattle.std.specs.Bool.{OnTrue};
 ghost use Rattle.sp_word.specs.Word.{Unreached, is_layout, max_dist, max_pred};
 ghost use Rattle.sp_paths.specs.Paths.{IsArc, IsVertex, word_at};
 ghost use Rattle.sp_scan.specs.Shown.{IsRelaxedFrom, IsRowClosedUpTo, IsClosedUpTo};
-ghost use Rattle.sp_plain.specs.Lowering.{IsLowered, IsLoweredBy};
 ghost use Rattle.sp_serial.specs.Touched.{AreTouched, IsAmong};
 
-use sp_bins::{Bins, Entry};
+use crate::table::Table;
 use sp_graph::{Graph, look_up};
 use sp_paths::{Arc, Offer};
 use sp_plain::relax;
@@ -36,80 +35,24 @@ fn note<const P: u32>(touched: &mut Touched<P>, vertex: u32) -> Result<(), Alloc
     Ok(())
 }
 
-// Relaxes an arc, and returns its head's distance if that became shorter. A head that was unreached stands in the list first.
-fn lower<const P: u32>(touched: &mut Touched<P>, arc: Arc) -> Result<Option<u64>, AllocError>
-    requires layout { is_layout P ≡ true }
-    requires room { vec_len touched.old.words ≤ max_pred P }
-    requires arc { IsArc (vec_len touched.old.words) arc }
-    requires touched { AreTouched 0 touched.old.reached.items touched.old.words.items }
-    ensures size { vec_len touched.new.words ≡ vec_len touched.old.words }
-    ensures lowered { IsLoweredBy (max_dist P) arc
-        touched.old.words.items touched.new.words.items }
-    ensures touched { AreTouched 0 touched.new.reached.items touched.new.words.items }
-{
-    note(touched, arc.head)?;
-    Ok(relax(&mut touched.words, arc))
+impl<const P: u32> Table<P> for Touched<P> {
+    ghost labels = { λ touched. touched.words.items };
+
+    ghost IsKept = { λ touched. AreTouched 0 touched.reached.items touched.words.items };
+
+    fn words(&self) -> &[Word<P>] {
+        self.words.as_slice()
+    }
+
+    // A head that was unreached stands in the list first.
+    fn lower(&mut self, arc: Arc) -> Result<Option<u64>, AllocError> {
+        note(self, arc.head)?;
+        Ok(relax(&mut self.words, arc))
+    }
 }
 
-// Relaxes the arcs of an entry's vertex, if the vertex still has the entry's distance. Heads that came nearer are put
-// into buckets.
-fn lower_row<const P: u32>(
-    graph: &Graph,
-    entry: Entry,
-    touched: &mut Touched<P>,
-    bins: &mut Bins,
-) -> Result<(), AllocError>
-    requires layout { is_layout P ≡ true }
-    requires room { graph.now.n ≤ max_pred P }
-    requires size { vec_len touched.old.words ≡ graph.now.n }
-    requires touched { AreTouched 0 touched.old.reached.items touched.old.words.items }
-    ensures size { vec_len touched.new.words ≡ graph.now.n }
-    ensures lowered { IsLowered (max_dist P) graph.now.arcs
-        touched.old.words.items touched.new.words.items }
-    ensures touched { AreTouched 0 touched.new.reached.items touched.new.words.items }
-{
-    let vertex = entry.vertex;
-    // The graph's arcs lead from vertices to vertices.
-    let _ = graph.n();
-    if !graph.has_vertex(vertex) || look_up(&touched.words, vertex).dist() != Some(entry.dist) {
-        return Ok(());
-    }
-    for arc in graph.row(vertex) {
-        if let Some(dist) = lower(touched, *arc)? {
-            let head = Entry {
-                vertex: arc.head,
-                dist,
-            };
-            bins.put_head(head, entry.dist)?;
-        }
-    }
-    Ok(())
-}
-
-/// Relaxes the arcs of the vertex of each entry.
-pub(crate) fn lower_rows<const P: u32>(
-    graph: &Graph,
-    entries: &[Entry],
-    touched: &mut Touched<P>,
-    bins: &mut Bins,
-) -> Result<(), AllocError>
-    requires layout { is_layout P ≡ true }
-    requires room { graph.now.n ≤ max_pred P }
-    requires size { vec_len touched.old.words ≡ graph.now.n }
-    requires touched { AreTouched 0 touched.old.reached.items touched.old.words.items }
-    ensures size { vec_len touched.new.words ≡ graph.now.n }
-    ensures lowered { IsLowered (max_dist P) graph.now.arcs
-        touched.old.words.items touched.new.words.items }
-    ensures touched { AreTouched 0 touched.new.reached.items touched.new.words.items }
-{
-    for entry in entries {
-        lower_row(graph, *entry, touched, bins)?;
-    }
-    Ok(())
-}
-
-// Whether an arc is relaxed, where its tail has this word.
-fn is_arc_relaxed<const P: u32>(words: &[Word<P>], arc: Arc, from: Word<P>) -> bool
+/// Whether an arc is relaxed, where its tail has this word.
+pub(crate) fn is_arc_relaxed<const P: u32>(words: &[Word<P>], arc: Arc, from: Word<P>) -> bool
     requires layout { is_layout P ≡ true }
     requires most { length words.now ≤ max_pred P }
     requires arc { IsArc (length words.now) arc }

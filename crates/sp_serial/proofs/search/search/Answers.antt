@@ -1,14 +1,13 @@
-use Rattle.std.proofs.Common.{sym, ◌∙◌}
 use Rattle.sp_word.specs.Word.{max_dist}
 use Rattle.sp_plain.proofs.LoweringSteps.{lowered_then}
 use Rattle.sp_serial.proofs.search.search.Goals as goal
 
 pub returns-in_err-relax_rows-clause-lowered : goal.returns-in_err-relax_rows-clause-lowered
 returns-in_err-relax_rows-clause-lowered g c =
-    lowered_then (max_dist g.row.P) c.args.graph.now.arcs c.args.words.now.items c.loop.words.items c.relax_rows.new.words.items c.loop.invariant.1 c.relax_rows.ensures.lowered
+    lowered_then (max_dist g.row.P) c.args.graph.now.arcs c.args.words.now.items c.loop.words.items c.relax_rows.new.table.items c.loop.invariant.1 c.relax_rows.ensures.lowered
 
 pub loop-preserved-then-not-is_empty : goal.loop-preserved-then-not-is_empty
 loop-preserved-then-not-is_empty g c = (
-  sym c.relax_rows.new.words.ok.0 ∙ c.relax_rows.ensures.size,
-  lowered_then (max_dist g.row.P) c.args.graph.now.arcs c.args.words.now.items c.loop.words.items c.relax_rows.new.words.items c.loop.invariant.1 c.relax_rows.ensures.lowered,
+  c.relax_rows.ensures.size,
+  lowered_then (max_dist g.row.P) c.args.graph.now.arcs c.args.words.now.items c.loop.words.items c.relax_rows.new.table.items c.loop.invariant.1 c.relax_rows.ensures.lowered,
 )

@@ -1,7 +1,0 @@
-use Rattle.std.proofs.Common.{◌≡◌, length}
-use Rattle.sp_word.specs.Word.{max_dist}
-use Rattle.sp_plain.specs.Lowering.{IsLowered}
-use Rattle.sp_serial.proofs.search.relax_rows.Given as goal
-
-abbrev pub invariant-loop-entry : goal.invariant-loop-entry
-invariant-loop-entry g l = (length l.words.items ≡ l.graph.n) × IsLowered (max_dist g.row.P) l.graph.arcs l.initial.words.items l.words.items

@@ -1,0 +1,311 @@
+//! Entries worked off many at a time.
+//!
+//! One after the other, each entry would wait for its words, its row and the words of its heads, since what is done depends on them.
+//! So many entries are gone over in several passes, each of which reads for all of them what the pass before has told the places
+//! of.
+ghost use Rattle.std.specs.Prelude.{◌≡◌, ◌≤◌, true, length, All, Contains, OnOk};
+ghost use Rattle.sp_word.specs.Word.{is_layout, max_dist, max_pred};
+ghost use Rattle.sp_paths.specs.Paths.{IsArc, IsVertex};
+ghost use Rattle.sp_plain.specs.Lowering.{IsLowered};
+
+use crate::live::{count_arcs, count_live, greatest_end, take_live};
+use crate::table::Table;
+use crate::touched::is_arc_relaxed;
+use sp_bins::{Bins, Entry};
+use sp_graph::{Graph, look_up};
+use sp_paths::Arc;
+use sp_word::Word;
+use std::alloc::{AllocError, Global};
+
+// So many entries are worked off at once, at most.
+const STRETCH: usize = 32;
+
+// Fewer entries than these are worked off one after the other.
+const FEW: usize = 8;
+
+// The words of fewer vertices than these lie in a core's own cache, so that hardly anything is waited for: all entries are worked
+// off one after the other.
+const FAR: usize = 131_072;
+
+// So many arcs are relaxed at once, at most.
+const MOST: usize = 256;
+
+/// Room for what is worked off at once.
+#[derive(Drop)]
+pub(crate) struct Batch {
+    // vertices that still have their entry's distance
+    live: Vec<u32>,
+    // arcs of these that are to be relaxed
+    arcs: Vec<Arc>,
+}
+
+impl Batch {
+    /// Makes room that grows as it is used.
+    pub(crate) fn new(alloc: Global) -> Batch {
+        Batch {
+            live: Vec::new(alloc),
+            arcs: Vec::new(alloc),
+        }
+    }
+}
+
+// Returns how many of the arcs aren't relaxed, and so reads the words of all heads. No branch depends on one of these, so the
+// reads don't wait for one another.
+fn count_open<const P: u32>(words: &[Word<P>], arcs: &[Arc]) -> usize
+    requires layout { is_layout P ≡ true }
+    requires most { length words.now ≤ max_pred P }
+    requires arcs { All (IsArc (length words.now)) arcs.now }
+{
+    let mut open: usize = 0;
+    for arc in arcs {
+        let is_open = !is_arc_relaxed(words, *arc, look_up(words, arc.tail));
+        open = open.wrapping_add(usize::from(is_open));
+    }
+    open
+}
+
+// Relaxes arcs, one after the other. Heads that came nearer are put into buckets.
+fn relax_arcs<T: Table<P>, const P: u32>(
+    arcs: &[Arc],
+    table: &mut T,
+    bins: &mut Bins,
+) -> Result<(), AllocError>
+    requires layout { is_layout P ≡ true }
+    requires room { length (T.labels table.old) ≤ max_pred P }
+    requires arcs { All (IsArc (length (T.labels table.old))) arcs.now }
+    requires kept { T.IsKept table.old }
+    ensures size { length (T.labels table.new) ≡ length (T.labels table.old) }
+    ensures lowered { IsLowered (max_dist P) arcs.now
+        (T.labels table.old) (T.labels table.new) }
+    ensures kept { T.IsKept table.new }
+{
+    if count_open(table.words(), arcs) == 0 {
+        return Ok(());
+    }
+    for arc in arcs {
+        if let Some(dist) = table.lower(*arc)? {
+            let head = Entry {
+                vertex: arc.head,
+                dist,
+            };
+            bins.put_head(head, dist.saturating_sub(u64::from(arc.len)))?;
+        }
+    }
+    Ok(())
+}
+
+// Relaxes the arcs that wait, and leaves none.
+fn relax_waiting<T: Table<P>, const P: u32>(
+    graph: &Graph,
+    arcs: &mut Vec<Arc>,
+    table: &mut T,
+    bins: &mut Bins,
+) -> Result<(), AllocError>
+    requires layout { is_layout P ≡ true }
+    requires room { graph.now.n ≤ max_pred P }
+    requires size { length (T.labels table.old) ≡ graph.now.n }
+    requires kept { T.IsKept table.old }
+    requires arcs { All (Contains graph.now.arcs) arcs.old.items }
+    ensures size { length (T.labels table.new) ≡ graph.now.n }
+    ensures lowered { IsLowered (max_dist P) graph.now.arcs
+        (T.labels table.old) (T.labels table.new) }
+    ensures kept { T.IsKept table.new }
+    ensures arcs { OnOk result (All (Contains graph.now.arcs) arcs.new.items) }
+{
+    // The graph's arcs lead from vertices to vertices.
+    let _ = graph.n();
+    relax_arcs(arcs, table, bins)?;
+    arcs.clear();
+    Ok(())
+}
+
+// Relaxes the arcs that wait, if they are as many as may.
+fn relax_full<T: Table<P>, const P: u32>(
+    graph: &Graph,
+    arcs: &mut Vec<Arc>,
+    table: &mut T,
+    bins: &mut Bins,
+) -> Result<(), AllocError>
+    requires layout { is_layout P ≡ true }
+    requires room { graph.now.n ≤ max_pred P }
+    requires size { length (T.labels table.old) ≡ graph.now.n }
+    requires kept { T.IsKept table.old }
+    requires arcs { All (Contains graph.now.arcs) arcs.old.items }
+    ensures size { length (T.labels table.new) ≡ graph.now.n }
+    ensures lowered { IsLowered (max_dist P) graph.now.arcs
+        (T.labels table.old) (T.labels table.new) }
+    ensures kept { T.IsKept table.new }
+    ensures arcs { OnOk result (All (Contains graph.now.arcs) arcs.new.items) }
+{
+    if arcs.len() < MOST {
+        return Ok(());
+    }
+    relax_waiting(graph, arcs, table, bins)
+}
+
+// Lets the arcs of a vertex wait behind others.
+fn put_row<T: Table<P>, const P: u32>(
+    graph: &Graph,
+    vertex: u32,
+    arcs: &mut Vec<Arc>,
+    table: &mut T,
+    bins: &mut Bins,
+) -> Result<(), AllocError>
+    requires layout { is_layout P ≡ true }
+    requires room { graph.now.n ≤ max_pred P }
+    requires vertex { IsVertex graph.now.n vertex }
+    requires size { length (T.labels table.old) ≡ graph.now.n }
+    requires kept { T.IsKept table.old }
+    requires arcs { All (Contains graph.now.arcs) arcs.old.items }
+    ensures size { length (T.labels table.new) ≡ graph.now.n }
+    ensures lowered { IsLowered (max_dist P) graph.now.arcs
+        (T.labels table.old) (T.labels table.new) }
+    ensures kept { T.IsKept table.new }
+    ensures arcs { OnOk result (All (Contains graph.now.arcs) arcs.new.items) }
+{
+    for arc in graph.row(vertex) {
+        relax_full(graph, arcs, table, bins)?;
+        arcs.push(*arc)?;
+    }
+    Ok(())
+}
+
+// Relaxes the arcs of the vertices.
+fn relax_live<T: Table<P>, const P: u32>(
+    graph: &Graph,
+    vertices: &[u32],
+    arcs: &mut Vec<Arc>,
+    table: &mut T,
+    bins: &mut Bins,
+) -> Result<(), AllocError>
+    requires layout { is_layout P ≡ true }
+    requires room { graph.now.n ≤ max_pred P }
+    requires vertices { All (IsVertex graph.now.n) vertices.now }
+    requires size { length (T.labels table.old) ≡ graph.now.n }
+    requires kept { T.IsKept table.old }
+    ensures size { length (T.labels table.new) ≡ graph.now.n }
+    ensures lowered { IsLowered (max_dist P) graph.now.arcs
+        (T.labels table.old) (T.labels table.new) }
+    ensures kept { T.IsKept table.new }
+{
+    arcs.clear();
+    for vertex in vertices {
+        put_row(graph, *vertex, arcs, table, bins)?;
+    }
+    relax_waiting(graph, arcs, table, bins)
+}
+
+// Relaxes the arcs of an entry's vertex, if the vertex still has the entry's distance. Heads that came nearer are put
+// into buckets.
+fn relax_row<T: Table<P>, const P: u32>(
+    graph: &Graph,
+    entry: Entry,
+    table: &mut T,
+    bins: &mut Bins,
+) -> Result<(), AllocError>
+    requires layout { is_layout P ≡ true }
+    requires room { graph.now.n ≤ max_pred P }
+    requires size { length (T.labels table.old) ≡ graph.now.n }
+    requires kept { T.IsKept table.old }
+    ensures size { length (T.labels table.new) ≡ graph.now.n }
+    ensures lowered { IsLowered (max_dist P) graph.now.arcs
+        (T.labels table.old) (T.labels table.new) }
+    ensures kept { T.IsKept table.new }
+{
+    let vertex = entry.vertex;
+    // The graph's arcs lead from vertices to vertices.
+    let _ = graph.n();
+    if !graph.has_vertex(vertex) || look_up(table.words(), vertex).dist() != Some(entry.dist) {
+        return Ok(());
+    }
+    for arc in graph.row(vertex) {
+        if let Some(dist) = table.lower(*arc)? {
+            let head = Entry {
+                vertex: arc.head,
+                dist,
+            };
+            bins.put_head(head, entry.dist)?;
+        }
+    }
+    Ok(())
+}
+
+// Relaxes the arcs of the vertex of each entry.
+fn relax_each<T: Table<P>, const P: u32>(
+    graph: &Graph,
+    entries: &[Entry],
+    table: &mut T,
+    bins: &mut Bins,
+) -> Result<(), AllocError>
+    requires layout { is_layout P ≡ true }
+    requires room { graph.now.n ≤ max_pred P }
+    requires size { length (T.labels table.old) ≡ graph.now.n }
+    requires kept { T.IsKept table.old }
+    ensures size { length (T.labels table.new) ≡ graph.now.n }
+    ensures lowered { IsLowered (max_dist P) graph.now.arcs
+        (T.labels table.old) (T.labels table.new) }
+    ensures kept { T.IsKept table.new }
+{
+    for entry in entries {
+        relax_row(graph, *entry, table, bins)?;
+    }
+    Ok(())
+}
+
+// Relaxes the arcs of those vertices that still have their entry's distance.
+fn relax_some<T: Table<P>, const P: u32>(
+    graph: &Graph,
+    entries: &[Entry],
+    batch: &mut Batch,
+    table: &mut T,
+    bins: &mut Bins,
+) -> Result<(), AllocError>
+    requires layout { is_layout P ≡ true }
+    requires room { graph.now.n ≤ max_pred P }
+    requires size { length (T.labels table.old) ≡ graph.now.n }
+    requires kept { T.IsKept table.old }
+    ensures size { length (T.labels table.new) ≡ graph.now.n }
+    ensures lowered { IsLowered (max_dist P) graph.now.arcs
+        (T.labels table.old) (T.labels table.new) }
+    ensures kept { T.IsKept table.new }
+{
+    if entries.len() < FEW {
+        return relax_each(graph, entries, table, bins);
+    }
+    if count_live(graph, table.words(), entries) == 0 {
+        return Ok(());
+    }
+    let Batch { live, arcs } = batch;
+    take_live(graph, table.words(), entries, live)?;
+    if count_arcs(graph, live) == 0 || greatest_end(graph, live) == 0 {
+        return Ok(());
+    }
+    relax_live(graph, live, arcs, table, bins)
+}
+
+/// Relaxes the arcs of the vertex of each entry, if the vertex still has the entry's distance. Heads that came nearer are put into
+/// buckets.
+pub(crate) fn relax_rows<T: Table<P>, const P: u32>(
+    graph: &Graph,
+    entries: &[Entry],
+    batch: &mut Batch,
+    table: &mut T,
+    bins: &mut Bins,
+) -> Result<(), AllocError>
+    requires layout { is_layout P ≡ true }
+    requires room { graph.now.n ≤ max_pred P }
+    requires size { length (T.labels table.old) ≡ graph.now.n }
+    requires kept { T.IsKept table.old }
+    ensures size { length (T.labels table.new) ≡ graph.now.n }
+    ensures lowered { IsLowered (max_dist P) graph.now.arcs
+        (T.labels table.old) (T.labels table.new) }
+    ensures kept { T.IsKept table.new }
+{
+    if table.words().len() < FAR {
+        return relax_each(graph, entries, table, bins);
+    }
+    for some in entries.chunks(STRETCH) {
+        relax_some(graph, some, batch, table, bins)?;
+    }
+    Ok(())
+}
