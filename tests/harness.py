@@ -105,8 +105,8 @@ def arcs_by_tail(path, vertices):
     return rows
 
 
-def compare_kinds(description, compare, **numbers):
-    """Compares on a graph of each kind, with numbers that options may change: 10,000 vertices, a seed, and these. The exit status."""
+def compare_kinds(description, compare, once=None, **numbers):
+    """Compares on a graph of each kind, and once more, with numbers that options may change: 10,000 vertices, a seed, and these. The exit status."""
     options = argparse.ArgumentParser(description=description, formatter_class=argparse.RawDescriptionHelpFormatter)
     for name, number in {"vertices": 10000, **numbers, "seed": 1}.items():
         options.add_argument(f"--{name}", type=int, default=number)
@@ -114,4 +114,6 @@ def compare_kinds(description, compare, **numbers):
     with tempfile.TemporaryDirectory() as folder:
         for kind in sorted(graphs.KINDS):
             compare(count, kind, chosen, folder)
+        if once:
+            once(count, chosen, folder)
     return count.end()

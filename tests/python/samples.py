@@ -1,6 +1,7 @@
 """The example, and graphs drawn by lot."""
 
 import array
+import heapq
 import os
 import random
 
@@ -17,6 +18,24 @@ def by_lot(n, m, seed, longest=1000):
 
 def triples(numbers):
     return list(zip(numbers[::3], numbers[1::3], numbers[2::3]))
+
+
+def distances_from(arcs, n, source):
+    """The distance of each vertex by a plain Dijkstra."""
+    rows = [[] for _ in range(n + 1)]
+    for tail, head, length in arcs:
+        rows[tail].append((head, length))
+    distances, waiting = [2**64 - 1] * n, [(0, source)]
+    distances[source - 1] = 0
+    while waiting:
+        dist, tail = heapq.heappop(waiting)
+        if dist != distances[tail - 1]:
+            continue
+        for head, length in rows[tail]:
+            if dist + length < distances[head - 1]:
+                distances[head - 1] = dist + length
+                heapq.heappush(waiting, (dist + length, head))
+    return distances
 
 
 def smallest_predecessors(arcs, source, distances):

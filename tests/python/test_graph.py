@@ -114,6 +114,15 @@ class Trees(unittest.TestCase):
         tree = spt.Graph(300, arcs).tree(9)
         self.assertEqual(list(tree.predecessors), samples.smallest_predecessors(samples.triples(arcs), 9, tree.distances))
 
+    def test_many_vertices(self):
+        # more words than lie in a core's own cache, and a row that is longer than what is worked off at once
+        n = 140_000
+        arcs = samples.triples(samples.by_lot(n, 3 * n, 1)) + [(7, head, 900) for head in range(1, 2001)]
+        tree = spt.Graph(n, arcs).tree(5)
+        distances = samples.distances_from(arcs, n, 5)
+        self.assertEqual(list(tree.distances), distances)
+        self.assertEqual(list(tree.predecessors), samples.smallest_predecessors(arcs, 5, distances))
+
     def test_check(self):
         right = self.graph.tree(1)
         self.assertIsNone(self.graph.check(right))
