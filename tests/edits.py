@@ -14,13 +14,14 @@ nothing where it isn't.
 An edit has a line `file: FILE`, and for each place in the file `old: TEXT`, which stands there once, and `new: TEXT`. What its twin has
 in a place stands behind, as `twin: TEXT`; the kit passes it over, and tests/twins.py tries all of them.
 
-Usage: python3 tests/edits.py [--over-gate] [--changed] [CRATE..]
+Usage: python3 tests/edits.py [--over-gate] [--changed] [--list] [CRATE..]
 
 --over-gate takes the libraries that `rt ci` has just proved in this folder; else what the crates below state is taken as build/check.py
 has it, and built first where it isn't at hand.
 --changed leaves out the crates of which dist/edits says that all their edits were refused: with these edits, of these sources of the
 crate, over what the crates below it state (build/stated.py), by a kit of this logic. A run writes that list to .spt/edits, where a sum of a crate that it doesn't try
 stays, and build/release puts it into dist/.
+--list tries nothing, and tells the crates whose edits would be tried, with the number of each one's edits.
 The last line is 'N passed, M failed'.
 """
 
@@ -346,6 +347,7 @@ def main():
     options = argparse.ArgumentParser(description=__doc__, formatter_class=argparse.RawDescriptionHelpFormatter)
     options.add_argument("--over-gate", action="store_true")
     options.add_argument("--changed", action="store_true")
+    options.add_argument("--list", action="store_true")
     options.add_argument("crates", nargs="*")
     chosen = options.parse_args()
     os.chdir(HOME)
@@ -363,6 +365,9 @@ def main():
     for crate in refused_before:
         print(f"{crate.name}: its edits were refused before, of the same sources over the same statements")
     crates = [it for it in crates if it not in refused_before]
+    if chosen.list:
+        print("\n".join(f"{it.name}: {len(list(edits_of(it)))}" for it in crates))
+        return 0
     found = rt.in_lanes(lanes(crates)) if crates else {}
     wrong = {name for (name, _), outcomes in found.items() if not all(outcomes)}
     others = {name: its for name, its in kept_sums(MADE, KEPT).items() if name in names and name not in sums}
