@@ -22,7 +22,7 @@ pub struct Sizes {
 /// The sizes that read sooner than others.
 pub const SIZES: Sizes = Sizes {
     alone: 262_144,
-    group: 2_097_152,
+    group: 1_048_576,
     part: 131_072,
 };
 

@@ -39,10 +39,10 @@ fn is_long(received: &Received, group: &Group, sizes: &Sizes) -> bool
     }
 }
 
-// Returns how large the buffer of a group is, given how many bytes came: a quarter of them, so that a small text takes
-// little memory.
+// Returns how large the buffer of a group is, given how many bytes came: half of them, so that a small text takes little
+// memory.
 fn buffer_size(came: usize, sizes: &Sizes) -> usize {
-    (came / 4).min(sizes.group)
+    (came / 2).min(sizes.group)
 }
 
 // Reads the rest of a text by groups: a long one by several threads, a short one alone.
