@@ -1,6 +1,7 @@
 pub mod Order
 pub mod Part
 pub mod Longest
+pub mod Marks
 pub mod Mean
 pub mod Keys
 pub mod Index

@@ -4,6 +4,7 @@
 
 mod graph;
 mod index;
+mod marks;
 mod mean;
 mod ordering;
 mod placing;
@@ -16,5 +17,6 @@ mod sharing_places;
 mod words;
 
 pub use graph::Graph;
+pub use marks::Mark;
 pub use rows::Rows;
 pub use words::{left_out, look_up};
