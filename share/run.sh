@@ -9,7 +9,7 @@ loader=/lib64/ld-linux-x86-64.so.2
 libraries='/lib/x86_64-linux-gnu/libc.so.6 /lib64/libc.so.6'
 
 run() {
-    export GLIBC_TUNABLES="${GLIBC_TUNABLES-$(tunables "$@")}"
+    if [ -z "${GLIBC_TUNABLES+set}" ]; then tune "$@"; fi
     if may_fail && ! "$1" --version > /dev/null 2>&1; then
         echo "spt: the program doesn't run here: it needs the GNU C library 2.34 or later, on x86-64" >&2
         exit 126
@@ -20,12 +20,12 @@ run() {
     run_tidily "$@"
 }
 
-# tunables PROGRAM WORD..: what is asked of the C library, where nothing else is (docs/BENCHMARKS.md): large lists in large pages, and
-# that lists which are given back stay for those that come next, where one thread makes them. (Of several, each would keep its own.)
-tunables() {
+# tune PROGRAM WORD..: asks something of the C library, where nothing else is asked of it (docs/BENCHMARKS.md): large lists in large pages,
+# and that lists which are given back stay for those that come next, where one thread makes them. (Of several, each would keep its own.)
+tune() {
     kept=
     if keeps_lists "${2-}" "$@"; then kept=:glibc.malloc.mmap_threshold=1073741824:glibc.malloc.trim_threshold=1073741824; fi
-    echo "glibc.malloc.hugetlb=1$kept"
+    export GLIBC_TUNABLES="glibc.malloc.hugetlb=1$kept"
 }
 
 # keeps_lists COMMAND WORD..: whether one thread makes the lists: those of `pairs`, which makes a run for each source, one after the
