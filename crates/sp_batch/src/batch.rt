@@ -71,6 +71,7 @@ pub(crate) fn answer_file<
     let question = TreeQuestion {
         graph: &graph,
         delta: team.delta,
+        workers: team.workers,
         limit: batch.limit,
         meter: settings.listener.meter().unwrap_or(&uncounted),
         watch: batch.watch,

@@ -17,6 +17,10 @@ use std::alloc::{AllocError, Global};
 use std::sync::Wait;
 use std::thread::Threads;
 
+// From so many workers on each of them makes the text of the tree that it has found: one thread, which writes them all, would be
+// too slow for that. Of fewer trees it makes the lines itself, page after page in the same memory.
+const MANY_WORKERS: u32 = 8;
+
 /// The answer for a source.
 #[derive(Drop)]
 pub(crate) enum SourceAnswer<const P: u32> {
@@ -36,6 +40,8 @@ pub(crate) struct TreeQuestion<'a, const P: u32, V> {
     pub(crate) graph: &'a Graph,
     /// The width of a bucket.
     pub(crate) delta: Delta<P>,
+    /// The number of workers.
+    pub(crate) workers: Workers,
     /// The greatest distance that is told, if there is a limit.
     pub(crate) limit: Option<u64>,
     /// The meter on which the workers count the vertices that they relax.
@@ -114,10 +120,13 @@ impl<'a, const P: u32, V: Watch + Sync> Question for TreeQuestion<'a, P, V> {
         }
     }
 
-    // Makes the text of a tree, and lets go of the tree. Where memory for the text is refused, the tree stays.
+    // Where workers are many, makes the text of a tree, and lets go of the tree. Where memory for the text is refused, the tree stays.
     fn ready(&self, alloc: Global, found: SourceAnswer<P>) -> SourceAnswer<P>
         ensures { told_by result ≡ told_by found.entry }
     {
+        if self.workers.get() < MANY_WORKERS {
+            return found;
+        }
         match found {
             SourceAnswer::Tree(tree) => match text_of_words(alloc, &tree) {
                 Ok(text) => SourceAnswer::Text(text),
