@@ -3,8 +3,9 @@ pub mod Orders
 pub mod Keys
 pub mod KeyOrder
 pub mod Scatter
-pub mod SortedRows
 pub mod Parts
+pub mod SortedRows
+pub mod ShortRows
 pub mod Shares
 pub mod Groups
 pub mod Starts

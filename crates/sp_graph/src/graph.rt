@@ -8,7 +8,6 @@ ghost use Rattle.sp_graph.specs.Longest.{IsLongest};
 ghost use Rattle.sp_graph.specs.Mean.{mean_length};
 ghost use Rattle.sp_graph.specs.Index.{IsRowAt};
 
-use crate::index::greatest_length;
 use crate::mean::mean_length;
 use crate::ordering::put_in_order;
 use crate::sharing::put_in_order_by;
@@ -75,13 +74,12 @@ impl Graph {
         if arcs.len() > u32::MAX as usize {
             return Err(AllocError);
         }
-        let rows = put_in_order(alloc, n, arcs)?;
-        let longest = greatest_length(&rows.arcs);
+        let all = put_in_order(alloc, n, arcs)?;
         Ok(Graph {
             n,
-            arcs: rows.arcs,
-            ends: rows.ends,
-            longest,
+            arcs: all.rows.arcs,
+            ends: all.rows.ends,
+            longest: all.longest,
         })
     }
 

@@ -14,6 +14,7 @@ mod sharing;
 mod sharing_counts;
 mod sharing_groups;
 mod sharing_places;
+mod short_rows;
 mod words;
 
 pub use graph::Graph;
