@@ -7,6 +7,7 @@ pub mod Parts
 pub mod SortedRows
 pub mod ShortRows
 pub mod Shares
+pub mod Counting
 pub mod Groups
 pub mod Starts
 pub mod Cuts

@@ -8,12 +8,14 @@ mod marks;
 mod mean;
 mod ordering;
 mod placing;
+mod rising;
 mod row_sorting;
 mod rows;
 mod sharing;
 mod sharing_counts;
 mod sharing_groups;
 mod sharing_places;
+mod sharing_rising;
 mod short_rows;
 mod words;
 
