@@ -1,7 +1,6 @@
 -- What the arcs of a row may offer.
-use Rattle.std.proofs.Common.{◌≡◌, ℕ, zero, suc, ◌+◌, ◌≤◌, ◌⊎◌, inl, inr, Bool, true, false, List, [], ◌∷◌, ◌++◌, get_or, sym, ap, ◌∙◌, subst, arith}
-use Rattle.std.specs.Prelude.{All, Contains, filter, nat_eq}
-use Rattle.std.proofs.lemmas.Bool.{cases_Bool, cond-true, cond-false, eqb-true}
+use Rattle.std.proofs.Common.{◌≡◌, ℕ, ◌+◌, ◌≤◌, Bool, true, false, List, get_or, sym, subst}
+use Rattle.std.specs.Prelude.{All, Contains}
 use Rattle.std.proofs.lemmas.List.Elements.{Contains-get_or, All-push}
 use Rattle.sp_word.specs.Word.{Word, Pair}
 use Rattle.sp_paths.specs.declared.arc.Arc.{Arc}
@@ -21,10 +20,10 @@ row_allowed law max g v d p row allows here is k e low fits =
     allows a.tail a.head a.len d p in'.0 (subst (λ u. law u (Pair d p)) (sym in'.1) here) fits
 
 -- an arc that may offer the sum asks for nothing else
-pub asked : (law : ℕ → Word → Type 0) (max n : ℕ) (a : Arc) (d : ℕ) (rs ss : List Request) → IsArc n a → AllowsSum law max d a → All (IsRequest law max n) rs
-    → Asks max a d rs ss → All (IsRequest law max n) ss
-asked law max n a d rs ss arc allowed held (inr same) = subst (All (IsRequest law max n)) (sym same) held
-asked law max n a d rs ss arc allowed held (inl (fits, more)) =
+pub asked : (law : ℕ → Word → Type 0) (max n : ℕ) (a : Arc) (d : ℕ) (fits : Bool) (rs ss : List Request) → IsArc n a → AllowsSum law max d a → All (IsRequest law max n) rs
+    → Asks max a d fits rs ss → All (IsRequest law max n) ss
+asked law max n a d false rs ss arc allowed held asks = subst (All (IsRequest law max n)) (sym asks.1) held
+asked law max n a d true rs ss arc allowed held asks =
     let r : Request = record { arc = a; dist = d } in
-    let here : IsRequest law max n r = record { head = arc.1; sum = fits; allowed = allowed fits } in
-    subst (All (IsRequest law max n)) (sym more) (All-push (IsRequest law max n) rs r held here)
+    let here : IsRequest law max n r = record { head = arc.1; sum = asks.0; allowed = allowed asks.0 } in
+    subst (All (IsRequest law max n)) (sym asks.1) (All-push (IsRequest law max n) rs r held here)

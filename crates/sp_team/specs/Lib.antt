@@ -1,3 +1,4 @@
 pub mod Law
 pub mod Later
+pub mod Marked
 pub mod Requests

@@ -1,5 +1,5 @@
 -- What the arcs of vertices that are relaxed ask of their heads.
-use Rattle.std.specs.Prelude.{◌≡◌, ℕ, ◌+◌, ◌≤◌, ◌⊎◌, List, [], ◌∷◌, ◌++◌}
+use Rattle.std.specs.Prelude.{◌≡◌, ℕ, ◌+◌, ◌<◌, ◌≤◌, Bool, true, false, List, [], ◌∷◌, ◌++◌}
 use Rattle.sp_word.specs.Word.{Word, Pair}
 use Rattle.sp_paths.specs.declared.arc.Arc.{Arc}
 use Rattle.sp_paths.specs.Paths.{IsVertex}
@@ -11,6 +11,7 @@ pub record IsRequest (law : ℕ → Word → Type 0) (max vertices : ℕ) (r : R
   pub sum : r.dist + r.arc.len ≤ max
   pub allowed : law r.arc.head (Pair (r.dist + r.arc.len) r.arc.tail)
 
--- a request for the arc was put behind the others, its sum being within the greatest distance; or none was
-abbrev pub Asks : (max : ℕ) → Arc → (dist : ℕ) → (before after : List Request) → Type 0
-Asks max a dist before after = ((dist + a.len ≤ max) × (after ≡ before ++ record { arc = a; dist = dist } ∷ [])) ⊎ (after ≡ before)
+-- where the sum is within the greatest distance, a request for the arc was put behind the others; else none was
+abbrev pub Asks : (max : ℕ) → Arc → (dist : ℕ) → (fits : Bool) → (before after : List Request) → Type 0
+Asks max a dist true before after = (dist + a.len ≤ max) × (after ≡ before ++ record { arc = a; dist = dist } ∷ [])
+Asks max a dist false before after = (max < dist + a.len) × (after ≡ before)

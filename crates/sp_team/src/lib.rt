@@ -10,6 +10,7 @@ mod common;
 mod deques;
 mod entries;
 mod hands;
+mod notes;
 mod relax;
 mod search;
 mod signals;

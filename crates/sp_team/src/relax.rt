@@ -1,13 +1,16 @@
 //! Vertices relaxed, by way of what their arcs ask of their heads.
-ghost use Rattle.std.specs.Prelude.{◌≡◌, ◌≤◌, true, All, OnOk};
+ghost use Rattle.std.specs.Prelude.{◌≡◌, ◌≤◌, true, [], All, IfOk, IsTrue, OnOk};
 ghost use Rattle.sp_word.specs.Word.{is_layout, max_dist};
 ghost use Rattle.sp_paths.specs.Paths.{IsArc};
 ghost use Rattle.sp_offer.specs.Order.{lawful};
+ghost use Rattle.sp_offer.specs.Story.{known_table};
 ghost use Rattle.sp_team.specs.Law.{IsReady, AllowsSum};
 ghost use Rattle.sp_team.specs.Requests.{IsRequest, Asks};
 ghost use Rattle.sp_team.specs.Later.{IsLater};
+ghost use Rattle.sp_team.specs.Marked.{IsMet, WillBeMet, RowWillBeMet, WillBeTrue};
 
 use crate::entries::read_dist;
+use crate::notes::Notes;
 use sp_bins::{Bins, Entry};
 use sp_graph::Graph;
 use sp_offer::{Caller, Lawful, OfferTable};
@@ -37,7 +40,8 @@ fn offer_head<L: Lawful, const P: u32>(
     requires request { IsRequest
         (lawful P (L.allows table.now.law)) (max_dist P) table.now.vertices request }
     requires caller { caller.old.table ≡ table.now.id }
-    ensures { IsLater (lawful P (L.allows table.now.law)) caller.old caller.new }
+    ensures later { IsLater (lawful P (L.allows table.now.law)) caller.old caller.new }
+    ensures met { IsMet (max_dist P) (known_table caller.new.story) request }
 {
     let Request { arc, dist } = request;
     let sum = dist + u64::from(arc.len);
@@ -82,7 +86,9 @@ fn offer_all<L: Lawful, const P: u32>(
     requires requests { All (IsRequest
         (lawful P (L.allows table.now.law)) (max_dist P) table.now.vertices) requests.now }
     requires caller { caller.old.table ≡ table.now.id }
-    ensures { IsLater (lawful P (L.allows table.now.law)) caller.old caller.new }
+    ensures later { IsLater (lawful P (L.allows table.now.law)) caller.old caller.new }
+    ensures met { OnOk result
+        (All (IsMet (max_dist P) (known_table caller.new.story)) requests.now) }
 {
     for request in requests {
         offer_head(table, *request, caller, bins)?;
@@ -102,8 +108,9 @@ pub(crate) fn answer<L: Lawful, const P: u32>(
         table.now.vertices) requests.old.items }
     requires caller { caller.old.table ≡ table.now.id }
     ensures later { IsLater (lawful P (L.allows table.now.law)) caller.old caller.new }
-    ensures requests { OnOk result (All (IsRequest (lawful P (L.allows table.now.law))
-        (max_dist P) table.now.vertices) requests.new.items) }
+    ensures none { OnOk result (requests.new.items ≡ []) }
+    ensures met { OnOk result
+        (All (IsMet (max_dist P) (known_table caller.new.story)) requests.old.items) }
 {
     warm_heads(table, requests.as_slice(), caller);
     offer_all(table, requests.as_slice(), caller, bins)?;
@@ -111,19 +118,26 @@ pub(crate) fn answer<L: Lawful, const P: u32>(
     Ok(())
 }
 
-// Puts a request for an arc at its tail's distance, where the sum is within the greatest distance.
-fn ask_arc<const P: u32>(arc: Arc, dist: u64, requests: &mut Vec<Request>) -> Result<(), AllocError>
+// Puts a request for an arc at its tail's distance, where the sum is within the greatest distance. Tells whether it is.
+fn ask_arc<const P: u32>(
+    arc: Arc,
+    dist: u64,
+    requests: &mut Vec<Request>,
+) -> Result<bool, AllocError>
     requires layout { is_layout P ≡ true }
     requires dist { dist ≤ max_dist P }
-    ensures { OnOk result (Asks (max_dist P) arc dist requests.old.items requests.new.items) }
+    ensures { IfOk result
+        (λ fits. Asks (max_dist P) arc dist fits requests.old.items requests.new.items) }
 {
-    if u64::from(arc.len) <= Word::<P>::max_dist() - dist {
+    let fits = u64::from(arc.len) <= Word::<P>::max_dist() - dist;
+    if fits {
         requests.push(Request { arc, dist })?;
     }
-    Ok(())
+    Ok(fits)
 }
 
-// Puts requests for the arcs of a row at their tail's distance. Where there are many, they are answered.
+// Puts requests for the arcs of a row at their tail's distance. Where there are many, they are answered. Tells whether there was
+// one for each arc.
 fn ask_row<L: Lawful, const P: u32>(
     table: &OfferTable<L, P>,
     row: &[Arc],
@@ -131,7 +145,7 @@ fn ask_row<L: Lawful, const P: u32>(
     requests: &mut Vec<Request>,
     caller: &mut Caller,
     bins: &mut Bins,
-) -> Result<(), AllocError>
+) -> Result<bool, AllocError>
     requires layout { is_layout P ≡ true }
     requires dist { dist ≤ max_dist P }
     requires arcs { All (IsArc table.now.vertices) row.now }
@@ -143,32 +157,44 @@ fn ask_row<L: Lawful, const P: u32>(
     ensures later { IsLater (lawful P (L.allows table.now.law)) caller.old caller.new }
     ensures requests { OnOk result (All (IsRequest (lawful P (L.allows table.now.law))
         (max_dist P) table.now.vertices) requests.new.items) }
+    ensures before { OnOk result (All (WillBeMet (max_dist P) (known_table caller.new.story)
+        requests.new.items) requests.old.items) }
+    ensures row { IfOk result (λ whole. IsTrue whole
+        → RowWillBeMet (max_dist P) (known_table caller.new.story)
+        requests.new.items dist row.now) }
 {
+    let mut whole = true;
     for arc in row {
-        ask_arc::<P>(*arc, dist, requests)?;
+        let fits = ask_arc::<P>(*arc, dist, requests)?;
+        whole = whole && fits;
         if requests.len() >= MOST {
             answer(table, requests, caller, bins)?;
         }
     }
-    Ok(())
+    Ok(whole)
 }
 
-/// Puts a request for each arc of an entry's vertex, if the vertex still has the entry's distance. Tells whether it has.
+/// Puts a request for each arc of an entry's vertex, if the vertex still has the entry's distance, and notes its mark, if each
+/// arc has one. Tells whether it has.
 pub(crate) fn ask<L: Lawful, const P: u32>(
     graph: &Graph,
     table: &OfferTable<L, P>,
     entry: Entry,
-    requests: &mut Vec<Request>,
+    notes: &mut Notes,
     caller: &mut Caller,
     bins: &mut Bins,
 ) -> Result<bool, AllocError>
     requires ready { IsReady P (lawful P (L.allows table.now.law)) table.now.vertices graph.now }
     requires requests { All (IsRequest (lawful P (L.allows table.now.law)) (max_dist P)
-        table.now.vertices) requests.old.items }
+        table.now.vertices) notes.old.requests.items }
+    requires marks { All (WillBeTrue (max_dist P) graph.now (known_table caller.old.story)
+        notes.old.requests.items) notes.old.marks.items }
     requires caller { caller.old.table ≡ table.now.id }
     ensures later { IsLater (lawful P (L.allows table.now.law)) caller.old caller.new }
     ensures requests { OnOk result (All (IsRequest (lawful P (L.allows table.now.law))
-        (max_dist P) table.now.vertices) requests.new.items) }
+        (max_dist P) table.now.vertices) notes.new.requests.items) }
+    ensures marks { OnOk result (All (WillBeTrue (max_dist P) graph.now
+        (known_table caller.new.story) notes.new.requests.items) notes.new.marks.items) }
 {
     let vertex = entry.vertex;
     if !graph.has_vertex(vertex) {
@@ -176,7 +202,10 @@ pub(crate) fn ask<L: Lawful, const P: u32>(
     }
     match read_dist(table, vertex, caller) {
         Some(dist) if dist == entry.dist => {
-            ask_row(table, graph.row(vertex), dist, requests, caller, bins)?;
+            let row = graph.row(vertex);
+            if ask_row(table, row, dist, &mut notes.requests, caller, bins)? {
+                notes.note(vertex, dist);
+            }
             Ok(true)
         }
         _ => Ok(false),

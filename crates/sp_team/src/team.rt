@@ -1,20 +1,24 @@
 //! A team of workers.
-ghost use Rattle.std.specs.Prelude.{◌≡◌, ◌++◌, ◌||◌};
+ghost use Rattle.std.specs.Prelude.{◌≡◌, ℕ, [], ◌++◌, ◌||◌, All, IfOk, OnOk};
 ghost use denote.Param.Send.{IsSync, IsSend};
+ghost use Rattle.sp_word.specs.Word.{max_dist};
+ghost use Rattle.sp_paths.specs.Paths.{Graph as Network};
 ghost use Rattle.sp_offer.specs.Order.{lawful};
 ghost use Rattle.sp_offer.specs.Story.{Follows, own_calls};
 ghost use Rattle.sp_team.specs.Law.{IsReady};
 ghost use Rattle.sp_team.specs.Later.{IsLater};
+ghost use Rattle.sp_team.specs.Marked.{AllTrue, AreTrue};
 
 use crate::chunk::Chunk;
 use crate::common::Common;
 use crate::entries::{count_arcs, greatest_end, is_live, read_dist, warm_words};
 use crate::hands::Hands;
-use crate::relax::{MOST, Request, answer, ask};
+use crate::notes::Notes;
+use crate::relax::{answer, ask};
 use crate::search::{Horizon, Search};
 use crossbeam_deque::Worker;
 use sp_bins::Entry;
-use sp_graph::Graph;
+use sp_graph::{Graph, Mark};
 use sp_offer::{Caller, Lawful, OfferTable};
 use sp_word::Meter;
 use std::alloc::{AllocError, Global};
@@ -32,6 +36,8 @@ pub struct Relaxed {
     /// Whether memory was refused to a worker that had entries, so that some may not have been relaxed. Offers that were
     /// made stay made.
     pub lost: bool,
+    /// What is known of the vertices whose arcs were relaxed, a list of each worker. Some may be missing.
+    pub marks: Vec<Vec<Mark>>,
 }
 
 /// What a worker begins with.
@@ -52,20 +58,35 @@ struct Squad {
     caller: Caller,
 }
 
-/// Room for what a worker works off at once.
+/// What a worker works off at once, and what it has noted.
 #[derive(Drop)]
 struct Batch {
     // entries whose vertices still have their distances
     live: Vec<Entry>,
-    requests: Vec<Request>,
+    notes: Notes,
 }
 
 impl Batch {
-    fn new(alloc: Global) -> Result<Batch, AllocError> {
+    fn new(graph: &Graph, common: &Common) -> Result<Batch, AllocError>
+        ensures { IfOk result (λ batch. batch.notes.marks.items ≡ []) }
+    {
         Ok(Batch {
-            live: Vec::with_capacity(alloc, STRETCH)?,
-            requests: Vec::with_capacity(alloc, MOST)?,
+            live: Vec::with_capacity(common.alloc, STRETCH)?,
+            notes: Notes::new(graph, common)?,
         })
+    }
+
+    // Leaves the marks, and drops what else was noted.
+    fn into_marks(self) -> Vec<Mark>
+        ensures { result ≡ self.notes.marks }
+    {
+        let Batch { live: _, notes } = self;
+        let Notes {
+            requests: _,
+            marks,
+            ..
+        } = notes;
+        marks
     }
 }
 
@@ -105,16 +126,20 @@ fn relax_live<L: Lawful, const P: u32>(
 ) -> Result<(), AllocError>
     requires ready { IsReady P (lawful P (L.allows table.now.law)) table.now.vertices graph.now }
     requires caller { caller.old.table ≡ table.now.id }
-    ensures { IsLater (lawful P (L.allows table.now.law)) caller.old caller.new }
+    requires marks { AllTrue (max_dist P) graph.now caller.old.story
+        batch.old.notes.marks.items }
+    ensures later { IsLater (lawful P (L.allows table.now.law)) caller.old caller.new }
+    ensures marks { OnOk result (AllTrue (max_dist P) graph.now caller.new.story
+        batch.new.notes.marks.items) }
 {
-    let Batch { live, requests } = batch;
-    requests.clear();
+    let Batch { live, notes } = batch;
+    notes.requests.clear();
     for entry in live.as_slice() {
-        if ask(graph, table, *entry, requests, caller, hands.bins())? {
+        if ask(graph, table, *entry, notes, caller, hands.bins())? {
             hands.count(1);
         }
     }
-    answer(table, requests, caller, hands.bins())
+    answer(table, &mut notes.requests, caller, hands.bins())
 }
 
 // Works off some entries, and drops those beyond the horizon. It goes over them several times, and reads for all of them what
@@ -129,7 +154,11 @@ fn run_some<L: Lawful, const P: u32>(
 ) -> Result<(), AllocError>
     requires ready { IsReady P (lawful P (L.allows table.now.law)) table.now.vertices graph.now }
     requires caller { caller.old.table ≡ table.now.id }
-    ensures { IsLater (lawful P (L.allows table.now.law)) caller.old caller.new }
+    requires marks { AllTrue (max_dist P) graph.now caller.old.story
+        batch.old.notes.marks.items }
+    ensures later { IsLater (lawful P (L.allows table.now.law)) caller.old caller.new }
+    ensures marks { OnOk result (AllTrue (max_dist P) graph.now caller.new.story
+        batch.new.notes.marks.items) }
 {
     warm_words(graph, table, hands.upcoming(STRETCH), caller);
     take_live(graph, table, hands, horizon, &mut batch.live, caller)?;
@@ -185,7 +214,7 @@ fn begin<R: Wait, L: Lawful, const P: u32>(
     Ok(true)
 }
 
-// Works until there is nothing to do.
+// Works until there is nothing to do. Returns the marks of what was relaxed.
 fn work<R: Wait, L: Lawful, const P: u32>(
     rt: &R,
     graph: &Graph,
@@ -193,24 +222,35 @@ fn work<R: Wait, L: Lawful, const P: u32>(
     common: &Common,
     hands: &mut Hands,
     caller: &mut Caller,
-) -> Result<(), AllocError>
+) -> Result<Vec<Mark>, AllocError>
     requires ready { IsReady P (lawful P (L.allows table.now.law)) table.now.vertices graph.now }
     requires caller { caller.old.table ≡ table.now.id }
-    ensures { IsLater (lawful P (L.allows table.now.law)) caller.old caller.new }
+    ensures later { IsLater (lawful P (L.allows table.now.law)) caller.old caller.new }
+    ensures marks { IfOk result
+        (λ marks. AllTrue (max_dist P) graph.now caller.new.story marks.items) }
 {
     if !begin(rt, graph, table, common, hands, caller)? {
-        return Ok(());
+        return Ok(Vec::new(common.alloc));
     }
     let mut horizon = Horizon::new(common.limit);
-    let mut batch = Batch::new(common.alloc)?;
+    let mut batch = Batch::new(graph, common)?;
     for _ in rt.forever() {
         if !hands.find(rt, common)? {
-            return Ok(());
+            return Ok(batch.into_marks());
         }
         horizon.look(graph, table, common.targets.as_slice(), caller);
         run_some(graph, table, hands, horizon, &mut batch, caller)?;
     }
     unreachable!()
+}
+
+// Makes the list of one worker's marks. Where memory is refused, it is empty.
+fn list_of(alloc: Global, marks: Vec<Mark>) -> Vec<Vec<Mark>>
+    ensures { All (λ list. list ≡ marks) result.items }
+{
+    let mut lists = Vec::new(alloc);
+    let _ = lists.push(marks);
+    lists
 }
 
 // Runs one worker, which begins with the queue or waits for entries of others.
@@ -224,7 +264,8 @@ fn run_worker<R: Wait, L: Lawful, const P: u32>(
 ) -> Relaxed
     requires ready { IsReady P (lawful P (L.allows table.now.law)) table.now.vertices graph.now }
     requires caller { start.caller.table ≡ table.now.id }
-    ensures { IsLater (lawful P (L.allows table.now.law)) start.caller result.caller }
+    ensures later { IsLater (lawful P (L.allows table.now.law)) start.caller result.caller }
+    ensures marks { AreTrue (max_dist P) graph.now result.caller.story result.marks.items }
 {
     let Start {
         worker,
@@ -237,16 +278,31 @@ fn run_worker<R: Wait, L: Lawful, const P: u32>(
         if lost {
             common.signals.leave(worker);
         }
-        return Relaxed { caller, lost };
+        return Relaxed {
+            caller,
+            lost,
+            marks: Vec::new(common.alloc),
+        };
     };
-    let lost = work(rt, graph, table, common, &mut hands, &mut caller).is_err();
-    if lost {
-        common.signals.leave(worker);
+    match work(rt, graph, table, common, &mut hands, &mut caller) {
+        Ok(marks) => Relaxed {
+            caller,
+            lost: false,
+            marks: list_of(common.alloc, marks),
+        },
+        Err(_) => {
+            common.signals.leave(worker);
+            Relaxed {
+                caller,
+                lost: true,
+                marks: Vec::new(common.alloc),
+            }
+        }
     }
-    Relaxed { caller, lost }
 }
 
-// Joins what two squads leave when they end. The caller knows what both did, and has the calls of both.
+// Joins what two squads leave when they end. The caller knows what both did, and has the calls of both. Where memory is refused,
+// the marks are those of the first one.
 fn merge<L: Lawful, const P: u32>(
     table: &OfferTable<L, P>,
     mine: Relaxed,
@@ -260,10 +316,18 @@ fn merge<L: Lawful, const P: u32>(
     ensures own { own_calls result.caller.story
         ≡ own_calls mine.caller.story ++ own_calls theirs.caller.story }
     ensures lost { result.lost ≡ (mine.lost || theirs.lost) }
+    ensures marks { (max : ℕ) (g : Network)
+        → AreTrue max g mine.caller.story mine.marks.items
+        → AreTrue max g theirs.caller.story theirs.marks.items
+        → AreTrue max g result.caller.story result.marks.items }
 {
+    let mut marks = mine.marks;
+    let mut more = theirs.marks;
+    let _ = marks.append(&mut more);
     Relaxed {
         caller: table.join(mine.caller, theirs.caller),
         lost: mine.lost || theirs.lost,
+        marks,
     }
 }
 
@@ -306,7 +370,8 @@ fn run_first<R: Wait, L: Lawful, const P: u32>(
 ) -> Relaxed
     requires ready { IsReady P (lawful P (L.allows table.now.law)) table.now.vertices graph.now }
     requires caller { squad.caller.table ≡ table.now.id }
-    ensures { IsLater (lawful P (L.allows table.now.law)) squad.caller result.caller }
+    ensures later { IsLater (lawful P (L.allows table.now.law)) squad.caller result.caller }
+    ensures marks { AreTrue (max_dist P) graph.now result.caller.story result.marks.items }
 {
     let Squad {
         worker,
@@ -314,7 +379,11 @@ fn run_first<R: Wait, L: Lawful, const P: u32>(
         caller,
     } = squad;
     let Some(own) = owners.pop() else {
-        return Relaxed { caller, lost: true };
+        return Relaxed {
+            caller,
+            lost: true,
+            marks: Vec::new(common.alloc),
+        };
     };
     let start = Start {
         worker,
@@ -337,7 +406,8 @@ fn run_workers<R: Threads + Wait + Sync, L: Lawful + Send + Sync, const P: u32>(
 ) -> Relaxed
     requires ready { IsReady P (lawful P (L.allows table.now.law)) table.now.vertices graph.now }
     requires caller { squad.caller.table ≡ table.now.id }
-    ensures { IsLater (lawful P (L.allows table.now.law)) squad.caller result.caller }
+    ensures later { IsLater (lawful P (L.allows table.now.law)) squad.caller result.caller }
+    ensures marks { AreTrue (max_dist P) graph.now result.caller.story result.marks.items }
 {
     let half = squad.owners.len() / 2;
     if half == 0 {
@@ -351,13 +421,15 @@ fn run_workers<R: Threads + Wait + Sync, L: Lawful + Send + Sync, const P: u32>(
         requires { IsSync R.row × IsSync L.row × IsSend L.row
             × IsReady P (lawful P (L.allows table.now.law)) table.now.vertices graph.now
             × (second.caller.table ≡ table.now.id) }
-        ensures { IsLater (lawful P (L.allows table.entry.now.law)) second.caller result.caller }
+        ensures { IsLater (lawful P (L.allows table.entry.now.law)) second.caller result.caller
+            × AreTrue (max_dist P) graph.entry.now result.caller.story result.marks.items }
     { run_workers(rt, graph, table, common, meter, second) };
     let mine = move || -> Relaxed
         requires { IsSync R.row × IsSync L.row × IsSend L.row
             × IsReady P (lawful P (L.allows table.now.law)) table.now.vertices graph.now
             × (first.caller.table ≡ table.now.id) }
-        ensures { IsLater (lawful P (L.allows table.entry.now.law)) first.caller result.caller }
+        ensures { IsLater (lawful P (L.allows table.entry.now.law)) first.caller result.caller
+            × AreTrue (max_dist P) graph.entry.now result.caller.story result.marks.items }
     { run_workers(rt, graph, table, common, meter, first) };
     let (later, sooner) = join(rt, theirs, mine);
     merge(table, sooner, later)
@@ -377,12 +449,19 @@ pub fn relax_all<R: Threads + Wait + Sync, L: Lawful + Send + Sync, const P: u32
 ) -> Relaxed
     requires ready { IsReady P (lawful P (L.allows table.now.law)) table.now.vertices graph.now }
     requires caller { caller.table ≡ table.now.id }
-    ensures { IsLater (lawful P (L.allows table.now.law)) caller result.caller }
+    ensures later { IsLater (lawful P (L.allows table.now.law)) caller result.caller }
+    ensures marks { AreTrue (max_dist P) graph.now result.caller.story result.marks.items }
 {
     let meter = search.meter;
     let (common, owners) = match Common::new(alloc, search) {
         Ok(made) => made,
-        Err(_) => return Relaxed { caller, lost: true },
+        Err(_) => {
+            return Relaxed {
+                caller,
+                lost: true,
+                marks: Vec::new(alloc),
+            };
+        }
     };
     let squad = Squad {
         worker: 0,

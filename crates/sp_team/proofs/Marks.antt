@@ -1,0 +1,166 @@
+-- Requests that are met, and marks that become true thereby.
+use Rattle.std.proofs.Common.{◌≡◌, ℕ, ◌+◌, ◌<◌, ◌≤◌, inl, inr, Bool, true, false, cond, List, [], ◌∷◌, ◌++◌, length, get_or, take, sym, subst, true≢false}
+use Rattle.std.specs.Prelude.{All, Vec}
+use Rattle.std.specs.declared.alloc.Global.{Global}
+use Rattle.std.proofs.lemmas.List.{take_all}
+use Rattle.std.proofs.lemmas.List.Elements.{All-same, All-nil, All-append, All-push, All-more, All-contains, Contains-get_or, Contains-append_left, Contains-push}
+use Rattle.sp_word.specs.Word.{Word, Unreached, Pair, lesser}
+use Rattle.sp_word.specs.History.{Table}
+use Rattle.sp_paths.specs.declared.arc.Arc.{Arc}
+use Rattle.sp_paths.specs.Paths.{Graph, IsAtMost}
+use Rattle.sp_paths.specs.Rows.{row_of}
+use Rattle.sp_paths.proofs.CallSteps.{lesser_of_offer}
+use Rattle.sp_graph.specs.Marks.{IsRelaxedWithin, IsTrueMark}
+use Rattle.sp_graph.specs.declared.marks.Mark.{Mark}
+use Rattle.sp_offer.specs.Order.{IsNoMore}
+use Rattle.sp_offer.specs.Story.{Story, known_table}
+use Rattle.sp_offer.proofs.Orders.{at_most-refl, at_most-trans}
+use Rattle.sp_team.specs.declared.relax.Request.{Request}
+use Rattle.sp_team.specs.Requests.{Asks}
+use Rattle.sp_team.specs.Marked.{IsMet, HasFallen, WillBeMet, RowWillBeMet, WillBeTrue, MayNote, AllTrue, AreTrue}
+
+-- ## Words that fall
+
+no_more_of : (w : Word) (d p : ℕ) → IsAtMost w d p → IsNoMore w (Pair d p)
+no_more_of Unreached d p h = h
+no_more_of (Pair e q) d p h = h
+
+at_most_of : (w : Word) (d p : ℕ) → IsNoMore w (Pair d p) → IsAtMost w d p
+at_most_of Unreached d p h = h
+at_most_of (Pair e q) d p h = h
+
+-- no word falls where nothing happens
+pub fallen_itself : (t : Table) → HasFallen t t
+fallen_itself t = λ v. at_most-refl (t v)
+
+fallen_along : (r s t : Table) → HasFallen r s → HasFallen s t → HasFallen r t
+fallen_along r s t p q = λ v. at_most-trans (t v) (s v) (r v) (q v) (p v)
+
+-- the head has no greater word than what was offered, once words have fallen
+relaxed_still : (max : ℕ) (s t : Table) (d : ℕ) (a : Arc) → HasFallen s t → IsRelaxedWithin max s d a → IsRelaxedWithin max t d a
+relaxed_still max s t d a fell h =
+    (h.0, at_most_of (t a.head) (d + a.len) a.tail (at_most-trans (t a.head) (s a.head) (Pair (d + a.len) a.tail) (fell a.head) (no_more_of (s a.head) (d + a.len) a.tail h.1)))
+
+-- an offer leaves no greater word than the pair offered
+pub offer_meets : (max : ℕ) (t : Table) (r : Request) (sum : ℕ) (found word : Word) → r.dist + r.arc.len ≤ max → sum ≡ r.dist + r.arc.len → word ≡ Pair sum r.arc.tail
+    → t r.arc.head ≡ lesser found word → IsMet max t r
+offer_meets max t r sum found word fits same is here =
+    let p = r.arc.tail in
+    let left : IsAtMost (lesser found (Pair sum p)) sum p = lesser_of_offer found sum p in
+    let at_head : IsAtMost (t r.arc.head) sum p = subst (λ (w : Word). IsAtMost w sum p) (sym here) (subst (λ (w : Word). IsAtMost (lesser found w) sum p) (sym is) left) in
+    (fits, subst (λ (d : ℕ). IsAtMost (t r.arc.head) d p) same at_head)
+
+-- requests that are met stay so
+pub met_still : (max : ℕ) (s t : Table) (rs : List Request) → HasFallen s t → All (IsMet max s) rs → All (IsMet max t) rs
+met_still max s t rs fell met = λ k e low. let r = get_or rs k e in relaxed_still max s t r.dist r.arc fell (met k e low)
+
+-- one request more is met
+pub one_met_more : (max : ℕ) (s t : Table) (rs : List Request) (i : ℕ) (e : Request) → i < length rs → HasFallen s t → All (IsMet max s) (take i rs) → IsMet max t (get_or rs i e)
+    → All (IsMet max t) (take (i + 1) rs)
+one_met_more max s t rs i e low fell met here = All-more (IsMet max t) rs i e low (met_still max s t (take i rs) fell met) here
+
+-- all of a list, once its end is reached
+pub all_reached : {X : Type 0} (P : X → Type 0) (xs : List X) (i : ℕ) → length xs ≤ i → All P (take i xs) → All P xs
+all_reached P xs i end held = subst (All P) (take_all i xs end) held
+
+-- ## Requests that wait
+
+-- what waits will be met
+pub waits : (max : ℕ) (t : Table) (rs : List Request) → All (WillBeMet max t rs) rs
+waits max t rs = λ k e low later fell met. met k e low
+
+-- what was met will be met
+pub answered : (max : ℕ) (t : Table) (rs ss : List Request) → All (IsMet max t) rs → All (WillBeMet max t ss) rs
+answered max t rs ss met = λ k e low later fell rest. let r = get_or rs k e in relaxed_still max t later r.dist r.arc fell (met k e low)
+
+-- where those that waited will be met by what waits now, so is what they stood for
+will_along : (max : ℕ) (s t : Table) (rs ss : List Request) (r : Request) → HasFallen s t → All (WillBeMet max t ss) rs → WillBeMet max s rs r → WillBeMet max t ss r
+will_along max s t rs ss r fell stand will = λ later lower met. will later (fallen_along s t later fell lower) (λ k e low. stand k e low later lower met)
+
+pub all_along : (max : ℕ) (s t : Table) (rs ss qs : List Request) → HasFallen s t → All (WillBeMet max t ss) rs → All (WillBeMet max s rs) qs → All (WillBeMet max t ss) qs
+all_along max s t rs ss qs fell stand will = λ k e low. will_along max s t rs ss (get_or qs k e) fell stand (will k e low)
+
+pub row_along : (max : ℕ) (s t : Table) (rs ss : List Request) (d : ℕ) (row : List Arc) → HasFallen s t → All (WillBeMet max t ss) rs → RowWillBeMet max s rs d row → RowWillBeMet max t ss d row
+row_along max s t rs ss d row fell stand will = λ k e low. will_along max s t rs ss (record { arc = get_or row k e; dist = d }) fell stand (will k e low)
+
+pub marks_along : (max : ℕ) (g : Graph) (s t : Table) (rs ss : List Request) (marks : List Mark) → HasFallen s t → All (WillBeMet max t ss) rs → All (WillBeTrue max g s rs) marks
+    → All (WillBeTrue max g t ss) marks
+marks_along max g s t rs ss marks fell stand will = λ k e low. let m = get_or marks k e in row_along max s t rs ss m.dist (row_of g.arcs m.vertex) fell stand (will k e low)
+
+-- ## A row that is asked for
+
+-- what waited before an arc was asked for will be met
+pub waited_before : (max : ℕ) (t : Table) (a : Arc) (d : ℕ) (fits : Bool) (rs ss : List Request) → Asks max a d fits rs ss → All (WillBeMet max t ss) rs
+waited_before max t a d true rs ss asks =
+    let r : Request = record { arc = a; dist = d } in
+    let now : All (WillBeMet max t (rs ++ r ∷ [])) rs = λ k e low later fell met. All-contains (IsMet max later) (rs ++ r ∷ []) (get_or rs k e) met
+    (Contains-append_left rs (r ∷ []) (get_or rs k e) (Contains-get_or rs k e low)) in
+    subst (λ xs. All (WillBeMet max t xs) rs) (sym asks.1) now
+waited_before max t a d false rs ss asks = subst (λ xs. All (WillBeMet max t xs) rs) (sym asks.1) (waits max t rs)
+
+-- so will be what the arc asks, if it fits
+waits_too : (max : ℕ) (t : Table) (a : Arc) (d : ℕ) (rs ss : List Request) → Asks max a d true rs ss → WillBeMet max t ss (record { arc = a; dist = d })
+waits_too max t a d rs ss asks =
+    let r : Request = record { arc = a; dist = d } in
+    let now : WillBeMet max t (rs ++ r ∷ []) r = λ later fell met. All-contains (IsMet max later) (rs ++ r ∷ []) r met (Contains-push rs r) in
+    subst (λ xs. WillBeMet max t xs r) (sym asks.1) now
+
+-- one arc more was asked for
+pub one_arc_more : (max : ℕ) (t : Table) (d : ℕ) (row : List Arc) (i : ℕ) (e : Arc) (fits whole : Bool) (rs ss : List Request) → i < length row → Asks max (get_or row i e) d fits rs ss
+    → (whole ≡ true → RowWillBeMet max t rs d (take i row)) → (whole ≡ true) × (fits ≡ true) → RowWillBeMet max t ss d (take (i + 1) row)
+one_arc_more max t d row i e true whole rs ss low asks will both =
+    All-more (λ a. WillBeMet max t ss (record { arc = a; dist = d })) row i e low
+    (row_along max t t rs ss d (take i row) (fallen_itself t) (waited_before max t (get_or row i e) d true rs ss asks) (will both.0))
+    (waits_too max t (get_or row i e) d rs ss asks)
+one_arc_more max t d row i e false whole rs ss low asks will both = absurd (true≢false (sym both.1))
+
+-- ## Marks
+
+-- a mark that was put has what each of them has
+pub noted : (P : Mark → Type 0) (v d : ℕ) (before after : List Mark) → MayNote v d before after → All P before → P (record { vertex = v; dist = d }) → All P after
+noted P v d before after (inl more) held here = subst (All P) (sym more) (All-push P before (record { vertex = v; dist = d }) held here)
+noted P v d before after (inr same) held here = subst (All P) (sym same) held
+
+-- the mark of a row that was asked for
+pub mark_of_row : (max : ℕ) (g : Graph) (t : Table) (rs : List Request) (v d : ℕ) (row : List Arc) → row ≡ row_of g.arcs v → RowWillBeMet max t rs d row
+    → WillBeTrue max g t rs (record { vertex = v; dist = d })
+mark_of_row max g t rs v d row is will = subst (RowWillBeMet max t rs d) is will
+
+-- marks that are true stay so
+pub marks_still : (max : ℕ) (g : Graph) (s t : Table) (marks : List Mark) → HasFallen s t → All (IsTrueMark max g s) marks → All (IsTrueMark max g t) marks
+marks_still max g s t marks fell held = λ k e low i a in'. let m = get_or marks k e in relaxed_still max s t m.dist (get_or (row_of g.arcs m.vertex) i a) fell (held k e low i a in')
+
+-- and so they will be, whatever waits
+pub true_will_be : (max : ℕ) (g : Graph) (t : Table) (rs : List Request) (marks : List Mark) → All (IsTrueMark max g t) marks → All (WillBeTrue max g t rs) marks
+true_will_be max g t rs marks held = λ k e low i a in' later fell met. let m = get_or marks k e in
+    relaxed_still max t later m.dist (get_or (row_of g.arcs m.vertex) i a) fell (held k e low i a in')
+
+-- marks are true once what waits is met
+pub will_be_true : (max : ℕ) (g : Graph) (s t : Table) (rs : List Request) (marks : List Mark) → HasFallen s t → All (IsMet max t) rs → All (WillBeTrue max g s rs) marks
+    → All (IsTrueMark max g t) marks
+will_be_true max g s t rs marks fell met will = λ k e low i a in'. will k e low i a in' t fell met
+
+-- ## Lists of marks
+
+pub lists_still : (max : ℕ) (g : Graph) (s t : Story) (lists : List (Vec Mark Global)) → HasFallen (known_table s) (known_table t) → AreTrue max g s lists → AreTrue max g t lists
+lists_still max g s t lists fell held = λ k e low. let list = get_or lists k e in marks_still max g (known_table s) (known_table t) list.items fell (held k e low)
+
+-- the lists of two squads, or of the first alone
+pub lists_joined : (max : ℕ) (g : Graph) (r s t : Story) (both : Bool) (xs ys zs : List (Vec Mark Global)) → HasFallen (known_table r) (known_table t)
+    → HasFallen (known_table s) (known_table t) → zs ≡ cond both (xs ++ ys) xs → AreTrue max g r xs → AreTrue max g s ys → AreTrue max g t zs
+lists_joined max g r s t true xs ys zs first second is mine theirs =
+    let P : Vec Mark Global → Type 0 = λ list. AllTrue max g t list.items in
+    subst (All P) (sym is) (All-append P xs ys (lists_still max g r t xs first mine) (lists_still max g s t ys second theirs))
+lists_joined max g r s t false xs ys zs first second is mine theirs = subst (AreTrue max g t) (sym is) (lists_still max g r t xs first mine)
+
+-- a list that has the marks of one worker alone
+pub one_list : (max : ℕ) (g : Graph) (t : Story) (marks : Vec Mark Global) (lists : List (Vec Mark Global)) → All (λ list. list ≡ marks) lists → AllTrue max g t marks.items
+    → AreTrue max g t lists
+one_list max g t marks lists same held = λ k e low. subst (λ (list : Vec Mark Global). AllTrue max g t list.items) (sym (same k e low)) held
+
+-- nothing is said by an empty list
+pub no_marks : (max : ℕ) (g : Graph) (s : Story) (marks : List Mark) → marks ≡ [] → AllTrue max g s marks
+no_marks max g s marks none = let P = IsTrueMark max g (known_table s) in All-same P marks [] none (All-nil P)
+
+pub no_lists : (max : ℕ) (g : Graph) (s : Story) (lists : List (Vec Mark Global)) → lists ≡ [] → AreTrue max g s lists
+no_lists max g s lists none = let P : Vec Mark Global → Type 0 = λ list. AllTrue max g s list.items in All-same P lists [] none (All-nil P)

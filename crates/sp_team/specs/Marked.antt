@@ -1,0 +1,44 @@
+-- What is known of vertices whose arcs are relaxed, before and after these are answered.
+use Rattle.std.specs.Prelude.{◌≡◌, ℕ, ◌⊎◌, List, [], ◌∷◌, ◌++◌, All, Vec}
+use Rattle.std.specs.declared.alloc.Global.{Global}
+use Rattle.sp_word.specs.History.{Table}
+use Rattle.sp_paths.specs.declared.arc.Arc.{Arc}
+use Rattle.sp_paths.specs.Paths.{Graph}
+use Rattle.sp_paths.specs.Rows.{row_of}
+use Rattle.sp_graph.specs.Marks.{IsRelaxedWithin, IsTrueMark}
+use Rattle.sp_graph.specs.declared.marks.Mark.{Mark}
+use Rattle.sp_offer.specs.Order.{IsNoMore}
+use Rattle.sp_offer.specs.Story.{Story, known_table}
+use Rattle.sp_team.specs.declared.relax.Request.{Request}
+
+-- what the request's arc makes of its distance is within the greatest one, and the head has no greater word
+abbrev pub IsMet : (max : ℕ) → Table → Request → Type 0
+IsMet max words r = IsRelaxedWithin max words r.dist r.arc
+
+-- no vertex has a greater word in the later table
+abbrev pub HasFallen : (words later : Table) → Type 0
+HasFallen words later = (v : ℕ) → IsNoMore (later v) (words v)
+
+-- once the waiting requests are met, this one is met too
+abbrev pub WillBeMet : (max : ℕ) → Table → (waiting : List Request) → Request → Type 0
+WillBeMet max words waiting r = (later : Table) → HasFallen words later → All (IsMet max later) waiting → IsMet max later r
+
+-- so are those of all arcs of a row, at one distance
+abbrev pub RowWillBeMet : (max : ℕ) → Table → (waiting : List Request) → (dist : ℕ) → (row : List Arc) → Type 0
+RowWillBeMet max words waiting d row = All (λ a. WillBeMet max words waiting (record { arc = a; dist = d })) row
+
+-- once the waiting requests are met, the mark is true
+abbrev pub WillBeTrue : (max : ℕ) → Graph → Table → (waiting : List Request) → Mark → Type 0
+WillBeTrue max g words waiting mark = RowWillBeMet max words waiting mark.dist (row_of g.arcs mark.vertex)
+
+-- the mark of a vertex at a distance was put behind the others; or none was
+abbrev pub MayNote : (vertex dist : ℕ) → (before after : List Mark) → Type 0
+MayNote v d before after = (after ≡ before ++ record { vertex = v; dist = d } ∷ []) ⊎ (after ≡ before)
+
+-- all marks of a list are true of the words that the story tells
+abbrev pub AllTrue : (max : ℕ) → Graph → Story → List Mark → Type 0
+AllTrue max g story marks = All (IsTrueMark max g (known_table story)) marks
+
+-- so are those of all lists
+abbrev pub AreTrue : (max : ℕ) → Graph → Story → List (Vec Mark Global) → Type 0
+AreTrue max g story lists = All (λ list. AllTrue max g story list.items) lists
