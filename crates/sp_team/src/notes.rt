@@ -7,7 +7,7 @@ use crate::relax::{MOST, Request};
 use sp_graph::{Graph, Mark};
 use std::alloc::AllocError;
 
-/// A worker keeps room for so many marks, however few vertices are its share.
+/// A worker may keep so many marks, however few vertices are its share.
 const FEWEST_MARKS: usize = 256;
 
 /// What a worker notes of the vertices that it relaxes.

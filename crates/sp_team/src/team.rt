@@ -40,6 +40,21 @@ pub struct Relaxed {
     pub marks: Vec<Vec<Mark>>,
 }
 
+impl Relaxed {
+    // What is left where there is no mark.
+    fn without_marks(alloc: Global, caller: Caller, lost: bool) -> Relaxed
+        ensures caller { result.caller ≡ caller }
+        ensures lost { result.lost ≡ lost }
+        ensures marks { result.marks.items ≡ [] }
+    {
+        Relaxed {
+            caller,
+            lost,
+            marks: Vec::new(alloc),
+        }
+    }
+}
+
 /// What a worker begins with.
 #[derive(Drop)]
 struct Start {
@@ -76,17 +91,12 @@ impl Batch {
         })
     }
 
-    // Leaves the marks, and drops what else was noted.
+    // Returns the marks.
     fn into_marks(self) -> Vec<Mark>
         ensures { result ≡ self.notes.marks }
     {
-        let Batch { live: _, notes } = self;
-        let Notes {
-            requests: _,
-            marks,
-            ..
-        } = notes;
-        marks
+        let Batch { notes, .. } = self;
+        notes.marks
     }
 }
 
@@ -278,11 +288,7 @@ fn run_worker<R: Wait, L: Lawful, const P: u32>(
         if lost {
             common.signals.leave(worker);
         }
-        return Relaxed {
-            caller,
-            lost,
-            marks: Vec::new(common.alloc),
-        };
+        return Relaxed::without_marks(common.alloc, caller, lost);
     };
     match work(rt, graph, table, common, &mut hands, &mut caller) {
         Ok(marks) => Relaxed {
@@ -292,11 +298,7 @@ fn run_worker<R: Wait, L: Lawful, const P: u32>(
         },
         Err(_) => {
             common.signals.leave(worker);
-            Relaxed {
-                caller,
-                lost: true,
-                marks: Vec::new(common.alloc),
-            }
+            Relaxed::without_marks(common.alloc, caller, true)
         }
     }
 }
@@ -379,11 +381,7 @@ fn run_first<R: Wait, L: Lawful, const P: u32>(
         caller,
     } = squad;
     let Some(own) = owners.pop() else {
-        return Relaxed {
-            caller,
-            lost: true,
-            marks: Vec::new(common.alloc),
-        };
+        return Relaxed::without_marks(common.alloc, caller, true);
     };
     let start = Start {
         worker,
@@ -455,13 +453,7 @@ pub fn relax_all<R: Threads + Wait + Sync, L: Lawful + Send + Sync, const P: u32
     let meter = search.meter;
     let (common, owners) = match Common::new(alloc, search) {
         Ok(made) => made,
-        Err(_) => {
-            return Relaxed {
-                caller,
-                lost: true,
-                marks: Vec::new(alloc),
-            };
-        }
+        Err(_) => return Relaxed::without_marks(alloc, caller, true),
     };
     let squad = Squad {
         worker: 0,
