@@ -22,8 +22,8 @@ pub enum Scan {
     Open,
 }
 
-// Returns what two parts of the arcs show together.
-fn both(first: Scan, second: Scan) -> Scan
+/// Returns what two parts of the arcs show together.
+pub(crate) fn both(first: Scan, second: Scan) -> Scan
     ensures { result ≡ both_of first second }
 {
     match second {
@@ -51,8 +51,8 @@ fn scan_arc<const P: u32>(words: &[Word<P>], arc: Arc) -> Scan
     }
 }
 
-// Returns what arcs show, looked at one after the other.
-fn scan_part<const P: u32>(words: &[Word<P>], arcs: &[Arc]) -> Scan
+/// Returns what arcs show, looked at one after the other.
+pub(crate) fn scan_part<const P: u32>(words: &[Word<P>], arcs: &[Arc]) -> Scan
     requires layout { is_layout P ≡ true }
     requires most { length words.now ≤ max_pred P }
     requires arcs { All (IsArc (length words.now)) arcs.now }
@@ -181,18 +181,18 @@ pub fn scan_arcs<R: Threads + Sync, const P: u32>(
     }
     let fewer = threads - 1;
     let (left, right) = arcs.split_at(arcs.len() / threads as usize);
-    let (second, first) = join(
+    let (first, second) = join(
         rt,
-        || -> Scan
-            requires { IsSync R.row × (is_layout P ≡ true) × (length words.now ≤ max_pred P)
-                × All (IsArc (length words.now)) right.now }
-            ensures { Shows (max_dist P) (word_at words.entry.now) right.entry.now result }
-        { scan_arcs(rt, words, right, fewer) },
         || -> Scan
             requires { (is_layout P ≡ true) × (length words.now ≤ max_pred P)
                 × All (IsArc (length words.now)) left.now }
             ensures { Shows (max_dist P) (word_at words.entry.now) left.entry.now result }
         { scan_part(words, left) },
+        || -> Scan
+            requires { IsSync R.row × (is_layout P ≡ true) × (length words.now ≤ max_pred P)
+                × All (IsArc (length words.now)) right.now }
+            ensures { Shows (max_dist P) (word_at words.entry.now) right.entry.now result }
+        { scan_arcs(rt, words, right, fewer) },
     );
     both(first, second)
 }
