@@ -1,3 +1,4 @@
 pub mod WholeRun
 pub mod TargetAnswers
 pub mod TreeWithin
+pub mod Marks

@@ -1,13 +1,15 @@
 //! The words of a run: a team lowers them, and a copy of them all shows whether they are final.
 ghost use Rattle.std.specs.Prelude.{◌≡◌, ◌<◌, length, All, IfOk, IfSome};
+ghost use Rattle.sp_word.specs.Word.{max_dist};
 ghost use Rattle.sp_paths.specs.Paths.{IsVertex, word_at};
+ghost use Rattle.sp_scan.specs.Marked.{AreTrueMarks};
 ghost use Rattle.sp_solve.specs.WholeRun.{TakesWalks, HasOpened, IsOfWalks};
 ghost use Rattle.sp_solve.specs.Reach.{IsFinal, IsShown, IsUpTo};
 
 use crate::whole::WholeRun;
-use sp_graph::look_up;
+use sp_graph::{Mark, look_up};
 use sp_offer::{Caller, OfferTable};
-use sp_scan::{Scan, is_relaxed_up_to, open_tails, scan_arcs};
+use sp_scan::{Scan, is_relaxed_up_to, open_tails, scan_unmarked};
 use sp_team::{Relaxed, Search, relax_all};
 use sp_walks::Walks;
 use sp_word::Word;
@@ -44,7 +46,8 @@ impl<'g, const P: u32> WholeRun<'g, P> {
         Ok((table, caller))
     }
 
-    /// Lets the team relax what the queue asks for, as far as the targets and the limit lie. Returns a copy of all words.
+    /// Lets the team relax what the queue asks for, as far as the targets and the limit lie. Returns a copy of all words, in
+    /// which the marks are true.
     pub(crate) fn lower<R: Threads + Wait + Sync>(
         &self,
         rt: &R,
@@ -58,18 +61,34 @@ impl<'g, const P: u32> WholeRun<'g, P> {
         ensures copy { IfOk result (λ made. IsOfWalks P self.now made.0.items) }
         ensures caller { IfOk result (λ made. made.1.caller.table ≡ table.entry.now.id) }
         ensures opened { IfOk result (λ made. HasOpened self.now made.1.caller) }
+        ensures marks { IfOk result (λ made. AreTrueMarks (max_dist P) self.now.graph
+            (word_at made.0.items) made.1.marks.items) }
     {
-        let Relaxed { mut caller, lost } = relax_all(
-            rt, self.alloc, self.graph, table, search, caller,
-        );
+        let Relaxed {
+            mut caller,
+            lost,
+            marks,
+        } = relax_all(rt, self.alloc, self.graph, table, search, caller);
         let words = table.list_words(self.alloc, &mut caller)?;
-        Ok((words, Relaxed { caller, lost }))
+        let done = Relaxed {
+            caller,
+            lost,
+            marks,
+        };
+        Ok((words, done))
     }
 
     // Judges a copy of the words by the arcs that bear on the targets: those within the farthest of them, or all arcs where
-    // a target has no word, or no target is named.
-    fn judge<R: Threads + Wait + Sync>(&self, rt: &R, words: &[Word<P>], targets: &[u32]) -> Scan
+    // a target has no word, or no target is named. It passes over vertices that a mark says to be relaxed.
+    fn judge<R: Threads + Wait + Sync>(
+        &self,
+        rt: &R,
+        words: &[Word<P>],
+        marks: &[Vec<Mark>],
+        targets: &[u32],
+    ) -> Scan
         requires copy { IsOfWalks P self.now words.now }
+        requires marks { AreTrueMarks (max_dist P) self.now.graph (word_at words.now) marks.now }
         requires targets { All (IsVertex self.now.graph.n) targets.now }
         ensures { IsShown P self.now targets.now words.now result }
     {
@@ -80,7 +99,8 @@ impl<'g, const P: u32> WholeRun<'g, P> {
                 Scan::Open
             };
         }
-        scan_arcs(rt, words, self.graph.arcs(), self.team.workers.get())
+        let threads = self.team.workers.get();
+        scan_unmarked(rt, self.alloc, words, self.graph, marks, threads)
     }
 
     // Relaxes turn after turn, until the words of the targets are final in a copy of all words. Returns it, and the smallest
@@ -108,7 +128,7 @@ impl<'g, const P: u32> WholeRun<'g, P> {
                 meter: self.meter,
             };
             let (words, done) = self.lower(rt, table, &search, caller)?;
-            match self.judge(rt, words.as_slice(), targets) {
+            match self.judge(rt, words.as_slice(), done.marks.as_slice(), targets) {
                 Scan::Whole => return Ok((words, None)),
                 Scan::LeavesOut(vertex) => return Ok((words, Some(vertex))),
                 Scan::Open if done.lost => return Err(AllocError),

@@ -1,10 +1,9 @@
-use Rattle.std.proofs.Common.{List, None, sym, subst}
+use Rattle.std.proofs.Common.{None, rules, sym, subst}
 use Rattle.std.specs.Prelude.{All}
 use Rattle.sp_word.specs.Word.{max_dist}
-use Rattle.sp_paths.specs.declared.arc.Arc.{Arc}
 use Rattle.sp_paths.specs.Paths.{IsVertex, word_at}
 use Rattle.sp_walks.specs.Walks.{WalksFrom}
-use Rattle.sp_scan.specs.Shown.{Shows}
+use Rattle.sp_scan.specs.Marked.{AreTrueMarks}
 use Rattle.sp_solve.specs.WholeRun.{IsOfWalks}
 use Rattle.sp_solve.specs.Reach.{IsFinal, IsShown}
 use Rattle.sp_solve.proofs.TargetAnswers.{near_answers, shown_by_arcs}
@@ -27,6 +26,15 @@ returns g c =
     let targets = c.args.targets.now in
     let copy = subst (λ r. IsOfWalks g.row.P r words) (sym c.self.view_is) c.requires.copy in
     let vertices = subst (λ (r : WalksFrom). All (IsVertex r.graph.n) targets) (sym c.self.view_is) c.requires.targets in
-    let S : List Arc → Type 0 = λ arcs. Shows (max_dist g.row.P) (word_at words) arcs c.scan_arcs.result in
-    subst (λ r. IsShown g.row.P r targets words c.scan_arcs.result) c.self.view_is
-    (shown_by_arcs g.row.P run c.self.invariant words copy targets c.scan_arcs.result vertices (subst S c.arcs.ensures.arcs c.scan_arcs.ensures))
+    subst (λ r. IsShown g.row.P r targets words c.scan_unmarked.result) c.self.view_is
+    (shown_by_arcs g.row.P run c.self.invariant words copy targets c.scan_unmarked.result vertices c.scan_unmarked.ensures)
+
+pub scan_unmarked-requires : goal.scan_unmarked-requires
+scan_unmarked-requires g c =
+    let run : WalksFrom = record { graph = c.self.inside.graph.now; source = c.self.inside.source } in
+    let place = c.self.invariant in
+    let words = c.args.words.now in
+    let marks = c.args.marks.now in
+    let copy = subst (λ r. IsOfWalks g.row.P r words) (sym c.self.view_is) c.requires.copy in
+    let hold = subst (λ (r : WalksFrom). AreTrueMarks (max_dist g.row.P) r.graph (word_at words) marks) (sym c.self.view_is) c.requires.marks in
+    (search rules, (search rules, (place.layout, (place.most, (copy.0, hold)))))
