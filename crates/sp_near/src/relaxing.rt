@@ -9,7 +9,7 @@ ghost use Rattle.sp_near.specs.NearRun.{TakesWalks, KnowsOwn, IsOfWalks, IsRelax
 use crate::run::NearRun;
 use crate::walks::NearWalks;
 use sp_offer::{Caller, OfferTable};
-use sp_scan::{Scan, is_relaxed_up_to, open_tails, scan_arcs};
+use sp_scan::{Scan, is_relaxed_up_to, open_tails, scan_unmarked};
 use sp_team::Search;
 use sp_word::Word;
 use std::alloc::AllocError;
@@ -43,7 +43,8 @@ impl<'g, const P: u32> NearRun<'g, P> {
             };
             let (words, done) = self.lower(rt, table, &search, caller)?;
             let threads = self.team.workers.get();
-            match scan_arcs(rt, words.as_slice(), self.graph.arcs(), threads) {
+            let marks = done.marks.as_slice();
+            match scan_unmarked(rt, self.alloc, words.as_slice(), self.graph, marks, threads) {
                 Scan::Whole => return Ok((words, None)),
                 Scan::LeavesOut(vertex) => return Ok((words, Some(vertex))),
                 Scan::Open if done.lost => return Err(AllocError),

@@ -2,8 +2,9 @@
 //!
 //! The team lowers the words, in whatever order. What the run answers rests on a copy of the words alone.
 ghost use Rattle.std.specs.Prelude.{◌≡◌, ◌≤◌, true, All, IfOk};
-ghost use Rattle.sp_word.specs.Word.{is_layout, max_pred};
-ghost use Rattle.sp_paths.specs.Paths.{IsVertex};
+ghost use Rattle.sp_word.specs.Word.{is_layout, max_dist, max_pred};
+ghost use Rattle.sp_paths.specs.Paths.{IsVertex, word_at};
+ghost use Rattle.sp_scan.specs.Marked.{AreTrueMarks};
 ghost use Rattle.sp_near.specs.NearRun.{TakesWalks, KnowsOwn, IsOfWalks};
 
 use crate::walks::NearWalks;
@@ -94,7 +95,8 @@ impl<'g, const P: u32> NearRun<'g, P> {
         Ok((table, caller))
     }
 
-    /// Lets the team relax what the queue asks for, as far as the limit lies. Returns a copy of all words.
+    /// Lets the team relax what the queue asks for, as far as the limit lies. Returns a copy of all words, in which the marks
+    /// are true.
     pub(crate) fn lower<R: Threads + Wait + Sync>(
         &self,
         rt: &R,
@@ -108,11 +110,20 @@ impl<'g, const P: u32> NearRun<'g, P> {
         ensures copy { IfOk result (λ made. IsOfWalks P self.now made.0.items) }
         ensures caller { IfOk result (λ made. made.1.caller.table ≡ table.entry.now.id) }
         ensures own { IfOk result (λ made. KnowsOwn self.now.sources made.1.caller) }
+        ensures marks { IfOk result (λ made. AreTrueMarks (max_dist P) self.now.graph
+            (word_at made.0.items) made.1.marks.items) }
     {
-        let Relaxed { mut caller, lost } = relax_all(
-            rt, self.alloc, self.graph, table, search, caller,
-        );
+        let Relaxed {
+            mut caller,
+            lost,
+            marks,
+        } = relax_all(rt, self.alloc, self.graph, table, search, caller);
         let words = table.list_words(self.alloc, &mut caller)?;
-        Ok((words, Relaxed { caller, lost }))
+        let done = Relaxed {
+            caller,
+            lost,
+            marks,
+        };
+        Ok((words, done))
     }
 }
