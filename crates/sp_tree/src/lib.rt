@@ -9,6 +9,7 @@ mod laws;
 mod lines;
 mod pages;
 mod reading;
+mod shares;
 mod stream;
 mod taking;
 mod text;
