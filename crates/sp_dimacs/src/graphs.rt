@@ -11,7 +11,7 @@ ghost use Rattle.sp_dimacs.specs.Graph.{arc_of, IsGraph, SpellsGraph, GraphRead,
 use crate::formats::gr_format;
 use crate::readers::TextReader;
 use sp_device::Read;
-use sp_parts::{SIZES, read_items_by};
+use sp_parts::{KeepAcross, SIZES, read_items_by};
 use sp_paths::Arc;
 use sp_text::{
     Collector, DimacsError, FileFormat, Keep, KeepParts, Kind, LineTaker, Ranges, Values,
@@ -20,6 +20,7 @@ use sp_text::{
 use sp_word::Workers;
 use std::alloc::{AllocError, Global};
 use std::mem;
+use std::sync::Wait;
 use std::thread::Threads;
 
 /// What a `.gr` file spells: the number of vertices, and the arcs in the order of their lines.
@@ -114,6 +115,12 @@ impl<const P: u32> KeepParts for ArcKeeper<P> {
     }
 }
 
+impl<const P: u32> KeepAcross for ArcKeeper<P> {
+    ghost one_proof = { λ keep items.
+        let once : (these others : List Arc) → IsProp (these ≡ others) = Prim.hlevel in
+        once keep.arcs.items (map arc_of items) };
+}
+
 /// A reader of a `.gr` text that comes in pieces, for words of `P` bits of predecessor.
 pub type GrReader<const P: u32> = TextReader<Collector<ArcKeeper<P>>>;
 
@@ -146,7 +153,7 @@ pub fn read_gr<const P: u32, R: Read>(alloc: Global, reader: &mut R) -> Result<G
 /// Reads the rest of a device's bytes as `read_gr` does, by so many workers, this thread among them. This thread alone reads
 /// the device.
 #[tactic(auto, using(crate::proofs::Limits::graph_read))]
-pub fn read_gr_by<const P: u32, H: Threads + Sync, R: Read>(
+pub fn read_gr_by<const P: u32, H: Threads + Wait + Sync, R: Read>(
     rt: &H,
     alloc: Global,
     reader: &mut R,

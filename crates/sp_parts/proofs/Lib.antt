@@ -1,3 +1,4 @@
 pub mod Lists
 pub mod TextParts
 pub mod Standing
+pub mod OneProof

@@ -116,6 +116,3 @@ pub finished_on : {T R V : Type 0} (judge : Judge) (After : T → List (List ℕ
     → Consumes (r.left old) (r.left new) text → IsAtEnd (r.left new) → Finished judge After Spelled text result reader → ReadOn judge Spelled r old result new
 finished_on judge After Spelled r text old (Ok value) new reader came end (clean, spelled, behind) = (text, came, end, clean, spelled)
 finished_on judge After Spelled r text old (Err e) new reader came end (spent, told) = (text, came, inr (inl (end, told)))
-
-pub front_first : (front text more : List ℕ) → length (front ++ text ++ more) ≤ 2 ^ 62 → length (front ++ text) ≤ 2 ^ 62
-front_first front text more small = omega (arith, length-append (front ++ text) more)

@@ -1,5 +1,5 @@
 -- What comes of a device at a time.
-use Rattle.std.specs.Prelude.{◌≡◌, ◌+◌, ◌<◌, ◌≤◌, ◌^◌, ℕ, Bool, true, false, List, length, Option}
+use Rattle.std.specs.Prelude.{◌≡◌, ◌+◌, ◌<◌, ◌≤◌, ◌^◌, ◌⊎◌, ℕ, Bool, true, false, List, length, Option}
 use Rattle.std.specs.Io.KnownBytes.{Consumes, IsAtEnd}
 use Rattle.sp_device.specs.declared.devices.Read.{Ghosts as Device}
 use Rattle.sp_device.specs.Failing.{Never}
@@ -21,8 +21,22 @@ pub record Brings {R : Type 0} (r : Device R) (old new : R) (bytes : List ℕ) (
   pub lasting : r.failing new ≡ r.failing old
   pub never : r.failing old ≡ Never → r.has_failed new ≡ false
 
--- This text has come of the device since it was in an earlier state.
-pub record HasCome {R : Type 0} (r : Device R) (begun device : R) (text : List ℕ) : Type 0 where
-  pub bytes_are : Consumes (r.left begun) (r.left device) text
+-- This text has come of a device that had this one left at first, where that is known.
+pub record HasCome {R : Type 0} (r : Device R) (source : Option (List ℕ)) (device : R) (text : List ℕ) : Type 0 where
+  pub bytes_are : Consumes source (r.left device) text
   pub passed : length text ≤ r.passed device
   pub short : length text ≤ 2 ^ 62
+
+-- So many bytes have come of it.
+abbrev pub HasComeTo : {R : Type 0} → Device R → (source : Option (List ℕ)) → (device : R) → (came : ℕ) → Type 0
+HasComeTo r source device came = (text : List ℕ) × HasCome r source device text × (length text ≡ came)
+
+-- More has come of the device, and it has answered so; or nothing was asked of it.
+abbrev pub ComesOn : {R : Type 0} → Device R → (old new : R) → (came later : ℕ) → (before after : Received) → Type 0
+ComesOn r old new came later before after = ((new ≡ old) × (later ≡ came) × (after ≡ before)) ⊎ ((bytes : List ℕ) × Brings r old new bytes after × (later ≡ came + length bytes))
+
+-- Behind the last answer the device has ended, or failed, where it says so.
+abbrev pub HasAnswered : (left : Option (List ℕ)) → (has_failed : Bool) → Received → Type 0
+HasAnswered left has_failed More = Unit {0}
+HasAnswered left has_failed Over = IsAtEnd left
+HasAnswered left has_failed Failed = has_failed ≡ true

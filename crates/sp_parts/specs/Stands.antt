@@ -1,6 +1,6 @@
--- Where a text stands that is read in stages.
-use Rattle.std.specs.Prelude.{◌≡◌, ℕ, List, ◌++◌, Some}
-use Rattle.std.specs.List.{All}
+-- Where a text stands that several threads read.
+use Rattle.std.specs.Prelude.{◌≡◌, ◌≤◌, ◌^◌, ℕ, List, ◌++◌, length, Option, Some}
+use Rattle.std.specs.Io.KnownBytes.{Consumes}
 use Rattle.sp_device.specs.declared.devices.Read.{Ghosts as Device}
 use Rattle.sp_text.specs.declared.collecting.Keep.{Ghosts as Keeper}
 use Rattle.sp_text.specs.declared.collecting.Collector.{Collector}
@@ -9,18 +9,23 @@ use Rattle.sp_text.specs.Lines.{ended}
 use Rattle.sp_text.specs.Text.{judge, problem_of}
 use Rattle.sp_text.specs.Collectors.{HasTakenLines}
 use Rattle.sp_text.specs.Feeding.{IsBehind}
-use Rattle.sp_text.specs.Plain.{HasProblem}
-use Rattle.sp_parts.specs.declared.parts.Part.{Part}
-use Rattle.sp_parts.specs.Parts.{IsPartOf}
-use Rattle.sp_parts.specs.Groups.{HasCome}
+use Rattle.sp_parts.specs.Parts.{IsAt}
 
--- Some bytes came last of the device. Of those before them parts were read, and they wait; those before these the reader
--- has read. The reader of plain lines is behind the same problem line.
-pub record Stands {R K V : Type 0} {keeper : Keeper K V} (r : Device R) (begun device : R) (plain reader : Feeder (Collector K V keeper)) (waiting : List ℕ) (parts : List (Part K)) (last : List ℕ) : Type 0 where
+-- Some bytes were read alone, with the problem line. Of a device that then had this source left, where it is known, so many
+-- have come since, of which the reader has taken so many.
+pub record Stands {R K V : Type 0} {keeper : Keeper K V} (r : Device R) (source problem : Option (List ℕ)) (begun device : R) (reader : Feeder (Collector K V keeper)) (came taken : ℕ) : Type 0 where
+  pub alone : List ℕ
+  pub text : List ℕ
   pub front : List ℕ
   pub ps : List ℕ
-  pub came : HasCome r begun device (front ++ waiting ++ last)
-  pub behind : IsBehind (judge keeper.format keeper.ranges) HasTakenLines front reader
-  pub problem : problem_of keeper.format (ended front) ≡ Some ps
-  pub same : HasProblem plain ps
-  pub are_parts : All (IsPartOf keeper.format keeper.ranges keeper.Kept ps waiting) parts
+  pub before : Consumes (r.left begun) source alone
+  pub since : Consumes source (r.left device) text
+  pub passed : length (alone ++ text) ≤ r.passed device
+  pub short : length (alone ++ text) ≤ 2 ^ 62
+  pub is_came : length text ≡ came
+  pub is_taken : length front ≡ taken
+  pub within : taken ≤ came
+  pub place : IsAt source 0 front
+  pub behind : IsBehind (judge keeper.format keeper.ranges) HasTakenLines (alone ++ front) reader
+  pub found : problem_of keeper.format (ended (alone ++ front)) ≡ Some ps
+  pub same : problem ≡ Some ps

@@ -1,10 +1,7 @@
 //! Who reads a text, and how it is cut.
-ghost use Rattle.std.specs.Prelude.{ℕ, List, IfOk};
-ghost use Rattle.sp_text.specs.Plain.{HasProblem};
+ghost use Rattle.std.specs.Prelude.{◌<◌};
 
-use sp_text::{Collector, Feeder, KeepParts};
 use sp_word::Workers;
-use std::alloc::AllocError;
 use std::thread;
 use std::thread::Threads;
 
@@ -13,18 +10,18 @@ use std::thread::Threads;
 pub struct Sizes {
     /// The number of bytes that one thread reads before others join.
     pub alone: usize,
-    /// The greatest number of bytes that come of the device at a time, where there is memory for them.
-    pub group: usize,
-    /// The number of bytes that a thread reads at a time.
-    pub part: usize,
+    /// The greatest number of bytes that come of the device at a time.
+    pub piece: usize,
 }
 
 /// The sizes that read sooner than others.
 pub const SIZES: Sizes = Sizes {
     alone: 262_144,
-    group: 1_048_576,
-    part: 131_072,
+    piece: 262_144,
 };
+
+/// The number of pieces for each thread that there may be at a time.
+const EACH: usize = 4;
 
 /// How many threads read a text, and how it is cut.
 #[derive(Clone, Copy)]
@@ -33,11 +30,18 @@ pub struct Plan {
     pub(crate) sizes: Sizes,
 }
 
-/// Who reads parts of a text: several threads, by a reader of plain lines that they share.
-#[derive(Drop)]
-pub struct Crew<K: KeepParts> {
-    pub(crate) plain: Feeder<Collector<K>>,
-    pub(crate) plan: Plan,
+impl Plan {
+    /// Returns how many pieces there may be at a time.
+    pub(crate) fn pieces(&self) -> usize
+        ensures { 0 < result }
+    {
+        self.threads.saturating_mul(EACH).max(1)
+    }
+
+    /// Returns how many threads join this one.
+    pub(crate) fn others(&self) -> usize {
+        self.threads.saturating_sub(1)
+    }
 }
 
 /// Returns how many threads read: as many as there are workers, but no more than processors.
@@ -46,18 +50,4 @@ pub(crate) fn count_threads<H: Threads>(rt: &H, workers: Workers) -> usize {
         Ok(count) => workers.at_most(count.get()).get() as usize,
         Err(_) => workers.get() as usize,
     }
-}
-
-/// Returns those who read what comes behind the problem line that a reader has read.
-pub(crate) fn crew_behind<K: KeepParts>(
-    reader: &Feeder<Collector<K>>,
-    plan: &Plan,
-) -> Result<Crew<K>, AllocError>
-    ensures { IfOk result
-        (λ crew. (ps : List ℕ) → HasProblem reader.now ps → HasProblem crew.plain ps) }
-{
-    Ok(Crew {
-        plain: reader.plain_reader()?,
-        plan: *plan,
-    })
 }

@@ -1,107 +1,26 @@
-//! A text of which several workers read a group of bytes at a time, in stages.
-ghost use Rattle.std.specs.Prelude.{◌≡◌, ◌<◌, ℕ, List, [], Some, true, false, IfOk, IfErr};
+//! A text that one thread reads at first, and several as soon as it is long.
+ghost use Rattle.std.specs.Prelude.{◌≡◌, ℕ, List, [], Some, true, false, IfOk, IfErr};
 ghost use Rattle.sp_device.specs.Failing.{Never};
 ghost use Rattle.sp_text.specs.declared.faults.Kind.{Kind};
 ghost use Rattle.sp_text.specs.Text.{judge};
 ghost use Rattle.sp_text.specs.Collecting.{SpelledBy};
 ghost use Rattle.sp_text.specs.Feeding.{IsBehind};
-ghost use Rattle.sp_text.specs.Plain.{HasProblem};
 ghost use Rattle.sp_text.specs.Whole.{AllRead, IsSpelled, ReadOn, NeverRead};
-ghost use Rattle.sp_parts.specs.Stands.{Stands};
 
-use crate::crew::{Crew, Plan, Sizes, count_threads, crew_behind};
+use crate::crew::{Plan, Sizes, count_threads};
+use crate::leading::read_together;
+use crate::pieces::KeepAcross;
 use crate::receiving::{Group, Received};
-use crate::stages::read_stage;
-use crate::taking::Intake;
 use sp_device::Read;
-use sp_text::{Collector, DimacsError, Feeder, KeepParts, LineTaker, PIECE, read_items};
+use sp_text::{Collector, DimacsError, Feeder, LineTaker, PIECE, read_items};
 use sp_word::Workers;
-use std::alloc::{AllocError, Global};
+use std::alloc::Global;
+use std::marker::Brand;
+use std::sync::Wait;
 use std::thread::Threads;
 
-// What several threads need for the rest of a text: those who read parts, and buffers for the group that they read, the one
-// before it and the one after it.
-#[derive(Drop)]
-struct Setup<K: KeepParts> {
-    crew: Crew<K>,
-    before: Group,
-    group: Group,
-    after: Group,
-}
-
-// Returns whether a group is read by several threads.
-fn is_long(received: &Received, group: &Group, sizes: &Sizes) -> bool
-    ensures { result ≡ true → received.now ≡ Received.More }
-{
-    match received {
-        Received::More => sizes.alone <= group.bytes().len(),
-        _ => false,
-    }
-}
-
-// Returns how large the buffer of a group is, given how many bytes came: half of them, so that a small text takes little
-// memory.
-fn buffer_size(came: usize, sizes: &Sizes) -> usize {
-    (came / 2).min(sizes.group)
-}
-
-// Reads the rest of a text by groups: a long one by several threads, a short one alone.
-fn read_groups<K: KeepParts + Send + Sync, H: Threads + Sync, R: Read>(
-    rt: &H,
-    alloc: Global,
-    device: &mut R,
-    mut intake: Intake<K>,
-    mut group: Group,
-    crew: &Crew<K>,
-) -> Result<K::Value, DimacsError>
-    ensures read { (begun : R) → Stands R.Read begun device.old crew.now.plain
-        intake.reader intake.pending.group intake.pending.parts.items []
-        → ReadOn (judge K.format K.ranges) (SpelledBy K.format K.Spelled)
-        R.Read begun result device.new }
-    ensures never { R.failing device.old ≡ Never → R.has_failed device.new ≡ false }
-{
-    let mut came: usize = 0;
-    let mut received = group.receive(device);
-    loop {
-        came = came.saturating_add(group.bytes().len());
-        if is_long(&received, &group, &crew.plan.sizes) {
-            let stage = read_stage(rt, alloc, device, &mut intake, group.bytes(), crew)?;
-            received = stage.received;
-            let size = buffer_size(came, &crew.plan.sizes);
-            group = intake.turn(alloc, group, stage.parts, size);
-        } else {
-            intake.take_all(&group)?;
-            match received {
-                Received::Over => return intake.reader.finish(),
-                Received::Failed => return Err(intake.reader.fail()),
-                Received::More => {}
-            }
-            received = group.receive(device);
-        }
-    }
-}
-
-// Returns what several threads need for what comes behind the text that a reader has read.
-fn set_up<K: KeepParts>(
-    alloc: Global,
-    reader: &Feeder<Collector<K>>,
-    plan: &Plan,
-) -> Result<Setup<K>, AllocError>
-    ensures plain { IfOk result (λ setup.
-        (ps : List ℕ) → HasProblem reader.now ps → HasProblem setup.crew.plain ps) }
-    ensures before { IfOk result (λ setup. setup.before ≡ []) }
-{
-    let size = plan.sizes.alone.min(plan.sizes.group).max(1);
-    Ok(Setup {
-        crew: crew_behind(reader, plan)?,
-        before: Group::new(alloc, size)?,
-        group: Group::new(alloc, size)?,
-        after: Group::new(alloc, size)?,
-    })
-}
-
 // Reads a text alone, until so much came that others join.
-fn read_alone<K: KeepParts + Send + Sync, H: Threads + Sync, R: Read>(
+fn read_alone<K: KeepAcross + Send + Sync, H: Threads + Wait + Sync, R: Read>(
     rt: &H,
     alloc: Global,
     device: &mut R,
@@ -127,15 +46,9 @@ fn read_alone<K: KeepParts + Send + Sync, H: Threads + Sync, R: Read>(
         if came < plan.sizes.alone || !reader.has_problem() {
             continue;
         }
-        if let Ok(setup) = set_up(alloc, &reader, plan) {
-            let Setup {
-                crew,
-                before,
-                group,
-                after,
-            } = setup;
-            let intake = Intake::new(alloc, reader, before, after);
-            return read_groups(rt, alloc, device, intake, group, &crew);
+        match read_together::<K, Brand, H, R>(rt, alloc, device, reader, plan) {
+            Ok(result) => return result,
+            Err(back) => reader = back,
         }
     }
 }
@@ -144,7 +57,7 @@ fn read_alone<K: KeepParts + Send + Sync, H: Threads + Sync, R: Read>(
 ///
 /// No more threads read than there are processors. This thread alone reads the device. If there is no memory for what other
 /// threads would read, it reads that itself.
-pub fn read_items_by<K: KeepParts + Send + Sync, H: Threads + Sync, R: Read>(
+pub fn read_items_by<K: KeepAcross + Send + Sync, H: Threads + Wait + Sync, R: Read>(
     rt: &H,
     alloc: Global,
     device: &mut R,
@@ -165,7 +78,7 @@ pub fn read_items_by<K: KeepParts + Send + Sync, H: Threads + Sync, R: Read>(
     if threads <= 1 {
         return read_items(device, reader);
     }
-    let Ok(group) = Group::new(alloc, PIECE.min(sizes.group).max(1)) else {
+    let Ok(group) = Group::new(alloc, PIECE.min(sizes.piece).max(1)) else {
         return read_items(device, reader);
     };
     read_alone(rt, alloc, device, reader, group, &Plan { threads, sizes })

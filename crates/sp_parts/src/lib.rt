@@ -1,12 +1,17 @@
-//! Texts that several workers read: each reads parts of what came of the device, and one puts the parts together.
+//! Texts that several workers read: each reads pieces of what came of the device, and one puts them together.
 #![tactic(auto)]
 
+mod course;
 mod crew;
 mod groups;
+mod leading;
 mod parts;
+mod pieces;
 mod receiving;
-mod stages;
+mod sharing;
+mod signals;
 mod taking;
 
 pub use crew::{SIZES, Sizes};
 pub use groups::read_items_by;
+pub use pieces::KeepAcross;

@@ -46,24 +46,6 @@ fn buffer_of(alloc: Global, size: usize) -> Result<Vec<u8>, AllocError>
     vec![in alloc; 0; size]
 }
 
-// Returns a buffer of this size, or of a half, a quarter or an eighth of it; this one, where there is no memory for a
-// larger one.
-fn larger(alloc: Global, buffer: Vec<u8>, size: usize) -> Vec<u8>
-    requires { 0 < vec_len buffer }
-    ensures { 0 < vec_len result }
-{
-    for parts in [1, 2, 4, 8] {
-        let part = size / parts;
-        if part <= buffer.len() {
-            return buffer;
-        }
-        if let Ok(larger) = buffer_of(alloc, part) {
-            return larger;
-        }
-    }
-    buffer
-}
-
 /// What came of a device at a time, in its buffer.
 #[derive(Drop)]
 pub struct Group {
@@ -100,13 +82,6 @@ impl Group {
         &self.buffer[..self.count]
     }
 
-    /// Forgets what came.
-    pub(crate) fn clear(&mut self)
-        ensures { self.new ≡ [] }
-    {
-        self.count = 0;
-    }
-
     /// Reads once from the device, in place of what came before.
     pub(crate) fn receive<R: Read>(&mut self, device: &mut R) -> Received
         ensures { Brings R.Read device.old device.new self.new result }
@@ -114,16 +89,5 @@ impl Group {
         let (count, received) = receive(device, &mut self.buffer);
         self.count = count;
         received
-    }
-
-    /// Returns a group of no bytes, whose buffer is as large as this, where there is memory for it.
-    pub(crate) fn of_size(self, alloc: Global, size: usize) -> Group
-        ensures { result ≡ [] }
-    {
-        let Group { buffer, count: _ } = self;
-        Group {
-            buffer: larger(alloc, buffer, size),
-            count: 0,
-        }
     }
 }

@@ -11,6 +11,7 @@ use sp_dimacs::read_gr_by;
 use sp_graph::Graph;
 use sp_word::{MOST_WORKERS, Workers};
 use std::alloc::Global;
+use std::sync::Wait;
 use std::thread;
 use std::thread::Threads;
 
@@ -23,7 +24,7 @@ fn all_workers<R: Threads>(rt: &R) -> Workers {
 }
 
 /// Reads a graph, and builds its rows, by as many workers as there are processors.
-pub fn read_graph<const P: u32, R: Threads + Sync, D: Read>(
+pub fn read_graph<const P: u32, R: Threads + Wait + Sync, D: Read>(
     rt: &R,
     alloc: Global,
     gr: &mut D,

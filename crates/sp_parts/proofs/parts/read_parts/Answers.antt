@@ -3,7 +3,7 @@ use Rattle.std.specs.Prelude.{is_ok}
 use Rattle.std.proofs.lemmas.List.Elements.{All-cons, All-nil}
 use Rattle.sp_parts.specs.Parts.{IsPart}
 use Rattle.sp_parts.proofs.Lists.{all_with}
-use Rattle.sp_parts.proofs.parts.read_some.Goals as goal
+use Rattle.sp_parts.proofs.parts.read_parts.Goals as goal
 
 pub loop-preserved : goal.loop-preserved
 loop-preserved g c =
