@@ -116,8 +116,11 @@ impl<const P: u32> KeepParts for ArcKeeper<P> {
 }
 
 impl<const P: u32> KeepAcross for ArcKeeper<P> {
+    ghost use Rattle.std.proofs.Props.{props};
+    ghost use Rattle.sp_paths.specs.declared.arc.Arc.{Arc};
+
     ghost one_proof = { λ keep items.
-        let once : (these others : List Arc) → IsProp (these ≡ others) = Prim.hlevel in
+        let once : (these others : List Arc) → IsProp (these ≡ others) = Prim.hlevel props in
         once keep.arcs.items (map arc_of items) };
 }
 

@@ -1,7 +1,7 @@
 -- There is one proof at most that parts were read of a text.
-use Rattle.std.proofs.Common.{◌≡◌, ℕ, List, [], ◌∷◌, Option, Some}
-use Rattle.std.specs.Coded.{×_prop, Unit-prop, le_prop}
-use Rattle.std.specs.List.{All, AllByRecursion}
+use Rattle.std.proofs.Common.{ℕ, List, [], ◌∷◌, Option}
+use Rattle.std.specs.Coded.{×_prop, Unit-prop}
+use Rattle.std.specs.List.{AllByRecursion}
 use Rattle.std.proofs.Props.{props}
 use Rattle.std.proofs.Math.Logic.{∥∥₁_elim}
 use Rattle.sp_text.specs.declared.formats.Ranges.{Ranges}
@@ -9,7 +9,7 @@ use Rattle.sp_text.specs.declared.formats.Top.{Top}
 use Rattle.sp_text.specs.declared.formats.Field.{Field}
 use Rattle.sp_text.specs.Formats.{Format, LineForm}
 use Rattle.sp_text.specs.Text.{Item, Reading, Comment, Bad, IsProblem, IsItem}
-use Rattle.sp_text.specs.Plain.{IsPlainItem, IsPlainReading, IsPlain, AreRead, IsBlock}
+use Rattle.sp_text.specs.Plain.{IsPlainItem, IsPlainReading, IsPlain}
 use Rattle.sp_parts.specs.declared.parts.Part.{Part}
 use Rattle.sp_parts.specs.Parts.{IsPartOf, AreParts}
 

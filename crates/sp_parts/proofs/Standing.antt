@@ -1,5 +1,5 @@
 -- A text that several threads read.
-use Rattle.std.proofs.Common.{◌≡◌, ◌+◌, ◌-◌, ◌^◌, ◌<◌, ◌≤◌, ℕ, Bool, true, false, List, [], ◌∷◌, ◌++◌, length, take, drop, Option, None, Some, refl, sym, ap, subst, ◌∙◌, append_assoc, arith, length-append, inl, inr}
+use Rattle.std.proofs.Common.{◌≡◌, ◌+◌, ◌^◌, ◌<◌, ◌≤◌, ℕ, Bool, true, false, List, [], ◌∷◌, ◌++◌, length, take, drop, Option, None, Some, refl, sym, ap, subst, ◌∙◌, append_assoc, arith, length-append, inl, inr}
 use Rattle.std.specs.Prelude.{Result, Ok, Err}
 use Rattle.std.specs.Io.KnownBytes.{Consumes, IsAtEnd}
 use Rattle.std.proofs.KnownBytes.{Consumes-nil, Consumes-trans}
@@ -13,16 +13,16 @@ use Rattle.sp_text.specs.declared.collecting.Collector.{Collector}
 use Rattle.sp_text.specs.declared.feeding.Feeder.{Feeder}
 use Rattle.sp_text.specs.Lines.{ended}
 use Rattle.sp_text.specs.First.{Judge}
-use Rattle.sp_text.specs.Text.{judge, problem_of}
+use Rattle.sp_text.specs.Text.{judge}
 use Rattle.sp_text.specs.Collectors.{HasTakenLines}
-use Rattle.sp_text.specs.Feeding.{IsBehind, Finishes, Fails, Refused}
+use Rattle.sp_text.specs.Feeding.{IsBehind, Finishes, Fails}
 use Rattle.sp_text.specs.Plain.{HasProblem}
 use Rattle.sp_text.specs.Whole.{ReadOn}
 use Rattle.sp_text.proofs.Behind.{refusal_lasts, refused_earlier}
 use Rattle.sp_parts.specs.declared.receiving.Received.{Received}
 use Rattle.sp_parts.specs.declared.receiving.Received.TheVariants.{More, Over, Failed}
 use Rattle.sp_parts.specs.Groups.{EndsAs, Brings, HasCome, HasComeTo, ComesOn, HasAnswered}
-use Rattle.sp_parts.specs.Parts.{IsAt, IsNext, TakesPiece, TakesNext}
+use Rattle.sp_parts.specs.Parts.{IsAt, IsNext, TakesNext}
 use Rattle.sp_parts.specs.Stands.{Stands}
 use Rattle.sp_parts.proofs.TextParts.{problem_lasts, finished_on}
 

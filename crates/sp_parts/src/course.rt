@@ -24,6 +24,8 @@ pub struct Course<K: KeepParts> {
     pub(crate) reader: Feeder<Collector<K>>,
     /// How the device has answered last.
     pub(crate) received: Received,
+    /// Whether the last piece didn't fill its buffer, as of a pipe: there may be no more for a while.
+    is_short: bool,
     /// How much came of the device.
     pub(crate) came: Mark,
     /// How much of it the reader has taken.
@@ -46,6 +48,7 @@ impl<K: KeepAcross> Course<K> {
         Course {
             reader,
             received: Received::More,
+            is_short: false,
             came: none,
             taken: none,
             spare,
@@ -75,7 +78,7 @@ impl<K: KeepAcross> Course<K> {
         let _ = self.spare.push(group);
     }
 
-    // Reads once from the device, and lets what came be read.
+    // Reads once from the device, and lets what came be read. A short piece waits for nobody: this thread reads it.
     fn receive<O: Origin, H: Wait, R: Read>(
         &mut self,
         rt: &H,
@@ -95,19 +98,26 @@ impl<K: KeepAcross> Course<K> {
             self.free(group);
             return;
         }
+        self.is_short = !group.is_full();
         let piece = Piece::<O>::new(self.came.pieces, self.came.bytes, group);
         self.came = Mark {
             pieces: self.came.pieces.wrapping_add(1),
             bytes: self.came.bytes.wrapping_add(count as u64),
         };
-        shared.give(rt, piece);
+        if self.is_short {
+            shared.read(rt, piece);
+        } else {
+            shared.give(rt, piece);
+        }
     }
 
-    // Returns whether more may come.
+    // Returns whether to ask the device for more. Behind a short piece all that came is taken first, so that a fault is told
+    // as soon as it has come.
     fn is_open<O: Origin>(&self, shared: &Shared<K, O>) -> bool {
         let flying = self.came.pieces.saturating_sub(self.taken.pieces);
+        let room = if self.is_short { 1 } else { shared.room() };
         match self.received {
-            Received::More => flying < shared.room(),
+            Received::More => flying < room,
             _ => false,
         }
     }

@@ -17,7 +17,7 @@ pub struct Sizes {
 /// The sizes that read sooner than others.
 pub const SIZES: Sizes = Sizes {
     alone: 262_144,
-    piece: 262_144,
+    piece: 131_072,
 };
 
 /// The number of pieces for each thread that there may be at a time.

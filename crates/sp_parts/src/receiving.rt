@@ -82,6 +82,11 @@ impl Group {
         &self.buffer[..self.count]
     }
 
+    /// Returns whether they fill the buffer.
+    pub(crate) fn is_full(&self) -> bool {
+        self.count == self.buffer.len()
+    }
+
     /// Reads once from the device, in place of what came before.
     pub(crate) fn receive<R: Read>(&mut self, device: &mut R) -> Received
         ensures { Brings R.Read device.old device.new self.new result }

@@ -87,7 +87,7 @@ impl<K: KeepParts, O: Origin> Shared<K, O> {
     }
 
     /// Reads a piece.
-    fn read<R: Wait>(&self, rt: &R, piece: Piece<O>) {
+    pub(crate) fn read<R: Wait>(&self, rt: &R, piece: Piece<O>) {
         self.put(rt, read_piece(self.alloc, &self.plain, piece));
     }
 

@@ -168,7 +168,7 @@ impl<const P: u32> Run<P> for CheckCommand<'_> {
 }
 
 // Checks the only block against the graph, or with `--all` each block, and writes the verdicts.
-fn check_blocks<const P: u32, R: Threads + Sync, F: Inputs, W: Write>(
+fn check_blocks<const P: u32, R: Threads + Wait + Sync, F: Inputs, W: Write>(
     rt: &R,
     alloc: Global,
     given: &CheckCommand<'_>,
@@ -199,7 +199,7 @@ fn check_blocks<const P: u32, R: Threads + Sync, F: Inputs, W: Write>(
 }
 
 // Checks the tree or the forest against the graph, and writes the verdict.
-fn check_file<const P: u32, R: Threads + Sync, F: Inputs, W: Write>(
+fn check_file<const P: u32, R: Threads + Wait + Sync, F: Inputs, W: Write>(
     rt: &R,
     alloc: Global,
     given: &CheckCommand<'_>,
@@ -228,7 +228,7 @@ fn check_file<const P: u32, R: Threads + Sync, F: Inputs, W: Write>(
 }
 
 // Returns the verdict on the tree or the forest in a file, against the graph in another.
-fn find_verdict<const P: u32, R: Threads + Sync, F: Inputs>(
+fn find_verdict<const P: u32, R: Threads + Wait + Sync, F: Inputs>(
     rt: &R,
     alloc: Global,
     given: &CheckCommand<'_>,

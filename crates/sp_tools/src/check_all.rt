@@ -19,6 +19,7 @@ use sp_device::{Printer, Read, Write, WriteFault, finish, print_number, print_te
 use sp_graph::Graph;
 use sp_tree::TreeBlocks;
 use std::alloc::Global;
+use std::sync::Wait;
 use std::thread::Threads;
 
 /// The verdict of the checker on a block.
@@ -31,7 +32,7 @@ pub struct Judged {
 }
 
 /// Checks each block of the tree file against the graph, and writes the verdicts.
-pub fn check_all_files<const P: u32, R: Threads + Sync, F: Inputs, W: Write>(
+pub fn check_all_files<const P: u32, R: Threads + Wait + Sync, F: Inputs, W: Write>(
     rt: &R,
     alloc: Global,
     given: &CheckCommand<'_>,
@@ -60,7 +61,7 @@ pub fn check_all_files<const P: u32, R: Threads + Sync, F: Inputs, W: Write>(
 }
 
 // Returns the verdict on each block of a file, against the graph in another.
-fn find_verdicts<const P: u32, R: Threads + Sync, F: Inputs>(
+fn find_verdicts<const P: u32, R: Threads + Wait + Sync, F: Inputs>(
     rt: &R,
     alloc: Global,
     given: &CheckCommand<'_>,

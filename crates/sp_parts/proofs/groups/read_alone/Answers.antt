@@ -1,4 +1,4 @@
-use Rattle.std.proofs.Common.{◌≡◌, ◌≤◌, ◌^◌, ◌++◌, ◌∙◌, length, [], arith, inl}
+use Rattle.std.proofs.Common.{◌++◌, ◌∙◌, [], arith, inl}
 use Rattle.std.proofs.lemmas.Result.{err_from_is_err_and}
 use Rattle.sp_text.specs.Text.{judge}
 use Rattle.sp_text.specs.Lines.{ended}
