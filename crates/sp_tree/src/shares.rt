@@ -98,7 +98,8 @@ fn shares_of<const P: u32, R: Threads + Sync>(
 
 // Sends texts, one after the other.
 fn send_texts<W: Write>(out: &mut W, printer: &mut Printer, texts: &[Vec<u8>])
-    ensures { Sends W.Write (flat_map (λ t. t.items) texts.now) out.old printer.old out.new printer.new }
+    ensures { Sends W.Write (flat_map (λ t. t.items) texts.now)
+        out.old printer.old out.new printer.new }
 {
     for text in texts {
         print_text(out, printer, text);
