@@ -11,9 +11,7 @@ use sp_graph::Graph;
 use sp_job::{BatchError, Progress, Summary};
 use sp_solve::{Part, RunError, run_within_metered, useful_team, words_by_team};
 use sp_sources::Question;
-use sp_tree::{
-    text_of, text_of_words, write_far, write_tree_in_pages, write_words_by, write_words_in_pages,
-};
+use sp_tree::{text_of, text_of_words, write_far, write_tree_in_pages, write_words_in_pages};
 use sp_word::{Delta, Meter, Team, Workers};
 use std::alloc::{AllocError, Global};
 use std::sync::Wait;
@@ -174,28 +172,6 @@ impl<'a, const P: u32, V: Watch + Sync> Question for TreeQuestion<'a, P, V> {
                 too_far: 1,
                 bytes: write_far(*source, *vertex, out)?,
             }),
-        }
-    }
-
-    // The lines of a whole tree are made by all workers; of a part of it there are few.
-    fn write_by<R: Threads + Sync, W: Write>(
-        &self,
-        rt: &R,
-        alloc: Global,
-        workers: Workers,
-        found: &SourceAnswer<P>,
-        out: &mut W,
-    ) -> Result<Summary, BatchError>
-        requires { IsSync R.row }
-        ensures { AreWritten W.Write (told_by found.now ∷ []) out.old result out.new }
-    {
-        match found {
-            SourceAnswer::Tree(tree) => Ok(Summary {
-                sources: 1,
-                too_far: 0,
-                bytes: write_words_by(rt, alloc, workers, tree, out)?,
-            }),
-            _ => self.write(alloc, found, out),
         }
     }
 }

@@ -51,7 +51,7 @@ fn count_at_once<R: Threads, L>(rt: &R, asked: &Asked<L>) -> Workers
     }
 }
 
-// Finds the answer for one source, writes and counts it, by so many workers.
+// Finds the answer for one source, writes and counts it.
 #[tactic(auto, using(crate::proofs::ToldInOrder::none_begun))]
 fn answer_source<Q: Question, R: Threads + Wait + Sync, W: Write>(
     rt: &R,
@@ -65,7 +65,7 @@ fn answer_source<Q: Question, R: Threads + Wait + Sync, W: Write>(
     ensures { AreAllAnswered (Q.answers question.now) (source ∷ []) W.Write out.old result out.new }
 {
     match question.find(rt, alloc, workers, source) {
-        Ok(found) => question.write_by(rt, alloc, workers, &found, out),
+        Ok(found) => question.write(alloc, &found, out),
         Err(AllocError) => Err(BatchError::Memory),
     }
 }

@@ -55,19 +55,4 @@ pub trait Question: Sync {
         out: &mut W,
     ) -> Result<Summary, BatchError>
         ensures { AreWritten W.Write (told found.now ∷ []) out.old result out.new };
-
-    /// Does what `write` does, by so many workers, this thread among them. By default this thread does it alone.
-    fn write_by<R: Threads + Sync, W: Write>(
-        &self,
-        _rt: &R,
-        alloc: Global,
-        _workers: Workers,
-        found: &Self::Found,
-        out: &mut W,
-    ) -> Result<Summary, BatchError>
-        requires { IsSync R.row }
-        ensures { AreWritten W.Write (told found.now ∷ []) out.old result out.new }
-    {
-        self.write(alloc, found, out)
-    }
 }

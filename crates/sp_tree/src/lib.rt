@@ -20,7 +20,6 @@ pub use blocks::TreeBlocks;
 pub use laws::{tree_text_is_exact, tree_texts_are_accepted};
 pub use pages::write_tree_in_pages;
 pub use reading::{TreeReader, read_tree};
-pub use shares::write_words_by;
 pub use sp_answer::{Tree, WordTree};
 pub use text::text_of;
 pub use word_pages::{text_of_words, write_words_in_pages};
