@@ -31,23 +31,6 @@ page_parted total n rest front back short within front_is back_is =
     let there : 1 + (total - length rest) + n ≡ 1 + (total - length back) = omega (arith, size) in
     rows_parted (1 + (total - length rest)) n rest front back within front_is back_is ∙ (ap (λ (k : ℕ). rows_from k front ++ rows_from (1 + (total - length rest) + n) back) here ∙ ap (λ (k : ℕ). rows_from (total - length rest + 1) front ++ rows_from k back) there)
 
--- the same of the last words of so many, which are numbered from any vertex on
-pub later_parted : (first total n : ℕ) (rest front back : List Word) → length rest ≤ total → n ≤ length rest → front ≡ take n rest → back ≡ drop n rest → rows_from (first + (total - length rest)) rest ≡ rows_from (first + (total - length rest)) front ++ rows_from (first + (total - length back)) back
-later_parted first total n rest front back short within front_is back_is =
-    let size : length back ≡ length rest - n = ap length back_is ∙ length-drop n rest in
-    let there : first + (total - length rest) + n ≡ first + (total - length back) = omega (arith, size) in
-    rows_parted (first + (total - length rest)) n rest front back within front_is back_is ∙ ap (λ (k : ℕ). rows_from (first + (total - length rest)) front ++ rows_from k back) there
-
--- the lines of words, made in two parts
-pub shares_joined : (first k next : ℕ) (words front back : List Word) (text more all : List ℕ) → k ≤ length words → front ≡ take k words → back ≡ drop k words → next ≡ first + k
-    → text ≡ flat_map row_text (rows_from first front) → more ≡ flat_map row_text (rows_from next back) → all ≡ text ++ more → all ≡ flat_map row_text (rows_from first words)
-shares_joined first k next words front back text more all within front_is back_is is made rest joined =
-    joined
-    ∙ (ap (λ (t : List ℕ). t ++ more) made
-    ∙ (ap (λ (t : List ℕ). flat_map row_text (rows_from first front) ++ t) (rest ∙ ap (λ (j : ℕ). flat_map row_text (rows_from j back)) is)
-    ∙ (sym (flat_map-append row_text (rows_from first front) (rows_from (first + k) back))
-    ∙ sym (ap (flat_map row_text) (rows_parted first k words front back within front_is back_is)))))
-
 -- the line of a word before those behind it
 line_before : (v : ℕ) (word : Word) (more : List (ℕ × Word)) → flat_map row_text (row_of v word ++ more) ≡ reached_text v word ++ flat_map row_text more
 line_before v Unreached more = refl

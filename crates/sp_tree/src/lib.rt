@@ -9,7 +9,6 @@ mod laws;
 mod lines;
 mod pages;
 mod reading;
-mod shares;
 mod stream;
 mod taking;
 mod text;

@@ -91,24 +91,23 @@ fn append_page<const P: u32>(
     text.extend_from_slice(&page[start..])
 }
 
-/// Appends the lines of the vertices from `first` on, which have these words, page after page.
-pub(crate) fn append_pages<const P: u32>(
+// Appends the lines of the vertices from 1 on, which have these words, page after page.
+fn append_pages<const P: u32>(
     alloc: Global,
     text: &mut Vec<u8>,
-    first: u32,
     words: &[Word<P>],
 ) -> Result<(), AllocError>
-    requires { first + length words.now < 2 ^ 32 }
+    requires { length words.now < 2 ^ 32 - 1 }
     ensures { OnOk result
-        (text.new.items ≡ text.old.items ++ flat_map row_text (rows_from first words.now)) }
+        (text.new.items ≡ text.old.items ++ flat_map row_text (rows_from 1 words.now)) }
 {
     let size = PAGE_ROWS.min(words.len());
     let mut page = new_page(alloc, size)?;
     let mut rest = words;
     while !rest.is_empty() {
-        let done = (words.len() - rest.len()) as u32;
+        let first = (words.len() - rest.len()) as u32 + 1;
         let (group, later) = rest.split_at(size.min(rest.len()));
-        append_page(text, first + done, group, &mut page)?;
+        append_page(text, first, group, &mut page)?;
         rest = later;
     }
     Ok(())
@@ -119,7 +118,7 @@ pub fn text_of_words<const P: u32>(alloc: Global, tree: &WordTree<P>) -> Result<
     ensures { IfOk result (λ text. text.items ≡ tree_text tree.now) }
 {
     let mut text = first_line(alloc, tree.n(), tree.source(), tree.reached())?;
-    append_pages(alloc, &mut text, 1, tree.words())?;
+    append_pages(alloc, &mut text, tree.words())?;
     append_end(&mut text, tree.reached())?;
     Ok(text)
 }

@@ -7,7 +7,7 @@ abbrev pub invariant-loop-rest : goal.invariant-loop-rest
 invariant-loop-rest g l = record {
   short : length l.rest ≤ length l.words;
   page : length l.page.items ≡ l.size * 45;
-  made : IsMadeBut (rows_from l.first l.words) (rows_from (l.first + (length l.words - length l.rest)) l.rest) l.fn.text.items l.text.items;
+  made : IsMadeBut (rows_from 1 l.words) (rows_from (1 + (length l.words - length l.rest)) l.rest) l.fn.text.items l.text.items;
 }
 
 abbrev pub decreases-loop-rest : goal.decreases-loop-rest
