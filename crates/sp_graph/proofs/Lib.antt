@@ -5,6 +5,7 @@ pub mod KeyOrder
 pub mod Scatter
 pub mod Parts
 pub mod SortedRows
+pub mod RowOrder
 pub mod ShortRows
 pub mod Shares
 pub mod Counting

@@ -9,6 +9,7 @@ mod mean;
 mod ordering;
 mod placing;
 mod rising;
+mod row_order;
 mod row_sorting;
 mod rows;
 mod sharing;
