@@ -9,6 +9,7 @@ ghost use Rattle.sp_graph.specs.Mean.{mean_length};
 ghost use Rattle.sp_graph.specs.Index.{IsRowAt};
 
 use crate::mean::mean_length;
+use crate::nearness::lead_far;
 use crate::ordering::put_in_order;
 use crate::sharing::put_in_order_by;
 use sp_paths::Arc;
@@ -149,6 +150,12 @@ impl Graph {
         ensures some { 1 ≤ result }
     {
         mean_length(&self.arcs)
+    }
+
+    /// Returns whether many arcs lead far away from their tails, so that what is read of one vertex after the other misses
+    /// the caches. It samples some arcs. The contract promises nothing about the result, which affects only the time.
+    pub fn has_far_heads(&self) -> bool {
+        lead_far(&self.arcs)
     }
 
     /// Returns all arcs, sorted.

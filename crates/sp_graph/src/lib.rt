@@ -6,6 +6,7 @@ mod graph;
 mod index;
 mod marks;
 mod mean;
+mod nearness;
 mod ordering;
 mod placing;
 mod rising;
