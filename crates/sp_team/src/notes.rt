@@ -21,17 +21,26 @@ pub struct Notes {
     most: usize,
 }
 
+// Returns how many marks one of these workers keeps at most: twice as many as vertices are its share, but none where heads lie near
+// their tails, so that looking at all arcs again costs less than marks.
+fn most_marks(graph: &Graph, common: &Common) -> usize {
+    if !graph.has_far_heads() {
+        return 0;
+    }
+    let workers = common.stealers.len().max(1);
+    let share = graph.n() as usize / workers;
+    (2 * share).max(FEWEST_MARKS)
+}
+
 impl Notes {
-    /// Makes the empty notes of one of these workers, with room for twice as many marks as vertices are its share.
+    /// Makes the empty notes of one of these workers.
     pub(crate) fn new(graph: &Graph, common: &Common) -> Result<Notes, AllocError>
         ensures { IfOk result (λ notes. notes.marks.items ≡ []) }
     {
-        let workers = common.stealers.len().max(1);
-        let share = graph.n() as usize / workers;
         Ok(Notes {
             requests: Vec::with_capacity(common.alloc, MOST)?,
             marks: Vec::new(common.alloc),
-            most: (2 * share).max(FEWEST_MARKS),
+            most: most_marks(graph, common),
         })
     }
 
