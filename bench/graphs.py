@@ -129,15 +129,22 @@ KINDS.update(path=path, star=star, ladder=ladder, closed=closed, lognormal=logno
 
 
 def write_graph(path, kind, n, seed, shuffled=False):
-    """Writes the graph, and tells its number of arcs and their mean length."""
-    arcs = list(KINDS[kind](n, random.Random(seed)))
+    """Writes the graph, and tells its number of arcs and their mean length. Arcs are made twice rather than kept, unless they are shuffled."""
+
+    def make():
+        return KINDS[kind](n, random.Random(seed))
+
     if shuffled:
-        random.Random(seed + 2).shuffle(arcs)
+        kept = list(make())
+        random.Random(seed + 2).shuffle(kept)
+    count, total = 0, 0
+    for _, _, length in make():
+        count += 1
+        total += length
     with open(path, "w") as file:
-        file.write(f"c {kind}, seed {seed}\np sp {n} {len(arcs)}\n")
-        file.writelines(f"a {tail} {head} {length}\n" for tail, head, length in arcs)
-    mean = sum(length for _, _, length in arcs) // max(1, len(arcs))
-    return len(arcs), max(1, mean)
+        file.write(f"c {kind}, seed {seed}\np sp {n} {count}\n")
+        file.writelines(f"a {tail} {head} {length}\n" for tail, head, length in (kept if shuffled else make()))
+    return count, max(1, total // max(1, count))
 
 
 def write_sources(path, n, count, seed):
