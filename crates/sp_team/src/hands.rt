@@ -15,7 +15,7 @@ use std::thread::yield_now;
 const LEAST_PIECE: usize = 16;
 
 /// How many buckets a worker may be ahead of the others without waiting for them.
-const AHEAD: u64 = 8;
+const AHEAD: u64 = 2;
 
 /// How often a worker that is ahead looks for the others before it goes on all the same.
 const PATIENCE: u32 = 1000;
