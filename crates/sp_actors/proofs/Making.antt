@@ -1,15 +1,14 @@
 -- What becomes known as offers are made and callers are joined.
-use Rattle.std.proofs.Common.{◌≡◌, ℕ, ◌+◌, ◌<◌, ◌≤◌, ◌⊎◌, inl, inr, arith, List, [], ◌∷◌, ◌++◌, length, subst, ⊎_elim}
-use Rattle.std.specs.Prelude.{Some, None, slice_get, Contains}
+use Rattle.std.proofs.Common.{◌≡◌, ℕ, ◌+◌, ◌<◌, ◌≤◌, ◌⊎◌, inl, inr, arith, List, length, subst, ⊎_elim}
+use Rattle.std.specs.Prelude.{Some, None, slice_get}
 use Rattle.std.proofs.lemmas.Option.{slice_get_within, slice_get_cases}
-use Rattle.std.proofs.lemmas.List.Elements.{Contains-push, Contains-push_cases, Contains-append_left}
 use Rattle.sp_word.specs.Word.{Word}
 use Rattle.sp_machine.specs.Programme.{Programme, IsNumber, row_of, item_of}
 use Rattle.sp_machine.specs.declared.item.Item.{Item}
 use Rattle.sp_machine.specs.declared.item.Item.TheVariants.{Offer, Read, Relax}
 use Rattle.sp_offer.specs.Story.{Story, Follows, known_table}
 use Rattle.sp_offer.proofs.Orders.{at_most-trans}
-use Rattle.sp_actors.specs.Made.{KnowsNoLess, KnowsItem, KnowsItems, KnowsActor, KnowsOffers, KnowsOrAwaits}
+use Rattle.sp_actors.specs.Made.{KnowsNoLess, KnowsItem, KnowsItems, KnowsActor, KnowsOffers, KnowsActors}
 
 -- what was known of an item stays known
 pub item_stays : {P : ℕ} (s t : Story) (item : Item P) → KnowsNoLess s t → KnowsItem s item → KnowsItem t item
@@ -61,53 +60,41 @@ actor_stays p actor s t falls known = record { items = λ k item at. item_stays 
 pub actor_joined : {P : ℕ} (p : Programme P) (actor : ℕ) (law : ℕ → Word → Type 0) (r s t : Story) → Follows law r s t → KnowsActor p actor s → KnowsActor p actor t
 actor_joined p actor law r s t both known = actor_stays p actor s t (λ v. (both.falls v).1) known
 
--- one of the actors up to the next is one of those before, or the next
-up_to_next : (last actor : ℕ) → IsNumber (last + 1) actor → IsNumber last actor ⊎ (last + 1 ≡ actor)
-up_to_next last actor is = grind (arith, is.0, is.1)
+-- two ranges of actors, whose callers are joined
+pub actors_joined : {P : ℕ} (p : Programme P) (before middle last : ℕ) (law : ℕ → Word → Type 0) (s r t : Story) → Follows law s r t
+    → KnowsActors p before middle s → KnowsActors p middle last r → KnowsActors p before last t
+actors_joined {P} p before middle last law s r t both first second = record { each = each }
+  where
+    near_or_far : (actor middle : ℕ) → (actor ≤ middle) ⊎ (middle < actor)
+    near_or_far actor middle = grind arith
 
--- a thread was started for the next actor
-pub one_started : {P : ℕ} (p : Programme P) (last : ℕ) (awaited : List ℕ) (s : Story)
-    → KnowsOrAwaits p last awaited s → KnowsOrAwaits p (last + 1) (awaited ++ (last + 1) ∷ []) s
-one_started p last awaited s before actor is =
-    ⊎_elim
-    (λ (low : IsNumber last actor).
-    ⊎_elim
-    (λ (known : KnowsActor p actor s). inl known)
-    (λ (there : Contains awaited actor). inr (Contains-append_left awaited ((last + 1) ∷ []) actor there))
-    (before actor low))
-    (λ (next : last + 1 ≡ actor). inr (subst (Contains (awaited ++ (last + 1) ∷ [])) next (Contains-push awaited (last + 1))))
-    (up_to_next last actor is)
+    each : (actor : ℕ) → before < actor → actor ≤ last → KnowsActor p actor t
+    each actor low high =
+        ⊎_elim
+        (λ (near : actor ≤ middle). actor_stays p actor s t (λ v. (both.falls v).0) (first.each actor low near))
+        (λ (far : middle < actor). actor_joined p actor law s r t both (second.each actor far high))
+        (near_or_far actor middle)
 
--- the next actor's offers were made by a caller that was then joined
-pub one_made : {P : ℕ} (p : Programme P) (law : ℕ → Word → Type 0) (last : ℕ) (awaited : List ℕ) (s r t : Story)
-    → KnowsOrAwaits p last awaited s → KnowsActor p (last + 1) r → Follows law s r t → KnowsOrAwaits p (last + 1) awaited t
-one_made p law last awaited s r t before made both actor is =
-    ⊎_elim
-    (λ (low : IsNumber last actor).
-    ⊎_elim
-    (λ (known : KnowsActor p actor s). inl (actor_stays p actor s t (λ v. (both.falls v).0) known))
-    (λ (there : Contains awaited actor). inr there)
-    (before actor low))
-    (λ (next : last + 1 ≡ actor). inl (subst (λ a. KnowsActor p a t) next (actor_joined p (last + 1) law s r t both made)))
-    (up_to_next last actor is)
+-- where all actors' offers are known, all offers are
+pub all_known : {P : ℕ} (p : Programme P) (s : Story) → KnowsActors p 0 p.actors s → KnowsOffers p s
+all_known p s all v w (actor, k, is, at) = (all.each actor is.0 is.1).items k (Offer v w) at
 
--- the last thread was joined
-pub one_joined : {P : ℕ} (p : Programme P) (last one : ℕ) (awaited : List ℕ) (s t : Story)
-    → KnowsOrAwaits p last (awaited ++ one ∷ []) s → KnowsNoLess s t → KnowsActor p one t → KnowsOrAwaits p last awaited t
-one_joined p last one awaited s t before falls made actor is =
-    ⊎_elim
-    (λ (known : KnowsActor p actor s). inl (actor_stays p actor s t falls known))
-    (λ (there : Contains (awaited ++ one ∷ []) actor).
-    ⊎_elim
-    (λ (rest : Contains awaited actor). inr rest)
-    (λ (this : one ≡ actor). inl (subst (λ a. KnowsActor p a t) this made))
-    (Contains-push_cases awaited one actor there))
-    (before actor is)
+-- of one actor
+pub one_known : {P : ℕ} (p : Programme P) (before last : ℕ) (s : Story) → last ≡ before + 1 → KnowsActor p last s → KnowsActors p before last s
+one_known {P} p before last s next known = record { each = each }
+  where
+    only : (actor before last : ℕ) → last ≡ before + 1 → before < actor → actor ≤ last → last ≡ actor
+    only actor before last next low high = grind arith
 
--- where no thread is awaited, all offers are known
-pub all_known : {P : ℕ} (p : Programme P) (s : Story) → KnowsOrAwaits p p.actors [] s → KnowsOffers p s
-all_known p s all v w (actor, k, is, at) =
-    ⊎_elim
-    (λ (known : KnowsActor p actor s). known.items k (Offer v w) at)
-    (λ (there : Contains [] actor). absurd (let short = there.1 in omega arith))
-    (all actor is)
+    each : (actor : ℕ) → before < actor → actor ≤ last → KnowsActor p actor s
+    each actor low high = subst (λ a. KnowsActor p a s) (only actor before last next low high) known
+
+-- of none
+pub none_known : {P : ℕ} (p : Programme P) (before last : ℕ) (s : Story) → last ≡ before → KnowsActors p before last s
+none_known {P} p before last s same = record { each = each }
+  where
+    none : (actor before last : ℕ) → last ≡ before → before < actor → actor ≤ last → ⊥
+    none actor before last same low high = grind arith
+
+    each : (actor : ℕ) → before < actor → actor ≤ last → KnowsActor p actor s
+    each actor low high = absurd (none actor before last same low high)

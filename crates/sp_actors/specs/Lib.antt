@@ -1,3 +1,3 @@
 pub mod Least
+pub mod Ran
 pub mod Made
-pub mod Promised

@@ -1,5 +1,5 @@
 -- Which offers a law allows, and which offers a caller knows to have been made.
-use Rattle.std.specs.Prelude.{◌≡◌, ℕ, ◌<◌, ◌⊎◌, List, Contains, Some}
+use Rattle.std.specs.Prelude.{◌≡◌, ℕ, ◌<◌, ◌≤◌, Some}
 use Rattle.sp_word.specs.Word.{Word}
 use Rattle.sp_machine.specs.Programme.{Programme, IsNumber, item_of}
 use Rattle.sp_machine.specs.declared.item.Item.{Item}
@@ -44,6 +44,6 @@ pub record KnowsActor {P : ℕ} (p : Programme P) (actor : ℕ) (s : Story) : Ty
 abbrev pub KnowsOffers : {P : ℕ} → Programme P → Story → Type 0
 KnowsOffers p s = (v : ℕ) (w : Word) → IsOffered p v w → IsNoMore (known_table s v) w
 
--- This holds for the actors up to the last, except those that these numbers name.
-abbrev pub KnowsOrAwaits : {P : ℕ} → Programme P → (last : ℕ) → (awaited : List ℕ) → Story → Type 0
-KnowsOrAwaits p last awaited s = (actor : ℕ) → IsNumber last actor → KnowsActor p actor s ⊎ Contains awaited actor
+-- This holds for the actors behind one and up to another.
+pub record KnowsActors {P : ℕ} (p : Programme P) (before last : ℕ) (s : Story) : Type 0 where
+  pub each : (actor : ℕ) → before < actor → actor ≤ last → KnowsActor p actor s

@@ -5,7 +5,6 @@
 #![tactic(auto)]
 
 mod law;
-mod promise;
 mod rows;
 mod threads;
 mod words;

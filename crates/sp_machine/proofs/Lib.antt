@@ -13,3 +13,4 @@ pub mod Arcs
 pub mod ClosedRuns
 pub mod Everywhere
 pub mod Reports
+pub mod OfferSteps

@@ -10,3 +10,4 @@ pub mod MachineView
 pub mod LogView
 pub mod ReportOf
 pub mod Closing
+pub mod OfferSteps

@@ -1,5 +1,6 @@
 //! The theorems about every run, for any programme and any interleaving.
 ghost use Rattle.sp_machine.specs.Theorems.{EveryRunIsLinear, LossesAreBounded, ClosedRunEndsInTree};
+ghost use Rattle.sp_machine.specs.OfferSteps.{OfferStepsAreTheMachines};
 
 /// States that every run is linear: its finished calls, each taken at one step between its first and its last, are a
 /// legal history of a table of least offers, which ends in the machine's words. (Herlihy and Wing, "Linearizability",
@@ -18,4 +19,10 @@ pub fn losses_are_bounded()
 /// The graph's arcs are those of the relaxation items.
 pub fn closed_run_ends_in_tree()
     ensures { ClosedRunEndsInTree }
+{}
+
+/// States that the machine's step at an offer is the step of an offer on one word, of which the contracts of running
+/// offers speak too: the same stage follows, and the same word is left.
+pub fn offer_steps_are_the_machines()
+    ensures { OfferStepsAreTheMachines }
 {}

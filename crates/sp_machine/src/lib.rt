@@ -18,8 +18,11 @@ mod turn;
 pub use actor::Actor;
 pub use effect::{Call, Effect, Ended, Exchange, Relaxation};
 pub use item::Item;
-pub use laws::{closed_run_ends_in_tree, every_run_is_linear, losses_are_bounded};
+pub use laws::{
+    closed_run_ends_in_tree, every_run_is_linear, losses_are_bounded, offer_steps_are_the_machines,
+};
 pub use machine::Machine;
 pub use programme::Programme;
 pub use report::{Finished, Report};
 pub use running::replay;
+pub use turn::{At, Turn};

@@ -10,7 +10,7 @@ use sp_word::Word;
 
 /// The place within its item at which an actor is.
 #[derive(Clone, Copy)]
-pub(crate) enum At<const P: u32> {
+pub enum At<const P: u32> {
     /// The actor has no further item.
     Idle,
     /// The actor is at an offer, by itself or as the second part of a relaxation.
@@ -38,7 +38,7 @@ impl<const P: u32> At<P> {
 
 /// The case of a step of an actor.
 #[derive(Clone, Copy)]
-pub(crate) enum Turn {
+pub enum Turn {
     /// There is no further item: nothing changes.
     Rests,
     /// Case 1: the word loaded is at most the offer, which ends with the reply Kept.

@@ -1,9 +1,12 @@
 pub mod Orders
 pub mod Ties
 pub mod Histories
+pub mod Interleavings
 pub mod Steps
 pub mod Moves
 pub mod CallKnowledge
 pub mod Own
 pub mod Copies
+pub mod Endings
 pub mod Exchanges
+pub mod Trails

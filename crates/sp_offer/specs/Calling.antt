@@ -7,6 +7,8 @@ use Rattle.sp_offer.specs.Order.{lawful}
 use Rattle.sp_offer.specs.Histories.{event}
 use Rattle.sp_offer.specs.Story.{Knowledge, own_calls, story_beside, Calls, Knows, Follows, Reads, IsCopy}
 use Rattle.sp_offer.specs.Rule.{TableView}
+use Rattle.sp_offer.specs.Trail.{Found, words_of, Stand}
+use Rattle.sp_offer.specs.Lowering.{Finding, Takes}
 
 abbrev pub IsSameCaller : Knowledge → Knowledge → Type 0
 IsSameCaller before after = (after.table ≡ before.table) × (after.number ≡ before.number)
@@ -22,6 +24,9 @@ HasSameCalls before after = own_calls after.story ≡ own_calls before.story
 -- A second caller of the table has seen what the first has, and has made no calls.
 abbrev pub IsBeside : Knowledge → Knowledge → Type 0
 IsBeside first second = (second.table ≡ first.table) × (second.story ≡ story_beside first.story)
+
+abbrev pub HasSameTrail : Knowledge → Knowledge → Type 0
+HasSameTrail before after = after.trail ≡ before.trail
 
 -- ## One call
 
@@ -42,6 +47,26 @@ OwnsAll calls before after = own_calls after.story ≡ own_calls before.story ++
 
 abbrev pub Owns : Event → Knowledge → Knowledge → Type 0
 Owns call before after = OwnsAll (call ∷ []) before after
+
+-- The steps of the call found such words, and it takes effect at the last of them.
+abbrev pub TakesSteps : Event → (List Word → Type 0) → Knowledge → Knowledge → Type 0
+TakesSteps e finding before after = Takes e finding before.story after.story before.trail after.trail
+
+-- The steps of an offer found such words.
+abbrev pub OffersBy : {P : ℕ} → Finding → ℕ → Word → Offered P → Knowledge → Knowledge → Type 0
+OffersBy finding vertex word answer before after =
+    TakesSteps (offer_of before vertex word answer) (finding word answer.found answer.tries) before after
+
+-- A read takes one step, which finds the word.
+abbrev pub ReadsBy : ℕ → Word → Knowledge → Knowledge → Type 0
+ReadsBy vertex word before after = TakesSteps (read_of before vertex word) (λ words. words ≡ word ∷ []) before after
+
+-- Steps that found these words were added to the trail, one each, in the order of the history.
+pub record Copies (words : List Word) (before after : Knowledge) : Type 0 where
+  pub found : List Found
+  pub trail : after.trail ≡ before.trail ++ found
+  pub finds : words_of found ≡ words
+  pub stand : Stand before.story.seen after.story.seen found
 
 -- ## Calls at a table
 

@@ -1,8 +1,11 @@
 pub mod Order
 pub mod Histories
+pub mod Interleaving
+pub mod Trail
 pub mod Story
 pub mod Sight
 pub mod Rule
 pub mod Lowering
 pub mod Parts
 pub mod Calling
+pub mod Ending

@@ -6,7 +6,8 @@ use Rattle.sp_word.specs.Word.{Word, word_of}
 use Rattle.sp_offer.specs.declared.words.Words.{Words}
 use Rattle.sp_offer.specs.Order.{lawful}
 use Rattle.sp_offer.specs.Sight.{Sight}
-use Rattle.sp_offer.specs.Rule.{TableView, SeatOffers}
+use Rattle.sp_offer.specs.Rule.{TableView, SeatOffers, answer_event}
+use Rattle.sp_offer.specs.Lowering.{Finding, SeatTakes}
 
 module _ {L : Type 0} where
   abbrev pub id_of : Words L → TableId
@@ -41,3 +42,8 @@ module _ {L : Type 0} where
     -- The seat's own caller offered a word, and the bits found decided the reply.
     abbrev pub Lowers : {S : Type 0} → (vertex bits found : ℕ) → Seat S Sight → Seat S Sight → Type 0
     Lowers vertex bits found p q = SeatOffers (layout_of words) law_in p.id vertex (word_in words bits) found p q
+
+  -- The steps of the offer of a word found such words.
+  abbrev pub Goes : {S : Type 0} → Finding → Words L → (vertex bits found tries : ℕ) → Seat S Sight → Seat S Sight → Type 0
+  Goes finding words vertex bits found tries p q =
+      SeatTakes (answer_event p.id vertex (word_in words bits) (word_in words found)) (finding (word_in words bits) (word_in words found) tries) p q

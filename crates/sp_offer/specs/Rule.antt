@@ -1,5 +1,5 @@
 -- The rule of an offer table, and what its steps tell.
-use Rattle.std.specs.Prelude.{◌≡◌, ◌≢◌, ℕ, ◌+◌, ◌<◌, ◌≤◌, true, List, [], length, slice_index, sum_by}
+use Rattle.std.specs.Prelude.{◌≡◌, ◌≢◌, ℕ, zero, suc, ◌+◌, ◌<◌, ◌≤◌, true, List, [], ◌∷◌, ◌++◌, length, slice_index, sum_by}
 use mathlib.Core.Option.{some}
 use mathlib.Core.List.{IsPrefix}
 use lib.ListN.{get_elem?}
@@ -10,11 +10,20 @@ use Rattle.sp_word.specs.Word.{Word, bits_of, is_word, word_of}
 use Rattle.sp_word.specs.History.{Event, Offer, Read, run, IsLegal}
 use Rattle.sp_word.specs.Reply.{reply_to}
 use Rattle.sp_offer.specs.Histories.{blank, event, AreLawful}
+use Rattle.sp_offer.specs.Interleaving.{Taken, Doing, Rests, Offering, doing, calls_of, IsInterleaving, AreWithin}
+use Rattle.sp_offer.specs.Trail.{Found, turns_of, AreTaken, Ends}
 use Rattle.sp_offer.specs.Story.{Story, Knowledge, IsStory, times, once_below, Calls, Looks, Follows}
 use Rattle.sp_offer.specs.Sight.{Sight, newcomer, story}
 
+-- This is what a seat does between two of its steps. One that isn't there rests.
+abbrev pub doing_of : List Sight → ℕ → Doing
+doing_of [] j = Rests
+doing_of (v ∷ vs) zero = v.at
+doing_of (v ∷ vs) (suc j) = doing_of vs j
+
 -- There is one legal history, which ends in the words, and whose offers the law allows. Each caller has seen a prefix
--- of it, and each of its calls belongs to exactly one caller.
+-- of it, and each of its calls belongs to exactly one caller. Its calls are those of an interleaving of the callers'
+-- steps, which leaves each seat where it is; each step is told in exactly one caller's trail.
 pub record OneHistory (P : ℕ) (law : ℕ → Word → Type 0) (vertices : ℕ) (words : List ℕ) (views : List Sight) : Type 0 where
   pub log : List Event
   pub wide : length words ≡ vertices
@@ -23,6 +32,13 @@ pub record OneHistory (P : ℕ) (law : ℕ → Word → Type 0) (vertices : ℕ)
   pub lawful : AreLawful law log
   pub begins : (j : ℕ) (v : Sight) → get_elem? views j ≡ some v → IsPrefix v.seen log × IsPrefix v.heard log
   pub owned : (p : ℕ) → sum_by (λ (v : Sight). times p v.own) views ≡ once_below p (length log)
+  pub steps : List Taken
+  pub interleaved : IsInterleaving steps
+  pub within : AreWithin vertices (length views) steps
+  pub calls : log ≡ calls_of steps
+  pub stands : (j : ℕ) → doing steps j ≡ doing_of views j
+  pub told : (p : ℕ) → sum_by (λ (v : Sight). times p (turns_of v.trail)) views ≡ once_below p (length steps)
+  pub taken : (j : ℕ) (v : Sight) → get_elem? views j ≡ some v → AreTaken steps v.trail
 
 abbrev pub rule : {S : Type 0} → ℕ → (ℕ → Word → Type 0) → ℕ → State S Sight → Type 0
 rule P law vertices s = OneHistory P law vertices s.words s.views
@@ -37,17 +53,36 @@ Hears v w = (w.heard ≡ []) × IsPrefix v.heard w.seen
 abbrev pub answer_event : ℕ → ℕ → Word → Word → Event
 answer_event by vertex word found = event by vertex (Offer word found (reply_to found word))
 
+-- One step of a call is added to the trail. It found this word of the vertex, after calls that begin with all that was
+-- seen before and are seen now.
+pub record Finds (vertex : ℕ) (word : Word) (v w : Sight) : Type 0 where
+  pub front : List Event
+  pub turn : ℕ
+  pub trail : w.trail ≡ v.trail ++ record { front = front; vertex = vertex; word = word; turn = turn } ∷ []
+  pub begins : IsPrefix v.seen front
+  pub within : IsPrefix front w.seen
+  pub here : run blank front vertex ≡ word
+
+-- The call takes effect at the step made last.
+abbrev pub EndsWith : Event → Sight → Type 0
+EndsWith e w = Ends e w.seen w.trail
+
 module _ {S : Type 0} (P : ℕ) (law : ℕ → Word → Type 0) where
   -- A seat holds no slot, before and after, and the bits found are those of a word.
   abbrev pub Stays : Me S Sight → Me S Sight → ℕ → Type 0
   Stays m m' found = (m'.1 ≡ m.1) × Hears m.0 m'.0 × (is_word P found ≡ true)
 
   abbrev pub met : Step S → Me S Sight → ℕ → Me S Sight → Type 0
-  met st m found m' = Stays m m' found × Looks law (st.word + 1) (word_of P found) (story m.0) (story m'.0)
+  met st m found m' = Stays m m' found × Looks law (st.word + 1) (word_of P found) (story m.0) (story m'.0) × (m'.0.trail ≡ m.0.trail) × (m'.0.at ≡ m.0.at)
 
   module _ (by : ℕ) where
     abbrev pub was_read : Step S → Me S Sight → ℕ → Me S Sight → Type 0
-    was_read st m found m' = Stays m m' found × Calls law (event by (st.word + 1) (Read (word_of P found))) (story m.0) (story m'.0)
+    was_read st m found m' =
+        Stays m m' found
+        × Calls law (event by (st.word + 1) (Read (word_of P found))) (story m.0) (story m'.0)
+        × Finds (st.word + 1) (word_of P found) m.0 m'.0
+        × EndsWith (event by (st.word + 1) (Read (word_of P found))) m'.0
+        × (m'.0.at ≡ Rests)
 
     module _ (word : Word) where
       -- A word that is no larger than the one offered ends the call; any other word is only seen.
@@ -56,6 +91,10 @@ module _ {S : Type 0} (P : ℕ) (law : ℕ → Word → Type 0) where
           Stays m m' found
           × (found ≤ bits_of P word → Calls law (answer_event by (st.word + 1) word (word_of P found)) (story m.0) (story m'.0))
           × (bits_of P word < found → Looks law (st.word + 1) (word_of P found) (story m.0) (story m'.0))
+          × Finds (st.word + 1) (word_of P found) m.0 m'.0
+          × (found ≤ bits_of P word → EndsWith (answer_event by (st.word + 1) word (word_of P found)) m'.0)
+          × (found ≤ bits_of P word → m'.0.at ≡ Rests)
+          × (bits_of P word < found → m'.0.at ≡ Offering (st.word + 1) word (word_of P found))
 
       -- An exchange for a lesser word wins, or loses and decides the reply, or loses and the offer continues.
       abbrev pub exchanged : Step S → Me S Sight → ℕ → Me S Sight → Type 0
@@ -64,20 +103,43 @@ module _ {S : Type 0} (P : ℕ) (law : ℕ → Word → Type 0) where
           × (found ≡ st.first → Calls law (answer_event by (st.word + 1) word (word_of P found)) (story m.0) (story m'.0))
           × (found ≤ bits_of P word → Calls law (answer_event by (st.word + 1) word (word_of P found)) (story m.0) (story m'.0))
           × (found ≢ st.first → bits_of P word < found → Looks law (st.word + 1) (word_of P found) (story m.0) (story m'.0))
+          × Finds (st.word + 1) (word_of P found) m.0 m'.0
+          × (found ≡ st.first → EndsWith (answer_event by (st.word + 1) word (word_of P found)) m'.0)
+          × (found ≤ bits_of P word → EndsWith (answer_event by (st.word + 1) word (word_of P found)) m'.0)
+          × (found ≡ st.first → m'.0.at ≡ Rests)
+          × (found ≤ bits_of P word → m'.0.at ≡ Rests)
+          × (found ≢ st.first → bits_of P word < found → m'.0.at ≡ Offering (st.word + 1) word (word_of P found))
 
       abbrev pub lessened : Step S → Me S Sight → ℕ → Me S Sight → Type 0
-      lessened st m found m' = Stays m m' found × Calls law (answer_event by (st.word + 1) word (word_of P found)) (story m.0) (story m'.0)
+      lessened st m found m' =
+          Stays m m' found
+          × Calls law (answer_event by (st.word + 1) word (word_of P found)) (story m.0) (story m'.0)
+          × Finds (st.word + 1) (word_of P found) m.0 m'.0
+          × EndsWith (answer_event by (st.word + 1) word (word_of P found)) m'.0
+          × (m'.0.at ≡ Rests)
 
 -- ## Seats
 
--- A caller's seat is at rest if it holds no slot and has looked at all that it heard.
+-- A caller's seat is at rest if it holds no slot, has looked at all that it heard, and is at no call.
 module _ {S : Type 0} where
   abbrev pub IsAtRest : TableId → Seat S Sight → Type 0
-  IsAtRest table it = (it.table_id ≡ table) × (it.me.1 ≡ []) × (it.me.0.heard ≡ [])
+  IsAtRest table it = (it.table_id ≡ table) × (it.me.1 ≡ []) × (it.me.0.heard ≡ []) × (it.me.0.at ≡ Rests)
 
-  -- The seat belongs to the table and holds no slot.
+  -- The same, but it may be at an offer.
+  abbrev pub IsBetweenSteps : TableId → Seat S Sight → Type 0
+  IsBetweenSteps table it = (it.table_id ≡ table) × (it.me.1 ≡ []) × (it.me.0.heard ≡ [])
+
+  -- The seat is at an offer of the word, and holds a word to exchange.
+  abbrev pub HoldsWord : (vertex : ℕ) (word held : Word) → Seat S Sight → Type 0
+  HoldsWord vertex word held it = it.me.0.at ≡ Offering vertex word held
+
+  -- The seat is at no call.
+  abbrev pub IsDone : Seat S Sight → Type 0
+  IsDone it = it.me.0.at ≡ Rests
+
+  -- The seat belongs to the table, holds no slot, and is at no call.
   abbrev pub HoldsNoSlot : TableId → Seat S Sight → Type 0
-  HoldsNoSlot table it = (it.table_id ≡ table) × (it.me.1 ≡ [])
+  HoldsNoSlot table it = (it.table_id ≡ table) × (it.me.1 ≡ []) × (it.me.0.at ≡ Rests)
 
   -- This is the table's first seat.
   abbrev pub IsFirstSeat : TableId → Seat S Sight → Type 0
@@ -89,17 +151,21 @@ module _ {S : Type 0} where
   abbrev pub seat_story : Seat S Sight → Story
   seat_story it = story it.me.0
 
+  -- These are the steps of the seat's calls.
+  abbrev pub trail_of : Seat S Sight → List Found
+  trail_of it = it.me.0.trail
+
   -- This is what contracts see of the caller on the seat.
   abbrev pub knowledge : Seat S Sight → Knowledge
-  knowledge it = record { table = it.table_id; number = it.id; story = seat_story it }
+  knowledge it = record { table = it.table_id; number = it.id; story = seat_story it; trail = trail_of it }
 
   -- This holds for every caller's seat.
   abbrev pub IsCallersSeat : Seat S Sight → Type 0
-  IsCallersSeat it = (it.me.1 ≡ []) × (it.me.0.heard ≡ []) × IsStory (seat_story it)
+  IsCallersSeat it = (it.me.1 ≡ []) × (it.me.0.heard ≡ []) × IsStory (seat_story it) × (it.me.0.at ≡ Rests)
 
   -- The seat is the same, and has seen and done nothing more.
   abbrev pub IsAsItWas : Seat S Sight → Seat S Sight → Type 0
-  IsAsItWas p q = IsSameSeat p q × (seat_story q ≡ seat_story p)
+  IsAsItWas p q = IsSameSeat p q × (seat_story q ≡ seat_story p) × (trail_of q ≡ trail_of p)
 
   -- These are the places of the seat's own calls.
   abbrev pub own_places : Seat S Sight → List ℕ
@@ -107,6 +173,17 @@ module _ {S : Type 0} where
 
   abbrev pub HasSamePlaces : Seat S Sight → Seat S Sight → Type 0
   HasSamePlaces p q = own_places q ≡ own_places p
+
+  abbrev pub HasSameTrail : Seat S Sight → Seat S Sight → Type 0
+  HasSameTrail p q = trail_of q ≡ trail_of p
+
+  -- One step of a call found this word of the vertex.
+  abbrev pub SeatFinds : ℕ → Word → Seat S Sight → Seat S Sight → Type 0
+  SeatFinds vertex word p q = Finds vertex word p.me.0 q.me.0
+
+  -- The call takes effect at the seat's last step.
+  abbrev pub EndsAt : Event → Seat S Sight → Type 0
+  EndsAt e q = EndsWith e q.me.0
 
   -- ## What a seat is told
 

@@ -6,17 +6,19 @@ use Rattle.sp_word.specs.Word.{Word, Unreached}
 use Rattle.sp_word.specs.History.{Table, Event, Read, left_by, run, IsLegal}
 use Rattle.sp_offer.specs.Order.{IsNoMore, IsKnownWord}
 use Rattle.sp_offer.specs.Histories.{blank, event, found_by, lowerings}
+use Rattle.sp_offer.specs.Trail.{Found}
 
 -- The history that a caller has seen, and the places of the caller's own calls in it.
 pub record Story : Type 0 where
   pub seen : List Event
   pub own : List ℕ
 
--- The table to which a caller belongs, its number there, and its story.
+-- The table to which a caller belongs, its number there, its story, and its trail: the steps of its calls, in order.
 pub record Knowledge : Type 0 where
   pub table : TableId
   pub number : ℕ
   pub story : Story
+  pub trail : List Found
 
 -- What a caller knows about the table is the end of the history that it has seen. The word of a vertex is at most this.
 abbrev pub known_table : Story → Table

@@ -2,7 +2,8 @@
 ghost use Rattle.std.specs.Prelude.{◌≡◌, ℕ, ◌≤◌, ◌<◌, Bool, true, false};
 ghost use Rattle.sp_word.specs.Word.{is_word};
 ghost use Rattle.sp_offer.specs.Story.{IsTried};
-ghost use Rattle.sp_offer.specs.Parts.{id_of, vertices_of, layout_of, word_in, law_in, Lowers};
+ghost use Rattle.sp_offer.specs.Parts.{id_of, vertices_of, layout_of, word_in, law_in, Lowers, Goes};
+ghost use Rattle.sp_offer.specs.Lowering.{Finding, by_steps, by_one_step};
 ghost use Rattle.sp_offer.specs.Rule.{seat_story, IsAtRest, IsSameSeat};
 
 use crate::law::Lawful;
@@ -13,6 +14,9 @@ use std::marker::Brand;
 pub trait Lowering {
     // Whether it takes at most one atomic step.
     ghost is_one_step: { Bool };
+
+    // What the words are like that its steps find.
+    ghost finds: { Finding };
 
     /// Leaves the lesser of the word of the vertex and the word offered. Returns the word that decided this, and the
     /// number of atomic steps.
@@ -29,7 +33,8 @@ pub trait Lowering {
         ensures word { is_word (layout_of words.now) result.0 ≡ true }
         ensures call { Lowers L.allows words.now vertex word result.0 seat.old seat.new }
         ensures tries { IsTried vertex (seat_story seat.old) (seat_story seat.new) result.1 }
-        ensures one { Self.is_one_step ≡ true → result.1 ≡ 1 };
+        ensures one { Self.is_one_step ≡ true → result.1 ≡ 1 }
+        ensures steps { Goes Self.finds words.now vertex word result.0 result.1 seat.old seat.new };
 }
 
 /// Lowers by a load and then exchanges, until one wins or finds a word that is no larger than the word offered.
@@ -37,6 +42,8 @@ pub struct Loop;
 
 impl Lowering for Loop {
     ghost is_one_step = { false };
+
+    ghost finds = { by_steps };
 
     #[tactic(auto, using(crate::proofs::Ties::spelled))]
     fn lower<L: Lawful>(
@@ -54,6 +61,8 @@ pub struct OneMin;
 
 impl Lowering for OneMin {
     ghost is_one_step = { true };
+
+    ghost finds = { by_one_step };
 
     #[tactic(auto, using(crate::proofs::Ties::spelled))]
     fn lower<L: Lawful>(

@@ -1,9 +1,12 @@
 //! The table and its callers.
-ghost use Rattle.std.specs.Prelude.{◌≡◌, ℕ, ◌+◌, ◌≤◌, ◌<◌, true, ◌++◌, length, IfOk, IsOkAnd, OnErr};
+ghost use Rattle.sp_offer.specs.Lowering.{by_steps};
+ghost use Rattle.sp_offer.specs.Order.{lawful};
+ghost use Rattle.sp_offer.specs.Ending.{IsEnd};
+ghost use Rattle.std.specs.Prelude.{◌≡◌, ℕ, ◌+◌, ◌≤◌, ◌<◌, true, [], ◌++◌, length, IfOk, IsOkAnd, OnErr};
 ghost use Rattle.sp_word.specs.Word.{IsPair, is_layout};
 ghost use Rattle.sp_word.specs.Reply.{reply_to};
 ghost use Rattle.sp_offer.specs.Story.{IsTried, empty_story, own_calls, reads_of};
-ghost use Rattle.sp_offer.specs.Calling.{IsSameCaller, KeepsPlaces, HasSameCalls, IsBeside, offer_of, read_of, Tells, Owns, OwnsAll, Offers, ReadsWord, ReadsWords, CopiesWords, SeesBoth};
+ghost use Rattle.sp_offer.specs.Calling.{IsSameCaller, KeepsPlaces, HasSameCalls, HasSameTrail, OffersBy, ReadsBy, Copies, IsBeside, offer_of, read_of, Tells, Owns, OwnsAll, Offers, ReadsWord, ReadsWords, CopiesWords, SeesBoth};
 
 use crate::law::Lawful;
 use crate::lowering::{Loop, Lowering};
@@ -74,6 +77,7 @@ impl<L: Lawful, const P: u32> OfferTable<L, P> {
         requires layout { is_layout P ≡ true }
         ensures table { IfOk result (λ t. (t.0.law ≡ law) × (t.0.vertices ≡ n)) }
         ensures caller { IfOk result (λ t. (t.1.table ≡ t.0.id) × (t.1.story ≡ empty_story)) }
+        ensures trail { IfOk result (λ t. t.1.trail ≡ []) }
     {
         let (words, seat) = Words::new(alloc, n, P, law)?;
         Ok((OfferTable { words }, Caller { seat }))
@@ -90,6 +94,7 @@ impl<L: Lawful, const P: u32> OfferTable<L, P> {
         ensures reply { result.reply ≡ reply_to result.found word.entry }
         ensures tries { IsTried vertex caller.old.story caller.new.story result.tries }
         ensures own { Owns (offer_of caller.old vertex word.entry result) caller.old caller.new }
+        ensures steps { OffersBy by_steps vertex word.entry result caller.old caller.new }
     {
         self.offer_by::<Loop>(caller, vertex, word)
     }
@@ -111,6 +116,7 @@ impl<L: Lawful, const P: u32> OfferTable<L, P> {
         ensures tries { IsTried vertex caller.old.story caller.new.story result.tries }
         ensures one { M.is_one_step ≡ true → result.tries ≡ 1 }
         ensures own { Owns (offer_of caller.old vertex word.entry result) caller.old caller.new }
+        ensures steps { OffersBy M.finds vertex word.entry result caller.old caller.new }
     {
         // The word fits its layout.
         let _ = word.dist();
@@ -131,6 +137,7 @@ impl<L: Lawful, const P: u32> OfferTable<L, P> {
         ensures call { ReadsWord P L.allows self.now vertex result caller.old caller.new }
         ensures known { Tells (read_of caller.old vertex result) caller.old caller.new }
         ensures own { Owns (read_of caller.old vertex result) caller.old caller.new }
+        ensures steps { ReadsBy vertex result caller.old caller.new }
     {
         Word::from_bits(self.words.read::<Brand>(&mut caller.seat, vertex))
     }
@@ -144,6 +151,7 @@ impl<L: Lawful, const P: u32> OfferTable<L, P> {
         ensures copy { CopiesWords P L.allows self.now words.new caller.old caller.new }
         ensures length { length words.new ≡ length words.old }
         ensures own { OwnsAll (reads_of caller.old.number 1 words.new) caller.old caller.new }
+        ensures steps { Copies words.new caller.old caller.new }
     {
         // There is a vertex.
         let _ = &self.words;
@@ -164,12 +172,13 @@ impl<L: Lawful, const P: u32> OfferTable<L, P> {
         ensures length { IfOk result (λ words. length words.items ≡ self.now.vertices) }
         ensures own { IfOk result
             (λ words. OwnsAll (reads_of caller.old.number 1 words.items) caller.old caller.new) }
+        ensures steps { IfOk result (λ words. Copies words.items caller.old caller.new) }
         ensures refused { OnErr result (caller.new ≡ caller.old) }
     {
         let count = self.words.count();
         let mut words = Vec::with_capacity(alloc, count)?;
         for place in 0..count {
-            words.push_reserved(self.read(caller, place as u32 + 1));
+            words.push_reserved(self.read_place(caller, place));
         }
         Ok(words)
     }
@@ -181,10 +190,23 @@ impl<L: Lawful, const P: u32> OfferTable<L, P> {
         ensures caller { IsSameCaller caller.old caller.new }
         ensures call { ReadsWord P L.allows self.now (place + 1) copy.new caller.old caller.new }
         ensures own { Owns (read_of caller.old (place + 1) copy.new) caller.old caller.new }
+        ensures steps { ReadsBy (place + 1) copy.new caller.old caller.new }
+    {
+        *copy = self.read_place(caller, place);
+    }
+
+    // Reads the word at an index, counted from 0.
+    fn read_place(&self, caller: &mut Caller, place: usize) -> Word<P>
+        requires caller { caller.old.table ≡ self.now.id }
+        requires place { place < self.now.vertices }
+        ensures caller { IsSameCaller caller.old caller.new }
+        ensures call { ReadsWord P L.allows self.now (place + 1) result caller.old caller.new }
+        ensures own { Owns (read_of caller.old (place + 1) result) caller.old caller.new }
+        ensures steps { ReadsBy (place + 1) result caller.old caller.new }
     {
         // There are fewer than 2^32 vertices.
         let _ = &self.words;
-        *copy = self.read(caller, place as u32 + 1);
+        self.read(caller, place as u32 + 1)
     }
 
     /// Makes a second caller, which has seen what the first has and has made no calls. It allocates no memory, and
@@ -193,6 +215,7 @@ impl<L: Lawful, const P: u32> OfferTable<L, P> {
         requires { caller.table ≡ self.now.id }
         ensures first { IsOkAnd result (λ c. c.0 ≡ caller) }
         ensures second { IsOkAnd result (λ c. IsBeside caller c.1) }
+        ensures trail { IsOkAnd result (λ c. c.1.trail ≡ []) }
     {
         let Caller { mut seat } = caller;
         let second = self.words.split(&mut seat);
@@ -207,11 +230,26 @@ impl<L: Lawful, const P: u32> OfferTable<L, P> {
         ensures story { SeesBoth P L.allows self.now first second result }
         ensures places { result.story.own ≡ first.story.own ++ second.story.own }
         ensures own { own_calls result.story ≡ own_calls first.story ++ own_calls second.story }
+        ensures trail { result.trail ≡ first.trail ++ second.trail }
     {
         let Caller { mut seat } = first;
         let Caller { seat: other } = second;
         self.words.take_over(&mut seat, other);
         Caller { seat }
+    }
+
+    /// Ends the table, with its last caller. Returns the words that are left: all calls that were ever made at the table have
+    /// led to them, and these are the calls of an interleaving of the callers' steps. Where there is no memory for the words,
+    /// table and caller are gone all the same.
+    pub fn close(self, alloc: Global, caller: Caller) -> Result<Vec<Word<P>>, AllocError>
+        requires caller { caller.table ≡ self.id }
+        ensures length { IfOk result (λ words. length words.items ≡ self.vertices) }
+        ensures end { IfOk result
+            (λ words. IsEnd (lawful P (L.allows self.law)) caller words.items) }
+    {
+        let OfferTable { words } = self;
+        let Caller { seat } = caller;
+        words.close(alloc, seat)
     }
 
     /// Lets each caller see what the other has seen. Afterwards the first caller's history is a prefix of the second's.
@@ -223,6 +261,7 @@ impl<L: Lawful, const P: u32> OfferTable<L, P> {
         ensures first_sees { SeesBoth P L.allows self.now first.old second.old first.new }
         ensures second_sees { SeesBoth P L.allows self.now second.old first.new second.new }
         ensures own { HasSameCalls first.old first.new × HasSameCalls second.old second.new }
+        ensures trail { HasSameTrail first.old first.new × HasSameTrail second.old second.new }
     {
         self.words.meet(&mut first.seat, &mut second.seat);
     }

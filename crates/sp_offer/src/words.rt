@@ -1,10 +1,13 @@
 //! The atomic steps: seats, and the bits of words.
-ghost use Rattle.std.specs.Prelude.{◌≡◌, ℕ, ◌+◌, ◌-◌, ◌≤◌, ◌<◌, true, ◌++◌, IfOk, replicate};
-ghost use Rattle.sp_word.specs.Word.{Word, is_layout, is_word, bits_of};
+ghost use Rattle.std.specs.Prelude.{◌≡◌, ◌≢◌, ℕ, ◌+◌, ◌-◌, ◌≤◌, ◌<◌, true, ◌++◌, IfOk, length, replicate};
+ghost use Rattle.sp_word.specs.Word.{Word, is_layout, is_word, bits_of, word_of};
+ghost use Rattle.sp_word.specs.History.{Read};
+ghost use Rattle.sp_offer.specs.Histories.{event};
 ghost use Rattle.sp_offer.specs.Story.{IsTried};
 ghost use Rattle.sp_offer.specs.Sight.{listener, merged_sight};
-ghost use Rattle.sp_offer.specs.Lowering.{HasCome, Swaps};
-ghost use Rattle.sp_offer.specs.Rule.{seat_story, own_places, Hears, HoldsNoSlot, IsFirstSeat, IsAtRest, IsSameSeat, IsAsItWas, HasSamePlaces, SeatLooks, SeatSees, SeatReads, SeatOffers};
+ghost use Rattle.sp_offer.specs.Ending.{IsEnd};
+ghost use Rattle.sp_offer.specs.Lowering.{HasCome, Swaps, SeatTakes, by_steps};
+ghost use Rattle.sp_offer.specs.Rule.{knowledge, IsBetweenSteps, HoldsWord, IsDone, seat_story, own_places, trail_of, HasSameTrail, SeatFinds, EndsAt, answer_event, Hears, HoldsNoSlot, IsFirstSeat, IsAtRest, IsSameSeat, IsAsItWas, HasSamePlaces, SeatLooks, SeatSees, SeatReads, SeatOffers};
 
 use crate::law::Lawful;
 use crate::rule::{
@@ -26,6 +29,7 @@ pub struct Words<L: Lawful> {
     pub ghost wide: { table.shared.table_id.words ≡ table.shared.key.vertices },
     pub ghost few: { table.shared.key.vertices < 4294967296 },
     pub ghost layout: { is_layout table.shared.key.layout ≡ true },
+    pub ghost no_slots: { table.shared.table_id.slots ≡ 0 },
 }
 
 fn unreached_words(alloc: Global, n: u32) -> Result<Vec<u64>, AllocError>
@@ -73,9 +77,12 @@ impl<L: Lawful> Words<L> {
         requires seat { IsAtRest (id_of self.now) seat.old }
         requires layout { J.layout ≡ layout_of self.now }
         requires law { (v : ℕ) (w : Word) → law_in L.allows self.now v w → J.law v w }
+        requires by { J.by ≡ seat.old.id }
         ensures seat { IsAtRest (id_of self.now) seat.new × IsSameSeat seat.old seat.new }
         ensures word { is_word J.layout result ≡ true }
         ensures call { SeatReads J.layout J.law J.by vertex result seat.old seat.new }
+        ensures trail { SeatFinds vertex (word_of J.layout result) seat.old seat.new }
+        ensures ends { EndsAt (event J.by vertex (Read (word_of J.layout result))) seat.new }
     {
         let words = &self.table.shared;
         words.load::<ReadWord<J>>(seat, (vertex - 1) as usize)
@@ -88,9 +95,16 @@ impl<L: Lawful> Words<L> {
         requires seat { IsAtRest (id_of self.now) seat.old }
         requires layout { J.layout ≡ layout_of self.now }
         requires law { (v : ℕ) (w : Word) → law_in L.allows self.now v w → J.law v w }
+        requires by { J.by ≡ seat.old.id }
         requires word { (word ≡ bits_of J.layout J.word) × law_in L.allows self.now vertex J.word }
-        ensures seat { IsAtRest (id_of self.now) seat.new × IsSameSeat seat.old seat.new }
+        ensures seat { IsBetweenSteps (id_of self.now) seat.new × IsSameSeat seat.old seat.new }
         ensures way { HasCome J.layout J.law J.by vertex J.word word result 1 seat.old seat.new }
+        ensures trail { SeatFinds vertex (word_of J.layout result) seat.old seat.new }
+        ensures ends { result ≤ word
+            → EndsAt (answer_event J.by vertex J.word (word_of J.layout result)) seat.new }
+        ensures done { result ≤ word → IsDone seat.new }
+        ensures goes_on { word < result
+            → HoldsWord vertex J.word (word_of J.layout result) seat.new }
     {
         let words = &self.table.shared;
         words.load::<FirstLook<J>>(seat, (vertex - 1) as usize)
@@ -100,13 +114,24 @@ impl<L: Lawful> Words<L> {
     #[tactic(auto, using(crate::proofs::Moves::may_exchange))]
     fn exchange<J: Asking>(&self, seat: &mut CallerSeat, vertex: u32, held: u64, word: u64) -> u64
         requires vertex { (0 < vertex) × (vertex ≤ vertices_of self.now) }
-        requires seat { IsAtRest (id_of self.now) seat.old }
+        requires seat { IsBetweenSteps (id_of self.now) seat.old }
+        requires holds { HoldsWord vertex J.word (word_of J.layout held) seat.old }
         requires layout { J.layout ≡ layout_of self.now }
         requires law { (v : ℕ) (w : Word) → law_in L.allows self.now v w → J.law v w }
+        requires by { J.by ≡ seat.old.id }
         requires word { (word ≡ bits_of J.layout J.word) × law_in L.allows self.now vertex J.word }
         requires less { word < held }
-        ensures seat { IsAtRest (id_of self.now) seat.new × IsSameSeat seat.old seat.new }
+        ensures seat { IsBetweenSteps (id_of self.now) seat.new × IsSameSeat seat.old seat.new }
         ensures step { Swaps J.layout J.law J.by vertex J.word word held result seat.old seat.new }
+        ensures trail { SeatFinds vertex (word_of J.layout result) seat.old seat.new }
+        ensures wins { result ≡ held
+            → EndsAt (answer_event J.by vertex J.word (word_of J.layout result)) seat.new }
+        ensures ends { result ≤ word
+            → EndsAt (answer_event J.by vertex J.word (word_of J.layout result)) seat.new }
+        ensures won { result ≡ held → IsDone seat.new }
+        ensures done { result ≤ word → IsDone seat.new }
+        ensures goes_on { result ≢ held → word < result
+            → HoldsWord vertex J.word (word_of J.layout result) seat.new }
     {
         let words = &self.table.shared;
         words.compare_exchange::<Exchange<J>>(seat, (vertex - 1) as usize, held, word)
@@ -125,11 +150,14 @@ impl<L: Lawful> Words<L> {
         requires seat { IsAtRest (id_of self.now) seat.old }
         requires layout { J.layout ≡ layout_of self.now }
         requires law { (v : ℕ) (w : Word) → law_in L.allows self.now v w → J.law v w }
+        requires by { J.by ≡ seat.old.id }
         requires word { (word ≡ bits_of J.layout J.word) × law_in L.allows self.now vertex J.word }
         ensures seat { IsAtRest (id_of self.now) seat.new × IsSameSeat seat.old seat.new }
         ensures word { is_word J.layout result.0 ≡ true }
         ensures call { SeatOffers J.layout J.law J.by vertex J.word result.0 seat.old seat.new }
         ensures tries { IsTried vertex (seat_story seat.old) (seat_story seat.new) result.1 }
+        ensures steps { SeatTakes (answer_event J.by vertex J.word (word_of J.layout result.0))
+            (by_steps J.word (word_of J.layout result.0) result.1) seat.old seat.new }
     {
         let mut held = self.first_look::<J>(seat, vertex, word);
         let mut tries = 1;
@@ -150,10 +178,13 @@ impl<L: Lawful> Words<L> {
         requires seat { IsAtRest (id_of self.now) seat.old }
         requires layout { J.layout ≡ layout_of self.now }
         requires law { (v : ℕ) (w : Word) → law_in L.allows self.now v w → J.law v w }
+        requires by { J.by ≡ seat.old.id }
         requires word { (word ≡ bits_of J.layout J.word) × law_in L.allows self.now vertex J.word }
         ensures seat { IsAtRest (id_of self.now) seat.new × IsSameSeat seat.old seat.new }
         ensures word { is_word J.layout result ≡ true }
         ensures call { SeatOffers J.layout J.law J.by vertex J.word result seat.old seat.new }
+        ensures trail { SeatFinds vertex (word_of J.layout result) seat.old seat.new }
+        ensures ends { EndsAt (answer_event J.by vertex J.word (word_of J.layout result)) seat.new }
     {
         let words = &self.table.shared;
         words.fetch_min::<Lessen<J>>(seat, (vertex - 1) as usize, word)
@@ -177,6 +208,7 @@ impl<L: Lawful> Words<L> {
         ensures seat { IsAtRest (id_of self.now) seat.new × IsSameSeat seat.old seat.new }
         ensures hears { Hears seat.old.me.0 seat.new.me.0 }
         ensures looks { SeatLooks J.law seat.old seat.new }
+        ensures trail { HasSameTrail seat.old seat.new }
     {
         self.table.shared.load::<Meet<J>>(seat, 0);
     }
@@ -199,6 +231,7 @@ impl<L: Lawful> Words<L> {
         ensures seat { IsAtRest (id_of self.now) seat.new × IsSameSeat seat.old seat.new }
         ensures story { SeatSees (law_in L.allows self.now) seat.old other seat.new }
         ensures own { own_places seat.new ≡ own_places seat.old ++ own_places other }
+        ensures trail { trail_of seat.new ≡ trail_of seat.old ++ trail_of other }
     {
         self.merge(seat, other);
         self.look::<Brand>(seat);
@@ -212,10 +245,35 @@ impl<L: Lawful> Words<L> {
         ensures second { IsAtRest (id_of self.now) second.new × IsAsItWas second.old second.new }
         ensures story { SeatSees (law_in L.allows self.now) first.old second.old first.new }
         ensures own { HasSamePlaces first.old first.new }
+        ensures trail { HasSameTrail first.old first.new }
     {
         let echo = self.split(second);
         self.take_over(first, echo);
     }
+
+    /// Ends the table, with its last caller. Returns the words that are left.
+    pub(crate) fn close<const P: u32>(
+        self,
+        alloc: Global,
+        seat: CallerSeat,
+    ) -> Result<Vec<sp_word::Word<P>>, AllocError>
+        requires seat { IsAtRest (id_of self) seat }
+        requires layout { P ≡ layout_of self }
+        ensures length { IfOk result (λ words. length words.items ≡ vertices_of self) }
+        ensures end { IfOk result
+            (λ words. IsEnd (law_in L.allows self) (knowledge seat) words.items) }
+    {
+        let count = self.count();
+        let mut words = Vec::with_capacity(alloc, count)?;
+        let Words { table } = self;
+        let closed = table.close_with(seat);
+        for place in 0..count {
+            words.push_reserved(sp_word::Word::from_bits(closed.word(place)));
+        }
+        closed.free();
+        Ok(words)
+    }
+
     /// Both seats see what both have seen, and the first one's history is a prefix of the second's.
     pub(crate) fn meet(&self, first: &mut CallerSeat, second: &mut CallerSeat)
         requires first { IsAtRest (id_of self.now) first.old }
@@ -225,6 +283,7 @@ impl<L: Lawful> Words<L> {
         ensures first_sees { SeatSees (law_in L.allows self.now) first.old second.old first.new }
         ensures second_sees { SeatSees (law_in L.allows self.now) second.old first.new second.new }
         ensures own { HasSamePlaces first.old first.new × HasSamePlaces second.old second.new }
+        ensures trail { HasSameTrail first.old first.new × HasSameTrail second.old second.new }
     {
         self.hear(first, second);
         self.hear(second, first);

@@ -1,7 +1,17 @@
 use Rattle.std.proofs.Common.{rules}
-use Rattle.sp_actors.proofs.LeastWords.{least_words}
+use Rattle.sp_offer.specs.Order.{lawful}
+use Rattle.sp_offer.specs.Ending.{IsEnd}
+use Rattle.sp_actors.specs.Least.{IsOffered}
+use Rattle.sp_actors.proofs.LeastWords.{least_words, left_by_run}
+use Rattle.sp_actors.proofs.Making.{all_known}
 use Rattle.sp_actors.proofs.words.final_words.Goals as goal
 
-pub returns : goal.returns
-returns g c =
-    least_words c.args.programme.now c.copy_words.new.words.items c.in_ok-caller.caller.story c.copy_words.new.caller.story (search rules) (search rules) (search rules)
+pub returns-clause-words : goal.returns-clause-words
+returns-clause-words g c =
+    let end : IsEnd (lawful g.row.P (IsOffered c.args.programme.now)) c.offer_rows-caller.result c.in_ok-words.words.items = search rules in
+    least_words c.args.programme.now c.in_ok-words.words.items c.offer_rows-caller.result (search rules) end (all_known c.args.programme.now c.offer_rows-caller.result.story (search rules))
+
+pub returns-clause-run : goal.returns-clause-run
+returns-clause-run g c =
+    let end : IsEnd (lawful g.row.P (IsOffered c.args.programme.now)) c.offer_rows-caller.result c.in_ok-words.words.items = search rules in
+    left_by_run c.args.programme.now c.in_ok-words.words.items c.offer_rows-caller.result end
