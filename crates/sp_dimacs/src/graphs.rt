@@ -17,11 +17,9 @@ use sp_text::{
     Collector, DimacsError, FileFormat, Keep, KeepParts, Kind, LineTaker, Ranges, Values,
     ranges_of, read_items,
 };
-use sp_word::Workers;
+use sp_word::{Crew, Workers};
 use std::alloc::{AllocError, Global};
 use std::mem;
-use std::sync::Wait;
-use std::thread::Threads;
 
 /// What a `.gr` file spells: the number of vertices, and the arcs in the order of their lines.
 #[derive(Drop)]
@@ -156,7 +154,7 @@ pub fn read_gr<const P: u32, R: Read>(alloc: Global, reader: &mut R) -> Result<G
 /// Reads the rest of a device's bytes as `read_gr` does, by so many workers, this thread among them. This thread alone reads
 /// the device.
 #[tactic(auto, using(crate::proofs::Limits::graph_read))]
-pub fn read_gr_by<const P: u32, H: Threads + Wait + Sync, R: Read>(
+pub fn read_gr_by<const P: u32, H: Crew, R: Read>(
     rt: &H,
     alloc: Global,
     reader: &mut R,

@@ -4,13 +4,10 @@ use Rattle.std.specs.Prelude.{map, nat_le}
 use Rattle.std.proofs.Math.ListN.{get_or-map}
 use Rattle.std.proofs.lemmas.Bool.{cases_lt, le-leb, lt-leb, cond-true, cond-false}
 use Rattle.std.proofs.lemmas.List.{length-map}
-use Rattle.std.proofs.lemmas.List.Elements.{All-contains}
 use Rattle.sp_word.specs.Word.{Word, Unreached, Pair, max_dist}
-use Rattle.sp_paths.specs.Paths.{IsVertex, IsClosed, word_at}
-use Rattle.sp_paths.specs.Rows.{row_of, IsArcRelaxed}
-use Rattle.sp_paths.proofs.Walks.{arc_in}
-use Rattle.sp_paths.proofs.RowSteps.{rows_hold_arcs}
+use Rattle.sp_paths.specs.Paths.{IsVertex, word_at}
 use Rattle.sp_scan.specs.Shown.{IsClosedUpTo}
+use Rattle.sp_scan.proofs.Closed.{closed_within}
 use Rattle.sp_answer.specs.Within.{up_to}
 use Rattle.sp_forest.specs.Forests.{IsForestWord, IsNear, IsClosedTable}
 use Rattle.sp_forest.specs.Laws.{ShowsWithin, ClosedShowsWithin}
@@ -29,15 +26,8 @@ dropped : (limit d p : ℕ) → limit < d → up_to limit (Pair d p) ≡ Unreach
 dropped limit d p high = cond-false (nat_le d limit) (Pair d p) Unreached (lt-leb d limit high)
 
 module _ (P : ℕ) (run : Sources) (place : IsPlace P run) (words : List Word) (copy : IsOfWalks P run words) (limit : ℕ) (most : limit ≤ max_dist P) (closed : IsClosedUpTo run.graph (max_dist P) limit (word_at words)) where
-  -- every arc is relaxed up to the limit
-  closed_within : IsClosed run.graph limit (word_at words)
-  closed_within u v l a d p is fits =
-      let at = (arc_in run.graph place.graph u v l a).0 in
-      let row = closed u at d p is (omega arith) in
-      All-contains (IsArcRelaxed (max_dist P) (word_at words) d) (row_of run.graph.arcs u) (record { tail = u; head = v; len = l }) row (((rows_hold_arcs run.graph 1).row u v l).0 a) (omega arith)
-
   closed_table : IsClosedTable run.graph run.sources limit (word_at words)
-  closed_table = record { graph = place.graph; vertices = place.vertices; table = copy.1; closed = closed_within }
+  closed_table = record { graph = place.graph; vertices = place.vertices; table = copy.1; closed = closed_within run.graph place.graph (max_dist P) limit most words closed }
 
   module _ (shows : ShowsWithin run.graph run.sources limit (word_at words)) where
     near : (v : ℕ) → IsNear run.graph run.sources limit v → IsForestWord run.graph run.sources v (up_to limit (word_at words v))

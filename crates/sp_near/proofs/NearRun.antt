@@ -18,6 +18,8 @@ use Rattle.sp_offer.specs.Order.{lawful, IsNoMore}
 use Rattle.sp_scan.specs.Shown.{Shows, LeadsOut, IsArcRelaxed as IsEachRelaxed}
 use Rattle.sp_scan.specs.declared.scan.Scan.TheVariants.{Whole, LeavesOut}
 use Rattle.sp_team.specs.Law.{AllowsArcs, IsReady}
+use Rattle.sp_plain.specs.Several.{IsTableOfAny}
+use Rattle.sp_plain.proofs.LoweredWalks.{any_table}
 use Rattle.sp_near.specs.Sources.{Sources}
 use Rattle.sp_near.specs.NearRun.{IsPlace, TakesWalks, IsOfWalks, IsRelaxedCopy}
 
@@ -68,6 +70,10 @@ module _ (P : ℕ) (run : Sources) (place : IsPlace P run) where
   -- ## What the arcs show of a copy
 
   module _ (words : List Word) (copy : IsOfWalks P run words) where
+    -- it is a table that the plain program finishes
+    pub walks_table : IsTableOfAny run.graph run.sources (max_dist P) words
+    walks_table = any_table run.graph place.graph run.sources (max_dist P) words copy.0 copy.1 copy.2
+
     pub relaxed : All (IsEachRelaxed (max_dist P) (word_at words)) run.graph.arcs → IsRelaxedCopy P run words
     relaxed all = (
       copy.0,

@@ -11,10 +11,8 @@ use sp_answer::RunError;
 use sp_forest::{Forest, closed_table, finished_table, roots};
 use sp_graph::Graph;
 use sp_solve::cut;
-use sp_word::{Meter, Team, Word};
+use sp_word::{Crew, Meter, Team, Word};
 use std::alloc::{AllocError, Global};
-use std::sync::Wait;
-use std::thread::Threads;
 
 /// What a run from several sources is asked: the sources, in any order, and the greatest distance that it tells, if not all
 /// are wanted.
@@ -54,7 +52,7 @@ impl<'g, const P: u32> NearRun<'g, P> {
     }
 
     // Runs until all words are final, and returns them, or the vertex that is too far.
-    fn all_words<R: Threads + Wait + Sync>(&self, rt: &R) -> Result<Vec<Word<P>>, RunError>
+    fn all_words<C: Crew>(&self, rt: &C) -> Result<Vec<Word<P>>, RunError>
         ensures words { IfOk result (λ words. AreWords P self.now None words.items) }
         ensures refused { IfErr result (IsRefusal P self.now.graph self.now.sources None) }
     {
@@ -66,11 +64,7 @@ impl<'g, const P: u32> NearRun<'g, P> {
     }
 
     // Runs until the words within the limit are final, and returns these, with every other one unreached.
-    fn words_within<R: Threads + Wait + Sync>(
-        &self,
-        rt: &R,
-        limit: u64,
-    ) -> Result<Vec<Word<P>>, AllocError>
+    fn words_within<C: Crew>(&self, rt: &C, limit: u64) -> Result<Vec<Word<P>>, AllocError>
         requires { limit ≤ max_dist P }
         ensures { IfOk result (λ words. AreWords P self.now (Some limit) words.items) }
     {
@@ -82,11 +76,7 @@ impl<'g, const P: u32> NearRun<'g, P> {
     }
 
     // Runs until the words are final, up to the limit if there is one, and returns them.
-    fn words_up_to<R: Threads + Wait + Sync>(
-        &self,
-        rt: &R,
-        limit: Option<u64>,
-    ) -> Result<Vec<Word<P>>, RunError>
+    fn words_up_to<C: Crew>(&self, rt: &C, limit: Option<u64>) -> Result<Vec<Word<P>>, RunError>
         requires { IfSome limit (λ limit. limit ≤ max_dist P) }
         ensures words { IfOk result (λ words. AreWords P self.now limit words.items) }
         ensures refused { IfErr result (IsRefusal P self.now.graph self.now.sources limit) }
@@ -102,11 +92,7 @@ impl<'g, const P: u32> NearRun<'g, P> {
     }
 
     // Runs until the words are final, up to the limit if there is one, and returns the forest.
-    fn solve<R: Threads + Wait + Sync>(
-        &self,
-        rt: &R,
-        limit: Option<u64>,
-    ) -> Result<Forest<P>, RunError>
+    fn solve<C: Crew>(&self, rt: &C, limit: Option<u64>) -> Result<Forest<P>, RunError>
         requires { IfSome limit (λ limit. limit ≤ max_dist P) }
         ensures forest { IfOk result
             (IsForestAnswer P self.now.graph self.now.sources limit) }
@@ -129,8 +115,8 @@ impl<'g, const P: u32> NearRun<'g, P> {
 ///
 /// The order of the sources has no bearing on the answer, nor has how often one of them is named, the number of threads, or
 /// the width of a bucket. Where no source is named, no vertex is reached.
-pub fn run_nearest<const P: u32, R: Threads + Wait + Sync>(
-    rt: &R,
+pub fn run_nearest<const P: u32, C: Crew>(
+    rt: &C,
     alloc: Global,
     graph: &Graph,
     team: Team<P>,
@@ -148,8 +134,8 @@ pub fn run_nearest<const P: u32, R: Threads + Wait + Sync>(
 }
 
 /// Returns what `run_nearest` does. The workers count on the meter the vertices that they relax.
-pub fn run_nearest_metered<const P: u32, R: Threads + Wait + Sync>(
-    rt: &R,
+pub fn run_nearest_metered<const P: u32, C: Crew>(
+    rt: &C,
     alloc: Global,
     graph: &Graph,
     team: Team<P>,

@@ -11,11 +11,9 @@ use crate::walks::NearWalks;
 use sp_graph::Graph;
 use sp_offer::{Caller, OfferTable};
 use sp_team::{Relaxed, Search, relax_all};
-use sp_word::{Meter, Team, Word};
+use sp_word::{Crew, Meter, Team, Word};
 use std::alloc::{AllocError, Global};
 use std::marker::Model;
-use std::sync::Wait;
-use std::thread::Threads;
 
 /// A run from several sources of a graph, by a team. Contracts see the graph and the sources.
 #[derive(Drop)]
@@ -97,9 +95,9 @@ impl<'g, const P: u32> NearRun<'g, P> {
 
     /// Lets the team relax what the queue asks for, as far as the limit lies. Returns a copy of all words, in which the marks
     /// are true.
-    pub(crate) fn lower<R: Threads + Wait + Sync>(
+    pub(crate) fn lower<C: Crew>(
         &self,
-        rt: &R,
+        rt: &C,
         table: &OfferTable<NearWalks<'g>, P>,
         search: &Search<P>,
         caller: Caller,

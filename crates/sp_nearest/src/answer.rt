@@ -12,10 +12,8 @@ use sp_graph::Graph;
 use sp_job::{BatchError, Listener, Settings, Summary};
 use sp_near::{Nearest, RunError, run_nearest_metered};
 use sp_solve::useful_team;
-use sp_word::Meter;
+use sp_word::{Crew, Meter};
 use std::alloc::{AllocError, Global};
-use std::sync::Wait;
-use std::thread::Threads;
 
 /// The answer for several sources.
 #[derive(Drop)]
@@ -27,7 +25,7 @@ pub(crate) enum NearestAnswer<const P: u32> {
 }
 
 /// Finds the answer, by one run.
-pub(crate) fn find_answer<const P: u32, R: Threads + Wait + Sync, L: Listener>(
+pub(crate) fn find_answer<const P: u32, R: Crew, L: Listener>(
     rt: &R,
     alloc: Global,
     graph: &Graph,

@@ -12,9 +12,8 @@ use sp_dimacs::{GrFile, Read, Write, read_gr_by, read_ss};
 use sp_graph::Graph;
 use sp_job::{BatchError, Listener, Places, Progress, Settings, Summary, chosen, first_above};
 use sp_near::Nearest;
+use sp_word::Crew;
 use std::alloc::Global;
-use std::sync::Wait;
-use std::thread::Threads;
 
 // What is written before the one answer is found.
 const NOTHING: Summary = Summary {
@@ -24,7 +23,7 @@ const NOTHING: Summary = Summary {
 };
 
 // Tests the sources, and then finds and writes their answer.
-fn answer_file<const P: u32, R: Threads + Wait + Sync, W: Write, L: Listener>(
+fn answer_file<const P: u32, R: Crew, W: Write, L: Listener>(
     rt: &R,
     alloc: Global,
     file: GrFile,
@@ -67,14 +66,7 @@ fn answer_file<const P: u32, R: Threads + Wait + Sync, W: Write, L: Listener>(
 ///
 /// It makes one run, with all workers. The listener hears when the graph stands, and before the run. The summary counts one
 /// answer.
-pub fn run_nearest_told<
-    const P: u32,
-    R: Threads + Wait + Sync,
-    G: Read,
-    S: Read,
-    W: Write,
-    L: Listener,
->(
+pub fn run_nearest_told<const P: u32, R: Crew, G: Read, S: Read, W: Write, L: Listener>(
     rt: &R,
     alloc: Global,
     gr: &mut G,
@@ -110,13 +102,7 @@ pub fn run_nearest_told<
 }
 
 /// Does what `run_nearest_told` does, for sources that are given in place of the text of a list.
-pub fn run_nearest_given_told<
-    const P: u32,
-    R: Threads + Wait + Sync,
-    G: Read,
-    W: Write,
-    L: Listener,
->(
+pub fn run_nearest_given_told<const P: u32, R: Crew, G: Read, W: Write, L: Listener>(
     rt: &R,
     alloc: Global,
     gr: &mut G,

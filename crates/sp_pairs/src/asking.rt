@@ -10,9 +10,8 @@ use crate::near::NearSearch;
 use sp_graph::Graph;
 use sp_job::{Job, Listener, Progress};
 use sp_solve::{PairAnswer, Query, run_targets, useful_team};
+use sp_word::Crew;
 use std::alloc::{AllocError, Global};
-use std::sync::Wait;
-use std::thread::Threads;
 
 /// What is known of a pair, in 16 bytes: fields lie in the order in which they stand here.
 #[derive(Clone, Copy)]
@@ -156,7 +155,7 @@ fn keep_answers<const P: u32>(
 }
 
 // Returns the answers for targets of a source: they are looked for near the source first, and by a team if that gives up.
-fn answer_targets<'g, const P: u32, R: Threads + Wait + Sync, L>(
+fn answer_targets<'g, const P: u32, R: Crew, L>(
     rt: &R,
     alloc: Global,
     near: &mut NearSearch<'g, P>,
@@ -184,7 +183,7 @@ fn answer_targets<'g, const P: u32, R: Threads + Wait + Sync, L>(
 }
 
 // Finds the answer for the pair at a place, and for those of the same source behind it.
-fn ask<'g, const P: u32, R: Threads + Wait + Sync, L>(
+fn ask<'g, const P: u32, R: Crew, L>(
     rt: &R,
     near: &mut NearSearch<'g, P>,
     job: &Job<'g, P, L>,
@@ -210,7 +209,7 @@ fn ask<'g, const P: u32, R: Threads + Wait + Sync, L>(
 }
 
 /// Finds the answers for pairs, in their order.
-pub(crate) fn find_answers<const P: u32, R: Threads + Wait + Sync, L: Listener>(
+pub(crate) fn find_answers<const P: u32, R: Crew, L: Listener>(
     rt: &R,
     alloc: Global,
     job: &Job<P, L>,

@@ -11,10 +11,8 @@ use crate::pair_lines::write_pairs;
 use sp_dimacs::{GrFile, PairsFile, Read, Write, read_gr_by, read_pairs};
 use sp_graph::Graph;
 use sp_job::{BatchError, BucketWidth, Job, Listener, Nobody, Progress, Settings, Summary};
-use sp_word::{Meter, Workers};
+use sp_word::{Crew, Meter, Workers};
 use std::alloc::Global;
-use std::sync::Wait;
-use std::thread::Threads;
 
 // Returns the first number that isn't a vertex, of a pair the source before the target, if one isn't.
 fn first_pair_above(pairs: &[(u32, u32)], n: u32) -> Option<u32>
@@ -34,7 +32,7 @@ fn first_pair_above(pairs: &[(u32, u32)], n: u32) -> Option<u32>
 
 // Tests the pairs, finds all their answers, and then writes them.
 #[tactic(auto, using(crate::proofs::PairsOfFile::pairs_not_early))]
-fn answer_pairs<const P: u32, R: Threads + Wait + Sync, W: Write, L: Listener>(
+fn answer_pairs<const P: u32, R: Crew, W: Write, L: Listener>(
     rt: &R,
     alloc: Global,
     file: GrFile,
@@ -76,7 +74,7 @@ fn answer_pairs<const P: u32, R: Threads + Wait + Sync, W: Write, L: Listener>(
 /// the same for all widths and numbers. Where the writer fails, a beginning of the text stands.
 ///
 /// It makes one run from each source, wherever its pairs stand, and no further than to the farthest of their targets.
-pub fn run_pairs<const P: u32, R: Threads + Wait + Sync, G: Read, S: Read, W: Write>(
+pub fn run_pairs<const P: u32, R: Crew, G: Read, S: Read, W: Write>(
     rt: &R,
     alloc: Global,
     gr: &mut G,
@@ -103,14 +101,7 @@ pub fn run_pairs<const P: u32, R: Threads + Wait + Sync, G: Read, S: Read, W: Wr
 }
 
 /// Does what `run_pairs` does, and tells a listener how far it is: when the graph stands, and before each run from a source.
-pub fn run_pairs_told<
-    const P: u32,
-    R: Threads + Wait + Sync,
-    G: Read,
-    S: Read,
-    W: Write,
-    L: Listener,
->(
+pub fn run_pairs_told<const P: u32, R: Crew, G: Read, S: Read, W: Write, L: Listener>(
     rt: &R,
     alloc: Global,
     gr: &mut G,

@@ -2,3 +2,4 @@ pub mod Lists
 pub mod TextParts
 pub mod Standing
 pub mod OneProof
+pub mod Holding

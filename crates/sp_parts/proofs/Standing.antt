@@ -23,7 +23,7 @@ use Rattle.sp_parts.specs.declared.receiving.Received.{Received}
 use Rattle.sp_parts.specs.declared.receiving.Received.TheVariants.{More, Over, Failed}
 use Rattle.sp_parts.specs.Groups.{EndsAs, Brings, HasCome, HasComeTo, ComesOn, HasAnswered}
 use Rattle.sp_parts.specs.Parts.{IsAt, IsNext, TakesNext}
-use Rattle.sp_parts.specs.Stands.{Stands}
+use Rattle.sp_parts.specs.Stands.{Stands, Goes}
 use Rattle.sp_parts.proofs.TextParts.{problem_lasts, finished_on}
 
 -- 1. What has come of a device.
@@ -52,6 +52,10 @@ answered : (left : Option (List ℕ)) (has_failed : Bool) (count : ℕ) (receive
 answered left has_failed count More h = tt
 answered left has_failed count Over h = h
 answered left has_failed count Failed h = h
+
+-- What comes then ends no farther than a text may.
+pub come_far : {R : Type 0} (r : Device R) (source : Option (List ℕ)) (old new : R) (came : ℕ) (bytes : List ℕ) (received : Received) → HasComeTo r source old came → Brings r old new bytes received → came + length bytes ≤ 2 ^ 62
+come_far r source old new came bytes received (text, h, size) more = omega (arith, (more_come r source old new text bytes received h more).short, length-append text bytes, size)
 
 -- What it has answered last still holds.
 pub answer_on : {R : Type 0} (r : Device R) (old new : R) (came later : ℕ) (before after : Received) → HasAnswered (r.left old) (r.has_failed old) before → ComesOn r old new came later before after → HasAnswered (r.left new) (r.has_failed new) after
@@ -205,6 +209,11 @@ all_taken r source problem begun device reader came taken h all =
       short = omega (arith, h.short, size, length-append h.alone h.text, length-append h.alone h.front);
     }
 
+-- The reader is behind all that came.
+pub stands_whole : {R K V : Type 0} {keeper : Keeper K V} (r : Device R) (source problem : Option (List ℕ)) (begun device : R) (reader : Feeder (Collector K V keeper)) (came taken : ℕ)
+    → Stands r source problem begun device reader came taken → taken ≡ came → (text : List ℕ) × HasCome r (r.left begun) device text × IsBehind (judge keeper.format keeper.ranges) HasTakenLines text reader
+stands_whole r source problem begun device reader came taken h all = (h.alone ++ h.front, all_taken r source problem begun device reader came taken h all, h.behind)
+
 pub stands_to_end : {R K V W : Type 0} {keeper : Keeper K V} (Spelled : List (List ℕ) → W → Type 0) (r : Device R) (source problem : Option (List ℕ)) (begun device : R) (reader later : Feeder (Collector K V keeper)) (came taken : ℕ) (result : Result W DimacsError)
     → Stands r source problem begun device reader came taken → taken ≡ came → IsAtEnd (r.left device) → Finishes (judge keeper.format keeper.ranges) HasTakenLines Spelled reader result later → ReadOn (judge keeper.format keeper.ranges) Spelled r begun result device
 stands_to_end {keeper} Spelled r source problem begun device reader later came taken result h all end finishes =
@@ -217,20 +226,13 @@ stands_to_failure {keeper} Spelled r source problem begun device reader later ca
 
 -- 5. The course of it.
 
--- What holds while several threads read, since they began behind some reader: what has come, and how the device has answered.
-pub record Goes {R K V : Type 0} {keeper : Keeper K V} (r : Device R) (source problem : Option (List ℕ)) (first : R) (old : Feeder (Collector K V keeper)) (begun_came begun_taken : ℕ) (device : R) (reader : Feeder (Collector K V keeper)) (came taken : ℕ) (received : Received) : Type 0 where
-  pub come : HasComeTo r source device came
-  pub answer : HasAnswered (r.left device) (r.has_failed device) received
-  pub lasting : r.failing device ≡ r.failing first
-  pub never : r.failing first ≡ Never → r.has_failed device ≡ false
-  pub stands : (begun : R) → Stands r source problem begun first old begun_came begun_taken → Stands r source problem begun device reader came taken
-
 pub goes_begun : {R K V : Type 0} {keeper : Keeper K V} (r : Device R) (source problem : Option (List ℕ)) (device : R) (reader : Feeder (Collector K V keeper)) (came taken : ℕ) (received : Received)
     → HasComeTo r source device came → received ≡ More → (r.failing device ≡ Never → r.has_failed device ≡ false) → Goes r source problem device reader came taken device reader came taken received
 goes_begun r source problem device reader came taken received come is never = record {
   come = come;
   answer = rw is tt;
   lasting = refl;
+  further = omega arith;
   never = never;
   stands = λ begun h. h;
 }
@@ -242,6 +244,7 @@ goes_more r source problem first old begun_came begun_taken device new reader ca
   come = come_on r source device new came later before after h.come (inr (bytes, more, grown));
   answer = answer_on r device new came later before after h.answer (inr (bytes, more, grown));
   lasting = more.lasting ∙ h.lasting;
+  further = omega (arith, h.further, more.passed);
   never = λ never. more.never (h.lasting ∙ never);
   stands = λ begun was. stands_more r source problem begun device new reader came later taken before after (h.stands begun was) (inr (bytes, more, grown));
 }
@@ -258,6 +261,7 @@ goes_on {R} {K} {V} {keeper} r source problem first old begun_came begun_taken d
       come = came_more.come;
       answer = came_more.answer;
       lasting = came_more.lasting;
+      further = came_more.further;
       never = came_more.never;
       stands = λ begun was. stands_next r source problem begun new reader now later taken done has_taken (came_more.stands begun was) from_it;
     })

@@ -1,3 +1,4 @@
 pub mod Parts
 pub mod Groups
+pub mod Held
 pub mod Stands

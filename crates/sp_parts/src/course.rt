@@ -1,15 +1,20 @@
 //! How far a text has got that several threads read: what came of the device, and what the reader has taken.
-ghost use Rattle.std.specs.Prelude.{◌≡◌, ◌+◌, ◌<◌, ◌≤◌, ◌^◌, true, length};
+ghost use Rattle.std.specs.Prelude.{◌≡◌, ◌+◌, ◌<◌, ◌≤◌, true, false, [], length, IfOk, OnOk};
+ghost use Rattle.std.specs.Arc.{arc_value};
+ghost use Rattle.std.specs.VecDeque.{deque_len, deque_capacity};
 ghost use Rattle.sp_parts.specs.Groups.{HasComeTo, ComesOn};
 ghost use Rattle.sp_parts.specs.Parts.{TakesNext};
+ghost use Rattle.sp_parts.specs.Held.{AreHeld};
 
-use crate::pieces::{KeepAcross, Origin, Piece, ReadPiece};
-use crate::receiving::{Group, Received};
+use crate::pieces::{KeepAcross, Origin, ReadPiece};
+use crate::receiving::{Group, Received, fill};
 use crate::sharing::Shared;
-use crate::taking::take_read;
+use crate::stock::{Flight, Stock};
+use crate::taking::take_piece;
 use sp_device::Read;
 use sp_text::{Collector, DimacsError, Feeder, KeepParts};
-use std::sync::Wait;
+use std::collections::VecDeque;
+use std::sync::Arc;
 
 /// How far a text has got.
 #[derive(Clone, Copy)]
@@ -18,7 +23,7 @@ pub struct Mark {
     pub(crate) bytes: u64,
 }
 
-/// How far a text has got, with what one thread has alone: the reader, and buffers that are free.
+/// How far a text has got, with what one thread has alone: the reader, and the pieces that came.
 #[derive(Drop)]
 pub struct Course<K: KeepParts> {
     pub(crate) reader: Feeder<Collector<K>>,
@@ -30,16 +35,18 @@ pub struct Course<K: KeepParts> {
     pub(crate) came: Mark,
     /// How much of it the reader has taken.
     pub(crate) taken: Mark,
-    pub(crate) spare: Vec<Group>,
+    /// The pieces that came and weren't taken yet.
+    pub(crate) flying: VecDeque<Flight>,
 }
 
 impl<K: KeepAcross> Course<K> {
     /// Returns the course of a text of which nothing came yet.
-    pub(crate) fn new(reader: Feeder<Collector<K>>, spare: Vec<Group>) -> Course<K>
+    pub(crate) fn new(reader: Feeder<Collector<K>>, flying: VecDeque<Flight>) -> Course<K>
         ensures reader { result.reader ≡ reader }
         ensures received { result.received ≡ Received.More }
         ensures came { result.came.bytes ≡ 0 }
         ensures taken { result.taken.bytes ≡ 0 }
+        ensures flying { result.flying ≡ flying }
     {
         let none = Mark {
             pieces: 0,
@@ -51,152 +58,173 @@ impl<K: KeepAcross> Course<K> {
             is_short: false,
             came: none,
             taken: none,
-            spare,
+            flying,
         }
     }
 
-    // Returns a buffer for a piece: a free one, or a new one.
-    fn buffer<O: Origin>(&mut self, shared: &Shared<K, O>) -> Option<Group>
-        ensures reader { self.new.reader ≡ self.old.reader }
-        ensures received { self.new.received ≡ self.old.received }
-        ensures came { self.new.came ≡ self.old.came }
-        ensures taken { self.new.taken ≡ self.old.taken }
+    /// Returns the reader.
+    pub(crate) fn into_reader(self) -> Feeder<Collector<K>>
+        ensures { result ≡ self.reader }
     {
-        if let Some(group) = self.spare.pop() {
-            return Some(group);
-        }
-        Group::new(shared.alloc, shared.plan.sizes.piece.max(1)).ok()
-    }
-
-    // Keeps a buffer that is free.
-    fn free(&mut self, group: Group)
-        ensures reader { self.new.reader ≡ self.old.reader }
-        ensures received { self.new.received ≡ self.old.received }
-        ensures came { self.new.came ≡ self.old.came }
-        ensures taken { self.new.taken ≡ self.old.taken }
-    {
-        let _ = self.spare.push(group);
+        let Course { reader, .. } = self;
+        reader
     }
 
     // Reads once from the device, and lets what came be read. A short piece waits for nobody: this thread reads it.
-    fn receive<O: Origin, H: Wait, R: Read>(
+    fn receive<O: Origin, R: Read>(
         &mut self,
-        rt: &H,
         device: &mut R,
+        stock: &mut Stock<O>,
         shared: &Shared<K, O>,
-        mut group: Group,
+        mut group: Arc<Group>,
     )
-        requires { HasComeTo R.Read O.text device.old self.old.came.bytes }
+        requires come { HasComeTo R.Read O.text device.old self.old.came.bytes }
+        requires held { AreHeld O.text self.old.taken.bytes
+            self.old.flying.items self.old.came.bytes }
+        requires room { deque_len self.old.flying < deque_capacity self.old.flying }
         ensures came { ComesOn R.Read device.old device.new
             self.old.came.bytes self.new.came.bytes self.old.received self.new.received }
+        ensures held { AreHeld O.text self.new.taken.bytes
+            self.new.flying.items self.new.came.bytes }
         ensures reader { self.new.reader ≡ self.old.reader }
         ensures taken { self.new.taken ≡ self.old.taken }
     {
-        self.received = group.receive(device);
+        let Some(received) = fill(device, &mut group) else {
+            return;
+        };
+        self.received = received;
         let count = group.bytes().len();
         if count == 0 {
-            self.free(group);
+            stock.free(group);
             return;
         }
         self.is_short = !group.is_full();
-        let piece = Piece::<O>::new(self.came.pieces, self.came.bytes, group);
+        let is_shared = !self.is_short && stock.share(self.came.pieces, self.came.bytes, &group);
         self.came = Mark {
             pieces: self.came.pieces.wrapping_add(1),
             bytes: self.came.bytes.wrapping_add(count as u64),
         };
-        if self.is_short {
-            shared.read(rt, piece);
-        } else {
-            shared.give(rt, piece);
+        self.flying.push_back_reserved(Flight { group, is_shared });
+        if is_shared {
+            shared.signals.ring();
         }
     }
 
     // Returns whether to ask the device for more. Behind a short piece all that came is taken first, so that a fault is told
     // as soon as it has come.
-    fn is_open<O: Origin>(&self, shared: &Shared<K, O>) -> bool {
-        let flying = self.came.pieces.saturating_sub(self.taken.pieces);
+    fn is_open<O: Origin>(&self, shared: &Shared<K, O>) -> bool
+        ensures { result ≡ true
+            → deque_len self.now.flying < deque_capacity self.now.flying }
+    {
         let room = if self.is_short { 1 } else { shared.room() };
         match self.received {
-            Received::More => flying < room,
+            Received::More => self.flying.len() < room.min(self.flying.capacity()),
             _ => false,
         }
     }
 
     /// Reads once from the device, if it goes on and there is room for what comes. Returns whether it has.
-    pub(crate) fn receive_more<O: Origin, H: Wait, R: Read>(
+    pub(crate) fn receive_more<O: Origin, R: Read>(
         &mut self,
-        rt: &H,
         device: &mut R,
+        stock: &mut Stock<O>,
         shared: &Shared<K, O>,
     ) -> bool
-        requires { HasComeTo R.Read O.text device.old self.old.came.bytes }
+        requires come { HasComeTo R.Read O.text device.old self.old.came.bytes }
+        requires held { AreHeld O.text self.old.taken.bytes
+            self.old.flying.items self.old.came.bytes }
         ensures came { ComesOn R.Read device.old device.new
             self.old.came.bytes self.new.came.bytes self.old.received self.new.received }
+        ensures held { AreHeld O.text self.new.taken.bytes
+            self.new.flying.items self.new.came.bytes }
         ensures reader { self.new.reader ≡ self.old.reader }
         ensures taken { self.new.taken ≡ self.old.taken }
     {
         if !self.is_open(shared) {
             return false;
         }
-        let Some(group) = self.buffer(shared) else {
+        let Some(group) = stock.buffer() else {
             return false;
         };
-        self.receive(rt, device, shared, group);
+        self.receive(device, stock, shared, group);
         true
     }
 
-    // Returns whether a piece comes next, and has come.
-    fn is_next<O: Origin>(&self, read: &ReadPiece<K, O>) -> bool
-        ensures place { result ≡ true → read.now.piece.start ≡ self.now.taken.bytes }
-        ensures within { result ≡ true → self.now.taken.bytes
-            + length read.now.piece.group ≤ self.now.came.bytes }
-        ensures fits { result ≡ true → self.now.taken.bytes
-            + length read.now.piece.group < 2 ^ 64 }
-    {
-        let count = read.piece.group.bytes().len() as u64;
-        read.piece.start == self.taken.bytes
-            && self.taken.bytes <= self.came.bytes
-            && count <= self.came.bytes - self.taken.bytes
-    }
-
-    /// Takes the piece that comes next, if it was read. Returns whether it was.
-    pub(crate) fn take_next<O: Origin, H: Wait>(
-        &mut self,
-        rt: &H,
-        shared: &Shared<K, O>,
-    ) -> Result<bool, DimacsError>
-        ensures taken { TakesNext O.text O.problem self.old.came.bytes
-            self.old.taken.bytes self.new.taken.bytes
-            self.old.reader result self.new.reader }
-        ensures came { self.new.came ≡ self.old.came }
-        ensures received { self.new.received ≡ self.old.received }
-    {
-        let Some(read) = shared.take(rt, self.taken.pieces) else {
-            return Ok(false);
-        };
-        if !self.is_next(&read) {
-            shared.put(rt, read);
-            return Ok(false);
-        }
-        take_read(&mut self.reader, &read)?;
-        self.pass(read);
-        Ok(true)
-    }
-
-    // Goes on behind a piece that was taken, whose buffer is free.
-    fn pass<O: Origin>(&mut self, read: ReadPiece<K, O>)
-        requires { self.old.taken.bytes + length read.piece.group < 2 ^ 64 }
-        ensures bytes { self.new.taken.bytes
-            ≡ self.old.taken.bytes + length read.piece.group }
+    // Goes on behind a piece that was taken, which ends no farther than this place.
+    fn pass(&mut self, group: &Group, end: u64)
+        requires { self.old.taken.bytes + length group.now ≤ end }
+        ensures bytes { self.new.taken.bytes ≡ self.old.taken.bytes + length group.now }
         ensures reader { self.new.reader ≡ self.old.reader }
         ensures received { self.new.received ≡ self.old.received }
         ensures came { self.new.came ≡ self.old.came }
+        ensures flying { self.new.flying ≡ self.old.flying }
     {
-        let ReadPiece { piece, parts: _ } = read;
         self.taken = Mark {
             pieces: self.taken.pieces.wrapping_add(1),
-            bytes: self.taken.bytes + piece.group.bytes().len() as u64,
+            bytes: self.taken.bytes + group.bytes().len() as u64,
         };
-        self.free(piece.into_group());
+    }
+
+    /// Takes the piece that comes next: by what was read of it, if this is of that piece, else by itself. Returns whether one
+    /// came.
+    pub(crate) fn take_front<O: Origin>(
+        &mut self,
+        stock: &mut Stock<O>,
+        read: Option<ReadPiece<K, O>>,
+    ) -> Result<bool, DimacsError>
+        requires { AreHeld O.text self.old.taken.bytes
+            self.old.flying.items self.old.came.bytes }
+        ensures taken { TakesNext O.text O.problem self.old.came.bytes
+            self.old.taken.bytes self.new.taken.bytes
+            self.old.reader result self.new.reader }
+        ensures held { OnOk result (AreHeld O.text self.new.taken.bytes
+            self.new.flying.items self.new.came.bytes) }
+        ensures fewer { IfOk result (λ has_taken. has_taken ≡ true
+            → length self.new.flying.items < length self.old.flying.items) }
+        ensures none { IfOk result (λ has_taken. has_taken ≡ false
+            → self.new.flying.items ≡ []) }
+        ensures came { self.new.came ≡ self.old.came }
+        ensures received { self.new.received ≡ self.old.received }
+    {
+        let Some(front) = self.flying.pop_front() else {
+            return Ok(false);
+        };
+        take_piece(&mut self.reader, &front.group, self.taken.bytes, &read)?;
+        self.pass(&front.group, self.came.bytes);
+        stock.free(front.group);
+        Ok(true)
+    }
+
+    // Returns whether the piece that comes next is read by others.
+    fn is_shared(&self) -> bool {
+        match self.flying.front() {
+            Some(front) => front.is_shared,
+            None => false,
+        }
+    }
+
+    /// Takes the piece that comes next, if it was read, or if no other reads it. Returns whether it has.
+    pub(crate) fn take_next<O: Origin>(
+        &mut self,
+        stock: &mut Stock<O>,
+        shared: &Shared<K, O>,
+    ) -> Result<bool, DimacsError>
+        requires { AreHeld O.text self.old.taken.bytes
+            self.old.flying.items self.old.came.bytes }
+        ensures taken { TakesNext O.text O.problem self.old.came.bytes
+            self.old.taken.bytes self.new.taken.bytes
+            self.old.reader result self.new.reader }
+        ensures held { OnOk result (AreHeld O.text self.new.taken.bytes
+            self.new.flying.items self.new.came.bytes) }
+        ensures came { self.new.came ≡ self.old.came }
+        ensures received { self.new.received ≡ self.old.received }
+    {
+        if !self.is_shared() {
+            return self.take_front(stock, None);
+        }
+        let Some(read) = shared.take(self.taken.pieces) else {
+            return Ok(false);
+        };
+        self.take_front(stock, Some(read))
     }
 }

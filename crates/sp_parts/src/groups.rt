@@ -13,14 +13,12 @@ use crate::pieces::KeepAcross;
 use crate::receiving::{Group, Received};
 use sp_device::Read;
 use sp_text::{Collector, DimacsError, Feeder, LineTaker, PIECE, read_items};
-use sp_word::Workers;
+use sp_word::{Crew, Workers};
 use std::alloc::Global;
 use std::marker::Brand;
-use std::sync::Wait;
-use std::thread::Threads;
 
 // Reads a text alone, until so much came that others join.
-fn read_alone<K: KeepAcross + Send + Sync, H: Threads + Wait + Sync, R: Read>(
+fn read_alone<K: KeepAcross + Send + Sync, H: Crew, R: Read>(
     rt: &H,
     alloc: Global,
     device: &mut R,
@@ -57,7 +55,7 @@ fn read_alone<K: KeepAcross + Send + Sync, H: Threads + Wait + Sync, R: Read>(
 ///
 /// No more threads read than there are processors. This thread alone reads the device. If there is no memory for what other
 /// threads would read, it reads that itself.
-pub fn read_items_by<K: KeepAcross + Send + Sync, H: Threads + Wait + Sync, R: Read>(
+pub fn read_items_by<K: KeepAcross + Send + Sync, H: Crew, R: Read>(
     rt: &H,
     alloc: Global,
     device: &mut R,

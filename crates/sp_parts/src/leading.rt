@@ -1,5 +1,5 @@
 //! What the thread does that reads the device, while others read pieces of what came.
-ghost use Rattle.std.specs.Prelude.{◌≡◌, ℕ, List, Some, true, false, IfErr, IfOk, OnErr};
+ghost use Rattle.std.specs.Prelude.{◌≡◌, ◌≤◌, ℕ, List, [], Some, true, false, Err, IfErr, IfNone, IfOk, IfSome, OnErr, OnOk};
 ghost use Rattle.sp_device.specs.Failing.{Never};
 ghost use Rattle.sp_text.specs.Text.{judge};
 ghost use Rattle.sp_text.specs.Collecting.{SpelledBy};
@@ -7,79 +7,108 @@ ghost use Rattle.sp_text.specs.Feeding.{IsBehind};
 ghost use Rattle.sp_text.specs.Plain.{HasProblem};
 ghost use Rattle.sp_text.specs.Whole.{ReadOn};
 ghost use Rattle.sp_parts.specs.Groups.{HasCome, HasComeTo};
-ghost use Rattle.sp_parts.specs.Stands.{Stands};
+ghost use Rattle.sp_parts.specs.Held.{AreHeld};
+ghost use Rattle.sp_parts.specs.Stands.{Goes, Stands};
 
 use crate::course::Course;
 use crate::crew::Plan;
 use crate::pieces::{KeepAcross, Origin};
-use crate::receiving::{Group, Received};
-use crate::sharing::Shared;
+use crate::receiving::Received;
+use crate::sharing::{ROUNDS, Shared};
+use crate::stock::{Flight, Stock};
 use sp_device::Read;
 use sp_text::{Collector, DimacsError, Feeder, LineTaker};
+use sp_word::Crew;
 use std::alloc::{AllocError, Global};
-use std::sync::Wait;
-use std::thread::{Threads, join_mut, map_indices};
+use std::collections::VecDeque;
+use std::thread::{join_mut, map_indices};
 
-// Reads the device to its end, and takes all pieces in order, also such as it reads itself.
-fn read_through<K: KeepAcross, O: Origin, H: Wait, R: Read>(
+// Reads the device to its end, and takes all pieces in order, also such as it reads itself. None says that it gave up in
+// between.
+fn read_through<K: KeepAcross, O: Origin, H: Crew, R: Read>(
     rt: &H,
     device: &mut R,
     course: &mut Course<K>,
+    stock: &mut Stock<O>,
     shared: &Shared<K, O>,
-) -> Result<K::Value, DimacsError>
+) -> Option<Result<K::Value, DimacsError>>
     requires came { HasComeTo R.Read O.text device.old course.old.came.bytes }
+    requires held { AreHeld O.text course.old.taken.bytes
+        course.old.flying.items course.old.came.bytes }
     requires more { course.old.received ≡ Received.More }
     requires going { R.failing device.old ≡ Never → R.has_failed device.old ≡ false }
-    ensures read { (begun : R) → Stands R.Read O.text O.problem begun device.old
+    ensures read { IfSome result (λ read. (begun : R)
+        → Stands R.Read O.text O.problem begun device.old
         course.old.reader course.old.came.bytes course.old.taken.bytes
         → ReadOn (judge K.format K.ranges) (SpelledBy K.format K.Spelled)
-        R.Read begun result device.new }
+        R.Read begun read device.new) }
+    ensures left { IfNone result
+        (Goes R.Read O.text O.problem device.old
+        course.old.reader course.old.came.bytes course.old.taken.bytes
+        device.new course.new.reader course.new.came.bytes course.new.taken.bytes
+        course.new.received
+        × AreHeld O.text course.new.taken.bytes
+        course.new.flying.items course.new.came.bytes) }
     ensures never { R.failing device.old ≡ Never → R.has_failed device.new ≡ false }
 {
     let mut turn: u32 = 0;
-    for _ in rt.forever() {
-        let has_received = course.receive_more(rt, device, shared);
-        let has_taken = course.take_next(rt, shared)?;
-        if has_received || has_taken || shared.read_one(rt) {
+    for _ in 0..ROUNDS {
+        let has_received = course.receive_more(device, stock, shared);
+        let has_taken = match course.take_next(stock, shared) {
+            Ok(has_taken) => has_taken,
+            Err(e) => return Some(Err(e)),
+        };
+        if has_received || has_taken || shared.read_one() {
             turn = 0;
             continue;
         }
         if course.taken.bytes == course.came.bytes {
             match course.received {
-                Received::Over => return course.reader.finish(),
-                Received::Failed => return Err(course.reader.fail()),
+                Received::Over => return Some(course.reader.finish()),
+                Received::Failed => return Some(Err(course.reader.fail())),
                 Received::More => {}
             }
         }
         shared.signals.rest(rt, turn);
         turn = turn.saturating_add(1);
     }
-    unreachable!()
+    None
 }
 
 // Reads the device to its end so, and then tells the others that all is read.
-fn lead<K: KeepAcross, O: Origin, H: Wait, R: Read>(
+fn lead<K: KeepAcross, O: Origin, H: Crew, R: Read>(
     rt: &H,
     device: &mut R,
     course: &mut Course<K>,
+    stock: &mut Stock<O>,
     shared: &Shared<K, O>,
-) -> Result<K::Value, DimacsError>
+) -> Option<Result<K::Value, DimacsError>>
     requires came { HasComeTo R.Read O.text device.old course.old.came.bytes }
+    requires held { AreHeld O.text course.old.taken.bytes
+        course.old.flying.items course.old.came.bytes }
     requires more { course.old.received ≡ Received.More }
     requires going { R.failing device.old ≡ Never → R.has_failed device.old ≡ false }
-    ensures read { (begun : R) → Stands R.Read O.text O.problem begun device.old
+    ensures read { IfSome result (λ read. (begun : R)
+        → Stands R.Read O.text O.problem begun device.old
         course.old.reader course.old.came.bytes course.old.taken.bytes
         → ReadOn (judge K.format K.ranges) (SpelledBy K.format K.Spelled)
-        R.Read begun result device.new }
+        R.Read begun read device.new) }
+    ensures left { IfNone result
+        (Goes R.Read O.text O.problem device.old
+        course.old.reader course.old.came.bytes course.old.taken.bytes
+        device.new course.new.reader course.new.came.bytes course.new.taken.bytes
+        course.new.received
+        × AreHeld O.text course.new.taken.bytes
+        course.new.flying.items course.new.came.bytes) }
     ensures never { R.failing device.old ≡ Never → R.has_failed device.new ≡ false }
 {
-    let result = read_through(rt, device, course, shared);
+    let result = read_through(rt, device, course, stock, shared);
     shared.signals.end();
     result
 }
 
 // Reads pieces by so many threads, this one among them, until all is read.
-fn serve_by<K: KeepAcross + Send + Sync, O: Origin + Send + Sync, H: Threads + Wait + Sync>(
+fn serve_by<K: KeepAcross + Send + Sync, O: Origin + Send + Sync, H: Crew>(
     rt: &H,
     shared: &Shared<K, O>,
     threads: usize,
@@ -88,58 +117,111 @@ fn serve_by<K: KeepAcross + Send + Sync, O: Origin + Send + Sync, H: Threads + W
     let _ = map_indices(rt, shared.alloc, threads, &serve);
 }
 
-// Reads the device to its end, while other threads read pieces.
-fn read_beside<
-    K: KeepAcross + Send + Sync,
-    O: Origin + Send + Sync,
-    H: Threads + Wait + Sync,
-    R: Read,
->(
+// Reads the device to its end, while other threads read pieces. None says that it gave up in between.
+fn read_beside<K: KeepAcross + Send + Sync, O: Origin + Send + Sync, H: Crew, R: Read>(
     rt: &H,
     device: &mut R,
     course: &mut Course<K>,
+    stock: &mut Stock<O>,
     shared: &Shared<K, O>,
-) -> Result<K::Value, DimacsError>
+) -> Option<Result<K::Value, DimacsError>>
     requires came { HasComeTo R.Read O.text device.old course.old.came.bytes }
+    requires held { AreHeld O.text course.old.taken.bytes
+        course.old.flying.items course.old.came.bytes }
     requires more { course.old.received ≡ Received.More }
     requires going { R.failing device.old ≡ Never → R.has_failed device.old ≡ false }
-    ensures read { (begun : R) → Stands R.Read O.text O.problem begun device.old
+    ensures read { IfSome result (λ read. (begun : R)
+        → Stands R.Read O.text O.problem begun device.old
         course.old.reader course.old.came.bytes course.old.taken.bytes
         → ReadOn (judge K.format K.ranges) (SpelledBy K.format K.Spelled)
-        R.Read begun result device.new }
+        R.Read begun read device.new) }
+    ensures left { IfNone result
+        (Goes R.Read O.text O.problem device.old
+        course.old.reader course.old.came.bytes course.old.taken.bytes
+        device.new course.new.reader course.new.came.bytes course.new.taken.bytes
+        course.new.received
+        × AreHeld O.text course.new.taken.bytes
+        course.new.flying.items course.new.came.bytes) }
     ensures never { R.failing device.old ≡ Never → R.has_failed device.new ≡ false }
 {
     let others = shared.plan.others();
     let mut serve = || serve_by(rt, shared, others);
-    let mut read = || -> Result<K::Value, DimacsError>
+    let mut read = || -> Option<Result<K::Value, DimacsError>>
         requires { (HasComeTo R.Read O.text device.now course.now.came.bytes)
+            × (AreHeld O.text course.now.taken.bytes
+            course.now.flying.items course.now.came.bytes)
             × (course.now.received ≡ Received.More)
             × (R.failing device.now ≡ Never → R.has_failed device.now ≡ false) }
-        ensures read { (begun : R) → Stands R.Read O.text O.problem begun device.entry.now
+        ensures read { IfSome result (λ read. (begun : R)
+            → Stands R.Read O.text O.problem begun device.entry.now
             course.entry.now.reader course.entry.now.came.bytes course.entry.now.taken.bytes
             → ReadOn (judge K.format K.ranges) (SpelledBy K.format K.Spelled)
-            R.Read begun result device.exit.now }
+            R.Read begun read device.exit.now) }
+        ensures left { IfNone result
+            (Goes R.Read O.text O.problem device.entry.now
+            course.entry.now.reader course.entry.now.came.bytes course.entry.now.taken.bytes
+            device.exit.now course.exit.now.reader course.exit.now.came.bytes
+            course.exit.now.taken.bytes course.exit.now.received
+            × AreHeld O.text course.exit.now.taken.bytes
+            course.exit.now.flying.items course.exit.now.came.bytes) }
         ensures never { R.failing device.entry.now ≡ Never
             → R.has_failed device.exit.now ≡ false }
-    { lead(rt, device, course, shared) };
+    { lead(rt, device, course, stock, shared) };
     join_mut(rt, &mut serve, &mut read).1
 }
 
-// Returns the buffers that are free at first: one, and room for more.
-fn first_buffers(alloc: Global, plan: &Plan) -> Result<Vec<Group>, AllocError> {
-    let mut spare = Vec::with_capacity(alloc, plan.pieces())?;
-    spare.push(Group::new(alloc, plan.sizes.piece.max(1))?)?;
-    Ok(spare)
+// Takes all that came of a device, by this thread alone.
+fn take_rest<K: KeepAcross, O: Origin, R: Read>(
+    device: &R,
+    course: &mut Course<K>,
+    stock: &mut Stock<O>,
+) -> Result<(), DimacsError>
+    requires { AreHeld O.text course.old.taken.bytes
+        course.old.flying.items course.old.came.bytes }
+    ensures taken { OnOk result ((begun : R) → Stands R.Read O.text O.problem begun device.now
+        course.old.reader course.old.came.bytes course.old.taken.bytes
+        → (text : List ℕ) × HasCome R.Read (R.left begun) device.now text
+        × IsBehind (judge K.format K.ranges) ⟦<Collector<K> as LineTaker>⟧.After
+        text course.new.reader) }
+    ensures refused { IfErr result (λ e. (begun : R)
+        → Stands R.Read O.text O.problem begun device.now
+        course.old.reader course.old.came.bytes course.old.taken.bytes
+        → ReadOn (judge K.format K.ranges) (SpelledBy K.format K.Spelled)
+        R.Read begun (Err e) device.now) }
+{
+    loop {
+        let has_taken = match course.take_front(stock, None) {
+            Ok(has_taken) => has_taken,
+            Err(e) => return Err(e),
+        };
+        if has_taken {
+            continue;
+        }
+        return Ok(());
+    }
 }
 
-/// Reads the rest of a text by several threads, behind what a reader has read, a problem line among it. If there is no
-/// memory for what they share, nothing is read, and the reader comes back.
-pub(crate) fn read_together<
-    K: KeepAcross + Send + Sync,
-    O: Origin + Send + Sync,
-    H: Threads + Wait + Sync,
-    R: Read,
->(
+// Makes what the threads share, and what this one has alone: the pieces that came, none so far, and what it needs for them.
+fn begin<K: KeepAcross, O: Origin>(
+    alloc: Global,
+    reader: &Feeder<Collector<K>>,
+    plan: &Plan,
+) -> Result<(Shared<K, O>, Stock<O>, VecDeque<Flight>), AllocError>
+    requires { (ps : List ℕ) → O.problem ≡ Some ps → HasProblem reader.now ps }
+    ensures { IfOk result (λ begun. begun.2.items ≡ []) }
+{
+    let stock = Stock::new(alloc, plan)?;
+    let shared = Shared::new(alloc, reader, plan, stock.stealer()?)?;
+    Ok((
+        shared,
+        stock,
+        VecDeque::with_capacity(alloc, plan.pieces())?,
+    ))
+}
+
+/// Reads the rest of a text by several threads, behind what a reader has read, a problem line among it. Where that can't be
+/// done, the reader comes back, behind all that came of the device: where there is no memory for what they share, nothing came.
+pub(crate) fn read_together<K: KeepAcross + Send + Sync, O: Origin + Send + Sync, H: Crew, R: Read>(
     rt: &H,
     alloc: Global,
     device: &mut R,
@@ -154,16 +236,25 @@ pub(crate) fn read_together<
         → IsBehind (judge K.format K.ranges) ⟦<Collector<K> as LineTaker>⟧.After alone reader
         → ReadOn (judge K.format K.ranges) (SpelledBy K.format K.Spelled)
         R.Read begun read device.new) }
+    ensures back { IfErr result (λ back. (begun : R) (alone : List ℕ)
+        → HasCome R.Read (R.left begun) device.old alone
+        → IsBehind (judge K.format K.ranges) ⟦<Collector<K> as LineTaker>⟧.After alone reader
+        → (text : List ℕ) × HasCome R.Read (R.left begun) device.new text
+        × IsBehind (judge K.format K.ranges) ⟦<Collector<K> as LineTaker>⟧.After
+        text back) }
+    ensures further { OnErr result ((R.failing device.new ≡ R.failing device.old)
+        × (R.passed device.old ≤ R.passed device.new)) }
     ensures never { R.failing device.old ≡ Never → R.has_failed device.new ≡ false }
-    ensures back { IfErr result (λ back. back ≡ reader) }
-    ensures kept { OnErr result (device.new ≡ device.old) }
 {
-    let Ok(shared) = Shared::<K, O>::new(alloc, &reader, plan) else {
+    let Ok((shared, mut stock, flying)) = begin::<K, O>(alloc, &reader, plan) else {
         return Err(reader);
     };
-    let Ok(spare) = first_buffers(alloc, plan) else {
-        return Err(reader);
-    };
-    let mut course = Course::new(reader, spare);
-    Ok(read_beside(rt, device, &mut course, &shared))
+    let mut course = Course::new(reader, flying);
+    match read_beside(rt, device, &mut course, &mut stock, &shared) {
+        Some(read) => Ok(read),
+        None => match take_rest(device, &mut course, &mut stock) {
+            Ok(()) => Err(course.into_reader()),
+            Err(e) => Ok(Err(e)),
+        },
+    }
 }

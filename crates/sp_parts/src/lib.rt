@@ -10,6 +10,7 @@ mod pieces;
 mod receiving;
 mod sharing;
 mod signals;
+mod stock;
 mod taking;
 
 pub use crew::{SIZES, Sizes};

@@ -1,5 +1,6 @@
 //! Pieces of a text, which threads hand to one another. What is known of a piece that comes back is what its type says.
 ghost use Rattle.std.specs.Prelude.{◌≡◌, ℕ, List, Option, Some, None};
+ghost use Rattle.std.specs.Arc.{arc_value};
 ghost use Rattle.sp_text.specs.Text.{Item};
 ghost use Rattle.sp_text.specs.Plain.{HasProblem};
 ghost use Rattle.sp_parts.specs.Parts.{IsAt, AreParts};
@@ -9,6 +10,7 @@ use crate::receiving::Group;
 use sp_text::{Collector, Feeder, KeepParts};
 use std::alloc::Global;
 use std::marker::{Brand, PhantomData};
+use std::sync::Arc;
 
 /// Keeps items that another thread has read, too. There is one proof at most that it keeps them, so that what was read of a
 /// piece can bring it along.
@@ -31,16 +33,16 @@ impl Origin for Brand {
     ghost problem = { None };
 }
 
-/// Some bytes that came of the device at once.
+/// Some bytes that came of the device at once, which several may hold.
 #[derive(Drop)]
 pub struct Piece<O: Origin> {
     /// The number of pieces that came before it.
     pub(crate) number: u64,
     /// The number of bytes that came before it.
     pub(crate) start: u64,
-    pub(crate) group: Group,
+    pub(crate) group: Arc<Group>,
     origin: PhantomData<O>,
-    ghost came: { IsAt O.text start group },
+    ghost came: { IsAt O.text start (arc_value group) },
 }
 
 /// What was read of a piece.
@@ -48,13 +50,14 @@ pub struct Piece<O: Origin> {
 pub struct ReadPiece<K: KeepParts, O: Origin> {
     pub(crate) piece: Piece<O>,
     pub(crate) parts: Vec<Part<K>>,
-    ghost read: { ∥ AreParts K.format K.ranges K.Kept O.problem piece.group parts.items ∥₁ },
+    ghost read: { ∥ AreParts K.format K.ranges K.Kept O.problem
+        (arc_value piece.group) parts.items ∥₁ },
 }
 
 impl<O: Origin> Piece<O> {
     /// Returns the piece of these bytes.
-    pub(crate) fn new(number: u64, start: u64, group: Group) -> Piece<O>
-        requires { IsAt O.text start group }
+    pub(crate) fn new(number: u64, start: u64, group: Arc<Group>) -> Piece<O>
+        requires { IsAt O.text start (arc_value group) }
     {
         Piece {
             number,
@@ -62,19 +65,6 @@ impl<O: Origin> Piece<O> {
             group,
             origin: PhantomData,
         }
-    }
-
-    /// Returns its bytes, with their buffer.
-    pub(crate) fn into_group(self) -> Group
-        ensures { result ≡ self.group }
-    {
-        let Piece {
-            number: _,
-            start: _,
-            group,
-            origin: _,
-        } = self;
-        group
     }
 }
 

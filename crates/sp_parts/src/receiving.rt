@@ -1,5 +1,6 @@
 //! What comes of a device at a time.
-ghost use Rattle.std.specs.Prelude.{◌≡◌, ◌+◌, ◌<◌, ◌≤◌, ◌^◌, [], ℕ, List, length, take, false, vec_len, IfOk};
+ghost use Rattle.std.specs.Prelude.{◌≡◌, ◌+◌, ◌<◌, ◌≤◌, ◌^◌, [], ℕ, List, length, take, false, vec_len, IfOk, IfSome, IfNone};
+ghost use Rattle.std.specs.Arc.{arc_value};
 ghost use Rattle.std.specs.Io.KnownBytes.{Consumes};
 ghost use Rattle.sp_device.specs.Failing.{Never};
 ghost use Rattle.sp_parts.specs.Groups.{EndsAs, Brings};
@@ -7,6 +8,7 @@ ghost use Rattle.sp_parts.specs.Groups.{EndsAs, Brings};
 use sp_device::Read;
 use std::alloc::{AllocError, Global};
 use std::marker::Model;
+use std::sync::Arc;
 
 /// How a device has answered.
 #[derive(Clone, Copy)]
@@ -95,4 +97,14 @@ impl Group {
         self.count = count;
         received
     }
+}
+
+/// Reads once from the device into a buffer, if nobody else holds it.
+pub(crate) fn fill<R: Read>(device: &mut R, group: &mut Arc<Group>) -> Option<Received>
+    ensures some { IfSome result
+        (λ received. Brings R.Read device.old device.new (arc_value group.new) received) }
+    ensures none { IfNone result (device.new ≡ device.old) }
+{
+    let buffer = Arc::get_mut(group)?;
+    Some(buffer.receive(device))
 }

@@ -1,10 +1,9 @@
 //! What those who read a text tell one another. All of it is advice: nothing is proved of it, and nothing rests on it.
 
+use sp_word::Crew;
 use std::hint::spin_loop;
-use std::sync::Wait;
 use std::sync::atomic::{AtomicBool, AtomicU64, Ordering};
 use std::thread::yield_now;
-use std::time::Duration;
 
 /// How often one who has nothing to do looks for something before it yields, and how often before it sleeps.
 const LOOKS: u32 = 1000;
@@ -60,18 +59,18 @@ impl Signals {
     }
 
     // Sleeps for some microseconds at most, unless all is read.
-    fn nap<R: Wait>(&self, rt: &R) {
+    fn nap<H: Crew>(&self, rt: &H) {
         self.asleep.fetch_add(1, Ordering::SeqCst);
         let seen = self.bell.load(Ordering::SeqCst);
         if !self.is_over() {
             let low = (seen % 4294967296) as u32;
-            self.bell.park_timeout(rt, low, Duration::from_micros(NAP));
+            rt.sleep(&self.bell, low, NAP);
         }
         self.asleep.fetch_sub(1, Ordering::SeqCst);
     }
 
     /// Waits for some time, the longer the more often one has looked in vain.
-    pub(crate) fn rest<R: Wait>(&self, rt: &R, turn: u32) {
+    pub(crate) fn rest<H: Crew>(&self, rt: &H, turn: u32) {
         if turn < LOOKS {
             spin_loop();
         } else if turn < YIELDS {

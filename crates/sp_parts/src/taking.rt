@@ -1,12 +1,14 @@
 //! A reader takes the parts of a text that were read apart, and what stands between them.
-ghost use Rattle.std.specs.Prelude.{◌≡◌, ◌≤◌, ◌^◌, ℕ, List, [], ◌++◌, Some, All, length, take, IfOk, IfErr};
+ghost use Rattle.std.specs.Prelude.{◌≡◌, ◌≤◌, ◌^◌, ℕ, List, [], ◌++◌, Some, All, true, length, take, IfOk, IfErr};
+ghost use Rattle.std.specs.Arc.{arc_value};
 ghost use Rattle.sp_text.specs.Lines.{ended};
 ghost use Rattle.sp_text.specs.Text.{judge, problem_of};
 ghost use Rattle.sp_text.specs.Feeding.{IsBehind, Refused};
-ghost use Rattle.sp_parts.specs.Parts.{IsPartOf, TakesParts, TakesPiece};
+ghost use Rattle.sp_parts.specs.Parts.{IsPartOf, IsAt, TakesParts, TakesPiece};
 
 use crate::parts::Part;
 use crate::pieces::{KeepAcross, Origin, ReadPiece};
+use crate::receiving::Group;
 use sp_text::{Collector, DimacsError, Feeder, KeepParts, LineTaker};
 
 // Takes the text up to the end of a part, given how many bytes of it were taken before, and returns how many were taken
@@ -60,12 +62,41 @@ fn take_parts<K: KeepParts>(
     reader.feed_items(&text[done..])
 }
 
-/// Takes a piece that was read.
-pub(crate) fn take_read<K: KeepAcross, O: Origin>(
+// Takes a piece that was read.
+fn take_read<K: KeepAcross, O: Origin>(
     reader: &mut Feeder<Collector<K>>,
     read: &ReadPiece<K, O>,
 ) -> Result<(), DimacsError>
-    ensures { TakesPiece O.problem read.now.piece.group reader.old result reader.new }
+    ensures { TakesPiece O.problem (arc_value read.now.piece.group)
+        reader.old result reader.new }
 {
     take_parts(reader, read.piece.group.bytes(), &read.parts)
+}
+
+// Returns whether this was read of a piece that stands at this place and has as many bytes.
+fn is_of<K: KeepAcross, O: Origin>(read: &ReadPiece<K, O>, start: u64, group: &Group) -> bool
+    ensures place { result ≡ true → read.now.piece.start ≡ start }
+    ensures same { result ≡ true → length (arc_value read.now.piece.group) ≡ length group.now }
+{
+    let count = read.piece.group.bytes().len();
+    read.piece.start == start && count == group.bytes().len()
+}
+
+/// Takes a piece that stands at this place of the text: by what was read of it, if this is that piece, else by itself.
+pub(crate) fn take_piece<K: KeepAcross, O: Origin>(
+    reader: &mut Feeder<Collector<K>>,
+    group: &Group,
+    start: u64,
+    read: &Option<ReadPiece<K, O>>,
+) -> Result<(), DimacsError>
+    requires { IsAt O.text start group.now }
+    ensures { (bytes : List ℕ) × IsAt O.text start bytes × (length bytes ≡ length group.now)
+        × TakesPiece O.problem bytes reader.old result reader.new }
+{
+    if let Some(read) = read {
+        if is_of(read, start, group) {
+            return take_read(reader, read);
+        }
+    }
+    reader.feed_items(group.bytes())
 }

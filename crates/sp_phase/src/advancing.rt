@@ -7,14 +7,13 @@ ghost use Rattle.sp_phase.specs.Behind.{Reaches, ComesOn};
 ghost use Rattle.sp_phase.specs.Sweep.{HasSwept};
 ghost use Rattle.sp_phase.specs.Pairs.{IsBelowDist, IsWithinGraph, KnowsFinal, KnowsTarget};
 
-use crate::leader::Leader;
+use crate::leader::{Leader, MOST_ROUNDS};
 use crate::sweeping::Bounds;
 use sp_graph::look_up;
 use sp_paths::tested_copy;
 use sp_task::Gate;
 use sp_word::Word;
 use std::alloc::AllocError;
-use std::sync::Wait;
 use std::thread::Threads;
 
 /// The point up to which a leader advances.
@@ -64,7 +63,7 @@ fn is_within<const P: u32>(word: Word<P>, end: u64) -> bool
 
 impl<'a, 'g, const P: u32> Leader<'a, 'g, P> {
     // Empties the lowest bucket, tests it, and returns whether it passed. The vertices that failed the test are queued.
-    fn settle_bucket<R: Threads + Wait + Sync, G: Gate + Sync>(
+    fn settle_bucket<R: Threads + Sync, G: Gate + Sync>(
         self,
         rt: &R,
         gate: &G,
@@ -84,7 +83,7 @@ impl<'a, 'g, const P: u32> Leader<'a, 'g, P> {
 
     // Empties the lowest bucket. If the target's word then lies below its end, the bucket is tested, and the vertices
     // that failed the test are queued. Returns whether the target's word is final.
-    fn settle_target<R: Threads + Wait + Sync, G: Gate + Sync>(
+    fn settle_target<R: Threads + Sync, G: Gate + Sync>(
         self,
         rt: &R,
         gate: &G,
@@ -112,7 +111,7 @@ impl<'a, 'g, const P: u32> Leader<'a, 'g, P> {
     }
 
     // Relaxes the heavy arcs that are owed, unless they are to be left.
-    fn close_bucket<R: Threads + Wait + Sync, G: Gate + Sync>(
+    fn close_bucket<R: Threads + Sync, G: Gate + Sync>(
         self,
         rt: &R,
         gate: &G,
@@ -129,7 +128,7 @@ impl<'a, 'g, const P: u32> Leader<'a, 'g, P> {
 
     // Empties the given bucket, which is the lowest, or sweeps if there is none. Returns whether the leader has come as
     // far as required.
-    fn step<R: Threads + Wait + Sync, G: Gate + Sync>(
+    fn step<R: Threads + Sync, G: Gate + Sync>(
         mut self,
         rt: &R,
         gate: &G,
@@ -162,7 +161,7 @@ impl<'a, 'g, const P: u32> Leader<'a, 'g, P> {
     }
 
     /// Advances from bucket to bucket.
-    pub(crate) fn advance<R: Threads + Wait + Sync, G: Gate + Sync>(
+    pub(crate) fn advance<R: Threads + Sync, G: Gate + Sync>(
         mut self,
         rt: &R,
         gate: &G,
@@ -177,7 +176,7 @@ impl<'a, 'g, const P: u32> Leader<'a, 'g, P> {
         ensures whole { IfOk result (λ done. until ≡ Until.Swept → done.bucket ≡ None) }
         ensures target { IfOk result (λ done. KnowsFinal P until done.leader) }
     {
-        for _ in rt.forever() {
+        for _ in 0..MOST_ROUNDS {
             let leader = self.close_bucket(rt, gate, until)?;
             let bucket = leader.lowest();
             let (leader, done) = leader.step(rt, gate, until, bucket)?;
@@ -186,6 +185,6 @@ impl<'a, 'g, const P: u32> Leader<'a, 'g, P> {
             }
             self = leader;
         }
-        unreachable!()
+        Err(AllocError)
     }
 }

@@ -15,6 +15,9 @@ use sp_word::{Word, Workers};
 use std::alloc::{AllocError, Global};
 use std::marker::Model;
 
+/// More rounds than any run takes, and more buckets. A run that took more would end as one that is refused memory.
+pub(crate) const MOST_ROUNDS: u64 = 1 << 60;
+
 /// The leader of a run over a store. It makes tasks, lets workers run them round after round, and looks at copies of
 /// all words.
 ///

@@ -14,7 +14,6 @@ use sp_store::{RunError, Store};
 use sp_task::{Gate, OpenGate};
 use sp_word::{Delta, Word, Workers};
 use std::alloc::Global;
-use std::sync::Wait;
 use std::thread::Threads;
 
 impl<'a, 'g, const P: u32> Leader<'a, 'g, P> {
@@ -43,7 +42,7 @@ impl<'a, 'g, const P: u32> Leader<'a, 'g, P> {
 /// Returns the target's word in the shortest-path tree of the source, or `None` if no walk leads to it. The run ends as
 /// soon as that word is final: it advances from bucket to bucket, with at most `workers` workers, until the target lies
 /// in a bucket that is final.
-pub fn run_pair<const P: u32, R: Threads + Wait + Sync>(
+pub fn run_pair<const P: u32, R: Threads + Sync>(
     rt: &R,
     alloc: Global,
     graph: &Graph,
@@ -61,7 +60,7 @@ pub fn run_pair<const P: u32, R: Threads + Wait + Sync>(
 }
 
 /// Runs like `run_pair`, with a gate around every offer; every round is shared among the workers.
-pub fn run_pair_with<const P: u32, R: Threads + Wait + Sync, G: Gate + Sync>(
+pub fn run_pair_with<const P: u32, R: Threads + Sync, G: Gate + Sync>(
     rt: &R,
     alloc: Global,
     graph: &Graph,
@@ -89,7 +88,7 @@ pub fn run_pair_with<const P: u32, R: Threads + Wait + Sync, G: Gate + Sync>(
 }
 
 // Runs over a store, for one target.
-fn run_stored_pair<const P: u32, R: Threads + Wait + Sync, G: Gate + Sync>(
+fn run_stored_pair<const P: u32, R: Threads + Sync, G: Gate + Sync>(
     rt: &R,
     alloc: Global,
     store: &Store<P>,

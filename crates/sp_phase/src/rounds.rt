@@ -10,12 +10,11 @@ ghost use Rattle.sp_store.specs.Rounds.{IsDue};
 ghost use Rattle.sp_phase.specs.Running.{IsQueued, HasPut};
 ghost use Rattle.sp_phase.specs.Behind.{HasRun, PreparesLight, GivesHeavy, KeepsPast, KeepsFrom, CatchesUp, Empties};
 
-use crate::leader::Leader;
+use crate::leader::{Leader, MOST_ROUNDS};
 use sp_bucket::{Buckets, Entry};
 use sp_store::RoundTeam;
 use sp_task::{Gate, Task, TaskKind};
 use std::alloc::AllocError;
-use std::sync::Wait;
 use std::thread::Threads;
 
 /// Appends an element, if there is one.
@@ -42,7 +41,7 @@ pub(crate) fn put_all(buckets: &mut Buckets, entries: &[Entry]) -> Result<(), Al
 
 impl<'a, 'g, const P: u32> Leader<'a, 'g, P> {
     // Runs a round of tasks, records them, and queues the entries that they found. If it fails, the leader is spent.
-    fn run_tasks<R: Threads + Wait + Sync, G: Gate + Sync>(
+    fn run_tasks<R: Threads + Sync, G: Gate + Sync>(
         self,
         rt: &R,
         gate: &G,
@@ -106,7 +105,7 @@ impl<'a, 'g, const P: u32> Leader<'a, 'g, P> {
     }
 
     // Runs one round of the light arcs of the vertices of live entries.
-    fn light_round<R: Threads + Wait + Sync, G: Gate + Sync>(
+    fn light_round<R: Threads + Sync, G: Gate + Sync>(
         mut self,
         rt: &R,
         gate: &G,
@@ -141,7 +140,7 @@ impl<'a, 'g, const P: u32> Leader<'a, 'g, P> {
     }
 
     /// Runs one round of the heavy arcs of the vertices that are remembered, which are then no longer remembered.
-    pub(crate) fn heavy_round<R: Threads + Wait + Sync, G: Gate + Sync>(
+    pub(crate) fn heavy_round<R: Threads + Sync, G: Gate + Sync>(
         mut self,
         rt: &R,
         gate: &G,
@@ -171,7 +170,7 @@ impl<'a, 'g, const P: u32> Leader<'a, 'g, P> {
     }
 
     /// Runs rounds of light arcs until the bucket is empty.
-    pub(crate) fn empty_bucket<R: Threads + Wait + Sync, G: Gate + Sync>(
+    pub(crate) fn empty_bucket<R: Threads + Sync, G: Gate + Sync>(
         mut self,
         rt: &R,
         gate: &G,
@@ -181,13 +180,13 @@ impl<'a, 'g, const P: u32> Leader<'a, 'g, P> {
         ensures past { IfOk result (KeepsPast P self.entry) }
         ensures empties { IfOk result (Empties bucket self.entry) }
     {
-        for _ in rt.forever() {
+        for _ in 0..MOST_ROUNDS {
             let taken = self.take_bucket(bucket);
             if taken.is_empty() {
                 return Ok(self);
             }
             self = self.light_round(rt, gate, taken.as_slice())?;
         }
-        unreachable!()
+        Err(AllocError)
     }
 }

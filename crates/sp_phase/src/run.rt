@@ -18,7 +18,6 @@ use sp_task::Gate;
 use sp_word::{Word, Workers};
 use std::alloc::Global;
 use std::marker::Model;
-use std::sync::Wait;
 use std::thread::Threads;
 
 /// What a run begins with: the first caller and the first claimer of its store, and its workers.
@@ -98,7 +97,7 @@ impl<'a, 'g, const P: u32> Run<'a, 'g, P> {
     /// to relax. Then the bucket is final, and its number is returned before its heavy arcs are relaxed. If no entry is
     /// left and no vertex is open, all words are final. A bucket that is returned is later than each that `heavy`
     /// followed. If it fails, the run is spent.
-    pub fn settle<R: Threads + Wait + Sync, G: Gate + Sync>(
+    pub fn settle<R: Threads + Sync, G: Gate + Sync>(
         &mut self,
         rt: &R,
         gate: &G,
@@ -127,7 +126,7 @@ impl<'a, 'g, const P: u32> Run<'a, 'g, P> {
 
     /// Runs one round of the heavy arcs of the vertices that were in a light round since the last such round. What
     /// `settle` returned stays true. If it fails, the run is spent.
-    pub fn heavy<R: Threads + Wait + Sync, G: Gate + Sync>(
+    pub fn heavy<R: Threads + Sync, G: Gate + Sync>(
         &mut self,
         rt: &R,
         gate: &G,
@@ -174,7 +173,7 @@ impl<'a, 'g, const P: u32> Run<'a, 'g, P> {
     }
 
     /// Completes the run, and returns its caller, which knows the tree's words. A spent run answers Memory.
-    pub fn finish<R: Threads + Wait + Sync, G: Gate + Sync>(
+    pub fn finish<R: Threads + Sync, G: Gate + Sync>(
         self,
         rt: &R,
         gate: &G,

@@ -10,12 +10,11 @@ use sp_store::{RunError, Store};
 use sp_task::Gate;
 use sp_word::{Delta, Workers};
 use std::alloc::Global;
-use std::sync::Wait;
 use std::thread::Threads;
 
 /// Returns the answer of `run_source`, by rounds of tasks, with a gate around every offer; every round is shared among
 /// the workers.
-pub fn run_source_with<const P: u32, R: Threads + Wait + Sync, G: Gate + Sync>(
+pub fn run_source_with<const P: u32, R: Threads + Sync, G: Gate + Sync>(
     rt: &R,
     alloc: Global,
     graph: &Graph,
@@ -39,7 +38,7 @@ pub fn run_source_with<const P: u32, R: Threads + Wait + Sync, G: Gate + Sync>(
 }
 
 // Runs over a store to the end.
-fn run_stored<const P: u32, R: Threads + Wait + Sync, G: Gate + Sync>(
+fn run_stored<const P: u32, R: Threads + Sync, G: Gate + Sync>(
     rt: &R,
     alloc: Global,
     store: &Store<P>,

@@ -1,3 +1,4 @@
 pub mod LoweringSteps
 pub mod PassSteps
 pub mod TableSteps
+pub mod LoweredWalks

@@ -1,3 +1,4 @@
 pub mod Passing
 pub mod Lowering
 pub mod Answer
+pub mod Several

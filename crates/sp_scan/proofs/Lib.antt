@@ -1,3 +1,4 @@
 pub mod Shows
 pub mod OpenTails
 pub mod Ranges
+pub mod Closed

@@ -3,14 +3,7 @@ use Rattle.std.specs.Prelude.{◌≡◌, ℕ, List, Option, length}
 use Rattle.sp_word.specs.Word.{Word, max_dist}
 use Rattle.sp_paths.specs.Paths.{Graph, word_at}
 use Rattle.sp_plain.specs.Passing.{IsSmallTable}
-use Rattle.sp_forest.specs.Forests.{IsTableFrom}
 use Rattle.sp_forest.specs.Nearest.{IsForestUpTo}
-
--- The table has n words within max; they come from walks from the sources, and each source has its own pair.
-pub record IsTableOfAny (g : Graph) (sources : List ℕ) (max : ℕ) (words : List Word) : Type 0 where
-  pub size : length words ≡ g.n
-  pub small : IsSmallTable max words
-  pub table : IsTableFrom g sources (word_at words)
 
 -- A word for each vertex, within max: that of the forest, up to the limit if there is one.
 pub record AreForestWords (P : ℕ) (g : Graph) (sources : List ℕ) (limit : Option ℕ) (words : List Word) : Type 0 where

@@ -5,13 +5,14 @@ ghost use Rattle.sp_paths.specs.Paths.{IsVertex, word_at};
 ghost use Rattle.sp_scan.specs.Shown.{IsClosedUpTo};
 ghost use Rattle.sp_answer.specs.Within.{up_to};
 ghost use Rattle.sp_forest.specs.Nearest.{IsRefusal};
-ghost use Rattle.sp_serial.specs.Several.{IsTableOfAny, AreForestWords};
+ghost use Rattle.sp_plain.specs.Several.{IsTableOfAny};
+ghost use Rattle.sp_serial.specs.Several.{AreForestWords};
 
 use crate::search::search;
 use sp_answer::RunError;
 use sp_forest::{closed_table, finished_table};
 use sp_graph::{Graph, left_out};
-use sp_plain::relax_all;
+use sp_plain::close_table_of_any;
 use sp_scan::is_relaxed_up_to;
 use sp_word::Word;
 use std::alloc::{AllocError, Global};
@@ -53,7 +54,7 @@ fn lower<const P: u32>(
     let _ = graph.n();
     search(alloc, graph, sources, limit, &[], words)?;
     if !is_relaxed_up_to(words, graph, limit) {
-        relax_all(words, graph.arcs());
+        close_table_of_any(graph, sources, words);
     }
     Ok(())
 }

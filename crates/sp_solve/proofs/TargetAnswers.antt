@@ -92,7 +92,7 @@ module _ (P : ℕ) (run : WalksFrom) (place : IsPlace P run) (words : List Word)
   whole_answer_by (Some v) relaxed left t at Unreached is = (finished_is_pair run.graph run.source (max_dist P) (word_at words) relaxed.1 t).too_far v is left.0 left.1
   whole_answer_by None relaxed left t at Unreached is = (finished_is_pair run.graph run.source (max_dist P) (word_at words) relaxed.1 t).no_walk is left
 
-  whole_answers : (far : Option ℕ) (targets : List ℕ) → IsRelaxedCopy P run words → IsLeastLeftOut run.graph (word_at words) far → All (IsVertex run.graph.n) targets → IsFinal P run targets words far
+  pub whole_answers : (far : Option ℕ) (targets : List ℕ) → IsRelaxedCopy P run words → IsLeastLeftOut run.graph (word_at words) far → All (IsVertex run.graph.n) targets → IsFinal P run targets words far
   whole_answers far targets relaxed left vertices = record {
     answers = record {
       size = copy.0;

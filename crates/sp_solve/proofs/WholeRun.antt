@@ -1,5 +1,5 @@
 -- A whole run by a team.
-use Rattle.std.proofs.Common.{◌≡◌, ℕ, ◌+◌, ◌-◌, ◌≤◌, inl, inr, List, length, get_or, Some, None, sym, ap, ◌∙◌, subst, arith}
+use Rattle.std.proofs.Common.{◌≡◌, ℕ, ◌+◌, ◌-◌, ◌<◌, ◌≤◌, inl, inr, List, length, get_or, Some, None, sym, ap, ◌∙◌, subst, arith}
 use Rattle.std.specs.Prelude.{All, slice_get}
 use Rattle.std.specs.Option.{unwrap_or}
 use Rattle.std.proofs.lemmas.List.{get_or_default}
@@ -12,6 +12,7 @@ use Rattle.sp_paths.proofs.Walks.{arc_in, walk_none, walk_from_by, walk_by, walk
 use Rattle.sp_graph.specs.LeftOut.{IsLeastLeftOut}
 use Rattle.sp_offer.specs.Order.{lawful}
 use Rattle.sp_answer.specs.Table.{TreeTable, HasPredWithin, table_of, tree_of}
+use Rattle.sp_plain.specs.Passing.{IsSmall, IsTableOfWalks}
 use Rattle.sp_walks.specs.Walks.{WalksFrom}
 use Rattle.sp_team.specs.Law.{AllowsArcs, IsReady}
 use Rattle.sp_scan.specs.Shown.{Shows, LeadsOut}
@@ -59,6 +60,24 @@ module _ (P : ℕ) (run : WalksFrom) (place : IsPlace P run) where
         let at : IsVertex run.graph.n (k + 1) = (let size = copy.0 in (omega arith, omega arith)) in
         let is : word_at words (k + 1) ≡ get_or words k d = (let there : k + 1 - 1 ≡ k = omega arith in ap (λ i. get_or words i Unreached) there ∙ get_or_default words k Unreached d lt) in
         subst (λ n. HasPredWithin n (get_or words k d)) (sym copy.0) (subst (HasPredWithin run.graph.n) is (pred_within (k + 1) (word_at words (k + 1)) (copy.1.lawful (k + 1) at)))
+
+    -- it is a table that the plain program finishes
+    small_word : (v : ℕ) → IsVertex run.graph.n v → (w : Word) → word_at words v ≡ w → IsSmall run.graph.n (max_dist P) w
+    small_word v at Unreached is = tt
+    small_word v at (Pair d p) is = (copy.2 v d p at is, pred_within v (Pair d p) (subst (IsLawful run.graph run.source v) is (copy.1.lawful v at)))
+
+    small_there : (k : ℕ) (d : Word) → k < length words → IsSmall run.graph.n (max_dist P) (get_or words k d)
+    small_there k d lt =
+        let at : IsVertex run.graph.n (k + 1) = (let size = copy.0 in (omega arith, omega arith)) in
+        let is : word_at words (k + 1) ≡ get_or words k d = (let there : k + 1 - 1 ≡ k = omega arith in ap (λ i. get_or words i Unreached) there ∙ get_or_default words k Unreached d lt) in
+        small_word (k + 1) at (get_or words k d) is
+
+    pub walks_table : IsTableOfWalks run.graph run.source (max_dist P) words
+    walks_table = record {
+      size = copy.0;
+      small = λ k d lt. subst (λ n. IsSmall n (max_dist P) (get_or words k d)) (sym copy.0) (small_there k d lt);
+      table = copy.1;
+    }
 
   module _ (words : List Word) (copy : IsRelaxedCopy P run words) where
     pub whole_answer : (t : TreeTable) → t ≡ tree_of run.source words → ((v : ℕ) → 1 ≤ v → v ≤ t.n → slice_get words (v - 1) ≡ Some (table_of t v)) → FinishedIsTree

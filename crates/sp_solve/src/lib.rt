@@ -8,6 +8,7 @@ mod whole;
 mod within;
 
 pub use reach::{Query, Reach, run_targets};
+pub use relaxing::TURNS;
 pub use source::{run_by_team, run_source, useful_team, words_by_team};
 pub use sp_answer::{PairAnswer, RunError, WordTree};
 pub use within::{Part, cut, run_within, run_within_metered};

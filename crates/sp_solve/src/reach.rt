@@ -7,11 +7,9 @@ ghost use Rattle.sp_solve.specs.Reach.{IsAnswerFor};
 use crate::whole::WholeRun;
 use sp_answer::PairAnswer;
 use sp_graph::{Graph, look_up};
-use sp_word::{Meter, Team, Word};
+use sp_word::{Crew, Meter, Team, Word};
 use std::alloc::{AllocError, Global};
 use std::marker::Model;
-use std::sync::Wait;
-use std::thread::Threads;
 
 /// What a run for targets is asked: the source that it begins at, and the targets, in any order.
 #[derive(Drop)]
@@ -84,8 +82,8 @@ impl<'g, const P: u32> Reach<'g, P> {
 ///
 /// The number of threads and the width of a bucket have no bearing on the answers. The workers count on the meter the
 /// vertices that they relax.
-pub fn run_targets<'g, const P: u32, R: Threads + Wait + Sync>(
-    rt: &R,
+pub fn run_targets<'g, const P: u32, C: Crew>(
+    rt: &C,
     alloc: Global,
     graph: &'g Graph,
     team: Team<P>,

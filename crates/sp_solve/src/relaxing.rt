@@ -3,19 +3,21 @@ ghost use Rattle.std.specs.Prelude.{◌≡◌, ◌<◌, length, All, IfOk, IfSom
 ghost use Rattle.sp_word.specs.Word.{max_dist};
 ghost use Rattle.sp_paths.specs.Paths.{IsVertex, word_at};
 ghost use Rattle.sp_scan.specs.Marked.{AreTrueMarks};
-ghost use Rattle.sp_solve.specs.WholeRun.{TakesWalks, HasOpened, IsOfWalks};
+ghost use Rattle.sp_solve.specs.WholeRun.{TakesWalks, HasOpened, IsOfWalks, IsRelaxedCopy};
 ghost use Rattle.sp_solve.specs.Reach.{IsFinal, IsShown, IsUpTo};
 
 use crate::whole::WholeRun;
-use sp_graph::{Mark, look_up};
+use sp_graph::{Mark, left_out, look_up};
 use sp_offer::{Caller, OfferTable};
+use sp_plain::close_table;
 use sp_scan::{Scan, is_relaxed_up_to, open_tails, scan_unmarked};
 use sp_team::{Relaxed, Search, relax_all};
 use sp_walks::Walks;
-use sp_word::Word;
+use sp_word::{Crew, Word};
 use std::alloc::AllocError;
-use std::sync::Wait;
-use std::thread::Threads;
+
+/// So many turns of a team a run takes at most, which no run comes to: the plain program relaxes what is open then.
+pub const TURNS: u32 = 8;
 
 // The distance of the farthest target, if there are targets and each of them has one.
 fn farthest<const P: u32>(words: &[Word<P>], targets: &[u32]) -> Option<u64>
@@ -48,9 +50,9 @@ impl<'g, const P: u32> WholeRun<'g, P> {
 
     /// Lets the team relax what the queue asks for, as far as the targets and the limit lie. Returns a copy of all words, in
     /// which the marks are true.
-    pub(crate) fn lower<R: Threads + Wait + Sync>(
+    pub(crate) fn lower<C: Crew>(
         &self,
-        rt: &R,
+        rt: &C,
         table: &OfferTable<Walks<'g>, P>,
         search: &Search<P>,
         caller: Caller,
@@ -80,9 +82,9 @@ impl<'g, const P: u32> WholeRun<'g, P> {
 
     // Judges a copy of the words by the arcs that bear on the targets: those within the farthest of them, or all arcs where
     // a target has no word, or no target is named. It passes over vertices that a mark says to be relaxed.
-    fn judge<R: Threads + Wait + Sync>(
+    fn judge<C: Crew>(
         &self,
-        rt: &R,
+        rt: &C,
         words: &[Word<P>],
         marks: &[Vec<Mark>],
         targets: &[u32],
@@ -103,11 +105,32 @@ impl<'g, const P: u32> WholeRun<'g, P> {
         scan_unmarked(rt, self.alloc, words, self.graph, marks, threads)
     }
 
+    /// Relaxes the arcs until no word changes, in a copy of the words, by this thread.
+    pub(crate) fn close(&self, words: &mut Vec<Word<P>>)
+        requires { IsOfWalks P self.now words.old.items }
+        ensures { IsRelaxedCopy P self.now words.new.items }
+    {
+        let _ = self.graph.n();
+        close_table(self.graph, self.source, words);
+    }
+
+    // Relaxes the arcs that the turns of the team have left open, in a copy of the words. Returns it, and the smallest vertex
+    // that it leaves out, if there is one.
+    fn finish(&self, mut words: Vec<Word<P>>, targets: &[u32]) -> (Vec<Word<P>>, Option<u32>)
+        requires copy { IsOfWalks P self.now words.items }
+        requires targets { All (IsVertex self.now.graph.n) targets.now }
+        ensures { IsFinal P self.now targets.now result.0.items result.1 }
+    {
+        self.close(&mut words);
+        let left = left_out(words.as_slice(), self.graph.arcs());
+        (words, left)
+    }
+
     // Relaxes turn after turn, until the words of the targets are final in a copy of all words. Returns it, and the smallest
     // vertex that is too far, if one is and bears on the targets.
-    fn relax_turns<R: Threads + Wait + Sync>(
+    fn relax_turns<C: Crew>(
         &self,
-        rt: &R,
+        rt: &C,
         table: &OfferTable<Walks<'g>, P>,
         mut caller: Caller,
         targets: &[u32],
@@ -119,7 +142,7 @@ impl<'g, const P: u32> WholeRun<'g, P> {
         ensures { IfOk result (λ made. IsFinal P self.now targets.now made.0.items made.1) }
     {
         let mut queue = vec![in self.alloc; self.source]?;
-        for _ in rt.forever() {
+        for _ in 0..TURNS {
             let search = Search {
                 team: self.team,
                 queue: queue.as_slice(),
@@ -136,15 +159,16 @@ impl<'g, const P: u32> WholeRun<'g, P> {
             }
             caller = done.caller;
         }
-        unreachable!()
+        let copy = table.list_words(self.alloc, &mut caller)?;
+        Ok(self.finish(copy, targets))
     }
 
     /// Lowers words until those of the targets are final, or all words where no target is named, in a table that is given
     /// back before it returns. Returns a copy of all words, and the smallest vertex that is too far, if one is and bears on
     /// the targets.
-    pub(crate) fn relax<R: Threads + Wait + Sync>(
+    pub(crate) fn relax<C: Crew>(
         &self,
-        rt: &R,
+        rt: &C,
         targets: &[u32],
     ) -> Result<(Vec<Word<P>>, Option<u32>), AllocError>
         requires targets { All (IsVertex self.now.graph.n) targets.now }

@@ -6,9 +6,8 @@ ghost use Rattle.sp_answer.specs.Answer.{IsAnswer, IsRefusal};
 use crate::whole::WholeRun;
 use sp_answer::{RunError, Tree, WordTree};
 use sp_graph::Graph;
-use sp_word::{Delta, Meter, Team, Workers};
+use sp_word::{Crew, Delta, Meter, Team, Workers};
 use std::alloc::Global;
-use std::sync::Wait;
 use std::thread;
 use std::thread::Threads;
 
@@ -44,8 +43,8 @@ pub fn useful_team<const P: u32, R: Threads>(rt: &R, n: u32, team: &Team<P>) -> 
 ///
 /// `delta` is the width of a bucket, and `workers` the greatest number of threads, this one counted. The answer is the same
 /// for all widths and numbers. There are no more threads than processors, and one for some thousand vertices.
-pub fn run_source<const P: u32, R: Threads + Wait + Sync>(
-    rt: &R,
+pub fn run_source<const P: u32, C: Crew>(
+    rt: &C,
     alloc: Global,
     graph: &Graph,
     delta: Delta<P>,
@@ -66,8 +65,8 @@ pub fn run_source<const P: u32, R: Threads + Wait + Sync>(
 
 /// Returns what `run_source` does, by exactly as many threads as the team has workers. They count on the meter the vertices
 /// that they relax.
-pub fn run_by_team<const P: u32, R: Threads + Wait + Sync>(
-    rt: &R,
+pub fn run_by_team<const P: u32, C: Crew>(
+    rt: &C,
     alloc: Global,
     graph: &Graph,
     team: Team<P>,
@@ -87,8 +86,8 @@ pub fn run_by_team<const P: u32, R: Threads + Wait + Sync>(
 }
 
 /// Returns what `run_by_team` does, as the words of all vertices: the tree's rows, which take time and memory, aren't made.
-pub fn words_by_team<const P: u32, R: Threads + Wait + Sync>(
-    rt: &R,
+pub fn words_by_team<const P: u32, C: Crew>(
+    rt: &C,
     alloc: Global,
     graph: &Graph,
     team: Team<P>,

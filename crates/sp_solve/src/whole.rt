@@ -11,11 +11,9 @@ ghost use Rattle.sp_solve.specs.Reach.{IsFinal};
 use sp_answer::{RunError, WordTree};
 use sp_graph::Graph;
 use sp_paths::finished_table;
-use sp_word::{Meter, Team, Word};
+use sp_word::{Crew, Meter, Team, Word};
 use std::alloc::{AllocError, Global};
 use std::marker::Model;
-use std::sync::Wait;
-use std::thread::Threads;
 
 /// A run from a source of a graph, by a team. Contracts see the graph and the source.
 #[derive(Drop)]
@@ -89,7 +87,7 @@ impl<'g, const P: u32> WholeRun<'g, P> {
     }
 
     /// Runs until all words are final, and returns the tree, or the vertex that is too far.
-    pub(crate) fn solve<R: Threads + Wait + Sync>(&self, rt: &R) -> Result<WordTree<P>, RunError>
+    pub(crate) fn solve<C: Crew>(&self, rt: &C) -> Result<WordTree<P>, RunError>
         ensures tree { IfOk result (IsAnswer P self.now.graph self.now.source) }
         ensures refused { IfErr result (IsRefusal P self.now.graph self.now.source) }
     {

@@ -6,6 +6,7 @@ ghost use Rattle.sp_scan.specs.Shown.{IsClosedUpTo};
 ghost use Rattle.sp_solve.specs.WholeRun.{TakesWalks, HasOpened, IsOfWalks};
 ghost use Rattle.sp_answer.specs.Within.{IsTreeWithin, IsRefusalWithin, up_to};
 
+use crate::relaxing::TURNS;
 use crate::whole::WholeRun;
 use sp_answer::{RunError, Tree};
 use sp_graph::Graph;
@@ -13,10 +14,8 @@ use sp_offer::{Caller, OfferTable};
 use sp_scan::{is_relaxed_up_to, open_tails};
 use sp_team::Search;
 use sp_walks::Walks;
-use sp_word::{Meter, Team, Word};
+use sp_word::{Crew, Meter, Team, Word};
 use std::alloc::{AllocError, Global};
-use std::sync::Wait;
-use std::thread::Threads;
 
 /// What a run within a distance is asked: the source that it begins at, and the greatest distance that it tells.
 #[derive(Clone, Copy, Debug, PartialEq, Eq)]
@@ -45,10 +44,20 @@ pub fn cut<const P: u32>(words: &mut [Word<P>], limit: u64)
 }
 
 impl<'g, const P: u32> WholeRun<'g, P> {
+    // Relaxes the arcs that the turns of the team have left open, in a copy of the words, and returns it.
+    fn finish_within(&self, mut words: Vec<Word<P>>, limit: u64) -> Vec<Word<P>>
+        requires { IsOfWalks P self.now words.items }
+        ensures copy { IsOfWalks P self.now result.items }
+        ensures closed { IsClosedUpTo self.now.graph (max_dist P) limit (word_at result.items) }
+    {
+        self.close(&mut words);
+        words
+    }
+
     // Relaxes turn after turn, until each arc whose tail lies within the limit is relaxed in a copy of all words. Returns it.
-    fn within_turns<R: Threads + Wait + Sync>(
+    fn within_turns<C: Crew>(
         &self,
-        rt: &R,
+        rt: &C,
         table: &OfferTable<Walks<'g>, P>,
         mut caller: Caller,
         limit: u64,
@@ -61,7 +70,7 @@ impl<'g, const P: u32> WholeRun<'g, P> {
             (λ words. IsClosedUpTo self.now.graph (max_dist P) limit (word_at words.items)) }
     {
         let mut queue = vec![in self.alloc; self.source]?;
-        for _ in rt.forever() {
+        for _ in 0..TURNS {
             let search = Search {
                 team: self.team,
                 queue: queue.as_slice(),
@@ -79,15 +88,12 @@ impl<'g, const P: u32> WholeRun<'g, P> {
             queue = open_tails(self.alloc, words.as_slice(), self.graph.arcs())?;
             caller = done.caller;
         }
-        unreachable!()
+        let copy = table.list_words(self.alloc, &mut caller)?;
+        Ok(self.finish_within(copy, limit))
     }
 
     // Relaxes the arcs within the limit, in a table that is given back before it returns. Returns a copy of all words.
-    fn relax_within<R: Threads + Wait + Sync>(
-        &self,
-        rt: &R,
-        limit: u64,
-    ) -> Result<Vec<Word<P>>, AllocError>
+    fn relax_within<C: Crew>(&self, rt: &C, limit: u64) -> Result<Vec<Word<P>>, AllocError>
         ensures copy { IfOk result (λ words. IsOfWalks P self.now words.items) }
         ensures closed { IfOk result
             (λ words. IsClosedUpTo self.now.graph (max_dist P) limit (word_at words.items)) }
@@ -109,11 +115,7 @@ impl<'g, const P: u32> WholeRun<'g, P> {
     }
 
     // Runs until the words within the limit are final, and returns the part of the tree within it.
-    fn solve_within<R: Threads + Wait + Sync>(
-        &self,
-        rt: &R,
-        limit: u64,
-    ) -> Result<Tree<P>, AllocError>
+    fn solve_within<C: Crew>(&self, rt: &C, limit: u64) -> Result<Tree<P>, AllocError>
         requires { limit ≤ max_dist P }
         ensures { IfOk result (IsTreeWithin self.now.graph self.now.source limit) }
     {
@@ -127,8 +129,8 @@ impl<'g, const P: u32> WholeRun<'g, P> {
 ///
 /// A vertex beyond the limit plays no part, however far it is. The number of threads and the width of a bucket have no
 /// bearing on the answer.
-pub fn run_within<const P: u32, R: Threads + Wait + Sync>(
-    rt: &R,
+pub fn run_within<const P: u32, C: Crew>(
+    rt: &C,
     alloc: Global,
     graph: &Graph,
     team: Team<P>,
@@ -146,8 +148,8 @@ pub fn run_within<const P: u32, R: Threads + Wait + Sync>(
 }
 
 /// Returns what `run_within` does. The workers count on the meter the vertices that they relax.
-pub fn run_within_metered<const P: u32, R: Threads + Wait + Sync>(
-    rt: &R,
+pub fn run_within_metered<const P: u32, C: Crew>(
+    rt: &C,
     alloc: Global,
     graph: &Graph,
     team: Team<P>,

@@ -17,7 +17,6 @@ use sp_task::{Gate, Round, RoundOut, Task, Walks, run_round, walks_allow_arcs};
 use sp_word::{Delta, Word, Workers};
 use std::alloc::{AllocError, Global};
 use std::marker::Model;
-use std::sync::Wait;
 use std::thread::Threads;
 
 /// What a round needs: its number, by which tasks are claimed, its workers, and the caller and the claimer of its leader.
@@ -266,7 +265,7 @@ impl<'g, const P: u32> Store<'g, P> {
     }
 
     /// Runs a round of tasks. The leader runs a short round alone. If the round fails, the team is spent.
-    pub fn relax_tasks<R: Threads + Wait + Sync, G: Gate + Sync>(
+    pub fn relax_tasks<R: Threads + Sync, G: Gate + Sync>(
         &self,
         rt: &R,
         gate: &G,

@@ -15,14 +15,13 @@ use crate::workers::{Done, RoundOut, RoundRefused};
 use sp_claim::Claimer;
 use sp_offer::{Caller, Lawful, Loop, Lowering, OfferTable};
 use std::alloc::{AllocError, Global};
-use std::sync::Wait;
 use std::thread::Threads;
 
 /// Runs each task of the round once, with at most as many workers as the round has and as there are tasks. It starts
 /// threads and joins them all. With one worker it starts no thread and claims nothing.
 ///
 /// It fails only if there is no memory.
-pub fn run_round<R: Threads + Wait + Sync, L: Lawful + Send + Sync, G: Gate + Sync, const P: u32>(
+pub fn run_round<R: Threads + Sync, L: Lawful + Send + Sync, G: Gate + Sync, const P: u32>(
     rt: &R,
     alloc: Global,
     round: &Round<L, P>,
@@ -50,7 +49,7 @@ pub fn run_round<R: Threads + Wait + Sync, L: Lawful + Send + Sync, G: Gate + Sy
 /// Runs a round like `run_round`, with offers by a lowering that the caller chooses.
 pub fn run_round_by<
     M: Lowering + Send + Sync,
-    R: Threads + Wait + Sync,
+    R: Threads + Sync,
     L: Lawful + Send + Sync,
     G: Gate + Sync,
     const P: u32,

@@ -5,10 +5,9 @@ use crate::common::Common;
 use crate::tally::Tally;
 use crossbeam_deque::{Steal, Stealer, Worker};
 use sp_bins::{Bins, Entry};
-use sp_word::Meter;
+use sp_word::{Crew, Meter};
 use std::alloc::{AllocError, Global};
 use std::hint::spin_loop;
-use std::sync::Wait;
 use std::thread::yield_now;
 
 /// The fewest entries that are worth a chunk.
@@ -21,15 +20,18 @@ const AHEAD: u64 = 2;
 const PATIENCE: u32 = 1000;
 
 /// How often a worker with no entry looks for some before it yields, and how often before it sleeps.
-const LOOKS: u32 = 1000;
+const LOOKS: u64 = 1000;
 
-const YIELDS: u32 = 1010;
+const YIELDS: u64 = 1010;
 
 /// How often a deque that answers neither a chunk nor that it is empty is asked again.
 const TRIES: u32 = 100;
 
 /// How many microseconds a worker sleeps at most.
 const NAP: u64 = 500;
+
+/// A worker looks so often for a chunk of others at most, and so often for its next entry. No run comes to that.
+const MOST_LOOKS: u64 = 1 << 60;
 
 /// What a worker has in hand.
 #[derive(Drop)]
@@ -196,12 +198,12 @@ impl<'m> Hands<'m> {
         chunk
     }
 
-    // Waits for a chunk of another worker. None says that all work is done.
-    fn rest<R: Wait>(&mut self, rt: &R, common: &Common) -> Option<Chunk> {
+    // Waits for a chunk of another worker. None says that all work is done, or that the worker has looked too often: having no
+    // entry, it leaves the work to the others then.
+    fn rest<C: Crew>(&mut self, rt: &C, common: &Common) -> Option<Chunk> {
         let signals = &common.signals;
         signals.begin_hunger();
-        let mut turn = 0u32;
-        for _ in rt.forever() {
+        for look in 0..MOST_LOOKS {
             if signals.shared() > 0 {
                 signals.begin_work();
                 let chunk = self.steal(common);
@@ -215,20 +217,20 @@ impl<'m> Hands<'m> {
                 signals.dismiss();
                 return None;
             }
-            if turn < LOOKS {
+            if look < LOOKS {
                 spin_loop();
-            } else if turn < YIELDS {
+            } else if look < YIELDS {
                 yield_now();
             } else {
                 signals.sleep(rt, NAP);
             }
-            turn = turn.saturating_add(1);
         }
-        unreachable!()
+        signals.end_hunger();
+        None
     }
 
     /// Waits for a first entry, where the worker has none. Returns whether there is one.
-    pub fn begin<R: Wait>(&mut self, rt: &R, common: &Common) -> bool {
+    pub fn begin<C: Crew>(&mut self, rt: &C, common: &Common) -> bool {
         match self.rest(rt, common) {
             Some(chunk) => {
                 self.bins.open(chunk.start, chunk.shift);
@@ -240,7 +242,7 @@ impl<'m> Hands<'m> {
     }
 
     // Goes on to the next bucket, where the list was worked off and so was its bucket. False says that all work is done.
-    fn advance<R: Wait>(&mut self, rt: &R, common: &Common) -> Result<bool, AllocError> {
+    fn advance<C: Crew>(&mut self, rt: &C, common: &Common) -> Result<bool, AllocError> {
         let signals = &common.signals;
         if self.bins.advance()?.is_none() {
             self.tally.tell();
@@ -259,9 +261,10 @@ impl<'m> Hands<'m> {
         Ok(true)
     }
 
-    /// Sees to it that the list has an entry. False says that all work is done.
-    pub fn find<R: Wait>(&mut self, rt: &R, common: &Common) -> Result<bool, AllocError> {
-        for _ in rt.forever() {
+    /// Sees to it that the list has an entry. False says that all work is done. Whoever has looked too often fails, as if memory
+    /// had been refused.
+    pub fn find<C: Crew>(&mut self, rt: &C, common: &Common) -> Result<bool, AllocError> {
+        for _ in 0..MOST_LOOKS {
             if self.left() > 0 {
                 if common.signals.hungry() > 0 {
                     self.share(common)?;
@@ -280,6 +283,6 @@ impl<'m> Hands<'m> {
                 return Ok(false);
             }
         }
-        unreachable!()
+        Err(AllocError)
     }
 }

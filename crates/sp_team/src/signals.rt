@@ -1,9 +1,8 @@
 //! What the workers of a team tell one another. All of it is advice: nothing is proved of it, and nothing rests on it.
 
+use sp_word::Crew;
 use std::alloc::{AllocError, Global};
-use std::sync::Wait;
 use std::sync::atomic::{AtomicU64, Ordering};
-use std::time::Duration;
 
 /// The level of a worker that has no entry.
 const NONE: u64 = u64::MAX;
@@ -157,14 +156,12 @@ impl Signals {
     }
 
     /// Sleeps for some microseconds at most, unless there is something to do.
-    pub(crate) fn sleep<R: Wait>(&self, rt: &R, micros: u64) {
+    pub(crate) fn sleep<C: Crew>(&self, rt: &C, micros: u64) {
         self.asleep.raise();
         let seen = self.bell.get();
         if self.shared.get() == 0 && !self.is_over() {
             let low = (seen % 4294967296) as u32;
-            self.bell
-                .number
-                .park_timeout(rt, low, Duration::from_micros(micros));
+            rt.sleep(&self.bell.number, low, micros);
         }
         self.asleep.lower();
     }

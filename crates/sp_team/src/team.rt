@@ -20,13 +20,15 @@ use crossbeam_deque::Worker;
 use sp_bins::Entry;
 use sp_graph::{Graph, Mark};
 use sp_offer::{Caller, Lawful, OfferTable};
-use sp_word::Meter;
+use sp_word::{Crew, Meter};
 use std::alloc::{AllocError, Global};
-use std::sync::Wait;
-use std::thread::{Threads, join};
+use std::thread::join;
 
 /// How many entries a worker works off before it looks whether others want some.
 const STRETCH: usize = 32;
+
+/// A worker works off so many stretches at most, which no run comes to: what it has then is lost.
+const STRETCHES: u64 = 1 << 60;
 
 /// What a team leaves when it ends.
 #[derive(Drop)]
@@ -205,8 +207,8 @@ fn put_queue<L: Lawful, const P: u32>(
 
 // Sees to it that a worker has its first entries: the first worker those of the queue, each other one some that are
 // shared. False says that all work is done.
-fn begin<R: Wait, L: Lawful, const P: u32>(
-    rt: &R,
+fn begin<C: Crew, L: Lawful, const P: u32>(
+    rt: &C,
     graph: &Graph,
     table: &OfferTable<L, P>,
     common: &Common,
@@ -224,9 +226,10 @@ fn begin<R: Wait, L: Lawful, const P: u32>(
     Ok(true)
 }
 
-// Works until there is nothing to do. Returns the marks of what was relaxed.
-fn work<R: Wait, L: Lawful, const P: u32>(
-    rt: &R,
+// Works until there is nothing to do, and returns the marks of what was relaxed. Whoever has worked for too long leaves what it
+// has, as if memory had been refused.
+fn work<C: Crew, L: Lawful, const P: u32>(
+    rt: &C,
     graph: &Graph,
     table: &OfferTable<L, P>,
     common: &Common,
@@ -244,14 +247,14 @@ fn work<R: Wait, L: Lawful, const P: u32>(
     }
     let mut horizon = Horizon::new(common.limit);
     let mut batch = Batch::new(graph, common)?;
-    for _ in rt.forever() {
+    for _ in 0..STRETCHES {
         if !hands.find(rt, common)? {
             return Ok(batch.into_marks());
         }
         horizon.look(graph, table, common.targets.as_slice(), caller);
         run_some(graph, table, hands, horizon, &mut batch, caller)?;
     }
-    unreachable!()
+    Err(AllocError)
 }
 
 // Makes the list of one worker's marks. Where memory is refused, it is empty.
@@ -264,8 +267,8 @@ fn list_of(alloc: Global, marks: Vec<Mark>) -> Vec<Vec<Mark>>
 }
 
 // Runs one worker, which begins with the queue or waits for entries of others.
-fn run_worker<R: Wait, L: Lawful, const P: u32>(
-    rt: &R,
+fn run_worker<C: Crew, L: Lawful, const P: u32>(
+    rt: &C,
     graph: &Graph,
     table: &OfferTable<L, P>,
     common: &Common,
@@ -362,8 +365,8 @@ fn part<L: Lawful, const P: u32>(
 }
 
 // Runs the first worker of a squad, on this thread.
-fn run_first<R: Wait, L: Lawful, const P: u32>(
-    rt: &R,
+fn run_first<C: Crew, L: Lawful, const P: u32>(
+    rt: &C,
     graph: &Graph,
     table: &OfferTable<L, P>,
     common: &Common,
@@ -394,8 +397,8 @@ fn run_first<R: Wait, L: Lawful, const P: u32>(
 // Runs a worker for each of the deques, one on this thread and the others on threads that it starts. Each half starts its
 // own, so that the last of many workers starts soon. Where memory is refused there are fewer.
 #[cycle(workers)]
-fn run_workers<R: Threads + Wait + Sync, L: Lawful + Send + Sync, const P: u32>(
-    rt: &R,
+fn run_workers<C: Crew, L: Lawful + Send + Sync, const P: u32>(
+    rt: &C,
     graph: &Graph,
     table: &OfferTable<L, P>,
     common: &Common,
@@ -416,14 +419,14 @@ fn run_workers<R: Threads + Wait + Sync, L: Lawful + Send + Sync, const P: u32>(
     };
     let (first, second) = part(table, squad, owners);
     let theirs = move || -> Relaxed
-        requires { IsSync R.row × IsSync L.row × IsSend L.row
+        requires { IsSync C.row × IsSync L.row × IsSend L.row
             × IsReady P (lawful P (L.allows table.now.law)) table.now.vertices graph.now
             × (second.caller.table ≡ table.now.id) }
         ensures { IsLater (lawful P (L.allows table.entry.now.law)) second.caller result.caller
             × AreTrue (max_dist P) graph.entry.now result.caller.story result.marks.items }
     { run_workers(rt, graph, table, common, meter, second) };
     let mine = move || -> Relaxed
-        requires { IsSync R.row × IsSync L.row × IsSend L.row
+        requires { IsSync C.row × IsSync L.row × IsSend L.row
             × IsReady P (lawful P (L.allows table.now.law)) table.now.vertices graph.now
             × (first.caller.table ≡ table.now.id) }
         ensures { IsLater (lawful P (L.allows table.entry.now.law)) first.caller result.caller
@@ -437,8 +440,8 @@ fn run_workers<R: Threads + Wait + Sync, L: Lawful + Send + Sync, const P: u32>(
 /// memory for the entries; of those no farther than the limit, and where targets are named, than the farthest target.
 ///
 /// The workers are this thread and threads that it starts and joins. Each has a caller of its own.
-pub fn relax_all<R: Threads + Wait + Sync, L: Lawful + Send + Sync, const P: u32>(
-    rt: &R,
+pub fn relax_all<C: Crew, L: Lawful + Send + Sync, const P: u32>(
+    rt: &C,
     alloc: Global,
     graph: &Graph,
     table: &OfferTable<L, P>,

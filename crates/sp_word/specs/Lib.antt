@@ -2,3 +2,4 @@ pub mod Word
 pub mod Ranges
 pub mod Reply
 pub mod History
+pub mod Offering

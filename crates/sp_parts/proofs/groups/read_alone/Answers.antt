@@ -63,4 +63,5 @@ loop-group-preserved g c =
     let piece = c.receive-received.new.self in
     let came = more_come g.R.Read (g.R.Read.left c.args.device.now) c.loop-group.device c.receive-received.new.device text piece c.receive-received.result before.1 c.receive-received.ensures in
     let behind = (rw c.bytes.ensures at c.in_ok-feed_items.ensures) text came.short before.2 in
-    rw (c.in-Err.ensures.back, c.in-Err.ensures.kept) (text ++ piece, came, behind, c.receive-received.ensures.lasting ∙ before.3)
+    let back = c.in-Err.ensures.back c.args.device.now (text ++ piece) came behind in
+    (back.0, back.1, back.2, c.in-Err.ensures.further.0 ∙ (c.receive-received.ensures.lasting ∙ before.3))

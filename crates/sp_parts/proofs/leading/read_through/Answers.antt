@@ -1,5 +1,4 @@
 use Rattle.std.proofs.Common.{ap}
-use Rattle.std.proofs.lemmas.Result.{err_from_is_err_and}
 use Rattle.sp_text.specs.Collecting.{SpelledBy}
 use Rattle.sp_parts.specs.declared.course.Mark.{Mark}
 use Rattle.sp_parts.proofs.Standing.{goes_begun, goes_on, goes_wrong, stands_to_end, stands_to_failure}
@@ -8,18 +7,17 @@ use Rattle.sp_parts.proofs.leading.read_through.Goals as goal
 pub loop-init : goal.loop-init
 loop-init g c =
     let first = c.args.course.now in
-    goes_begun g.R.Read g.O.Origin.text g.O.Origin.problem c.args.device.now first.reader first.came.bytes first.taken.bytes first.received c.requires.came c.requires.more c.requires.going
+    (goes_begun g.R.Read g.O.Origin.text g.O.Origin.problem c.args.device.now first.reader first.came.bytes first.taken.bytes first.received c.requires.came c.requires.more c.requires.going, c.requires.held)
 
-pub returns-in_err-has_taken-clause-read : goal.returns-in_err-has_taken-clause-read
-returns-in_err-has_taken-clause-read g c = λ begun h.
-    let p = err_from_is_err_and c.from_residual.result c.from_residual.ensures.1 in
+pub returns-in-Err-clause-read : goal.returns-in-Err-clause-read
+returns-in-Err-clause-read g c = λ begun h.
     let first = c.args.course.now in
     let was = c.loop.course in
     let mid = c.receive_more-has_received.new.self in
     let now = c.take_next.new.self in
     let told = c.receive_more-has_received.ensures in
-    rw (p.1, p.2) (goes_wrong (SpelledBy g.K.Keep.format g.K.Keep.Spelled) g.R.Read g.O.Origin.text g.O.Origin.problem c.args.device.now first.reader first.came.bytes first.taken.bytes c.loop.device c.receive_more-has_received.new.device was.reader mid.reader now.reader was.came.bytes mid.came.bytes was.taken.bytes mid.taken.bytes now.taken.bytes
-    was.received mid.received c.in_err-has_taken.field-0.0 begun c.loop.invariant told.came told.reader (ap (λ (m : Mark). m.bytes) told.taken) c.in_err-has_taken.ensures.taken h)
+    goes_wrong (SpelledBy g.K.Keep.format g.K.Keep.Spelled) g.R.Read g.O.Origin.text g.O.Origin.problem c.args.device.now first.reader first.came.bytes first.taken.bytes c.loop.device c.receive_more-has_received.new.device was.reader mid.reader now.reader was.came.bytes mid.came.bytes was.taken.bytes mid.taken.bytes now.taken.bytes
+    was.received mid.received c.in-Err.e begun c.loop.invariant.0 told.came told.reader (ap (λ (m : Mark). m.bytes) told.taken) c.in-Err.ensures.taken h
 
 pub loop-preserved-then-has_received : goal.loop-preserved-then-has_received
 loop-preserved-then-has_received g c =
@@ -28,10 +26,10 @@ loop-preserved-then-has_received g c =
     let mid = c.receive_more-has_received.new.self in
     let now = c.take_next.new.self in
     let told = c.receive_more-has_received.ensures in
-    let taken = c.in_ok-has_taken.ensures in
+    let taken = c.in-Ok.ensures in
     let goes = goes_on g.R.Read g.O.Origin.text g.O.Origin.problem c.args.device.now first.reader first.came.bytes first.taken.bytes c.loop.device c.receive_more-has_received.new.device was.reader mid.reader now.reader was.came.bytes mid.came.bytes now.came.bytes was.taken.bytes mid.taken.bytes now.taken.bytes
-    was.received mid.received now.received c.in_ok-has_taken.has_taken c.loop.invariant told.came told.reader (ap (λ (m : Mark). m.bytes) told.taken) taken.taken (ap (λ (m : Mark). m.bytes) taken.came) taken.received in
-    goes
+    was.received mid.received now.received c.in-Ok.has_taken c.loop.invariant.0 told.came told.reader (ap (λ (m : Mark). m.bytes) told.taken) taken.taken (ap (λ (m : Mark). m.bytes) taken.came) taken.received in
+    (goes, taken.held)
 
 pub returns-in-Over-clause-read : goal.returns-in-Over-clause-read
 returns-in-Over-clause-read g c = λ begun h.
@@ -40,9 +38,9 @@ returns-in-Over-clause-read g c = λ begun h.
     let mid = c.receive_more-has_received.new.self in
     let now = c.take_next.new.self in
     let told = c.receive_more-has_received.ensures in
-    let taken = c.in_ok-has_taken.ensures in
+    let taken = c.in-Ok.ensures in
     let goes = goes_on g.R.Read g.O.Origin.text g.O.Origin.problem c.args.device.now first.reader first.came.bytes first.taken.bytes c.loop.device c.receive_more-has_received.new.device was.reader mid.reader now.reader was.came.bytes mid.came.bytes now.came.bytes was.taken.bytes mid.taken.bytes now.taken.bytes
-    was.received mid.received now.received c.in_ok-has_taken.has_taken c.loop.invariant told.came told.reader (ap (λ (m : Mark). m.bytes) told.taken) taken.taken (ap (λ (m : Mark). m.bytes) taken.came) taken.received in
+    was.received mid.received now.received c.in-Ok.has_taken c.loop.invariant.0 told.came told.reader (ap (λ (m : Mark). m.bytes) told.taken) taken.taken (ap (λ (m : Mark). m.bytes) taken.came) taken.received in
     stands_to_end (SpelledBy g.K.Keep.format g.K.Keep.Spelled) g.R.Read g.O.Origin.text g.O.Origin.problem begun c.receive_more-has_received.new.device now.reader c.finish.new.self now.came.bytes now.taken.bytes c.finish.result (goes.stands begun h) c.if-course.true (rw c.in-Over.is at goes.answer) c.finish.ensures.finished
 
 pub returns-in-Failed-clause-read : goal.returns-in-Failed-clause-read
@@ -52,9 +50,9 @@ returns-in-Failed-clause-read g c = λ begun h.
     let mid = c.receive_more-has_received.new.self in
     let now = c.take_next.new.self in
     let told = c.receive_more-has_received.ensures in
-    let taken = c.in_ok-has_taken.ensures in
+    let taken = c.in-Ok.ensures in
     let goes = goes_on g.R.Read g.O.Origin.text g.O.Origin.problem c.args.device.now first.reader first.came.bytes first.taken.bytes c.loop.device c.receive_more-has_received.new.device was.reader mid.reader now.reader was.came.bytes mid.came.bytes now.came.bytes was.taken.bytes mid.taken.bytes now.taken.bytes
-    was.received mid.received now.received c.in_ok-has_taken.has_taken c.loop.invariant told.came told.reader (ap (λ (m : Mark). m.bytes) told.taken) taken.taken (ap (λ (m : Mark). m.bytes) taken.came) taken.received in
+    was.received mid.received now.received c.in-Ok.has_taken c.loop.invariant.0 told.came told.reader (ap (λ (m : Mark). m.bytes) told.taken) taken.taken (ap (λ (m : Mark). m.bytes) taken.came) taken.received in
     stands_to_failure (SpelledBy g.K.Keep.format g.K.Keep.Spelled) g.R.Read g.O.Origin.text g.O.Origin.problem begun c.receive_more-has_received.new.device now.reader c.fail.new.self now.came.bytes now.taken.bytes c.fail.result (goes.stands begun h) c.if-course.true (rw c.in-Failed.is at goes.answer) c.fail.ensures.failed
 
 pub loop-preserved : goal.loop-preserved
@@ -64,7 +62,7 @@ loop-preserved g c =
     let mid = c.receive_more-has_received.new.self in
     let now = c.take_next.new.self in
     let told = c.receive_more-has_received.ensures in
-    let taken = c.in_ok-has_taken.ensures in
+    let taken = c.in-Ok.ensures in
     let goes = goes_on g.R.Read g.O.Origin.text g.O.Origin.problem c.args.device.now first.reader first.came.bytes first.taken.bytes c.loop.device c.receive_more-has_received.new.device was.reader mid.reader now.reader was.came.bytes mid.came.bytes now.came.bytes was.taken.bytes mid.taken.bytes now.taken.bytes
-    was.received mid.received now.received c.in_ok-has_taken.has_taken c.loop.invariant told.came told.reader (ap (λ (m : Mark). m.bytes) told.taken) taken.taken (ap (λ (m : Mark). m.bytes) taken.came) taken.received in
-    goes
+    was.received mid.received now.received c.in-Ok.has_taken c.loop.invariant.0 told.came told.reader (ap (λ (m : Mark). m.bytes) told.taken) taken.taken (ap (λ (m : Mark). m.bytes) taken.came) taken.received in
+    (goes, taken.held)

@@ -2,7 +2,7 @@ use Rattle.std.proofs.Common.{List, None, sym, subst, ◌∙◌}
 use Rattle.std.proofs.lemmas.Bool.{OnTrue_at}
 use Rattle.sp_word.specs.Word.{Word, max_dist}
 use Rattle.sp_serial.specs.Told.{AreToldBy, TellTargets}
-use Rattle.sp_serial.proofs.SeveralSources.{left_of}
+use Rattle.sp_scan.proofs.Closed.{left_of}
 use Rattle.sp_serial.proofs.TargetAnswers.{told_answers, whole_targets}
 use Rattle.sp_serial.proofs.row.solve_targets.Goals as goal
 

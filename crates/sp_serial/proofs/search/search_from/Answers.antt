@@ -1,5 +1,5 @@
 use Rattle.sp_word.specs.Word.{max_dist}
-use Rattle.sp_serial.proofs.Lowered.{lowered_walks}
+use Rattle.sp_plain.proofs.LoweredWalks.{lowered_walks}
 use Rattle.sp_serial.proofs.search.search_from.Goals as goal
 
 pub returns : goal.returns

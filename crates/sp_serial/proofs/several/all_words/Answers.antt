@@ -2,7 +2,8 @@ use Rattle.std.proofs.Common.{ℕ, Some, None, subst}
 use Rattle.sp_word.specs.Word.{max_dist}
 use Rattle.sp_paths.specs.Paths.{word_at}
 use Rattle.sp_scan.specs.Shown.{IsClosedUpTo}
-use Rattle.sp_serial.proofs.SeveralSources.{left_of, whole_forest, too_far}
+use Rattle.sp_scan.proofs.Closed.{left_of}
+use Rattle.sp_serial.proofs.SeveralSources.{whole_forest, too_far}
 use Rattle.sp_serial.proofs.several.all_words.Goals as goal
 
 pub returns-in-Some-clause-refused : goal.returns-in-Some-clause-refused

@@ -48,3 +48,6 @@ returns-then-not-branch-2-clause-later g c = later_along _ _ _ _ c.begin.ensures
 pub returns-then-not-branch-2-clause-marks : goal.returns-then-not-branch-2-clause-marks
 returns-then-not-branch-2-clause-marks g c =
     subst (λ (v : Vec Mark Global). AllTrue (max_dist g.row.P) c.args.graph.now c.loop.caller.story v.items) (sym c.into_marks.ensures) c.loop.invariant.marks
+
+pub returns-clause-later : goal.returns-clause-later
+returns-clause-later g c = later_along _ _ _ _ c.begin.ensures c.loop.invariant.later

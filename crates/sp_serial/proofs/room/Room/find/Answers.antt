@@ -2,7 +2,7 @@ use Rattle.std.proofs.Common.{sym, subst, arith}
 use Rattle.std.specs.Prelude.{All}
 use Rattle.sp_word.specs.Word.{max_dist}
 use Rattle.sp_paths.specs.Paths.{Graph, IsVertex}
-use Rattle.sp_serial.proofs.Lowered.{lowered_walks}
+use Rattle.sp_plain.proofs.LoweredWalks.{lowered_walks}
 use Rattle.sp_serial.proofs.room.Room.find.Goals as goal
 
 pub answers_shown-answers-requires : goal.answers_shown-answers-requires

@@ -1,0 +1,74 @@
+//! What the thread that reads a device has for its pieces: buffers that are free, and a deque that others take pieces from.
+ghost use Rattle.std.specs.Arc.{arc_value};
+ghost use Rattle.sp_parts.specs.Parts.{IsAt};
+
+use crate::crew::Plan;
+use crate::pieces::{Origin, Piece};
+use crate::receiving::Group;
+use crossbeam_deque::{Stealer, Worker};
+use std::alloc::{AllocError, Global};
+use std::sync::Arc;
+
+/// A piece that came and wasn't taken yet.
+#[derive(Drop)]
+pub struct Flight {
+    pub(crate) group: Arc<Group>,
+    /// Whether others may read it.
+    pub(crate) is_shared: bool,
+}
+
+/// Buffers that are free, and pieces that others may take.
+#[derive(Drop)]
+pub struct Stock<O: Origin> {
+    alloc: Global,
+    // how many bytes a buffer has room for
+    size: usize,
+    spare: Vec<Arc<Group>>,
+    own: Worker<Piece<O>>,
+}
+
+impl<O: Origin> Stock<O> {
+    /// Makes a stock with a buffer.
+    pub(crate) fn new(alloc: Global, plan: &Plan) -> Result<Stock<O>, AllocError> {
+        let mut stock = Stock {
+            alloc,
+            size: plan.sizes.piece,
+            spare: Vec::with_capacity(alloc, plan.pieces())?,
+            own: Worker::new_fifo(alloc, plan.pieces())?,
+        };
+        let Some(first) = stock.buffer() else {
+            return Err(AllocError);
+        };
+        stock.free(first);
+        Ok(stock)
+    }
+
+    /// Returns where others take pieces from.
+    pub(crate) fn stealer(&self) -> Result<Stealer<Piece<O>>, AllocError> {
+        self.own.stealer()
+    }
+
+    /// Returns a buffer for a piece: a free one, or a new one.
+    pub(crate) fn buffer(&mut self) -> Option<Arc<Group>> {
+        if let Some(group) = self.spare.pop() {
+            return Some(group);
+        }
+        let group = Group::new(self.alloc, self.size.max(1)).ok()?;
+        Arc::new(self.alloc, group).ok()
+    }
+
+    /// Keeps a buffer that is free.
+    pub(crate) fn free(&mut self, group: Arc<Group>) {
+        let _ = self.spare.push(group);
+    }
+
+    /// Lets others take a piece. Returns whether they may.
+    pub(crate) fn share(&mut self, number: u64, start: u64, group: &Arc<Group>) -> bool
+        requires { IsAt O.text start (arc_value group.now) }
+    {
+        match Arc::try_clone(group) {
+            Ok(group) => self.own.push(Piece::new(number, start, group)).is_ok(),
+            Err(_) => false,
+        }
+    }
+}
