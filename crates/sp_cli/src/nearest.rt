@@ -20,6 +20,7 @@ use sp_device::Write;
 use sp_job::{BatchError, Listener, Progress, Summary};
 use sp_nearest::{run_nearest_given_told, run_nearest_told};
 use sp_options::{Given, RunOptions, Sources, Teller, Watched, Within};
+use sp_word::{Alone, Crew};
 use std::alloc::Global;
 use std::sync::Wait;
 use std::thread::Threads;
@@ -178,7 +179,7 @@ impl NearestCommand<'_> {
     }
 
     // Runs from the sources of a file, or from those at some of its places.
-    fn run_file<const P: u32, R: Threads + Wait + Sync, F: Inputs, W: Write>(
+    fn run_file<const P: u32, R: Crew, F: Inputs, W: Write>(
         &self,
         rt: &R,
         alloc: Global,
@@ -217,7 +218,7 @@ impl NearestCommand<'_> {
     }
 
     // Runs from the sources that the command line gives.
-    fn run_given<const P: u32, R: Threads + Wait + Sync, F: Inputs, W: Write>(
+    fn run_given<const P: u32, R: Crew, F: Inputs, W: Write>(
         &self,
         rt: &R,
         alloc: Global,
@@ -259,7 +260,7 @@ impl NearestCommand<'_> {
     }
 
     // Runs from the sources, wherever they stand.
-    fn run_all<const P: u32, R: Threads + Wait + Sync, F: Inputs, W: Write>(
+    fn run_all<const P: u32, R: Crew, F: Inputs, W: Write>(
         &self,
         rt: &R,
         alloc: Global,
@@ -328,6 +329,9 @@ impl<const P: u32> Run<P> for NearestCommand<'_> {
             settings: &settings,
             limit: self.within.limit_for::<P>()?,
         };
+        if settings.workers.get() == 1 {
+            return self.run_all::<P, _, F, W>(&Alone::new(rt), alloc, &context, out);
+        }
         self.run_all::<P, R, F, W>(rt, alloc, &context, out)
     }
 }

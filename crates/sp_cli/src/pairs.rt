@@ -16,6 +16,7 @@ use sp_device::Write;
 use sp_job::{BatchError, Listener, Progress, Settings, Summary};
 use sp_options::{RunOptions, Teller, Watched};
 use sp_pairs::run_pairs_told;
+use sp_word::{Alone, Crew};
 use std::alloc::Global;
 use std::sync::Wait;
 use std::thread::Threads;
@@ -161,7 +162,7 @@ impl PairsCommand<'_> {
     }
 
     // Finds and writes the answers for the pairs of the file.
-    fn run_file<const P: u32, R: Threads + Wait + Sync, F: Inputs, W: Write>(
+    fn run_file<const P: u32, R: Crew, F: Inputs, W: Write>(
         &self,
         rt: &R,
         alloc: Global,
@@ -209,6 +210,9 @@ impl<const P: u32> Run<P> for PairsCommand<'_> {
     ) -> Result<Status, Fault> {
         let teller = self.options.teller(files);
         let settings = self.options.settings::<P, _>(&teller)?;
+        if settings.workers.get() == 1 {
+            return self.run_file::<P, _, F, W>(&Alone::new(rt), alloc, files, &settings, out);
+        }
         self.run_file::<P, R, F, W>(rt, alloc, files, &settings, out)
     }
 }

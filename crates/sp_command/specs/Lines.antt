@@ -28,6 +28,16 @@ word_of file.Tree = codes "tree"
 word_of file.Replay = codes "replay"
 word_of file.Offers = codes "offers"
 
+-- This is where standard input stands in the words of a command if it is its file of this kind, with no list of targets behind it.
+abbrev pub place_of : FileKind → List ℕ
+place_of file.Graph = codes "- .."
+place_of file.Sources = codes ".. -"
+place_of file.Targets = codes ".. -"
+place_of file.Pairs = codes ".. -"
+place_of file.Tree = codes ".. -"
+place_of file.Replay = codes "-"
+place_of file.Offers = codes "-"
+
 -- These are the number and the name of a fault of a text.
 abbrev pub name_of : Kind → List ℕ
 name_of kind.LongLine = codes "1 LongLine"

@@ -2,7 +2,7 @@
 ghost use Rattle.std.specs.Prelude.{◌≡◌, ◌≤◌, ◌⊎◌, false, IfOk, IfErr, codes};
 ghost use Rattle.sp_command.specs.Faults.{code_of, is_done, status_of};
 ghost use Rattle.sp_command.specs.Causes.{StaysClosed, StayClosed, NameInputTwice};
-ghost use Rattle.sp_command.specs.Lines.{word_of};
+ghost use Rattle.sp_command.specs.Lines.{place_of, word_of};
 ghost use Rattle.sp_command.specs.Scene.{IsOpened};
 ghost use Rattle.sp_command.specs.declared.faults.Fault.TheVariants.{CannotOpen, Input, InputTwice, Memory, WriteFailed};
 
@@ -133,7 +133,9 @@ impl FileKind {
     }
 
     /// Returns where standard input appears in a command's words if it is this file, and no list of targets stands behind it.
-    pub fn place(self) -> &'static str {
+    pub fn place(self) -> &'static str
+        ensures { result.now ≡ place_of self }
+    {
         match self {
             FileKind::Graph => "- ..",
             FileKind::Sources | FileKind::Targets | FileKind::Pairs | FileKind::Tree => ".. -",

@@ -1,9 +1,14 @@
 //! Names of files, as lines show them and as shell commands spell them.
+ghost use Rattle.std.specs.Prelude.{◌≡◌};
+ghost use Rattle.sp_command.specs.Names.{is_unprintable};
+
 use std::fmt;
 
 /// Returns whether a terminal can't show a character as it is: it is a control character, or one that hides or reorders
 /// the characters beside it.
-pub fn is_unprintable(c: char) -> bool {
+pub fn is_unprintable(c: char) -> bool
+    ensures { result ≡ is_unprintable c }
+{
     c.is_control()
         || matches!(
             c,

@@ -33,6 +33,15 @@ pub trait Outputs: Inputs {
     /// Whether a name is to become this path.
     ghost is_for: { Self.Name → List ℕ → Type 0 } = { λ _ _. Unit {0} };
 
+    /// What is known to have been asked of the system last, where a file was begun.
+    ghost begins: { Self.Name → Self → Type 0 } = { λ _ _. Unit {0} };
+
+    /// The same where a file was given its path.
+    ghost keeps: { Self.Name → Self → Type 0 } = { λ _ _. Unit {0} };
+
+    /// The same where a file was removed.
+    ghost removes: { Self.Name → Self → Type 0 } = { λ _ _. Unit {0} };
+
     /// Begins a file that is to get this path, or returns `None` if it can't be created. What the path held stays.
     fn create(
         &mut self,
@@ -44,6 +53,7 @@ pub trait Outputs: Inputs {
             (λ file. IsBlank (Self.Output.written file.1))) }
         ensures refused { IfOk result (λ made. IfNone made
             ((outputs self.old).takes path.now ≡ false)) }
+        ensures asked { IfOk result (λ made. IfSome made (λ file. begins file.0 self.new)) }
         ensures kept { outputs self.new ≡ outputs self.old }
         ensures inputs { Self.files self.new ≡ Self.files self.old };
 
@@ -52,6 +62,8 @@ pub trait Outputs: Inputs {
         ensures kept { OnOk result ((path : List ℕ) → is_for name path → outputs self.new
             ≡ with_kept (outputs self.old) path (Self.Output.written output)) }
         ensures unkept { OnErr result (outputs self.new ≡ outputs self.old) }
+        ensures asked { OnOk result (keeps name self.new) }
+        ensures removed { OnErr result (removes name self.new) }
         ensures refused { OnErr result ((path : List ℕ) → is_for name path
             → (outputs self.old).takes path ≡ false) }
         ensures inputs { Self.files self.new ≡ Self.files self.old };
@@ -59,6 +71,7 @@ pub trait Outputs: Inputs {
     /// Removes a file. What its path held stays.
     fn discard(&mut self, name: Self::Name, output: Self::Output)
         ensures kept { outputs self.new ≡ outputs self.old }
+        ensures removed { removes name self.new }
         ensures inputs { Self.files self.new ≡ Self.files self.old };
 }
 

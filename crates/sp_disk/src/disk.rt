@@ -1,6 +1,7 @@
 //! The files of the system.
 use crate::noted::{Noted, Notes};
 use crate::screen::{Errors, Screen};
+use crate::system::Asked;
 use either::Either;
 use sp_command::{Encoding, Inputs, Report};
 use sp_device::OfRead;
@@ -12,7 +13,7 @@ use std::sync::Wait;
 use std::{fs, io};
 
 /// The files of the system, and standard input, whose path is `-`.
-#[derive(Clone, Copy)]
+#[derive(Drop)]
 pub struct Disk<'a, R> {
     pub rt: &'a R,
     pub stdin: Stdin,
@@ -20,6 +21,8 @@ pub struct Disk<'a, R> {
     /// What tells the number of the process.
     pub process: Process,
     pub notes: &'a Notes,
+    /// What was asked of the system last of files of output.
+    pub asked: Asked,
 }
 
 // The file that standard input is, if it is one.

@@ -10,8 +10,10 @@ mod output;
 mod place;
 mod screen;
 mod stand;
+mod system;
 
 pub use disk::Disk;
 pub use noted::{Noted, Notes};
 pub use output::Output;
 pub use screen::{Errors, Screen, Watch};
+pub use system::Asked;

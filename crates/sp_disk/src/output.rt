@@ -1,8 +1,12 @@
 //! Files of output.
+ghost use Rattle.std.specs.Prelude.{IfSome};
+ghost use Rattle.sp_disk.specs.Asked.{IsBegun, IsKept, IsRemoved};
+
 use crate::disk::Disk;
 use crate::noted::Noted;
-use crate::place::{Destination, Part};
+use crate::place::{Begun, Destination, Part};
 use crate::screen::Screen;
+use crate::system::{remove, rename};
 use either::Either;
 use sp_command::Outputs;
 use sp_device::{Failed, OfWrite, Write, WriteFault};
@@ -78,6 +82,12 @@ impl<'a, R: Files + AllocGlobal + RandomSource + Clock + Eprint + Wait> Outputs 
     // None: the file is written to straight.
     type Name = Option<Part>;
 
+    ghost begins = { λ name disk. IfSome name (λ part. IsBegun part disk.asked) };
+
+    ghost keeps = { λ name disk. IfSome name (λ part. IsKept part disk.asked) };
+
+    ghost removes = { λ name disk. IfSome name (λ part. IsRemoved part disk.asked) };
+
     fn create(
         &mut self,
         alloc: Global,
@@ -87,7 +97,10 @@ impl<'a, R: Files + AllocGlobal + RandomSource + Clock + Eprint + Wait> Outputs 
             return Ok(self.straight(path).map(|output| (None, output)));
         };
         match destination.begin(self.rt, alloc, self.process) {
-            Ok((file, part)) => Ok(Some((Some(part), self.output(Either::Left(Lasting(file)))))),
+            Ok(Begun { file, part, asked }) => {
+                self.asked = asked;
+                Ok(Some((Some(part), self.output(Either::Left(Lasting(file))))))
+            }
             Err(error) if error.kind() == ErrorKind::OutOfMemory => Err(AllocError),
             Err(error) => {
                 self.notes.failed(error);
@@ -103,16 +116,22 @@ impl<'a, R: Files + AllocGlobal + RandomSource + Clock + Eprint + Wait> Outputs 
         let mut output = output;
         // Else a crash of the system could leave a file of this name that lacks some of its text.
         let is_whole = output.device.flush().is_ok();
-        if is_whole && self.notes.checked(part.keep(self.rt)).is_some() {
-            return Ok(());
+        if is_whole {
+            match rename(self.rt, &part) {
+                Ok(asked) => {
+                    self.asked = asked;
+                    return Ok(());
+                }
+                Err(error) => self.notes.failed(error),
+            }
         }
-        part.remove(self.rt);
+        self.asked = remove(self.rt, &part);
         Err(WriteFault)
     }
 
     fn discard(&mut self, name: Self::Name, _output: Self::Output) {
         if let Some(part) = name {
-            part.remove(self.rt);
+            self.asked = remove(self.rt, &part);
         }
     }
 }

@@ -1,8 +1,12 @@
 //! Where a file of output is to stand, and the file that is written in its stead until it is whole.
+ghost use Rattle.std.specs.Prelude.{◌≡◌, IfOk};
+ghost use Rattle.sp_disk.specs.Asked.{IsBegun};
+
+use crate::system::{Asked, make};
 use std::alloc::{AllocError, Global};
-use std::fs::{Metadata, OpenFile, OpenOptions};
+use std::fs::{Metadata, OpenFile};
 use std::io::ErrorKind;
-use std::os::unix::fs::{MetadataExt, OpenOptionsExt, PermissionsExt, lchown};
+use std::os::unix::fs::{MetadataExt, PermissionsExt, lchown};
 use std::path::PathBuf;
 use std::process::{self, Process};
 use std::random::RandomSource;
@@ -30,11 +34,19 @@ pub struct Destination {
     replaced: Option<Metadata>,
 }
 
-/// A file that has a name of its own until it is whole.
+/// A file that has a name of its own until it is whole, and a place that it is to take then.
 #[derive(Drop)]
 pub struct Part {
-    path: String,
-    place: String,
+    pub(crate) path: String,
+    pub(crate) place: String,
+}
+
+/// A part that was begun: its file, and what was asked of the system for it.
+#[derive(Drop)]
+pub struct Begun<F> {
+    pub(crate) file: F,
+    pub(crate) part: Part,
+    pub(crate) asked: Asked,
 }
 
 impl Destination {
@@ -100,22 +112,26 @@ impl Destination {
         rt: &R,
         alloc: Global,
         process: Process,
-    ) -> io::Result<(R::File, Part)> {
+    ) -> io::Result<Begun<R::File>>
+        ensures begun { IfOk result (λ begun. IsBegun begun.part begun.asked) }
+        ensures place { IfOk result (λ begun. begun.part.place ≡ self.path) }
+    {
         let mode = match &self.replaced {
             Some(replaced) => replaced.mode() & OWN_RIGHTS,
             None => NEW_RIGHTS,
         };
-        let mut options = OpenOptions::new();
-        options.write(true).create_new(true).mode(mode);
+        let mut part = Part {
+            path: String::new(alloc),
+            place: self.path,
+        };
         for _ in 0..MOST_NAMES {
-            let path = self.name(rt, alloc, process)?;
-            match options.open(rt, path.as_str()) {
-                Ok(file) => {
+            part.path = part.name(rt, alloc, process)?;
+            match make(rt, &part, mode) {
+                Ok((file, asked)) => {
                     if let Some(replaced) = &self.replaced {
-                        take_after(rt, &file, &path, replaced);
+                        take_after(rt, &file, &part.path, replaced);
                     }
-                    let place = self.path;
-                    return Ok((file, Part { path, place }));
+                    return Ok(Begun { file, part, asked });
                 }
                 Err(error) if error.kind() == ErrorKind::AlreadyExists => {}
                 Err(error) => return Err(error),
@@ -123,7 +139,9 @@ impl Destination {
         }
         Err(ErrorKind::AlreadyExists.into())
     }
+}
 
+impl Part {
     // A name beside the place, with the number of the process, by which it can be told from those of others.
     fn name<R: RandomSource + Clock>(
         &self,
@@ -131,25 +149,13 @@ impl Destination {
         alloc: Global,
         process: Process,
     ) -> io::Result<String> {
-        let (folder, slash) = match self.path.rsplit_once('/') {
+        let (folder, slash) = match self.place.rsplit_once('/') {
             Some((folder, _)) => (folder, "/"),
             None => ("", ""),
         };
         let id = process::id(process);
         let digits = digits(rt)?;
         Ok(format!(in alloc; "{folder}{slash}.spt-{id}-{digits:016x}.part")?)
-    }
-}
-
-impl Part {
-    /// Gives the file its place.
-    pub fn keep<R: Files>(&self, rt: &R) -> io::Result<()> {
-        fs::rename(rt, self.path.as_str(), self.place.as_str())
-    }
-
-    /// Removes the file.
-    pub fn remove<R: Files>(&self, rt: &R) {
-        let _ = fs::remove_file(rt, self.path.as_str());
     }
 }
 

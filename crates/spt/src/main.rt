@@ -3,7 +3,7 @@
 
 use sp_cli::run_command;
 use sp_device::{OfWrite, Write};
-use sp_disk::{Disk, Notes};
+use sp_disk::{Asked, Disk, Notes};
 use std::process::ExitCode;
 use std::random::RandomSource;
 use std::rt::{Clock, Env, Files};
@@ -57,6 +57,7 @@ fn main(rt: HostRuntime) -> ExitCode {
         stderr: rt.stderr(),
         process: rt.process(),
         notes: &notes,
+        asked: Asked::Nothing,
     };
     let mut out = disk.standard_output(rt.stdout());
     let mut err = OfWrite::new(disk.standard_error());

@@ -12,7 +12,7 @@ returns-clause-answered g c = λ gr_text list_text gr_is list_is.
     let files = g.F.Inputs.files c.args.files.now in
     let ran = c.run_pairs_told-answer in
     after_end c.args.self.now.options.far_ok (PairsTold g.row.P c.args.self.now.options.far_ok gr_text list_text (scene files (g.W.Write.written c.args.out.now) (g.W.Write.written ran.new.out) (g.W.Write.has_failed ran.new.out))) ran.result c.end.result c.end.ensures
-    (after_pairs g.row.P c.args.self.now.options.far_ok gr_text list_text files (Rattle.sp_options.specs.contracts.reading.WatchedRead.TheImpl.ghosts (Rattle.sp_cli.proofs.pairs.PairsCommand.run_file.Lts.impl_arg-4-0 g.row.P g.row.R g.row.F g.row.W g.row.F-File g.P.fits g.R.laws g.F.laws g.W.laws g.F.File.laws g.R.Threads-dict g.R.Wait-dict g.F.Inputs-dict g.F.File.Read-dict g.W.Write-dict g.F.File.Destruct-dict c.before.before.before.run_pairs_told-answer.lifetimes) (Rattle.sp_cli.proofs.pairs.PairsCommand.run_file.Lts.impl_arg-4-1 g.row.P g.row.R g.row.F g.row.W g.row.F-File g.P.fits g.R.laws g.F.laws g.W.laws g.F.File.laws g.R.Threads-dict g.R.Wait-dict g.F.Inputs-dict g.F.File.Read-dict g.W.Write-dict g.F.File.Destruct-dict c.before.before.before.run_pairs_told-answer.lifetimes) (Rattle.sp_cli.proofs.pairs.PairsCommand.run_file.Lts.impl_arg-4-2 g.row.P g.row.R g.row.F g.row.W g.row.F-File g.P.fits g.R.laws g.F.laws g.W.laws g.F.File.laws g.R.Threads-dict g.R.Wait-dict g.F.Inputs-dict g.F.File.Read-dict g.W.Write-dict g.F.File.Destruct-dict c.before.before.before.run_pairs_told-answer.lifetimes) g.F.File.Read g.F.File.Read-dict g.F.Inputs g.F.Inputs-dict g.F.File.Read g.F.File.Read-dict g.F.File.Destruct-dict) ran.new.gr (Rattle.sp_options.specs.contracts.reading.WatchedRead.TheImpl.ghosts (Rattle.sp_cli.proofs.pairs.PairsCommand.run_file.Lts.impl_arg-4-3 g.row.P g.row.R g.row.F g.row.W g.row.F-File g.P.fits g.R.laws g.F.laws g.W.laws g.F.File.laws g.R.Threads-dict g.R.Wait-dict g.F.Inputs-dict g.F.File.Read-dict g.W.Write-dict g.F.File.Destruct-dict c.before.before.before.run_pairs_told-answer.lifetimes) (Rattle.sp_cli.proofs.pairs.PairsCommand.run_file.Lts.impl_arg-4-4 g.row.P g.row.R g.row.F g.row.W g.row.F-File g.P.fits g.R.laws g.F.laws g.W.laws g.F.File.laws g.R.Threads-dict g.R.Wait-dict g.F.Inputs-dict g.F.File.Read-dict g.W.Write-dict g.F.File.Destruct-dict c.before.before.before.run_pairs_told-answer.lifetimes) (Rattle.sp_cli.proofs.pairs.PairsCommand.run_file.Lts.impl_arg-4-5 g.row.P g.row.R g.row.F g.row.W g.row.F-File g.P.fits g.R.laws g.F.laws g.W.laws g.F.File.laws g.R.Threads-dict g.R.Wait-dict g.F.Inputs-dict g.F.File.Read-dict g.W.Write-dict g.F.File.Destruct-dict c.before.before.before.run_pairs_told-answer.lifetimes) g.F.File.Read g.F.File.Read-dict g.F.Inputs g.F.Inputs-dict g.F.File.Read g.F.File.Read-dict g.F.File.Destruct-dict) ran.new.pairs g.W.Write c.args.out.now ran.new.out ran.result
+    (after_pairs g.row.P c.args.self.now.options.far_ok gr_text list_text files (Rattle.sp_options.specs.contracts.reading.WatchedRead.TheImpl.ghosts (Rattle.sp_cli.proofs.pairs.PairsCommand.run_file.Lts.impl_arg-4-0 g.row.P g.row.R g.row.F g.row.W g.row.F-File g.P.fits g.R.laws g.F.laws g.W.laws g.F.File.laws g.R.Crew-dict g.R.Threads-dict g.F.Inputs-dict g.F.File.Read-dict g.W.Write-dict g.F.File.Destruct-dict c.before.before.before.run_pairs_told-answer.lifetimes) (Rattle.sp_cli.proofs.pairs.PairsCommand.run_file.Lts.impl_arg-4-1 g.row.P g.row.R g.row.F g.row.W g.row.F-File g.P.fits g.R.laws g.F.laws g.W.laws g.F.File.laws g.R.Crew-dict g.R.Threads-dict g.F.Inputs-dict g.F.File.Read-dict g.W.Write-dict g.F.File.Destruct-dict c.before.before.before.run_pairs_told-answer.lifetimes) (Rattle.sp_cli.proofs.pairs.PairsCommand.run_file.Lts.impl_arg-4-2 g.row.P g.row.R g.row.F g.row.W g.row.F-File g.P.fits g.R.laws g.F.laws g.W.laws g.F.File.laws g.R.Crew-dict g.R.Threads-dict g.F.Inputs-dict g.F.File.Read-dict g.W.Write-dict g.F.File.Destruct-dict c.before.before.before.run_pairs_told-answer.lifetimes) g.F.File.Read g.F.File.Read-dict g.F.Inputs g.F.Inputs-dict g.F.File.Read g.F.File.Read-dict g.F.File.Destruct-dict) ran.new.gr (Rattle.sp_options.specs.contracts.reading.WatchedRead.TheImpl.ghosts (Rattle.sp_cli.proofs.pairs.PairsCommand.run_file.Lts.impl_arg-4-3 g.row.P g.row.R g.row.F g.row.W g.row.F-File g.P.fits g.R.laws g.F.laws g.W.laws g.F.File.laws g.R.Crew-dict g.R.Threads-dict g.F.Inputs-dict g.F.File.Read-dict g.W.Write-dict g.F.File.Destruct-dict c.before.before.before.run_pairs_told-answer.lifetimes) (Rattle.sp_cli.proofs.pairs.PairsCommand.run_file.Lts.impl_arg-4-4 g.row.P g.row.R g.row.F g.row.W g.row.F-File g.P.fits g.R.laws g.F.laws g.W.laws g.F.File.laws g.R.Crew-dict g.R.Threads-dict g.F.Inputs-dict g.F.File.Read-dict g.W.Write-dict g.F.File.Destruct-dict c.before.before.before.run_pairs_told-answer.lifetimes) (Rattle.sp_cli.proofs.pairs.PairsCommand.run_file.Lts.impl_arg-4-5 g.row.P g.row.R g.row.F g.row.W g.row.F-File g.P.fits g.R.laws g.F.laws g.W.laws g.F.File.laws g.R.Crew-dict g.R.Threads-dict g.F.Inputs-dict g.F.File.Read-dict g.W.Write-dict g.F.File.Destruct-dict c.before.before.before.run_pairs_told-answer.lifetimes) g.F.File.Read g.F.File.Read-dict g.F.Inputs g.F.Inputs-dict g.F.File.Read g.F.File.Read-dict g.F.File.Destruct-dict) ran.new.pairs g.W.Write c.args.out.now ran.new.out ran.result
     (ran.ensures.exact gr_text list_text (c.new-gr.ensures.left ∙ c.in_ok-gr.ensures.graph.gives gr_text gr_is) (c.new-pairs.ensures.left ∙ c.in_ok-gr.ensures.file.gives list_text list_is)))
 
 pub returns-clause-of_some : goal.returns-clause-of_some
