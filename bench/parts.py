@@ -51,7 +51,8 @@ def sources():
 
 
 def program():
-    """The program that `./spt` runs, which it builds first where there is none of these sources."""
+    """The program that `./spt` runs, which it builds first where there is none of these sources: all of them are read."""
+    subprocess.run(["sh", "-c", 'home=$0; . "$home/build/program.sh"; forget_stamp', HOME], check=True)
     subprocess.run([os.path.join(HOME, "spt"), "--version"], check=True, stdout=subprocess.DEVNULL)
     words = ["sh", "-c", 'home=$0; . "$home/build/program.sh"; program "$(sources)"', HOME]
     return subprocess.run(words, check=True, capture_output=True, text=True).stdout.strip()

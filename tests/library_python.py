@@ -4,9 +4,9 @@
 Usage: python3 tests/library_python.py [--archive ARCHIVE]
 
 The library is made by build/libraries. The tests of Dijkstra's algorithm that SciPy and NetworkX ship are run against the package
-too (tests/python/theirs.py); those of which are left out, and why, is printed. Tests that need SciPy or NetworkX are left out
-where these aren't installed (Debian: python3-scipy, python3-networkx), and said so; with SPT_ALL=1 what no Python ran counts as
-failed. The last line is 'N passed, M failed'.
+too, by pytest (tests/python/theirs.py); those of which are left out, and why, is printed. Tests that need what isn't installed are left out, and
+said so (Debian: python3-scipy, python3-networkx, python3-pandas, python3-tqdm, python3-pytest, python3-hypothesis); with SPT_ALL=1 what no Python
+ran counts as failed. The last line is 'N passed, M failed'.
 """
 
 import argparse
@@ -24,8 +24,8 @@ SECONDS = 600
 
 EXAMPLES = """
 import doctest, sys
-import spt, spt._graph, spt._library
-told = [doctest.testmod(module) for module in (spt, spt._graph, spt._library)]
+import spt, spt._graph, spt._library, spt._trees
+told = [doctest.testmod(module) for module in (spt, spt._graph, spt._library, spt._trees)]
 told += [doctest.testfile(page, module_relative=False) for page in sys.argv[1:]]
 print(sum(one.attempted - one.failed for one in told), "passed,", sum(one.failed for one in told), "failed")
 """
@@ -42,8 +42,9 @@ def run(python, prefix, *words):
 def add_tests(count, python, prefix):
     """Counts the tests, and answers which were left out and which weren't."""
     text = run(python, prefix, "-m", "unittest", "discover", "-v")
-    told = re.findall(r"^(\w+) \(\w+\.(\w+)[\w.]*\) \.\.\. (.*)$", text, re.M)
-    outcomes = [(f"{kind}.{name}", outcome) for name, kind, outcome in told]
+    told = re.findall(r"^(\w+) \((\w+)\.(\w+)[\w.]*\) \.\.\. (.*)$", text, re.M)
+    # (a file that is left out is told as a test of unittest's loader)
+    outcomes = [(f"all of {name}" if module == "unittest" else f"{kind}.{name}", outcome) for name, module, kind, outcome in told]
     for name, outcome in outcomes:
         if not outcome.startswith("skipped"):
             count.of(f"{name}, by {python}", outcome == "ok")
@@ -55,7 +56,8 @@ def add_tests(count, python, prefix):
     counts = (len(outcomes), len(outcomes) - len(left_out))
     if not whole or int(whole[1]) not in counts or not re.search(r"^OK\b", text, re.M):
         count.of(f"tests/python by {python}:\n{text}", False)
-    return set(left_out), {name for name, _ in outcomes} - set(left_out)
+    files = {f"all of {module}" for _, module, _, _ in told}
+    return set(left_out), ({name for name, _ in outcomes} | files) - set(left_out)
 
 
 def add_last_line(count, text):

@@ -8,7 +8,8 @@
     >>> graph.path(1, 4)
     [1, 2, 4]
 
-Vertices are numbered from 1; vertex v stands at place v - 1 of a list. Lengths are 1 to 4294967295, in any unit. Where several
+Vertices are numbered from 1; vertex v stands at place v - 1 of a list. They have names where the graph is made of a frame or of
+one of NetworkX (`Graph.from_frame`, `Graph.from_networkx`). Lengths are 1 to 4294967295, or fractions in a `unit`. Where several
 walks are shortest, the predecessor is the smallest-numbered vertex before the last on one of them, so each answer is the only
 right one. Where no walk leads the distance is UNREACHED, 2^64 - 1, which wraps around in sums (`Tree.masked`, `Tree.floats`).
 
@@ -17,7 +18,7 @@ The library is taken from $SPT_LIBRARY, beside this package's files, or where th
 
 from ._convert import dijkstra
 from ._faults import BadArc, BadDelta, BadLimit, Fault, NoSuchVertex, SptError, TooFar
-from ._graph import BEYOND, UNREACHED, Forest, Graph, Pair, Tree
+from ._graph import BEYOND, UNREACHED, Forest, Graph, Matrix, Pair, Tree
 from ._library import LibraryNotFound, reach
 
 __version__ = "1.2.0"
@@ -31,6 +32,7 @@ __all__ = [
     "Forest",
     "Graph",
     "LibraryNotFound",
+    "Matrix",
     "NoSuchVertex",
     "Pair",
     "SptError",

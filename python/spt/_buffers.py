@@ -80,6 +80,13 @@ def words(numbers: Any) -> memoryview:
     return unsigned if unsigned.format == "I" else _copied(unsigned)
 
 
+def kept(numbers: Any) -> memoryview:
+    """As `words`, in a list that nobody can write: a copy of what is given, unless it is of bytes, which never change."""
+    found = words(numbers)
+    is_others = is_buffer(numbers) and found.obj is memoryview(numbers).obj and not isinstance(found.obj, bytes)
+    return in_bytes(found.tobytes(), "I") if is_others else found.toreadonly()
+
+
 def column(numbers: Any, format: str) -> memoryview:
     """A flat list of this format ('I' or 'Q') that is only read: the one given, where it is only read, and else a copy.
 

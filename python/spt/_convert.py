@@ -1,61 +1,151 @@
-"""Graphs of SciPy and NetworkX. Their modules are imported where they are asked for."""
+"""Graphs of SciPy and NetworkX, and frames. Their modules are imported where they are asked for."""
 
 from __future__ import annotations
 
 import array
+import itertools
 import math
 
-from typing import Any, Callable, Iterable, Iterator, Optional
+from typing import Any, Callable, Iterable, Optional, Sequence
 
-from ._faults import BadDelta
+from ._buffers import in_bytes
+from ._faults import BadArc, BadDelta
+from ._lengths import joined, length_fault, unit_of, unsigned, whole_length, whole_lengths
 from ._library import reach
 
-MOST = 2**32 - 1
-_NO_LENGTH = f"is no length: whole numbers from 1 to {MOST} are"
 # what SciPy tells as the predecessor of a vertex that has none
 _NONE = -9999
 
 
-def _length(tail: Any, head: Any, given: Any) -> int:
-    try:
-        length = int(given)
-    except (TypeError, ValueError, OverflowError):
-        length = 0
-    if length != given or not 1 <= length <= MOST:
-        raise ValueError(f"edge ({tail!r}, {head!r}): {given!r} {_NO_LENGTH}")
-    return length
-
-
 def _lengths_by(weight: Any, several: bool) -> Callable[[Any, Any, Any], Iterable[Any]]:
-    """What tells the lengths of the edge from a node to another, of a multigraph of all edges between these two."""
+    """What tells the lengths of all edges from a node to another, None for one that has no length."""
 
     def by_function(tail: Any, head: Any, data: Any) -> Iterable[Any]:
         given = weight(tail, head, data)
         return [] if given is None else [given]
 
-    def by_attribute(tail: Any, head: Any, data: Any) -> Iterable[Any]:
-        edges = list(data.values()) if several else [data]
-        if weight is None:
-            return [1] * len(edges)
-        if any(edge.get(weight) is None for edge in edges):
-            raise ValueError(f"edge ({tail!r}, {head!r}) has no {weight!r}: give it one, or a function as weight")
-        return [edge[weight] for edge in edges]
-
-    return by_function if callable(weight) else by_attribute
+    if callable(weight):
+        return by_function
+    if weight is None:
+        return lambda tail, head, data: [1] * (len(data) if several else 1)
+    if several:
+        return lambda tail, head, data: [edge.get(weight) for edge in data.values()]
+    return lambda tail, head, data: [data.get(weight)]
 
 
-def arcs_of_networkx(graph: Any, weight: Any) -> tuple[list[Any], memoryview]:
-    """The nodes, and the arcs between their numbers."""
-    nodes = list(graph)
-    number = {node: at for at, node in enumerate(nodes, 1)}
-    lengths = _lengths_by(weight, graph.is_multigraph())
-    edges = ((tail, head, data) for tail, row in graph.adjacency() for head, data in row.items())
+def arcs_of_networkx(graph: Any, weight: Any, unit: Optional[float]) -> tuple[tuple[Any, ...], memoryview]:
+    """The nodes, in the order of their numbers, and the arcs between these."""
+    tails, heads, lengths = [], [], []
+    lengths_of = _lengths_by(weight, graph.is_multigraph())
+    for tail, row in graph.adjacency():
+        for head, data in row.items():
+            for given in lengths_of(tail, head, data):
+                tails.append(tail)
+                heads.append(head)
+                lengths.append(given)
+    # (what is no plain number is looked at one by one)
+    whole = whole_lengths(lengths, unit) if set(map(type, lengths)) <= {int, float} else None
+    if whole is None:
+        edges = zip(tails, heads, lengths)
+        whole = memoryview(array.array("I", (_length_of_edge(tail, head, given, weight, unit) for tail, head, given in edges)))
+    number = dict(zip(graph, itertools.count(1)))
+    begins, ends = (memoryview(array.array("I", map(number.__getitem__, it))) for it in (tails, heads))
+    return tuple(number), joined(begins, ends, whole)
 
-    def numbers() -> Iterator[int]:
-        for tail, head, given in ((*edge[:2], given) for edge in edges for given in lengths(*edge)):
-            yield from (number[tail], number[head], _length(tail, head, given))
 
-    return nodes, memoryview(array.array("I", numbers()))
+def _length_of_edge(tail: Any, head: Any, given: Any, weight: Any, unit: Optional[float]) -> int:
+    if given is None:
+        raise ValueError(f"edge ({tail!r}, {head!r}) has no {weight!r}: give it one, or a function as weight")
+    try:
+        return whole_length(given, unit)
+    except ValueError as told:
+        raise ValueError(f"edge ({tail!r}, {head!r}): {told}") from None
+
+
+def _column(edges: Any, name: Any) -> Any:
+    """A column of a frame, or a part of the names of its rows, or a column of a mapping."""
+    try:
+        return edges[name]
+    except KeyError:
+        rows = getattr(getattr(edges, "index", None), "names", ())
+        if name in rows:
+            return edges.index.get_level_values(name)
+        known = [*(it for it in rows if it is not None), *getattr(edges, "columns", edges)]
+        raise KeyError(f"there is no column {name!r}: those that there are are {', '.join(map(repr, known))}") from None
+
+
+def _listed(column: Any) -> list[Any]:
+    return list(column.tolist() if hasattr(column, "tolist") else column)
+
+
+def _is_missing(name: Any) -> bool:
+    """Whether it is None, NaN, or what pandas has where nothing is."""
+    try:
+        return name is None or bool(name != name)
+    except TypeError:
+        return True
+
+
+def _by_dict(tails: list[Any], heads: list[Any]) -> tuple[Any, ...]:
+    number = dict(zip(dict.fromkeys(itertools.chain(tails, heads)), itertools.count(1)))
+    codes = (memoryview(array.array("I", map(number.__getitem__, it))) for it in (tails, heads))
+    return tuple(number), *codes
+
+
+def _by_frame(tails: Any, heads: Any) -> tuple[Any, ...]:
+    import numpy
+    import pandas
+
+    codes, names = pandas.factorize(pandas.concat([pandas.Series(tails), pandas.Series(heads)], ignore_index=True))
+    return names, *(unsigned(it + numpy.int64(1), 0) for it in (codes[: len(tails)], codes[len(tails) :]))
+
+
+def _by_array(tails: Any, heads: Any) -> tuple[Any, ...]:
+    import numpy
+
+    found, first, codes = numpy.unique(numpy.concatenate([tails, heads]), return_index=True, return_inverse=True)
+    order = numpy.argsort(first)
+    rank = numpy.empty(len(order), numpy.int64)
+    rank[order] = numpy.arange(1, len(order) + 1)
+    codes = rank[codes.reshape(-1)]
+    return found[order], *(unsigned(it, 0) for it in (codes[: len(tails)], codes[len(tails) :]))
+
+
+def _numbered(tails: Any, heads: Any) -> tuple[Any, ...]:
+    """The names of two columns in the order in which they appear, and the number of each, from 1; 0 may stand where it is missing."""
+    dtypes = [getattr(it, "dtype", None) for it in (tails, heads)]
+    if dtypes[0] is None or dtypes[0] != dtypes[1]:
+        return _by_dict(_listed(tails), _listed(heads))
+    if hasattr(tails, "array") and hasattr(heads, "array"):
+        return _by_frame(tails, heads)
+    if getattr(dtypes[0], "kind", None) in ("i", "u"):
+        return _by_array(tails, heads)
+    return _by_dict(_listed(tails), _listed(heads))
+
+
+def arcs_of_frame(edges: Any, columns: tuple[Any, Any, Any], unit: Optional[float]) -> tuple[Any, memoryview]:
+    """The names, in the order of their numbers, and the arcs between these."""
+    tails, heads, lengths = (_column(edges, name) for name in columns)
+    if not len(tails) == len(heads) == len(lengths):
+        raise ValueError(f"columns of {len(tails)}, {len(heads)} and {len(lengths)} rows: each arc has one in each")
+    names, begins, ends = _numbered(tails, heads)
+    if 0 in begins or 0 in ends or not hasattr(names, "dtype") and any(map(_is_missing, names)):
+        missing = ([_is_missing(it) for it in _listed(column)] for column in (tails, heads))
+        index, (no_tail, _) = next((at, both) for at, both in enumerate(zip(*missing)) if any(both))
+        raise ValueError(f"arc {index} (row {index + 1}) has no name of its {'tail' if no_tail else 'head'}")
+    whole = whole_lengths(lengths, unit)
+    if whole is None:
+        raise _first_length(len(names), list(zip(*map(_listed, (tails, heads, lengths)))), unit)
+    return names, joined(begins, ends, whole)
+
+
+def _first_length(n: int, arcs: Sequence[Any], unit: Optional[float]) -> Exception:
+    """Why the first length that is none isn't one."""
+    for index, (tail, head, length) in enumerate(arcs):
+        why = length_fault(length, unit)
+        if why:
+            return BadArc(n, index, (tail, head, length), f"from {tail!r} to {head!r}: {why}")
+    return ValueError("the lengths changed while they were read")
 
 
 def _entries(matrix: Any) -> tuple[tuple[int, ...], Any, Any, Any]:
@@ -70,15 +160,15 @@ def _entries(matrix: Any) -> tuple[tuple[int, ...], Any, Any, Any]:
     dense = numpy.asarray(matrix)
     if dense.dtype.kind not in "buif" or dense.ndim != 2:
         raise ValueError(f"an array of shape {dense.shape} and type {dense.dtype}: a matrix of numbers is needed")
-    if numpy.ma.isMaskedArray(matrix):
-        is_entry = ~numpy.asarray(numpy.ma.getmaskarray(matrix))
+    if isinstance(matrix, numpy.ma.MaskedArray):
+        is_entry = ~numpy.asarray(numpy.ma.getmaskarray(matrix))  # type: ignore[no-untyped-call]
     else:
         is_entry = numpy.isfinite(dense) & (dense != 0)
     row, column = numpy.nonzero(is_entry)
     return dense.shape, row, column, dense[row, column]
 
 
-def arcs_of_matrix(matrix: Any, unweighted: bool = False) -> tuple[int, Any]:
+def arcs_of_matrix(matrix: Any, unit: Optional[float], unweighted: bool = False) -> tuple[int, memoryview]:
     """The number of vertices of a matrix, and its arcs, of length 1 each where they are unweighted."""
     import numpy
 
@@ -92,14 +182,21 @@ def arcs_of_matrix(matrix: Any, unweighted: bool = False) -> tuple[int, Any]:
     # no walk is shorter by an arc that never ends, or by one of length 0 from a vertex to itself
     is_arc = ~((lengths == numpy.inf) | numpy.isnan(lengths) | ((lengths == 0) & (row == column)))
     row, column, lengths = row[is_arc], column[is_arc], lengths[is_arc]
-    wrong = numpy.flatnonzero(~((lengths >= 1) & (lengths <= MOST) & (lengths == numpy.floor(lengths))))
-    if len(wrong):
-        place, given = (int(row[wrong[0]]), int(column[wrong[0]])), lengths[wrong[0]]
-        stored = "" if given else " (to SciPy a 0 is an arc where it is stored, or not masked; eliminate_zeros() takes it away)"
-        raise ValueError(f"entry {place}: {given} {_NO_LENGTH}{stored}")
-    arcs = numpy.empty((len(lengths), 3), numpy.uint32)
-    arcs[:, 0], arcs[:, 1], arcs[:, 2] = row.astype(numpy.int64) + 1, column.astype(numpy.int64) + 1, lengths
-    return shape[0], arcs
+    whole = whole_lengths(lengths, None if unweighted else unit)
+    if whole is None:
+        raise _first_entry(zip(row.tolist(), column.tolist(), lengths), unit)
+    tails, heads = (in_bytes((it + numpy.uint32(1)).astype(numpy.uint32), "I") for it in (row, column))
+    return shape[0], joined(tails, heads, whole)
+
+
+def _first_entry(entries: Iterable[Any], unit: Optional[float]) -> Exception:
+    """Why the first entry that is no length isn't one."""
+    for row, column, given in entries:
+        why = length_fault(given.item(), unit)
+        if why:
+            stored = "" if given else " (to SciPy a 0 is an arc where it is stored, or not masked; eliminate_zeros() takes it away)"
+            return ValueError(f"entry {(row, column)}: {why}{stored}")
+    return ValueError("the matrix changed while it was read")
 
 
 def matrix_of_arcs(n: int, numbers: memoryview) -> Any:
@@ -132,6 +229,7 @@ def dijkstra(
     *,
     delta: Optional[int] = None,
     workers: int = 1,
+    unit: Optional[float] = None,
 ) -> Any:
     """Distances, and where asked for predecessors, as `scipy.sparse.csgraph.dijkstra` answers them.
 
@@ -139,7 +237,8 @@ def dijkstra(
     none.
 
     csgraph: a sparse, dense or masked matrix, read as SciPy reads it (`Graph.from_scipy`), or a Graph, whose vertex v is v - 1
-        here. Lengths are whole numbers from 1; fractions, negative lengths and lengths of 0 are refused by a ValueError.
+        here. Lengths are whole numbers from 1; fractions, negative lengths and lengths of 0 are refused by a ValueError. With a
+        `unit` they are any from half of it on.
     directed: where it is False, an arc leads both ways, and of one that is given both ways the shorter is taken.
     indices: the sources, in any shape, all vertices where it is None; -1 is the last vertex.
     return_predecessors: whether the answer is a tuple of distances and predecessors.
@@ -147,9 +246,11 @@ def dijkstra(
     limit: vertices that are farther are told as those that no walk leads to, and the search goes no farther.
     min_only: whether one row is answered, of the distances from the nearest source. The tuple has the sources too, then.
     delta, workers: as for `Graph.trees`; SciPy has neither. `min_only` is answered by one thread.
+    unit: the length that is told as 1, as for `Graph`, where `csgraph` is a matrix. Distances and `limit` are in the lengths' own unit.
 
-    Distances are SciPy's, and exact. Of several predecessors SciPy takes any, and this the smallest. TooFar tells its source and
-    vertex as `Graph.tree` and `Graph.nearest` do, from 1; with a limit nothing is too far.
+    Distances are SciPy's, and exact; with a unit they are those of the lengths' next whole numbers of units. Of several
+    predecessors SciPy takes any, and this the smallest. TooFar tells its source and vertex as `Graph.tree` and `Graph.nearest`
+    do, from 1; with a limit nothing is too far.
     """
     import numpy
 
@@ -157,34 +258,46 @@ def dijkstra(
         raise TypeError(f"directed is True or False, not {directed!r}; the sources are `indices`")
     if not limit >= 0:
         raise ValueError(f"limit must be >= 0, not {limit!r}")
-    graph = _asked(csgraph, directed, unweighted)
+    graph = _asked(csgraph, directed, unweighted, unit)
     if delta is not None and not 1 <= delta <= reach(graph.n):
-        raise BadDelta(graph.n, delta)
+        raise BadDelta(graph.n, delta, reach(graph.n))
     sources = _sources(indices, graph.n)
-    # distances are whole, and none is above the greatest
-    within = None if math.isinf(limit) else min(math.floor(limit), reach(graph.n))
+    within = _within(graph, limit)
     if min_only:
         found = _from_nearest(graph, sources.reshape(-1), within, delta)
     else:
-        rows = _from_each(graph, sources.reshape(-1), within, delta, workers)
-        found = tuple(it.reshape(*sources.shape, graph.n) for it in rows)
+        found = _from_each(graph, sources, within, delta, workers)
     return found if return_predecessors else found[0]
 
 
-def _asked(csgraph: Any, directed: bool, unweighted: bool) -> Any:
-    """The graph that SciPy's function would search."""
+def _within(graph: Any, limit: float) -> Optional[float]:
+    """SciPy's limit as a tree takes it. No distance is above the greatest, and without a unit each is whole."""
+    if math.isinf(limit):
+        return None
+    if graph.unit is not None:
+        return min(float(limit), float(graph._terms.told(reach(graph.n))))
+    return min(math.floor(limit), reach(graph.n))
+
+
+def _asked(csgraph: Any, directed: bool, unweighted: bool, unit: Any) -> Any:
+    """The graph that SciPy's function would search, its vertices by numbers."""
     import numpy
     from ._graph import Graph
 
     if isinstance(csgraph, Graph):
+        if unit is not None:
+            raise TypeError("unit is for a matrix: a Graph has its own")
         if directed and not unweighted:
-            return csgraph
-        n, arcs = csgraph.n, _rows(csgraph.arcs).copy()
+            return csgraph._numbered(csgraph.unit)
+        n, unit, arcs = csgraph.n, csgraph.unit, _rows(csgraph.arcs).copy()
         if unweighted:
             arcs[:, 2] = 1
     else:
-        n, arcs = arcs_of_matrix(csgraph, unweighted)
-    return Graph(n, arcs if directed else numpy.concatenate([arcs, arcs[:, [1, 0, 2]]]))
+        unit = unit_of(unit)
+        n, numbers = arcs_of_matrix(csgraph, unit, unweighted)
+        arcs = _rows(numbers)
+    both = arcs if directed else numpy.concatenate([arcs, arcs[:, [1, 0, 2]]])
+    return Graph(n, both)._numbered(None if unweighted else unit)
 
 
 def _sources(indices: Any, n: int) -> Any:
@@ -208,20 +321,20 @@ def _from_zero(vertices: memoryview) -> Any:
     return numpy.where(told == 0, _NONE, told.astype(numpy.int64) - 1).astype(numpy.int32)
 
 
-def _from_each(
-    graph: Any, sources: Any, within: Optional[int], delta: Optional[int], workers: int
-) -> tuple[Any, Any]:
-    """Distances and predecessors, a row for each source."""
+def _from_each(graph: Any, sources: Any, within: Optional[float], delta: Optional[int], workers: int) -> tuple[Any, ...]:
+    """Distances and predecessors, a row for each source, in the shape of these."""
     import numpy
 
-    distances = numpy.empty((len(sources), graph.n))
-    predecessors = numpy.empty((len(sources), graph.n), numpy.int32)
-    for row, tree in enumerate(graph.trees((sources + 1).tolist(), within=within, workers=workers, delta=delta)):
+    distances = numpy.empty((sources.size, graph.n))
+    predecessors = numpy.empty((sources.size, graph.n), numpy.int32)
+    asked = (sources.reshape(-1) + 1).tolist()
+    for row, tree in enumerate(graph.trees(asked, within=within, workers=workers, delta=delta)):
         distances[row], predecessors[row] = tree.floats(), _from_zero(tree.predecessors)
-    return distances, predecessors
+    shape = (*sources.shape, graph.n)
+    return distances.reshape(shape), predecessors.reshape(shape)
 
 
-def _from_nearest(graph: Any, sources: Any, within: Optional[int], delta: Optional[int]) -> tuple[Any, Any, Any]:
+def _from_nearest(graph: Any, sources: Any, within: Optional[float], delta: Optional[int]) -> tuple[Any, ...]:
     """Distances from the nearest source, predecessors, and which source that is."""
     forest = graph.nearest((sources + 1).tolist(), within=within, delta=delta)
     return forest.floats(), _from_zero(forest.predecessors), _from_zero(forest.sources)

@@ -20,53 +20,60 @@ def _again(kind: type[SptError], told: tuple[Any, ...]) -> SptError:
 
 
 class Fault(SptError, ValueError):
-    """The first fault of a text: its line, from 1, its kind, and the field that is out of range, if one is.
+    """The first fault of a text: its line, from 1, its kind, the field that is out of range, if one is, and a hint, if there is
+    one.
 
     The kinds are those that the program `spt` tells, and the fields 'U' and 'V' (vertices), 'W' (a length), 'N' and 'M' (how
-    many vertices and arcs).
+    many vertices and arcs). The hint, which is the second line of the message, says why or what to do, as the program's does.
     """
 
-    def __init__(self, name: str, line: int, number: int, field: Optional[str]) -> None:
-        self.line, self.kind, self.number, self.field = line, KINDS[number], number, field
-        super().__init__(f"{name}: line {line}: {number} {self.kind}{' ' + field if field else ''}")
+    def __init__(self, name: str, line: int, number: int, field: Optional[str], hint: Optional[str] = None) -> None:
+        self.line, self.kind, self.number, self.field, self.hint = line, KINDS[number], number, field, hint
+        first = f"{name}: line {line}: {number} {self.kind}{' ' + field if field else ''}"
+        super().__init__(f"{first}\n{hint}" if hint else first)
 
 
 class BadArc(SptError, ValueError):
-    """The arc at this index, from 0, leads from or to no vertex, or has length 0. Those before it are arcs."""
+    """The arc at this index, from 0, leads from or to no vertex, or its length is none. Those before it are arcs."""
 
-    def __init__(self, n: int, index: int, arc: tuple[int, ...]) -> None:
+    def __init__(self, n: int, index: int, arc: tuple[Any, ...], why: Optional[str] = None) -> None:
         self.index, self.arc = index, arc
-        super().__init__(f"arc {index}: {arc} is no arc of a graph of {n} vertices")
+        super().__init__(f"arc {index} (row {index + 1}): {why or f'{arc} is no arc of a graph of {n} vertices'}")
 
 
 class NoSuchVertex(SptError, ValueError):
-    """A source or target that is 0 or above the number of vertices."""
+    """A source or target that is no vertex: 0, or above the number of vertices, or no name of a graph that has names."""
 
-    def __init__(self, n: int, vertex: int) -> None:
+    def __init__(self, n: int, vertex: Any, has_names: bool = False) -> None:
         self.vertex = vertex
-        super().__init__(f"{vertex} is no vertex of a graph of {n}")
+        if has_names:
+            told = f"{vertex!r} is no name of a graph of {n} vertices, which has names (Graph.names)"
+        else:
+            told = f"{vertex} is no vertex of a graph of {n}{': vertices are numbered from 1' if vertex == 0 else ''}"
+        super().__init__(told)
 
 
 class BadDelta(SptError, ValueError):
     """A width of a bucket below 1 or above `reach(n)`."""
 
-    def __init__(self, n: int, delta: int) -> None:
+    def __init__(self, n: int, delta: int, most: int) -> None:
         self.delta = delta
-        super().__init__(f"delta {delta} is out of range for a graph of {n} vertices")
+        super().__init__(f"delta {delta} is out of range: in a graph of {n} vertices it is from 1 to {most}")
 
 
 class BadLimit(SptError, ValueError):
-    """A distance below 0 or above `reach(n)`, within which something is asked for."""
+    """A distance below 0 or above `reach(n)`, in the unit of the graph, within which something is asked for."""
 
-    def __init__(self, n: int, limit: int) -> None:
+    def __init__(self, n: int, limit: Any, most: Any) -> None:
         self.limit = limit
-        super().__init__(f"within {limit} is out of range for a graph of {n} vertices")
+        super().__init__(f"within {limit} is out of range: in a graph of {n} vertices it is from 0 to {most}")
 
 
 class TooFar(SptError, ArithmeticError):
     """The distance of `vertex`, the smallest such, is above `reach(n)`, so this source has no tree. `source` is None where the
     nearest of several sources is asked for."""
 
-    def __init__(self, source: Optional[int], vertex: int) -> None:
+    def __init__(self, source: Any, vertex: Any, unit: Optional[float] = None) -> None:
         self.source, self.vertex = source, vertex
-        super().__init__(f"from {'the nearest source' if source is None else source}, vertex {vertex} is too far")
+        more = "" if unit is None else f": take a greater unit than {unit!r}, or `within`"
+        super().__init__(f"from {'the nearest source' if source is None else source}, vertex {vertex} is too far{more}")

@@ -1,52 +1,77 @@
 """This package in the place of NetworkX's functions of the same names, for its own tests."""
 
+import contextlib
+import math
+
 import networkx
 import spt
 
+from asked import Asked
 from networkx.algorithms.shortest_paths.weighted import _weight_function
-from stand_in import refuse
 
 
-def converted(G, weight):
-    """The graph by NetworkX's own reading of weights, and the number of each node."""
+def lengths_of(G, weight):
+    """The length of each edge by NetworkX's own reading of weights, of several the least; without those that are hidden."""
     lengths = _weight_function(G, weight)
-    told = (lengths(tail, head, data) for tail, row in G.adjacency() for head, data in row.items())
-    refuse([length for length in told if length is not None])
-    graph, nodes = spt.Graph.from_networkx(G, lengths)
-    return graph, nodes, {node: at for at, node in enumerate(nodes, 1)}
+    told = {(tail, head): lengths(tail, head, data) for tail, row in G.adjacency() for head, data in row.items()}
+    return {ends: length for ends, length in told.items() if length is not None}
 
 
-def demand(G, *nodes):
-    for node in nodes:
-        if node not in G:
-            raise networkx.NodeNotFound(f"Node {node} not found in graph")
+def converted(G, weight, *kinds):
+    """The graph by NetworkX's own reading of weights."""
+    lengths = lengths_of(G, weight)
+    return spt.Graph.from_networkx(G, lambda tail, head, data: lengths.get((tail, head)), unit=Asked.look(list(lengths.values()), *kinds))
 
 
-def of_sources(G, sources, cutoff, weight):
-    """The distance and the path of each node from the nearest source."""
-    graph, nodes, number = converted(G, weight)
-    found = {}
-    for tree in graph.trees(number[source] for source in sources):
-        told = {node: tree.pair(number[node]) for node in nodes}
-        near = {node for node in nodes if told[node] and (cutoff is None or told[node].distance <= cutoff)}
-        nearer = {node for node in near if node not in found or told[node].distance < found[node][0]}
-        paths = {node: [nodes[vertex - 1] for vertex in tree.path(number[node])] for node in nearer}
-        found.update((node, (told[node].distance, paths[node])) for node in nearer)
-    return found
+@contextlib.contextmanager
+def absent():
+    """A node that isn't there, as NetworkX tells it."""
+    try:
+        yield
+    except spt.NoSuchVertex as told:
+        raise networkx.NodeNotFound(f"Node {told.vertex} not found in graph") from told
 
 
-def multi_source_dijkstra(G, sources, target=None, cutoff=None, weight="weight"):
-    if not sources:
-        raise ValueError("sources must not be empty")
-    demand(G, *sources)
-    if target in sources:
-        return 0, [target]
-    found = of_sources(G, sources, cutoff, weight)
+def limited(graph, cutoff):
+    """NetworkX's cutoff as a limit of ours."""
+    if cutoff is None:
+        return {}
+    most = spt.reach(graph.n) * (graph.unit or 1)
+    return {"within": min(cutoff, most) if graph.unit else min(math.floor(cutoff), most)}
+
+
+def told(graph, found):
+    """The distance and the path of each node that a tree or a forest reaches, the nearest first."""
+    distances = found.floats() if graph.unit else found.distances
+    near = [(distances[at], node) for at, node in enumerate(graph.names) if found.distances[at] != spt.UNREACHED]
+    return {node: (distance, found.path(node)) for distance, node in sorted(near, key=lambda it: it[0])}
+
+
+def from_sources(G, sources, cutoff, weight):
+    graph = converted(G, weight, "nearest", *(["within"] if cutoff is not None else []))
+    with absent():
+        return told(graph, graph.nearest(sources, **limited(graph, cutoff)))
+
+
+def from_source(G, source, cutoff, weight):
+    graph = converted(G, weight, *(["within"] if cutoff is not None else []))
+    with absent():
+        return told(graph, graph.tree(source, **limited(graph, cutoff)))
+
+
+def chosen(found, target):
+    """What NetworkX answers of a target, or of all nodes."""
     if target is None:
         return tuple({node: told[at] for node, told in found.items()} for at in range(2))
     if target not in found:
         raise networkx.NetworkXNoPath(f"No path to {target}.")
     return found[target]
+
+
+def multi_source_dijkstra(G, sources, target=None, cutoff=None, weight="weight"):
+    if not sources:
+        raise ValueError("sources must not be empty")
+    return chosen(from_sources(G, sources, cutoff, weight), target)
 
 
 def multi_source_dijkstra_path(G, sources, cutoff=None, weight="weight"):
@@ -57,8 +82,17 @@ def multi_source_dijkstra_path_length(G, sources, cutoff=None, weight="weight"):
     return multi_source_dijkstra(G, sources, None, cutoff, weight)[0]
 
 
+def voronoi_cells(G, center_nodes, weight="weight"):
+    graph = converted(G, weight, "nearest")
+    forest, cells = graph.nearest(center_nodes), {}
+    for node in graph.names:
+        source = forest.source(node)
+        cells.setdefault("unreachable" if source is None else source, set()).add(node)
+    return cells
+
+
 def single_source_dijkstra(G, source, target=None, cutoff=None, weight="weight"):
-    return multi_source_dijkstra(G, [source], target, cutoff, weight)
+    return chosen(from_source(G, source, cutoff, weight), target)
 
 
 def single_source_dijkstra_path(G, source, cutoff=None, weight="weight"):
@@ -69,24 +103,31 @@ def single_source_dijkstra_path_length(G, source, cutoff=None, weight="weight"):
     return single_source_dijkstra(G, source, None, cutoff, weight)[0]
 
 
+def dijkstra_predecessor_and_distance(G, source, cutoff=None, weight="weight"):
+    """With all predecessors of a node, of which ours is one."""
+    found, before = from_source(G, source, cutoff, weight), {}
+    for (tail, head), length in lengths_of(G, weight).items():
+        if tail in found and head in found and head != source and found[tail][0] + length == found[head][0]:
+            before.setdefault(head, []).append(tail)
+    assert all(path[-2] in before[node] for node, (_, path) in found.items() if node != source)
+    return {source: [], **before}, {node: distance for node, (distance, _) in found.items()}
+
+
 def dijkstra_path(G, source, target, weight="weight"):
     return single_source_dijkstra(G, source, target, None, weight)[1]
 
 
 def bidirectional_dijkstra(G, source, target, weight="weight"):
-    demand(G, source, target)
-    graph, nodes, number = converted(G, weight)
-    told = graph.pair(number[source], number[target])
-    if told is None:
+    graph = converted(G, weight)
+    with absent():
+        found = graph.pair(source, target)
+    if found is None:
         raise networkx.NetworkXNoPath(f"No path between {source} and {target}.")
-    return told.distance, [nodes[vertex - 1] for vertex in graph.path(number[source], number[target])]
+    return found.distance * (graph.unit or 1), graph.path(source, target)
 
 
 def dijkstra_path_length(G, source, target, weight="weight"):
-    demand(G, source)
-    if target not in G:
-        raise networkx.NetworkXNoPath(f"Node {target} not reachable from {source}")
-    return bidirectional_dijkstra(G, source, target, weight)[0]
+    return single_source_dijkstra(G, source, target, None, weight)[0]
 
 
 def all_pairs_dijkstra(G, cutoff=None, weight="weight"):

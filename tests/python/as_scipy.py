@@ -1,12 +1,14 @@
 """This package in the place of SciPy's functions, for its own tests."""
 
+import math
+
 import numpy
 import spt
 
+from asked import Asked
 from scipy.sparse import issparse
 from scipy.sparse.csgraph import csgraph_from_dense, csgraph_to_dense
 from scipy.sparse.csgraph import shortest_path as theirs
-from stand_in import Run, refuse
 
 
 def only_ties(csgraph, directed, ours, theirs):
@@ -20,19 +22,22 @@ def only_ties(csgraph, directed, ours, theirs):
         assert mine < other, (source, head)
 
 
-def look(csgraph, unweighted):
-    """Leaves the test out where the lengths of its graph are none here."""
+def look(csgraph, unweighted, *kinds):
+    """The unit of the lengths of a graph, None where they are whole."""
     if issparse(csgraph):
         told = csgraph.tocsr().data
     else:
         dense = numpy.ma.filled(numpy.ma.asarray(csgraph).astype(float), numpy.inf)
         told = dense[numpy.isfinite(dense) & (dense != 0)]
-    refuse([] if unweighted else told)
+    return Asked.look([] if unweighted else numpy.unique(told), *kinds)
 
 
-def dijkstra(csgraph, *given, **named):
-    look(csgraph, named.get("unweighted"))
-    return spt.dijkstra(csgraph, *given, **named)
+def dijkstra(
+    csgraph, directed=True, indices=None, return_predecessors=False, unweighted=False, limit=math.inf, min_only=False
+):
+    kinds = [name for name, is_so in (("within", limit < math.inf), ("nearest", min_only)) if is_so]
+    unit = look(csgraph, unweighted, *kinds)
+    return spt.dijkstra(csgraph, directed, indices, return_predecessors, unweighted, limit, min_only, unit=unit)
 
 
 def shortest_path(
@@ -41,9 +46,8 @@ def shortest_path(
     """Ours where Dijkstra's algorithm is asked for or none is named, else SciPy's."""
     if method not in ("auto", "D"):
         return theirs(csgraph, method, directed, return_predecessors, unweighted, overwrite, indices)
-    look(csgraph, unweighted)
-    ours = spt.dijkstra(csgraph, directed, indices, return_predecessors, unweighted)
-    if not (Run.has_ties and return_predecessors):
+    ours = spt.dijkstra(csgraph, directed, indices, return_predecessors, unweighted, unit=look(csgraph, unweighted))
+    if not (Asked.has_ties and return_predecessors):
         return ours
     other = theirs(csgraph, "D", directed, return_predecessors, unweighted, overwrite, indices)
     only_ties(csgraph, directed, ours, other)

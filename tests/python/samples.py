@@ -10,6 +10,12 @@ DIAMOND = [(1, 2, 3), (1, 3, 3), (2, 4, 2), (3, 4, 2), (1, 4, 6)]
 LONGEST = 2**32 - 1
 
 
+def read(page):
+    """The text of a file of the repository."""
+    with open(f"{HOME}/{page}") as it:
+        return it.read()
+
+
 def by_lot(n, m, seed, longest=1000):
     """The numbers of m arcs between n vertices, three for each."""
     draw = random.Random(seed)

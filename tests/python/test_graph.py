@@ -45,9 +45,9 @@ if __name__ == "__main__":
             except spt.SptError as told:
                 print(type(told).__name__, told, sorted(vars(told)))
 """
-FROM_POOL = """BadArc arc 0: (1, 3, 1) is no arc of a graph of 2 vertices ['arc', 'index']
-NoSuchVertex 0 is no vertex of a graph of 4201 ['vertex']
-BadDelta delta 18446744073709551616 is out of range for a graph of 4201 vertices ['delta']
+FROM_POOL = """BadArc arc 0 (row 1): 3 is no vertex of a graph of 2 ['arc', 'index']
+NoSuchVertex 0 is no vertex of a graph of 4201: vertices are numbered from 1 ['vertex']
+BadDelta delta 18446744073709551616 is out of range: in a graph of 4201 vertices it is from 1 to 17592186044414 ['delta']
 TooFar from 1, vertex 4098 is too far ['source', 'vertex']
 """
 # a Pool that can't take an exception back waits for ever
@@ -267,18 +267,35 @@ class Arcs(unittest.TestCase):
         ):
             with self.assertRaises(ValueError) as told:
                 spt.Graph(4, arcs)
-            self.assertRegex(str(told.exception), rf"^arc {index} is .*arcs are triples")
+            self.assertRegex(str(told.exception), rf"^arc {index} \(row {index + 1}\) is .*arcs are triples")
         for arcs in ([1, 2, 3], [(1, 2, 3), 4], 7, None):
             with self.assertRaises(TypeError):
                 spt.Graph(4, arcs)
 
-    def test_no_copy(self):
-        flat = array.array("I", [1, 2, 3])
-        graph = spt.Graph(2, flat)
-        flat[2] = 9
-        self.assertEqual(graph.arcs[2], 9)
-        with self.assertRaises(BufferError):
-            flat.append(1)
+    def test_the_list_may_change(self):
+        flat = array.array("I", sum(samples.DIAMOND, ()))
+        graph, wanted = spt.Graph(4, flat), spt.Graph(4, samples.DIAMOND)
+        flat[2] *= 10
+        flat.append(1)
+        for it in (graph, copy.copy(graph), copy.deepcopy(graph), pickle.loads(pickle.dumps(graph))):
+            self.assertEqual((it.arcs, it.tree(1)), (wanted.arcs, wanted.tree(1)))
+            self.assertIsNone(it.check(it.tree(1)))
+        buffers = []
+        text = pickle.dumps(graph, 5, buffer_callback=buffers.append)
+        outside = bytearray(buffers[0])
+        again = pickle.loads(text, buffers=[outside])
+        outside[8] = 0
+        self.assertEqual(again.arcs, wanted.arcs)
+
+    def test_arcs_are_only_read(self):
+        flat = array.array("I", sum(samples.DIAMOND, ()))
+        read = spt.Graph.read(io.BytesIO(b"p sp 2 1\na 1 2 3\n"))
+        for graph in (spt.Graph(4, flat), spt.Graph(4, samples.DIAMOND), spt.Graph(4, array.array("q", flat)), read, pickle.loads(pickle.dumps(read))):
+            self.assertTrue(graph.arcs.readonly)
+            with self.assertRaises(TypeError):
+                graph.arcs[2] = 1
+        for graph in (spt.Graph(2), spt.Graph(2, unit=0.5), spt.Graph(2, array.array("I")), pickle.loads(pickle.dumps(spt.Graph(2)))):
+            self.assertTrue(graph.arcs.readonly)
 
     def test_order_plays_no_part(self):
         self.assertDiamond(samples.DIAMOND[::-1])
@@ -292,11 +309,15 @@ class Refusals(unittest.TestCase):
         return str(told.exception)
 
     def test_arcs(self):
-        for bad in ((0, 2, 1), (2, 0, 1), (5, 1, 1), (1, 5, 1), (1, 2, 0)):
+        zero = "0 is no vertex of a graph of 4: vertices are numbered from 1; where yours begin with 0, add 1 to each"
+        five, length = "5 is no vertex of a graph of 4", "0 is no length: whole numbers from 1 to 4294967295 are"
+        for bad, why in (((0, 2, 1), zero), ((2, 0, 1), zero), ((5, 1, 1), five), ((1, 5, 1), five), ((1, 2, 0), length)):
             for place in range(6):
                 arcs = [*samples.DIAMOND[:place], bad, *samples.DIAMOND[place:]]
-                text = self.refused(spt.BadArc, lambda: spt.Graph(4, arcs), index=place, arc=bad)
-                self.assertEqual(text, f"arc {place}: {bad} is no arc of a graph of 4 vertices")
+                flat = array.array("I", sum(arcs, ()))
+                for given in (arcs, flat, memoryview(flat).cast("B").cast("I", (6, 3))):
+                    text = self.refused(spt.BadArc, lambda: spt.Graph(4, given), index=place, arc=bad)
+                    self.assertEqual(text, f"arc {place} (row {place + 1}): {why}")
 
     def test_numbers(self):
         self.refused(ValueError, lambda: spt.Graph(4, [(1, 2)]))
@@ -313,7 +334,8 @@ class Refusals(unittest.TestCase):
         for vertex in (0, -1, 5, 2**32, 2**32 + 1):
             for call in (graph.tree, lambda it: graph.pair(1, it), lambda it: graph.path(1, it), lambda it: graph.trees([1, it])):
                 text = self.refused(spt.NoSuchVertex, lambda: call(vertex), vertex=vertex)
-                self.assertEqual(text, f"{vertex} is no vertex of a graph of 4")
+                more = ": vertices are numbered from 1" if vertex == 0 else ""
+                self.assertEqual(text, f"{vertex} is no vertex of a graph of 4{more}")
 
     def test_delta(self):
         graph = spt.Graph(4, samples.DIAMOND)
@@ -359,13 +381,6 @@ class Copies(unittest.TestCase):
             for twin in self.again(graph):
                 self.assertEqual((type(twin), twin.n, twin.arcs.tolist()), (spt.Graph, 4, graph.arcs.tolist()))
                 self.assertEqual(list(twin.trees([1, 4])), list(graph.trees([1, 4])))
-
-    def test_deep_copies_stand_alone(self):
-        arcs = array.array("I", [1, 2, 3])
-        graph = spt.Graph(2, arcs)
-        alone, beside = copy.deepcopy(graph), copy.copy(graph)
-        arcs[2] = 9
-        self.assertEqual((alone.arcs[2], beside.arcs[2]), (3, 9))
 
     def test_trees(self):
         trees = list(spt.Graph(4, samples.DIAMOND).trees([1, 4]))
@@ -442,7 +457,8 @@ class Texts(unittest.TestCase):
                 spt.Graph.read(io.BytesIO(text))
             got = told.exception
             self.assertEqual((got.line, got.number, got.kind, got.field), (line, number, kind, field), text)
-            self.assertEqual(str(got), f"gr: line {line}: {number} {kind}{' ' + field if field else ''}")
+            first = f"gr: line {line}: {number} {kind}{' ' + field if field else ''}"
+            self.assertEqual(str(got), f"{first}\n{got.hint}")
 
 
 class Loading(unittest.TestCase):

@@ -105,9 +105,10 @@ class Near(unittest.TestCase):
                 for workers in (1, 2, 7):
                     told = self.graph.matrix([1, 4], [4, 1, 4], workers=workers)
                     self.assertEqual(told.tolist(), [[5, 0, 5], [0, FAR, 0]])
-                    self.assertEqual(memoryview(told).shape, (2, 3))
+                    self.assertEqual((told.shape, len(told), repr(told)), ((2, 3), 2, "Matrix of 2 sources and 3 targets"))
+                    self.assertEqual((told.sources, told.targets, told[0, 2], told[1, 0]), ((1, 4), (4, 1, 4), 5, 0))
                 for sources, targets in (([], [1]), ([1, 2], []), ([], [])):
-                    self.assertEqual(memoryview(self.graph.matrix(sources, targets, workers=2)).nbytes, 0)
+                    self.assertEqual(self.graph.matrix(sources, targets, workers=2).nbytes, 0)
 
     def test_by_lot(self):
         for seed in range(40):

@@ -1,5 +1,6 @@
 """Beside SciPy and NetworkX, where they are installed: the same distances on graphs drawn by lot, the smallest predecessors."""
 
+import copy
 import inspect
 import itertools
 import random
@@ -97,12 +98,22 @@ class SciPy(unittest.TestCase):
     def test_no_copies(self):
         arcs = numpy.array(samples.DIAMOND, numpy.uint32)
         graph = spt.Graph(4, arcs)
-        self.assertTrue(numpy.shares_memory(numpy.asarray(graph.arcs), arcs))
+        self.assertTrue(numpy.shares_memory(numpy.asarray(graph.arcs), numpy.asarray(graph.arcs)))
         distances = graph.tree(1).distances
         self.assertTrue(numpy.shares_memory(numpy.asarray(distances), numpy.asarray(distances)))
         self.assertEqual(numpy.asarray(distances).dtype, numpy.uint64)
         arcs.flags.writeable = False
         self.assertEqual(spt.Graph(4, arcs).tree(1).distances, distances)
+
+    def test_arrays_may_change(self):
+        for dtype in ("uint32", "int64"):
+            arcs = numpy.array([[1, 2, 5], [2, 3, 5]], dtype)
+            graph = spt.Graph(3, arcs)
+            arcs[:, 2] *= 10
+            tree = graph.tree(1)
+            self.assertEqual((list(tree.distances), graph.check(tree)), ([0, 5, 10], None))
+            self.assertEqual(copy.deepcopy(graph).tree(1), tree)
+            self.assertFalse(numpy.asarray(graph.arcs).flags.writeable)
 
     def test_distances(self):
         for seed, longest in ((1, 1000), (2, 2), (3, samples.LONGEST)):
@@ -168,7 +179,7 @@ class Dijkstra(unittest.TestCase):
         told = re.match(r"\s*dijkstra\((.*?)\)\n", scipy.sparse.csgraph.dijkstra.__doc__, re.S)[1]
         wanted = [it.split("=") for it in re.split(r",\s*", told)]
         ours = list(inspect.signature(spt.dijkstra).parameters.values())
-        self.assertEqual([it.name for it in ours], [it[0] for it in wanted] + ["delta", "workers"])
+        self.assertEqual([it.name for it in ours], [it[0] for it in wanted] + ["delta", "workers", "unit"])
         self.assertEqual({it.kind for it in ours[len(wanted) :]}, {inspect.Parameter.KEYWORD_ONLY})
         for it, (_, *default) in zip(ours, wanted):
             self.assertEqual(it.default, eval(default[0], {"np": numpy}) if default else inspect.Parameter.empty)
@@ -180,28 +191,6 @@ class Dijkstra(unittest.TestCase):
         self.same(given, True, [0, 2], True, False, 2, True)
         self.assertEqual(spt.dijkstra(given, True, [0, 2]).tolist(), [[0, 1, 2, 2], [2, 3, 0, 3]])
         self.assertEqual(spt.dijkstra(given, False)[3].tolist(), [2, 1, 3, 0])
-
-    def test_every_choice(self):
-        flag, sources, limits = (True, False), (None, 3, -1, [0, 7, 7], [[1, 2], [3, 4]], []), (numpy.inf, 12.5, 7, 0)
-        choices = itertools.product(flag, sources, flag, flag, limits, flag)
-        forms = itertools.cycle([numpy.asarray, scipy.sparse.csr_matrix, scipy.sparse.csc_matrix, scipy.sparse.coo_matrix])
-        count = 0
-        for seed, (directed, indices, before, unweighted, limit, nearest) in enumerate(choices):
-            # (SciPy has no answer for min_only without indices)
-            if not (nearest and indices is None):
-                given = next(forms)(self.matrix(24, seed))
-                self.same(given, directed, indices, before, unweighted, limit, nearest)
-                count += 1
-        self.assertEqual(count, 2 * 11 * 2 * 2 * 4)
-
-    def test_limits(self):
-        graph = spt.Graph(500, samples.by_lot(500, 2000, 7))
-        matrix = graph.to_scipy()
-        for limit in (0, 0.5, 99, 100, 100.5, 1000, 1e300, numpy.float32(700.25), numpy.int64(700), 10**30):
-            wanted = scipy.sparse.csgraph.dijkstra(matrix, indices=[3, 4, 3], limit=float(limit))
-            self.assertTrue((spt.dijkstra(graph, indices=[3, 4, 3], limit=limit, workers=2) == wanted).all())
-            wanted = scipy.sparse.csgraph.dijkstra(matrix, indices=[3, 4, 3], limit=float(limit), min_only=True)
-            self.assertTrue((spt.dijkstra(graph, indices=[3, 4, 3], limit=limit, min_only=True) == wanted).all())
 
     def test_matrices_and_forests_of_numpy(self):
         graph = spt.Graph(500, samples.by_lot(500, 2000, 8))
@@ -322,11 +311,11 @@ class NetworkX(unittest.TestCase):
         theirs = networkx.MultiDiGraph()
         theirs.add_nodes_from(range(N, 0, -1))
         theirs.add_weighted_edges_from(samples.triples(samples.by_lot(N, M, 6)))
-        graph, nodes = spt.Graph.from_networkx(theirs)
-        self.assertEqual(nodes, list(range(N, 0, -1)))
+        graph = spt.Graph.from_networkx(theirs)
+        self.assertEqual((graph.names, graph.m), (tuple(range(N, 0, -1)), M))
         for tree in graph.trees(SOURCES, workers=2):
-            wanted = networkx.single_source_dijkstra_path_length(theirs, nodes[tree.source - 1])
-            found = {nodes[place]: distance for place, distance in enumerate(tree.distances) if distance != spt.UNREACHED}
+            wanted = networkx.single_source_dijkstra_path_length(theirs, tree.source)
+            found = {node: distance for node, distance in zip(graph.names, tree.distances) if distance != spt.UNREACHED}
             self.assertEqual(found, wanted)
 
     def test_undirected_and_names(self):
@@ -334,11 +323,10 @@ class NetworkX(unittest.TestCase):
         theirs.add_edge("north", "east", metres=3)
         theirs.add_edge("east", "south", metres=4.0)
         theirs.add_edge("south", "south", metres=1)
-        graph, nodes = spt.Graph.from_networkx(theirs, weight="metres")
+        graph = spt.Graph.from_networkx(theirs, weight="metres")
         self.assertEqual((graph.n, graph.m), (3, 5))
-        path = graph.path(nodes.index("south") + 1, nodes.index("north") + 1)
-        self.assertEqual([nodes[vertex - 1] for vertex in path], ["south", "east", "north"])
-        self.assertEqual(set(spt.Graph.from_networkx(theirs, weight=None)[0].arcs.tolist()[2::3]), {1})
+        self.assertEqual(graph.path("south", "north"), ["south", "east", "north"])
+        self.assertEqual(set(spt.Graph.from_networkx(theirs, weight=None).arcs.tolist()[2::3]), {1})
         for wrong in (0.5, 0, -1, 2**32, float("nan"), float("inf"), "3", "three", 1j, [1]):
             theirs.add_edge("north", "south", metres=wrong)
             with self.assertRaises(ValueError) as told:
@@ -356,6 +344,40 @@ class NetworkX(unittest.TestCase):
                 self.assertIn("edge ('east', 'south') has no 'metres'", str(told.exception))
         with self.assertRaisesRegex(ValueError, "has no 'weight'"):
             spt.Graph.from_networkx(networkx.path_graph(3))
+
+    def test_forms_of_the_docs(self):
+        # each function of docs/EMBEDDING.md, for the kinds of graphs that stand beside it there
+        page = samples.read("docs/EMBEDDING.md")
+        forms = re.findall(r"^(lambda tail, head, data: .*?) +# (.*)$", page, re.M)
+        self.assertEqual([kinds for _, kinds in forms], ["Graph, DiGraph", "MultiGraph, MultiDiGraph"])
+        for form, kinds in forms:
+            self.assertIn(form, " ".join(spt.Graph.from_networkx.__doc__.split()))
+            for kind in kinds.split(", "):
+                theirs = getattr(networkx, kind)()
+                theirs.add_weighted_edges_from([("a", "b", 9), ("b", "c", 5), ("a", "c", 15)])
+                theirs.add_edge("c", "d")
+                if theirs.is_multigraph():
+                    theirs.add_edge("a", "b", weight=7)
+                graph = spt.Graph.from_networkx(theirs, eval(form))
+                tree = graph.tree("a")
+                found = {node: tree.pair(node).distance for node in graph.names}
+                self.assertEqual(found, networkx.single_source_dijkstra_path_length(theirs, "a"))
+                self.assertEqual(found["d"], 13 if theirs.is_multigraph() else 15)
+
+    def test_answers_that_are_no_numbers(self):
+        for kind in (networkx.Graph, networkx.DiGraph, networkx.MultiGraph, networkx.MultiDiGraph):
+            theirs = kind()
+            theirs.add_edge("north", "south", weight=3)
+            for wrong in ("3", "fast", b"3", [3], (3,), {"weight": 3}, 1j, float("nan"), float("inf"), -1, 0, 2**32, 0.5, lambda: 3):
+                with self.assertRaises(ValueError) as told:
+                    spt.Graph.from_networkx(theirs, lambda tail, head, data: wrong)
+                self.assertIn(f"edge ('north', 'south'): {wrong!r} is no length", str(told.exception))
+            if numpy:
+                for wrong in (numpy.array([3, 3]), numpy.array([[3]]), numpy.float64(0.5)):
+                    with self.assertRaisesRegex(ValueError, r"^edge \('north', 'south'\): .* is no length"):
+                        spt.Graph.from_networkx(theirs, lambda tail, head, data: wrong)
+                graph = spt.Graph.from_networkx(theirs, lambda tail, head, data: numpy.float32(3))
+                self.assertEqual(graph.arcs[2], 3)
 
     def test_functions(self):
         # of the ends and the attributes, some edges left out, beside NetworkX's own Dijkstra
@@ -376,11 +398,11 @@ class NetworkX(unittest.TestCase):
             ends = lambda: draw.randrange(len(theirs))  # noqa: E731
             theirs.add_weighted_edges_from([(ends(), ends(), draw.randint(1, 20)) for _ in range(3 * len(theirs))])
             for weight in (by_ends, by_data, "weight", None):
-                graph, nodes = spt.Graph.from_networkx(theirs, weight)
-                source = draw.choice(nodes)
-                tree = graph.tree(nodes.index(source) + 1)
+                graph = spt.Graph.from_networkx(theirs, weight)
+                source = draw.choice(graph.names)
+                tree = graph.tree(source)
                 wanted = networkx.single_source_dijkstra_path_length(theirs, source, weight=weight)
-                found = {node: told.distance for node in nodes if (told := tree.pair(nodes.index(node) + 1))}
+                found = {node: told.distance for node in graph.names if (told := tree.pair(node))}
                 self.assertEqual(found, wanted)
 
 

@@ -1,0 +1,96 @@
+"""The second line of a fault: what the program `spt` says of a line of a graph's file that is refused, and why."""
+
+from __future__ import annotations
+
+import re
+
+from typing import Optional
+
+from ._library import MOST_VERTICES
+
+_LINES = "a .gr file has one `p sp N M`, and `a U V W` for each of its M arcs"
+_COUNT = "M of the line `p sp N M` is the number of `a` lines"
+_LENGTHS = "lengths are whole numbers from 1 to 4294967295"
+_SPELLING = "numbers are digits alone, with no sign, no point and no 0 before them"
+_COMMENT = "comments begin with `c`, and a blank parts it from the rest"
+_FROM_ZERO = "vertices are numbered from 1; where yours begin with 0, add 1 to each"
+_LONG = "a line has at most 1024 bytes, and ends with an LF"
+_MOST_ARCS = 1 << 30
+# how files begin that are none of text, what they are, and what reads them
+_FORMS = (
+    (b"\x1f\x8b", "compressed by gzip", "gzip.open(path), or a name that ends in .gz"),
+    (b"BZh", "compressed by bzip2", "bz2.open(path)"),
+    (b"\xfd7zXZ\0", "compressed by xz", "lzma.open(path)"),
+    (b"\x28\xb5\x2f\xfd", "compressed by zstd", "its text"),
+    (b"PK\x03\x04", "compressed by zip", "zipfile.ZipFile(path).open(name)"),
+    (b"\xef\xbb\xbf", "begins with a byte order mark", "what comes after it"),
+    (b"\xff\xfe", "text in UTF-16", "it in UTF-8"),
+    (b"\xfe\xff", "text in UTF-16", "it in UTF-8"),
+)
+# how lines of other files look
+_OTHERS = (
+    (r"p +aux +\S+ +ss\b|s +\S+$", "a .ss file"),
+    (r"p +pairs\b|q +\S+ +\S+$", "a file of pairs"),
+    (r"p +spt\b|v( +\S+){3}$|e +\S+$", "a tree file"),
+    (r"p +rep\b", "a replay file"),
+    (r"p +off\b", "a file of offers"),
+)
+
+
+def second_line(text: bytes, number: int, kind: str, field: Optional[str]) -> Optional[str]:
+    """What is said of the line with this number, from 1, of a graph's text that has this fault; None where nothing is."""
+    for begin, what, reader in _FORMS:
+        if text.startswith(begin):
+            return f"{what}; give {reader}"
+    lines = text.split(b"\n", number)
+    line = lines[number - 1] if number <= len(lines) else b""
+    vertices = next((int(it[1]) for it in (re.match(rb"\s*p\s+sp\s+(\d+)\s", it) for it in lines[: number - 1]) if it), None)
+    if kind == "OutOfRange":
+        return _of_range(line, field, vertices)
+    if kind in ("BadLine", "NoProblem"):
+        return _of_form(line, vertices)
+    return {"LongLine": _LONG, "SecondProblem": _LINES, "TooMany": _COUNT, "TooFew": _COUNT}.get(kind)
+
+
+def _of_vertex(vertices: Optional[int]) -> str:
+    return f"vertices are numbered from 1 to {'the N of the line `p`' if vertices is None else vertices}"
+
+
+def _of_range(line: bytes, field: Optional[str], vertices: Optional[int]) -> Optional[str]:
+    """Of a number that is out of range."""
+    ranges = {"N": f"N is a number from 1 to {MOST_VERTICES}", "M": f"M is a number from 0 to {_MOST_ARCS}", "W": _LENGTHS}
+    if field in ranges:
+        return ranges[field]
+    fields = line.split()
+    is_zero = len(fields) == 4 and fields[1 if field == "U" else 2] == b"0"
+    return _FROM_ZERO if is_zero else _of_vertex(vertices)
+
+
+def _of_form(line: bytes, vertices: Optional[int]) -> str:
+    """Of a line that has no form, or comes before the problem line."""
+    try:
+        told = " ".join(line.decode().split())
+    except UnicodeDecodeError:
+        told = ""
+    if re.match(r"[#%;]|//|/\*|c\S", told):
+        return _COMMENT
+    for form, file in _OTHERS:
+        if re.match(form, told):
+            return f"a line of {file}, where a .gr file is wanted"
+    if vertices is None and told[:1] != "p":
+        return f"no `p sp N M` line; {_LINES}"
+    fields = told.split(" ")
+    first = {"p": 2, "a": 1}.get(fields[0])
+    wrong = [place for place in range(first or 4, 4) if len(fields) == 4 and not re.fullmatch("0|[1-9][0-9]*", fields[place])]
+    return _of_number(fields, wrong[0], vertices) if wrong else _LINES
+
+
+def _of_number(fields: list[str], place: int, vertices: Optional[int]) -> str:
+    """Of a field that is no number."""
+    field = fields[place]
+    if re.fullmatch(r"\d*|\+.*", field, re.ASCII) or fields[0] == "p":
+        return _SPELLING
+    if place != 3:
+        return _of_vertex(vertices)
+    is_fraction = "." in field and not field.startswith("-")
+    return f"{_LENGTHS}; multiply them all, as by 1000" if is_fraction else _LENGTHS

@@ -1,0 +1,97 @@
+"""Rows that threads find in short calls of the library, which an interrupt ends soon, and which tell how far they are."""
+
+from __future__ import annotations
+
+import threading
+
+from collections import deque
+from concurrent.futures import Future
+from queue import SimpleQueue
+from time import perf_counter
+from typing import Any, Callable, Generic, Iterator, Optional, TypeVar
+
+T = TypeVar("T")
+# what is told how far a call is: how many rows are done, and how many there are
+Progress = Optional[Callable[[int, int], Any]]
+
+# how long, in seconds, a call of the library should take, unless one row takes longer
+_AIM = 0.05
+# how many times as many rows as a call before it may have
+_GROWTH = 8
+
+
+class Pace:
+    """How many rows a call should have, by how long those before it took; at most so many."""
+
+    def __init__(self, most: int) -> None:
+        self._most, self.rows = max(1, most), 1
+
+    def took(self, rows: int, seconds: float) -> None:
+        """Learns how long a call of so many rows took."""
+        wanted = int(rows * _AIM / seconds) if seconds > 0 else _GROWTH * rows
+        self.rows = max(1, min(wanted, _GROWTH * rows, self._most))
+
+
+class _Crew(Generic[T]):
+    """So many threads, which call a function of the rows that they are given, until they are let go.
+
+    The process ends without waiting for them, which those of `concurrent.futures` don't let it do: a call for one row of a large
+    graph takes a while, and the library only writes lists that live as long as the call.
+    """
+
+    def __init__(self, threads: int, call: Callable[[int, int], T]) -> None:
+        self._threads, self._call, self._is_over = threads, call, False
+        self._tasks: SimpleQueue[Optional[tuple[Future[T], int, int]]] = SimpleQueue()
+        for _ in range(threads):
+            threading.Thread(target=self._work, daemon=True).start()
+
+    def _work(self) -> None:
+        while True:
+            task = self._tasks.get()
+            if task is None or self._is_over:
+                return
+            future, begin, end = task
+            try:
+                future.set_result(self._call(begin, end))
+            except BaseException as error:
+                future.set_exception(error)
+
+    def ask(self, begin: int, end: int) -> Future[T]:
+        future: Future[T] = Future()
+        self._tasks.put((future, begin, end))
+        return future
+
+    def let_go(self) -> None:
+        """Lets the threads end with the calls that they are at. Nothing waits for these."""
+        self._is_over = True
+        for _ in range(self._threads):
+            self._tasks.put(None)
+
+
+def in_order(total: int, workers: int, pace: Pace, call: Callable[[int, int], T], progress: Progress) -> Iterator[T]:
+    """What a call answers of each block of rows, from one number up to another, in the order of the rows.
+
+    Blocks are worked off by so many threads, which have as many again before them. Where whoever takes the answers stops, as by
+    an interrupt, no other call is begun, and those that are running aren't waited for.
+    """
+
+    def timed(begin: int, end: int) -> T:
+        start = perf_counter()
+        told = call(begin, end)
+        pace.took(end - begin, perf_counter() - start)
+        return told
+
+    crew, waiting, begin = _Crew(min(workers, total), timed), deque[tuple[int, "Future[T]"]](), 0
+    try:
+        while begin < total or waiting:
+            while begin < total and len(waiting) < 2 * workers:
+                end = min(begin + pace.rows, total)
+                waiting.append((end, crew.ask(begin, end)))
+                begin = end
+            done, future = waiting.popleft()
+            told = future.result()
+            if progress is not None:
+                progress(done, total)
+            yield told
+    finally:
+        crew.let_go()

@@ -1,0 +1,351 @@
+"""What the library answers: trees, forests, pairs and matrices."""
+
+from __future__ import annotations
+
+import pickle
+
+from dataclasses import dataclass, field
+from functools import cached_property
+from typing import Any, Callable, ClassVar, Iterator, NamedTuple, Optional
+
+from ._buffers import column, in_bytes
+from ._terms import Terms, index_of, want_pandas
+
+UNREACHED = 2**64 - 1
+"""The distance of a vertex that no walk leads to.
+
+It is the greatest number of 64 bits, so in sums of NumPy's uint64 it wraps around: with 1 it is 0. `Tree.masked` and
+`Tree.floats` have no such number.
+"""
+
+BEYOND = 2**64 - 2
+"""What a matrix has for a target whose distance is above `reach(n)`, or to which no walk leads where some vertex is so far."""
+
+# places of a tree that its repr tells
+_SHOWN = 8
+
+
+class Pair(NamedTuple):
+    """What is told of a target: its distance and the vertex before it.
+
+    The distance is a whole number. In a graph with names the vertex is a name, and None where the target is the source.
+    """
+
+    distance: int
+    predecessor: Any
+
+
+def _masked(distances: Any, least: int) -> Any:
+    """An array of NumPy as a masked one, without what is at least this."""
+    import numpy
+
+    return numpy.ma.MaskedArray(distances, distances >= least, fill_value=numpy.uint64(UNREACHED))  # type: ignore[no-untyped-call]
+
+
+def _floats(distances: Any, least: int, terms: Terms) -> Any:
+    """An array of NumPy as one of floats in the unit, with `inf` for what is at least this."""
+    import numpy
+
+    return numpy.where(distances >= least, numpy.inf, terms.told(distances.astype(float)))
+
+
+class _Reached:
+    """What a tree and a forest tell of each vertex."""
+
+    distances: memoryview
+    predecessors: memoryview
+    terms: Optional[Terms]
+    # what is told, in the order in which it is made of it: the format of each list, nothing for what is none
+    _formats: ClassVar[dict[str, str]]
+
+    def __post_init__(self) -> None:
+        for name, format in self._formats.items():
+            if format:
+                object.__setattr__(self, name, column(getattr(self, name), format))
+        if self.terms is None:
+            object.__setattr__(self, "terms", Terms(len(self.distances), None, None))
+
+    @property
+    def _terms(self) -> Terms:
+        assert self.terms is not None
+        return self.terms
+
+    def _values(self) -> tuple[Any, ...]:
+        """What is told, whose lists are only read."""
+        return tuple(getattr(self, name) for name in self._formats)
+
+    def __reduce_ex__(self, protocol: Any) -> tuple[Any, ...]:
+        return type(self)._again, tuple(pickled(it, protocol) if isinstance(it, memoryview) else it for it in self._values())
+
+    @classmethod
+    def _again(cls: Any, *values: Any) -> Any:
+        return cls(*(in_bytes(it, format) if format else it for it, format in zip(values, cls._formats.values())))
+
+    def __eq__(self, other: object) -> bool:
+        if not isinstance(other, _Reached) or type(self) is not type(other):
+            return NotImplemented
+        return bool(self._values() == other._values())
+
+    def __hash__(self) -> int:
+        return hash(tuple(it.tobytes() if isinstance(it, memoryview) else it for it in self._values()))
+
+    def masked(self) -> Any:
+        """The distances as a masked array of NumPy (uint64), without a copy, masked where no walk leads.
+
+        Its sums and means pass over these places, and `filled()` puts UNREACHED there. They are whole numbers, in units of the
+        graph's unit where it has one.
+        """
+        import numpy
+
+        return _masked(numpy.asarray(self.distances), UNREACHED)
+
+    def floats(self) -> Any:
+        """The distances as a new array of NumPy (float64), `inf` where no walk leads, in the unit of the graph's lengths.
+
+        Where the graph has no `unit`, each that the library tells is exact, since none is above `reach(n)`, which is below 2^44,
+        and a float tells whole numbers up to 2^53. Sums above that are rounded: to even numbers up to 2^54, to multiples of 4 up
+        to 2^55, and so on. In a unit each is the float next to it.
+        """
+        import numpy
+
+        return _floats(numpy.asarray(self.distances), UNREACHED, self._terms)
+
+    def frame(self) -> Any:
+        """A frame of pandas, with a row for each vertex, by its name or number, in their order.
+
+        Its columns are `distance` (`floats`), `predecessor`, and of a forest `source`; nothing stands where there is none.
+        ImportError: pandas isn't installed.
+        """
+        index = self._terms.index()
+        lists = {name[:-1]: self._terms.column(getattr(self, name)) for name in ("predecessors", "sources") if name in self._formats}
+        return want_pandas().DataFrame({"distance": self.floats(), **lists}, index=index)
+
+    def pair(self, target: Any) -> Optional[Pair]:
+        """Distance and predecessor of a target, None where no walk leads to it."""
+        place = self._terms.number(target) - 1
+        distance = self.distances[place]
+        return None if distance == UNREACHED else Pair(distance, self._terms.name(self.predecessors[place]))
+
+    def walk(self, source: int, target: int) -> Optional[list[Any]]:
+        """The vertices of the walk from the number of one to that of another, None where no walk leads to it."""
+        if self.distances[target - 1] == UNREACHED:
+            return None
+        path = [target]
+        while path[-1] != source:
+            if len(path) == len(self.distances) or not path[-1]:
+                raise ValueError("the predecessors are no tree's")
+            path.append(self.predecessors[path[-1] - 1])
+        return [self._terms.name(it) for it in reversed(path)]
+
+
+@dataclass(frozen=True, eq=False, repr=False)
+class Tree(_Reached):
+    """The shortest-path tree from a source, or its part within a distance.
+
+    `distances` and `predecessors` are lists of unsigned numbers of 64 and of 32 bits, vertex v at place v - 1: UNREACHED and 0
+    where no walk leads to it, 0 and 0 for the source. UNREACHED is 2^64 - 1, which wraps around in sums: `masked` and `floats`
+    answer the distances without it. They can only be read, and `numpy.asarray` takes them without a copy. A tree that is made of
+    other lists copies those that can be written. Of a graph with names `source`, `path`, `pair` and `frame` tell these, and
+    vertex v of the lists is `graph.names[v - 1]`.
+
+    Trees are equal where source, distances and predecessors are, and names and unit. They can be keys of a dict, pickled and
+    copied.
+
+    >>> import spt
+    >>> tree = spt.Graph(3, [(1, 2, 7)]).tree(1)
+    >>> tree
+    Tree from 1 over 3 vertices: distances 0, 7, unreached; predecessors 0, 1, 0
+    >>> tree == spt.Graph(3, [(1, 2, 7), (1, 2, 8)]).tree(1)
+    True
+    """
+
+    source: Any
+    distances: memoryview
+    predecessors: memoryview
+    terms: Optional[Terms] = field(default=None, repr=False)
+    _formats = {"source": "", "distances": "Q", "predecessors": "I", "terms": ""}
+
+    def __repr__(self) -> str:
+        distances = _shown(self.distances, {UNREACHED: "unreached"})
+        told = f"distances {distances}; predecessors {_shown(self.predecessors, {})}"
+        return f"Tree from {self.source} over {len(self.distances)} vertices: {told}"
+
+    def path(self, target: Any) -> Optional[list[Any]]:
+        """The vertices of the tree's walk from the source to a target, None where no walk leads to it.
+
+        >>> import spt
+        >>> spt.Graph(3, [(1, 2, 5), (2, 3, 5)]).tree(1).path(3)
+        [1, 2, 3]
+        """
+        return self.walk(self._terms.number(self.source), self._terms.number(target))
+
+
+@dataclass(frozen=True, eq=False, repr=False)
+class Forest(_Reached):
+    """The distances from the nearest of several sources, or those within a distance.
+
+    `distances`, `predecessors` and `sources` are lists of unsigned numbers, of 64 bits and twice of 32, vertex v at place v - 1:
+    its least distance from any source, the smallest vertex before it on such a walk, and the source that it is reached from, to
+    which the predecessors lead back. They are UNREACHED, 0 and 0 where no walk leads, and 0, 0 and the vertex for a source. The
+    lists are as those of a `Tree`.
+
+    >>> import spt
+    >>> forest = spt.Graph(4, [(1, 2, 3), (1, 3, 3), (2, 4, 2), (3, 4, 2)]).nearest([3, 1])
+    >>> forest
+    Forest over 4 vertices: distances 0, 3, 0, 2; predecessors 0, 1, 0, 3; sources 1, 1, 3, 3
+    >>> forest.path(4)
+    [3, 4]
+    """
+
+    distances: memoryview
+    predecessors: memoryview
+    sources: memoryview
+    terms: Optional[Terms] = field(default=None, repr=False)
+    _formats = {"distances": "Q", "predecessors": "I", "sources": "I", "terms": ""}
+
+    def __repr__(self) -> str:
+        distances = _shown(self.distances, {UNREACHED: "unreached"})
+        told = f"distances {distances}; predecessors {_shown(self.predecessors, {})}; sources {_shown(self.sources, {})}"
+        return f"Forest over {len(self.distances)} vertices: {told}"
+
+    def source(self, target: Any) -> Any:
+        """The source that a target is reached from, None where no walk leads to it."""
+        number = self.sources[self._terms.number(target) - 1]
+        return self._terms.name(number) if number else None
+
+    def path(self, target: Any) -> Optional[list[Any]]:
+        """The vertices of the walk to a target from its source, None where no walk leads to it."""
+        place = self._terms.number(target)
+        return self.walk(self.sources[place - 1], place)
+
+
+def _of_floats(name: str) -> Callable[..., Any]:
+    """What does with the floats of a matrix what this method does."""
+
+    def call(self: Matrix, *given: Any) -> Any:
+        return getattr(self.floats(), name)(*(it.floats() if isinstance(it, Matrix) else it for it in given))
+
+    return call
+
+
+def _of_array(name: str) -> Callable[..., Any]:
+    """What does with the array of a matrix what this method does."""
+
+    def call(self: Matrix, *given: Any) -> Any:
+        return getattr(self._array, name)(*(it._array if isinstance(it, Matrix) else it for it in given))
+
+    return call
+
+
+@dataclass(frozen=True, eq=False, repr=False)
+class Matrix:
+    """The distances of targets from sources: a row for each of the sources, a column for each of the targets.
+
+    `distances` has them in whole numbers, as an array of NumPy (uint64), or as a `memoryview` where NumPy isn't installed:
+    UNREACHED where no walk leads, BEYOND where a target is too far. `floats`, `masked` and `frame` have neither, and sums,
+    products and quotients of a matrix are those of its `floats`. Else it is read as an array is, by NumPy too (`numpy.asarray`),
+    which is `distances`, and of a graph with a unit `floats`.
+
+    >>> import spt
+    >>> matrix = spt.Graph(3, [(1, 2, 7), (2, 3, 1)]).matrix([1, 2], [3, 1])
+    >>> matrix
+    Matrix of 2 sources and 2 targets
+    >>> matrix.tolist(), matrix[0, 0] == 8
+    ([[8, 0], [1, 18446744073709551615]], True)
+    """
+
+    sources: tuple[Any, ...]
+    targets: tuple[Any, ...]
+    distances: Any
+    terms: Terms = field(repr=False)
+
+    def __repr__(self) -> str:
+        return f"Matrix of {len(self.sources)} sources and {len(self.targets)} targets"
+
+    def masked(self) -> Any:
+        """The distances as a masked array of NumPy (uint64), without a copy, masked where no walk leads and what is too far."""
+        import numpy
+
+        return _masked(numpy.asarray(self.distances), BEYOND)
+
+    def floats(self) -> Any:
+        """The distances as a new array of NumPy (float64), in the unit of the graph's lengths (`Tree.floats`).
+
+        It has `inf` where no walk leads and for what is too far.
+        """
+        import numpy
+
+        return _floats(numpy.asarray(self.distances), BEYOND, self.terms)
+
+    def frame(self) -> Any:
+        """A frame of pandas of `floats`, its rows the sources and its columns the targets.
+
+        ImportError: pandas isn't installed.
+        """
+        index = [index_of(it).rename(name) for it, name in ((self.sources, "source"), (self.targets, "target"))]
+        return want_pandas().DataFrame(self.floats(), index=index[0], columns=index[1])
+
+    @cached_property
+    def _array(self) -> Any:
+        """What it is read as."""
+        return self.distances if self.terms.unit is None else self.floats()
+
+    def __array__(self, dtype: Any = None, copy: Optional[bool] = None) -> Any:
+        import numpy
+
+        return numpy.array(self._array, dtype) if copy else numpy.asarray(self._array, dtype)
+
+    def __getattr__(self, name: str) -> Any:
+        if name.startswith("_"):
+            raise AttributeError(name)
+        return getattr(self._array, name)
+
+    def __getitem__(self, place: Any) -> Any:
+        return self._array[place]
+
+    def __len__(self) -> int:
+        return len(self.sources)
+
+    def __iter__(self) -> Iterator[Any]:
+        return iter(self._array)
+
+    def __reduce__(self) -> tuple[Any, ...]:
+        # (a memoryview can't be pickled)
+        told = self.distances.tobytes() if isinstance(self.distances, memoryview) else self.distances
+        return _matrix_again, (self.sources, self.targets, told, self.terms)
+
+    __hash__ = None  # type: ignore[assignment]
+    __eq__, __ne__, __lt__, __le__, __gt__, __ge__ = map(
+        _of_array, ("__eq__", "__ne__", "__lt__", "__le__", "__gt__", "__ge__")
+    )
+    __add__, __radd__, __sub__, __rsub__, __mul__, __rmul__ = map(
+        _of_floats, ("__add__", "__radd__", "__sub__", "__rsub__", "__mul__", "__rmul__")
+    )
+    __truediv__, __rtruediv__ = map(_of_floats, ("__truediv__", "__rtruediv__"))
+
+
+def in_rows(distances: memoryview, rows: int, columns: int) -> Any:
+    """The numbers in rows and columns, of NumPy where it is installed."""
+    try:
+        import numpy
+    except ImportError:
+        return distances.cast("B").cast("Q", [rows, columns]) if distances.nbytes else distances
+    return numpy.asarray(distances).reshape(rows, columns)
+
+
+def _matrix_again(sources: tuple[Any, ...], targets: tuple[Any, ...], told: Any, terms: Terms) -> Matrix:
+    distances = in_rows(in_bytes(told, "Q"), len(sources), len(targets)) if isinstance(told, bytes) else told
+    return Matrix(sources, targets, distances, terms)
+
+
+def _shown(numbers: memoryview, names: dict[int, str]) -> str:
+    """The numbers, where there are many the first and the last of them."""
+    if len(numbers) > _SHOWN:
+        ends = _shown(numbers[: _SHOWN // 2], names), _shown(numbers[-(_SHOWN // 2) :], names)
+        return ", ..., ".join(ends)
+    return ", ".join(names.get(number, str(number)) for number in numbers)
+
+
+def pickled(numbers: memoryview, protocol: int) -> Any:
+    """A list as pickle takes it: from protocol 5 on where it stands."""
+    return pickle.PickleBuffer(numbers) if protocol >= 5 else numbers.tobytes()

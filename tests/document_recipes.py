@@ -1,0 +1,113 @@
+#!/usr/bin/env python3
+"""Runs each recipe of docs/RECIPES.md as it stands there, and compares what it prints with what stands below it.
+
+Usage: python3 tests/document_recipes.py
+
+A recipe is a block `python`; the block `text` behind it, if there is one, is what it prints, and a block `csv` before it the file
+that is named there. It is run by this Python or the system's, whichever has what it imports; where neither has, it is left out,
+and said so (Debian: python3-networkx, python3-pandas, python3-matplotlib, python3-osmnx, python3-tqdm); with SPT_ALL=1 that
+counts as failed. Pictures that a recipe draws must be pictures, and stand in docs/ where they are shown. The last line is 'N
+passed, M failed'.
+"""
+
+import json
+import os
+import re
+import subprocess
+import sys
+import tempfile
+
+sys.dont_write_bytecode = True
+from harness import HOME, Count, put, read, read_bytes  # noqa: E402
+
+SYSTEM = "/usr/bin/python3"
+SECONDS = 300
+BLOCK = re.compile(r"^## ([^\n]*)$|^This is `([^`]*)`:$|^```(csv|python|text)\n(.*?)^```$", re.M | re.S)
+# what someone who looks for a recipe looks for
+WORDS = ("isochrone", "OpenStreetMap", "one-way", "undirected", "OSMnx", "NetworkX", "GeoJSON", "CSV", "catchment", "matrix")
+
+
+def recipes(page):
+    """The heading, the program, the files and what is printed of each recipe."""
+    title, name, files, found = "", None, {}, []
+    for heading, named, kind, text in BLOCK.findall(page):
+        title, name = heading or title, named or name
+        if kind == "csv":
+            files = {**files, name: text}
+        elif kind == "python":
+            found.append([title, text, files, None])
+        elif kind == "text":
+            found[-1][3] = text
+    return found
+
+
+def imported(program):
+    return sorted(set(re.findall(r"^ *(?:import|from) (\w+)", program, re.M)) - {"spt", "streets"})
+
+
+def lacks(python, modules):
+    """Which of these modules a Python doesn't have."""
+    look = "import importlib.util, sys; print(*(it for it in sys.argv[1:] if importlib.util.find_spec(it) is None))"
+    return subprocess.run([python, "-c", look, *modules], capture_output=True, text=True).stdout.split()
+
+
+def lines(text):
+    """The lines of a text, whose ends may be blank."""
+    return [line.rstrip() for line in text.strip("\n").split("\n")]
+
+
+def add_files(count, title, folder, page):
+    """Looks at the files that a recipe wrote."""
+    for name in sorted(os.listdir(folder)):
+        if name.endswith(".png"):
+            data, kept = read_bytes(f"{folder}/{name}"), read_bytes(f"{HOME}/docs/{name}")
+            count.of(f"{title}: {name}, which the page shows", f"]({name})" in page)
+            for picture in (data, kept):
+                count.of(f"{title}: {name} is a picture", picture.startswith(b"\x89PNG\r\n\x1a\n") and len(picture) > 10_000)
+        elif name.endswith("json"):
+            features = json.loads(read(f"{folder}/{name}"))["features"]
+            count.of(f"{title}: {name}", bool(features) and all(it["geometry"]["type"] == "LineString" for it in features))
+
+
+def add_recipe(count, prefix, recipe, page):
+    """Runs a recipe, and answers what is missing for it."""
+    title, program, files, wanted = recipe
+    pythons = list({os.path.realpath(it): it for it in (sys.executable, SYSTEM) if os.path.exists(it)}.values())
+    needed = [*imported(program), *(["networkx", "numpy"] if "streets" in program else [])]
+    missing = {python: lacks(python, needed) for python in pythons}
+    python = next((it for it in pythons if not missing[it]), None)
+    if python is None:
+        return min(missing.values(), key=len)
+    known = {**os.environ, "PYTHONPATH": f"{HOME}/python:{HOME}/examples", "PYTHONDONTWRITEBYTECODE": "1"}
+    known["SPT_LIBRARY"] = f"{prefix}/lib/libspt.so"
+    with tempfile.TemporaryDirectory() as folder:
+        for name, text in files.items():
+            put(f"{folder}/{name}", text)
+        done = subprocess.run([python, "-c", program], cwd=folder, env=known, capture_output=True, text=True, timeout=SECONDS)
+        count.of(f"{title}: {done.stderr}", done.returncode == 0)
+        count.of(f"{title}: printed\n{done.stdout}", wanted is None or lines(done.stdout) == lines(wanted))
+        if done.returncode == 0:
+            add_files(count, title, folder, page)
+    return []
+
+
+def main():
+    count, page, left_out = Count(), read(f"{HOME}/docs/RECIPES.md"), {}
+    with tempfile.TemporaryDirectory() as prefix:
+        made = subprocess.run([f"{HOME}/build/libraries", prefix], capture_output=True, text=True)
+        count.of(f"the library: {made.stderr}", made.returncode == 0)
+        for recipe in recipes(page) if made.returncode == 0 else ():
+            missing = add_recipe(count, prefix, recipe, page)
+            if missing:
+                left_out.setdefault(", ".join(missing), []).append(recipe[0])
+    for missing, titles in left_out.items():
+        print(f"left out, since no Python has {missing}: {', '.join(titles)}")
+    for word in WORDS:
+        count.of(f"docs/RECIPES.md has no word {word!r}", word.lower() in page.lower())
+    if os.environ.get("SPT_ALL") == "1":
+        count.of(f"left out: {left_out}", not left_out)
+    return count.end() or not count.passed
+
+
+if __name__ == "__main__":
+    sys.exit(main())
