@@ -3,6 +3,7 @@
 # its sources.
 made=$home/.spt
 release=$home/dist
+stamp=$made/code
 
 # crates_of CRATE: the crate, and the crates of the repository that it uses, one a line
 crates_of() {
@@ -59,49 +60,52 @@ built_from() {
 program() { if built_from "$1" spt "$made" "$release"; then echo "$folder/spt"; fi; }
 library() { if built_from "$1" libspt.so "$made/library" "$release/library"; then echo "$folder"; fi; }
 
-# find_program: sets `found` to what `program "$(sources)"` prints, at once where no source has changed since all were read
+# find_program: sets `found` to what `program "$(sources)"` prints, at once where no code has changed since all sources were read
 #
-# The list .spt/files has the names of the sources and of their folders. The stamp, .spt/stamp, has the digest, and below it the state of
-# all that the list names, when the sources were read.
-find_program() { found=$(stamped_program 2> /dev/null) || found=$(program "$(stamp_sources)"); }
-
-# state_of LIST: of each file, its number, length, time of the text, time of the last change (which nobody can set) and name; ends the shell
-state_of() {
-    export LC_ALL=C
-    exec xargs -0 stat -c '%i %s %.Y %.Z %n' -- < "$1"
+# The stamp, .spt/code, calls `look_at` for each file of the code and each of their folders, and has the digest of all sources at its end.
+# Its time is a second before these were read. No process is started for it: so many files are looked at in a ms or two.
+find_program() {
+    digest=
+    is_changed=
+    if IFS= read -r first < "$stamp" && [ "$first" = "look_at .git/index" ]; then . "$stamp" || digest=; fi 2> /dev/null
+    if [ -z "$is_changed" ] && [ -n "$digest" ] && built_from "$digest  -" spt "$made" "$release"; then
+        found=$folder/spt
+    else
+        found=$(program "$(stamp_sources)")
+    fi
 }
 
-stamped_program() {
-    cd "$home"
-    IFS= read -r digest < "$made/stamp" || return
-    { echo "$digest" && state_of "$made/files"; } | cmp -s - "$made/stamp" || return
-    program "$digest"
-}
+look_at() { if [ "$home/$1" -nt "$stamp" ]; then is_changed=1; fi; }
 
-# Prints what `sources` prints, and makes list and stamp where it can. The state is taken before the sources are read, so that a change
-# meanwhile shows.
+# The next start reads all sources.
+forget_stamp() { rm -f "$stamp" 2> /dev/null || true; }
+
+# Prints what `sources` prints, and makes the stamp where it can. Its time is of before the sources are read, so that a change meanwhile
+# shows.
 stamp_sources() (
     cd "$home"
-    new=$({ mkdir -p "$made" && mktemp -d "$made/stamp.XXXXXX"; } 2> /dev/null) || new=
-    trap 'rm -rf "$new"' EXIT
-    begun=$(LC_ALL=C stat -c %.Z -- "$new" 2> /dev/null) || new=
-    is_told=
-    if [ -n "$new" ] && list_sources > "$new/files" && (state_of "$new/files" > "$new/state"); then is_told=1; fi 2> /dev/null
+    new=$({ mkdir -p "$made" && mktemp "$stamp.XXXXXX"; } 2> /dev/null) || new=
+    trap 'rm -f "$new"' EXIT
+    begun=$(stat -c %Y -- "$new" 2> /dev/null) || new=
     digest=$(sources)
     echo "$digest"
-    if [ -n "$is_told" ] && is_settled "$new/files" "$begun" && { echo "$digest" && cat "$new/state"; } > "$new/stamp"; then
-        mv -f "$new/files" "$new/stamp" "$made/"
-    fi
+    if [ -n "$new" ] && list_code > "$new" && echo "digest=${digest%% *}" >> "$new" && chmod 644 "$new" && touch -d "@$((begun - 1))" "$new"; then
+        mv -f "$new" "$stamp"
+    fi 2> /dev/null
 )
 
-# What the program's digest stands on, each name ended by a null byte.
-list_sources() { printf 'crates.txt\0build/program.sh\0' && find_sources "$(crates_of spt)" -type d -print0 -o; }
-
-# is_settled LIST TIME: whether all that a list names has last changed more than two seconds before. One more change of what has
-# changed as lately as that may fall into the same tick of a clock, and would not show.
-is_settled() {
-    latest=$(LC_ALL=C xargs -0 stat -c %.Z -- < "$1" | LC_ALL=C sort -n | tail -n 1)
-    [ -n "$latest" ] && LC_ALL=C awk "BEGIN { exit !($latest + 2 < $2) }" 2> /dev/null
+# list_code: the lines of a stamp. Proofs and definitions play no part in what the program does; git's list changes with each set of
+# sources that it brings. Fails where a name may be more to a shell than a name.
+list_code() {
+    {
+        printf '%s\0' .git/index build/program.sh crates.txt crates
+        for crate in $(crates_of spt); do printf 'crates/%s\0' "$crate"; done
+        find_sources "$(crates_of spt)" \( -name proofs -o -name specs -o -name edits -o -name must-fail \) -prune -o -type d -print0 -o
+    } | tr '\n\0' '?\n' | LC_ALL=C awk '
+        !/^[A-Za-z0-9._\/-]+$/ { is_strange = 1 }
+        { print "look_at " $0 }
+        END { exit is_strange }
+    '
 }
 
 # Keeps the program that was just built in crates/spt, from the sources that the argument names.

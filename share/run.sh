@@ -97,13 +97,45 @@ free_number() {
     done
 }
 
-# The tidier: PIPES, a folder with a pipe `end` that the program alone has open for writing, FOLDER/, PID, and what was there before.
+# open_pipe: opens both ends of a pipe, `reading` and `writing`, that has a name in no folder: whoever is killed leaves none there
+open_pipe() {
+    free_number || return
+    reading=$number
+    if passes_by_pipe; then
+        { eval "command exec $reading<<END
+
+END"; } 2> /dev/null || return
+        if [ -p "/dev/fd/$reading" ]; then
+            free_number || return
+            writing=$number
+            { eval "command exec $writing> /dev/fd/$reading"; } 2> /dev/null
+            return
+        fi
+    fi
+    # One end of this pipe stays open for a second, in which this shell opens its own.
+    holder=$({ echo; exec sleep 1; } 2> /dev/null | sleep 1 > /dev/null 2>&1 & echo $!)
+    { eval "command exec $reading<> /proc/$holder/fd/0"; } 2> /dev/null || return
+    free_number || return
+    writing=$number
+    { eval "command exec $writing> /dev/fd/$reading && command exec $reading< /dev/fd/$writing"; } 2> /dev/null
+}
+
+# Whether this shell passes a short text that stands behind `<<` by a pipe: so do dash, and bash since 5.1 where it isn't told to be as
+# it was. Others make a file of it, which stays in the folder for temporary files where they are killed just then.
+passes_by_pipe() {
+    case ${BASH_VERSION-}:${BASH_COMPAT-}${KSH_VERSION-}${ZSH_VERSION-}${YASH_VERSION-} in
+    : | 5.[1-9]*: | [6-9].*:) ;;
+    *) return 1 ;;
+    esac
+}
+
+# The tidier: FOLDER/, PID, and what was there before. It reads a pipe that the program alone has open for writing.
 tidier='
 trap "" INT TERM HUP QUIT
-pipes=$1 folder=$2 pid=$3
-shift 3
-rm -rf "$pipes"
-read -r nothing
+exec > /dev/null
+folder=$1 pid=$2
+shift 2
+while read -r nothing; do :; done
 for part in "$folder".spt-"$pid"-*.part; do
     for other; do
         if [ "$part" = "$other" ]; then continue 2; fi
@@ -112,7 +144,7 @@ for part in "$folder".spt-"$pid"-*.part; do
 done
 '
 
-# Starts the tidier for the file of `output`. It is in no one'\''s way: it has a session of its own, reads no input and writes nothing.
+# Starts the tidier for the file of `output`. It is in no one's way: it has a session of its own, reads no input and writes nothing.
 tidy_after() {
     place=$output
     if [ -L "$place" ]; then place=$(readlink -f -- "$place") || return; fi
@@ -121,24 +153,14 @@ tidy_after() {
     */*) folder=${place%/*}/ ;;
     *) folder= ;;
     esac
-    free_number || return
-    pipes=$(mktemp -d 2> /dev/null) || return
-    if ! mkfifo "$pipes/end" 2> /dev/null; then
-        rmdir "$pipes"
-        return
-    fi
-    # Opened for both, so that nobody waits here; the tidier closes its own one.
-    eval "exec $number<> \"\$pipes/end\""
-    # Opened and listed here: by the time that the tidier runs, the program may have made its file, or be gone.
-    writing=$number
-    free_number || return
-    eval "exec $number< \"\$pipes/end\""
+    open_pipe || return
+    # Listed here: by the time that the tidier lists it, the program may have made its file, or be gone.
     set -- "$folder".spt-$$-*.part
     session=
     if command -v setsid > /dev/null; then session=setsid; fi
-    # Answered once nobody holds the pipe of `$()` any more: the tidier is deaf to signals by then, or gone.
-    : "$(eval "{ trap '' INT TERM HUP QUIT; exec \$session sh -c \"\$tidier\" sh \"\$pipes\" \"\$folder\" $$ \"\$@\" <&$number $number<&- $writing>&- > /dev/null 2>&1; } &")"
-    eval "exec $number<&-"
+    # Answered once nobody holds the pipe of `$()` any more: the tidier has its session and is deaf to signals by then, or gone.
+    : "$(eval "{ trap '' INT TERM HUP QUIT; exec \$session sh -c \"\$tidier\" sh \"\$folder\" $$ \"\$@\" <&$reading $reading<&- $writing>&- 2> /dev/null; } &")"
+    eval "exec $reading<&-"
 }
 
 is_utf8() {

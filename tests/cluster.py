@@ -18,7 +18,7 @@ import sys
 import tempfile
 
 sys.dont_write_bytecode = True
-from harness import HOME, Count, put  # noqa: E402
+from harness import HOME, Count, put, read  # noqa: E402
 
 SPT = os.path.join(HOME, "spt")
 CLUSTER = os.path.join(HOME, "examples", "cluster")
@@ -118,8 +118,17 @@ def refusals(folder, run):
         yield f"{given}: {status}, {errors}", trees == b"" and status in (1, 2) and "trees_by_" in errors and "Traceback" not in errors
 
 
+def tell_program(count):
+    """docs/CLUSTERS.md says how each script finds its program, as the script itself does."""
+    page = read(f"{HOME}/docs/CLUSTERS.md")
+    for script, named, told in (("trees_by_parallel.sh", "${SPT:-spt}", "SPT=$PWD/spt"), ("trees_by_dask.py", '"--program", default="spt"', "--program $PWD/spt")):
+        known = named in read(f"{HOME}/examples/cluster/{script}") and f"`{told}`" in page
+        count.of(f"docs/CLUSTERS.md says which program {script} runs: {told}", known and script in page.split("## GNU parallel")[0])
+
+
 def main():
     count = Count()
+    tell_program(count)
     for name, (run, deed) in tools().items():
         if run is None:
             count.failed += os.environ.get("SPT_ALL") == "1"

@@ -3,7 +3,7 @@
 
 Usage: python3 tests/deb.py
 
-dpkg knows the C library of this system there, and nothing else, and so tests what the package depends on. Without dpkg-deb, or where
+Lintian finds no fault in it, and its version lies between that of the last release and the next one. dpkg knows the C library of this system there, and nothing else, and so tests what the package depends on. Without dpkg-deb, or where
 this isn't root, what can't be done is left out, and said so; with SPT_ALL=1 that counts as failed, and the package is installed on this
 system too, where it has none of that name, and removed again. The last line is 'N passed, M failed'.
 """
@@ -19,7 +19,7 @@ import tempfile
 
 sys.dont_write_bytecode = True
 from share import below, is_library_made  # noqa: E402
-from harness import HOME, Count  # noqa: E402
+from harness import HOME, Count, parts, put, read, read_bytes  # noqa: E402
 
 SECONDS = 300
 ALL = os.environ.get("SPT_ALL") == "1"
@@ -30,6 +30,9 @@ WANTED = [
     "share/man/man1/spt.1.gz",
     "share/doc/spt/copyright",
     "share/doc/spt/changelog.gz",
+    "share/doc/spt/CHANGELOG.md.gz",
+    "share/doc/spt/USAGE.md.gz",
+    "share/doc/spt/EMBEDDING.md.gz",
     "share/bash-completion/completions/spt",
     "share/zsh/vendor-completions/_spt",
     "share/fish/vendor_completions.d/spt.fish",
@@ -100,9 +103,11 @@ def control(count, package, folder):
     """What the package says of itself."""
     told = dict(line.split(": ", 1) for line in run("dpkg-deb", "-f", package)[1].split("\n") if ": " in line and line[0] != " ")
     version = run(f"{HOME}/spt", "--version")[1].strip()
-    count.of(f"name and version: {told}", f"{told['Package']} {told['Version']}" == version and told["Architecture"] == "amd64")
+    wanted = re.escape(version) + (r"(\+git\d{12}\.[0-9a-f]+|\+unreleased)" if is_between(read(f"{HOME}/CHANGELOG.md")) else "")
+    count.of(f"name and version: {told}", re.fullmatch(wanted, f"{told['Package']} {told['Version']}") and told["Architecture"] == "amd64")
     unpacked = f"{folder}/unpacked"
     subprocess.run(["dpkg-deb", "-x", package, unpacked], check=True)
+    subprocess.run(["dpkg-deb", "-e", package, f"{folder}/control"], check=True)
     if shutil.which("objdump"):
         wanted = needed_libc(f"{unpacked}/usr/lib/spt/spt", f"{unpacked}/usr/lib/libspt.so")
         count.of(f"the C library: {told['Depends']}", told["Depends"] == f"libc6 (>= {wanted})")
@@ -113,6 +118,73 @@ def control(count, package, folder):
     with gzip.open(f"{unpacked}/usr/share/man/man1/spt.1.gz") as it, open(f"{HOME}/share/spt.1", "rb") as page:
         count.of("the manual page", it.read() == page.read())
     count.of("who owns it", set(re.findall(r"^\S+ (\S+)", run("dpkg-deb", "-c", package)[1], re.M)) == {"root/root"})
+
+
+def is_between(changes):
+    """Whether something has changed since the last release."""
+    return bool(re.search(r"^## Unreleased\n+(?!## )\S", changes, re.M))
+
+
+def judge(count, package, folder):
+    """Lintian, and the program of the release, which lacks only its names for debuggers."""
+    if shutil.which("lintian"):
+        told = run("lintian", "--fail-on", "error,warning", "--no-tag-display-limit", package)
+        count.of(f"lintian: {told}", told[0] == 0)
+    else:
+        left_out(count, "lintian isn't installed")
+    for name in (f"{folder}/unpacked/usr/lib/spt/spt", f"{HOME}/dist/spt"):
+        shutil.copy(name, f"{folder}/plain")
+        subprocess.run(["strip", "--remove-section=.comment", "--remove-section=.note", f"{folder}/plain"], check=True)
+        with open(f"{folder}/plain", "rb") as it:
+            plain = it.read()
+        count.of(f"{name} is the program that runs", name == f"{HOME}/dist/spt" or plain == read_bytes(name))
+    if run("cmp", f"{HOME}/dist/spt", parts.program())[0] == 0:
+        count.of("the program of dist/", plain == read_bytes(f"{folder}/unpacked/usr/lib/spt/spt"))
+    fields = [told.split() for told in read(f"{folder}/control/shlibs").splitlines()]
+    count.of(f"shlibs: {fields}", [it[:3] for it in fields] == [["libspt", "1", "spt"]])
+
+
+def version_of(package):
+    return run("dpkg-deb", "-f", package, "Version")[1].strip()
+
+
+def is_newer(one, other):
+    return run("dpkg", "--compare-versions", one, "gt", other)[0] == 0
+
+
+def versions(count, package, folder):
+    """Of a release, of what was changed since, and of what has no git beside it: each is newer than the one before, and older than the next."""
+    if run("git", "clone", "-q", HOME, f"{folder}/clone")[0]:
+        return left_out(count, "git isn't installed, or this is no checkout")
+    shutil.copytree(f"{HOME}/build", f"{folder}/clone/build", dirs_exist_ok=True)
+    made = {}
+    for name, edit in (("release", release), ("changed", change), ("without git", lambda clone: shutil.rmtree(f"{clone}/.git"))):
+        edit(f"{folder}/clone")
+        os.makedirs(f"{folder}/{name}")
+        told = run(f"{folder}/clone/build/deb", f"{folder}/{name}")
+        count.of(f"{name}: {told}", told[0] == 0)
+        made[name] = version_of(told[1].strip())
+    number = run(f"{HOME}/spt", "--version")[1].split()[1]
+    count.of(f"versions: {made}", made["release"] == number and made["without git"] == f"{number}+unreleased")
+    after = ".".join([*number.split(".")[:2], str(int(number.split(".")[2]) + 1)])
+    for name in ("changed", "without git"):
+        count.of(f"{made[name]}, {name}", is_newer(made[name], number) and is_newer(after, made[name]))
+    if is_between(read(f"{HOME}/CHANGELOG.md")):
+        count.of(f"the next commit: {made['changed']}, {version_of(package)}", is_newer(made["changed"], version_of(package)))
+
+
+def commit(clone, changes, date):
+    put(f"{clone}/CHANGELOG.md", changes)
+    who = {"GIT_AUTHOR_NAME": "a", "GIT_AUTHOR_EMAIL": "a@b", "GIT_COMMITTER_NAME": "a", "GIT_COMMITTER_EMAIL": "a@b", "GIT_COMMITTER_DATE": date}
+    subprocess.run(["git", "-C", clone, "commit", "-qam", "-"], check=True, env={**os.environ, **who})
+
+
+def release(clone):
+    commit(clone, "# Changelog\n\n## Unreleased\n\n## 0.0.1\n- One.\n", "2099-01-01T00:00Z")
+
+
+def change(clone):
+    commit(clone, "# Changelog\n\n## Unreleased\n\n- Two.\n\n## 0.0.1\n- One.\n", "2099-01-02T00:00Z")
 
 
 def works(count, root, known):
@@ -181,6 +253,8 @@ def packages(count, folder):
         return left_out(count, "dpkg-deb isn't installed, or the library isn't made")
     package = build(count, folder)
     control(count, package, folder)
+    judge(count, package, folder)
+    versions(count, package, folder)
     count.of("no folder", run(f"{HOME}/build/deb", f"{folder}/none")[0] == 1)
     if os.geteuid() != 0 or not shutil.which("dpkg"):
         return left_out(count, "installing a package, which root does by dpkg")

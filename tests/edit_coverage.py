@@ -33,8 +33,6 @@ OF_TESTS = "it makes what tests run on, which tell whether it is right"
 # by the path of a function, with its crate
 EXCEPTIONS = {
     "sp_disk::output::Disk::create": OF_THE_SYSTEM,
-    "sp_disk::output::Disk::discard": OF_THE_SYSTEM,
-    "sp_disk::output::Disk::keep": OF_THE_SYSTEM,
     "sp_kept::shared::HeldGraph::graph": OF_A_FIELD,
     "sp_store::store::Store::graph": OF_A_FIELD,
     "sp_store::store::Store::table": OF_A_FIELD,

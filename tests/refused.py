@@ -1,11 +1,12 @@
 #!/usr/bin/env python3
 """Refuses each request for memory in turn, in calls of the library and in the commands of the program.
 
-Usage: python3 tests/refused.py [--program PROGRAM] [--calls PROGRAM]
+Usage: python3 tests/refused.py [--program PROGRAM] [--calls PROGRAM | --no-calls]
 
 A call or a command runs again and again, its request number 1, 2, .. for memory refused, until a run makes fewer requests than
 that. Each run must end as with ample memory, or tell that memory is wanting, with the status of that and with a beginning
-of the text. The graphs are the examples' and one of a path beyond the limit; crates/tests_refused makes the calls. For each
+of the text. The graphs are the examples' and one of a path beyond the limit; crates/tests_refused makes the calls, which the Rattle kit
+builds where no program is named; with --no-calls the commands alone are tried. For each
 call and command it prints how many refusals were tried; the last line is 'N passed, M failed'. A C compiler is needed: it
 makes the library that refuses (tests/refuse.c).
 """
@@ -247,6 +248,7 @@ def try_calls(count, refuser, program):
 def main():
     options = options_of(__doc__)
     options.add_argument("--calls", metavar="PROGRAM", help="this tests_refused, as it is, in place of a build")
+    options.add_argument("--no-calls", action="store_true", help="the commands of the program alone")
     chosen = options.parse_args()
     count = Count()
     with tempfile.TemporaryDirectory() as folder:
@@ -256,7 +258,8 @@ def main():
             print(f"refused: {error}")
             count.of("refusals", False)
         else:
-            try_calls(count, refuser, chosen.calls or parts.build_ours("tests_refused", "read_gr", "diamond", "1"))
+            if not chosen.no_calls:
+                try_calls(count, refuser, chosen.calls or parts.build_ours("tests_refused", "read_gr", "diamond", "1"))
             write_files(folder)
             try_commands(count, refuser, program(chosen), folder)
     return count.end()

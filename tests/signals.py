@@ -5,7 +5,8 @@ Usage: python3 tests/signals.py
 
 A stand-in in place of the program, run by the command that ./install makes, writes .spt-PID-x.part and waits; so does the program
 itself, by ./spt, until it has its graph. The process that was started must end by the signal, as if there were no script around the
-program, and soon nothing may be left in the folder or among temporary files. The last line is 'N passed, M failed'.
+program, and soon nothing may be left in the folder or among temporary files, whenever it was killed. The last line is 'N passed, M
+failed'.
 """
 
 import glob
@@ -18,13 +19,18 @@ import tempfile
 import time
 
 sys.dont_write_bytecode = True
-from harness import HOME, Count  # noqa: E402
+from harness import HOME, Count, read  # noqa: E402
 
 SECONDS = 30
 # how long what is left may be there
 SOON = 5
 SIGNALS = (signal.SIGINT, signal.SIGTERM, signal.SIGHUP, signal.SIGKILL)
 SHELLS = [shell for shell in ("dash", "bash") if shutil.which(shell)]
+# bash as it was: it keeps in a file what later ones pass by a pipe
+AS_OLD = {"BASH_COMPAT": "5.0"}
+# how often a run is killed, and within which time
+KILLS = 100
+WITHIN = 0.03
 
 # It writes its own file into the folder $FOLDER, tells its number and the first line of its input, and waits.
 STAND_IN = f"""#!{sys.executable}
@@ -112,6 +118,19 @@ def each_signal(count, top, command):
             count.of(f"{number.name} to the group", wait(process) == -number and place.is_clean())
 
 
+def at_any_time(count, top, command):
+    """Killed at times of the first few ms, alone and with its group, no run leaves anything, whatever it was about to do."""
+    for shell, known in [(shell, {}) for shell in SHELLS] + [(shell, AS_OLD) for shell in SHELLS if shell == "bash"]:
+        place = Place(top)
+        for number in range(KILLS):
+            process = place.start(shell, command, "tree", "-o", "out", **known)
+            time.sleep(WITHIN * number / KILLS)
+            (os.killpg if number % 2 else os.kill)(process.pid, signal.SIGKILL)
+            wait(process)
+        left = f"{os.listdir(place.folder)[:3]}, {os.listdir(place.temporary)[:3]}"
+        count.of(f"{shell}, {known}, killed within {WITHIN} s: left: {left}", place.is_clean())
+
+
 def places(count, top, command):
     """The folder of the file that a link leads to; files of others, and devices, stay."""
     place = Place(top)
@@ -149,10 +168,10 @@ def ends(count, top, command):
 
 
 def without(count, top, command):
-    """Without an option for output no file is made aside; without room for one, or without mkfifo, all goes on."""
+    """Without an option for output no process is made aside; without setsid, or room for temporary files, all goes on."""
     place = Place(top)
     tools = tempfile.mkdtemp(dir=top)
-    for name in ("mktemp", "mkfifo", "setsid"):
+    for name in ("mktemp", "mkfifo", "setsid", "sleep"):
         with open(f"{tools}/{name}", "w") as it:
             it.write(f"#!/bin/sh\necho {name} >> '{top}/called'\nexit 1\n")
         os.chmod(f"{tools}/{name}", 0o755)
@@ -161,14 +180,15 @@ def without(count, top, command):
         process, told = begin(place, command, *words, **known)
         status = wait(process)
         count.of(f"{words}: {status}, {told}", status == 3 and not os.path.exists(f"{top}/called") and place.is_clean("out"))
-    process, told = begin(place, command, "tree", "-o", "out", **known)
-    count.of(f"no temporary folder: {told}", wait(process) == 3 and os.path.exists(f"{top}/called"))
-    os.remove(f"{tools}/mktemp")
-    process, told = begin(place, command, "tree", "-o", "out", **known)
-    count.of(f"no mkfifo: {told}", wait(process) == 3 and place.is_clean("out"))
-    os.remove(f"{tools}/mkfifo")
-    process, told = begin(place, command, "tree", "-o", "out", "TMPDIR=none", ENDS=f"{place.folder}/out", TMPDIR="/nowhere")
-    count.of(f"no room for temporary files: {told}", wait(process) == 3)
+    for more in ({}, AS_OLD):
+        process, told = begin(place, command, "tree", "-o", "out", **known, **more)
+        count.of(f"no setsid: {told}, {more}", wait(process) == 3 and place.is_clean("out"))
+    called = read(f"{top}/called").split()
+    count.of(f"no file is made aside: {called}", "setsid" in called and not {"mktemp", "mkfifo"} & set(called))
+    for shell in SHELLS:
+        words = [shell, command, "tree", "-o", "out"]
+        process, told = begin(place, *words, **AS_OLD, TMPDIR="/nowhere", ENDS=f"{place.folder}/out")
+        count.of(f"{shell}, no room for temporary files: {told}", wait(process) == 3 and place.is_clean("out"))
 
 
 def program(count, top):
@@ -196,6 +216,7 @@ def main():
     with tempfile.TemporaryDirectory() as top:
         command = install(f"{top}/a prefix")
         each_signal(count, top, command)
+        at_any_time(count, top, command)
         places(count, top, command)
         ends(count, top, command)
         without(count, top, command)

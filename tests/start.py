@@ -1,9 +1,9 @@
 #!/usr/bin/env python3
-"""Starts ./spt in small repositories of one crate: at once where no source has changed, and never the program of other sources.
+"""Starts ./spt in small repositories of one crate: at once where no code has changed, and never the program of other code.
 
 Usage: python3 tests/start.py
 
-Each repository has a stand-in of the program in .spt/, or in dist/, and an `rt` that builds nothing, so that a start which wants to
+What a start doesn't see, a proof or a time that was set back, is seen once all sources are read, as tests and ./install do. Each repository has a stand-in of the program in .spt/, or in dist/, and an `rt` that builds nothing, so that a start which wants to
 build ends with status 70. The last line is 'N passed, M failed'.
 """
 
@@ -18,16 +18,17 @@ import time
 sys.dont_write_bytecode = True
 from harness import HOME, Count, put, read  # noqa: E402
 
-# a source that changes within this time has no stamp
+# what has changed within this time is read again at the next start
 SETTLED = 2.2
 SOURCE = "crates/spt/src/main.rt"
+PROOF = "crates/sp_one/proofs/it's one\nfile.antt"
 FILES = {
     "crates.txt": "spt: sp_one\nsp_one:\nsp_other:\n",
     "HANDLES": "Handles allowed: none.\n",
     SOURCE: "fn main() {}\n",
     "crates/sp_one/src/lib.rt": "pub fn one() -> u64 { 1 }\n",
     "crates/sp_one/proofs/lib/one/Answers.antt": "one\n",
-    "crates/sp_one/proofs/it's one\nfile.antt": "two\n",
+    PROOF: "two\n",
     "crates/sp_one/edits/two.edit": "file: src/lib.rt\nold: 1 }\nnew: 2 }\n",
     "crates/sp_one/src/tests/more.rt": "fn more() {}\n",
     "crates/sp_other/src/lib.rt": "pub fn other() {}\n",
@@ -52,8 +53,11 @@ class Repository:
         self.summed = f"{folder}/summed"
         self.known = {**os.environ, "PATH": f"{folder}/bin:{os.environ['PATH']}", "SUMMED": self.summed}
         put(f"{self.home}/{where}/spt", '#!/bin/sh\necho the program "$@"\n', 0o755)
+        put(f"{self.home}/{where}/sources", self.sources())
+
+    def sources(self):
         words = ["sh", "-c", 'home=$0; . "$home/build/program.sh"; sources', self.home]
-        put(f"{self.home}/{where}/sources", subprocess.run(words, check=True, env=self.known, stdout=subprocess.PIPE, text=True).stdout)
+        return subprocess.run(words, check=True, env=self.known, stdout=subprocess.PIPE, text=True).stdout
 
     def path(self, name):
         return f"{self.home}/{name}"
@@ -64,8 +68,12 @@ class Repository:
         done = subprocess.run([*(words or [self.path("spt")]), "a word"], cwd=cwd, env=self.known, capture_output=True, text=True)
         return done.returncode, done.stdout, SOURCE in read(self.summed)
 
+    def forget(self):
+        """What tests and ./install do before they ask which program is that of these sources."""
+        subprocess.run(["sh", "-c", 'home=$0; . "$home/build/program.sh"; forget_stamp', self.home], check=True)
+
     def is_stamped(self):
-        return os.path.isfile(self.path(".spt/stamp"))
+        return os.path.isfile(self.path(".spt/code"))
 
 
 QUICK = (0, "the program a word\n", False)
@@ -104,32 +112,40 @@ def put_away(path):
 
 CHANGES = {
     "a source edited": lambda its: edit(its.path(SOURCE)),
-    "a source edited, length and time as before": lambda its: edit_in_place(its.path(SOURCE)),
     "a source replaced, length and time as before": lambda its: replace(its.path(SOURCE)),
-    "a proof edited": lambda its: edit(its.path("crates/sp_one/proofs/it's one\nfile.antt")),
     "a source added": lambda its: put(its.path("crates/sp_one/src/new.rt"), ""),
     "a source added in a new folder": lambda its: put(its.path("crates/sp_one/specs/new/New.antt"), ""),
-    "a source removed": lambda its: os.remove(its.path("crates/sp_one/proofs/lib/one/Answers.antt")),
+    "a source removed": lambda its: os.remove(its.path("crates/sp_one/src/lib.rt")),
     "a source renamed": lambda its: put_away(its.path("crates/sp_one/src/lib.rt")),
+    "the folder of sources renamed": lambda its: put_away(its.path("crates/sp_one/src")),
+    "a proof edited, and git's list written": lambda its: (edit(its.path(PROOF)), put(its.path(".git/index"), "new")),
     "a crate put away": lambda its: put_away(its.path("crates/sp_one")),
     "the handles edited": lambda its: edit(its.path("HANDLES")),
     "one crate more": lambda its: put(its.path("crates.txt"), FILES["crates.txt"].replace("sp_one\n", "sp_one sp_other\n", 1)),
 }
+UNSEEN = {
+    "a source edited in place, length and time as before": lambda its: edit_in_place(its.path(SOURCE)),
+    "a proof edited": lambda its: edit(its.path(PROOF)),
+    "a proof removed": lambda its: os.remove(its.path("crates/sp_one/proofs/lib/one/Answers.antt")),
+}
 HARMLESS = {
     "a source touched": lambda its: os.utime(its.path(SOURCE)),
-    "the time of a source set back": lambda its: os.utime(its.path(SOURCE), (1, 1)),
+    "git's list written": lambda its: put(its.path(".git/index"), "new"),
     "what makes the sum edited": lambda its: edit(its.path("build/program.sh"), "# one more line\n"),
     "another text put beside the sources": lambda its: put(its.path("crates/sp_one/src/notes.md"), "one\n"),
 }
 STAMPS = {
-    "a stamp that is cut": lambda its: put(its.path(".spt/stamp"), read(its.path(".spt/stamp"))[:100]),
-    "a stamp that is empty": lambda its: put(its.path(".spt/stamp"), ""),
-    "a list that is cut": lambda its: put(its.path(".spt/files"), read(its.path(".spt/files"))[:40]),
-    "a list that is gone": lambda its: os.remove(its.path(".spt/files")),
-    "both empty": lambda its: (put(its.path(".spt/files"), ""), put(its.path(".spt/stamp"), "")),
+    "a stamp that is cut in a line": lambda its: put(its.path(".spt/code"), read(its.path(".spt/code"))[:100]),
+    "a stamp that is cut behind a line": lambda its: put(its.path(".spt/code"), read(its.path(".spt/code")).rsplit("digest", 1)[0]),
+    "a stamp that is cut in the digest": lambda its: put(its.path(".spt/code"), read(its.path(".spt/code"))[:-9]),
+    "a stamp that is empty": lambda its: put(its.path(".spt/code"), ""),
+    "a stamp that is no text": lambda its: put(its.path(".spt/code"), b"\0\xff\n\n;digest"),
+    "a text that no shell takes": lambda its: put(its.path(".spt/code"), "(;')\n" + read(its.path(".spt/code"))),
+    "a stamp that is gone": lambda its: os.remove(its.path(".spt/code")),
 }
 ELSEWHERE = {
     "nothing changed": lambda its: None,
+    "the time of a source set back": lambda its: os.utime(its.path(SOURCE), (1, 1)),
     "an edit of a contract edited": lambda its: edit(its.path("crates/sp_one/edits/two.edit")),
     "a test edited": lambda its: edit(its.path("crates/sp_one/src/tests/more.rt")),
     "a crate edited that the program doesn't use": lambda its: edit(its.path("crates/sp_other/src/lib.rt")),
@@ -145,6 +161,10 @@ def try_change(folder, where, change, *wanted):
         return f"before: {before}"
     change(its)
     after = [its.start() for _ in wanted]
+    if wanted == (QUICK,):
+        its.forget()
+        after.append(its.start())
+        wanted = (QUICK, SLOW if change in ELSEWHERE.values() else BUILDS)
     return None if after == list(wanted) else f"after: {after}"
 
 
@@ -153,7 +173,7 @@ def try_changes(count, folder):
     tried = {}
     with concurrent.futures.ThreadPoolExecutor(8) as pool:
         for where in (".spt", "dist"):
-            for changes, wanted in ((CHANGES, [BUILDS]), (HARMLESS, [SLOW, SLOW]), (STAMPS, [SLOW, QUICK]), (ELSEWHERE, [QUICK])):
+            for changes, wanted in ((CHANGES, [BUILDS]), (UNSEEN, [QUICK]), (HARMLESS, [SLOW]), (STAMPS, [SLOW, QUICK]), (ELSEWHERE, [QUICK])):
                 for name, change in changes.items():
                     place = f"{folder}/{where} {len(tried)}"
                     tried[f"{name}, the program in {where}"] = pool.submit(try_change, place, where, change, *wanted)
@@ -162,11 +182,12 @@ def try_changes(count, folder):
 
 
 def try_lately(count, folder):
-    """What has changed lately has no stamp, so that a change at once after a start shows, whatever the clock tells of it."""
+    """What has changed lately is read again, so that a change at once after a start shows, whatever the clock tells of it."""
     its = Repository(folder)
-    count.of(f"new sources: {os.listdir(its.path('.spt'))}", its.start() == SLOW and sorted(os.listdir(its.path(".spt"))) == ["sources", "spt"])
-    edit_in_place(its.path(SOURCE))
-    count.of("a source edited at once, length and time as before", its.start() == BUILDS)
+    count.of("new sources", [its.start(), its.start()] == [SLOW, SLOW])
+    with open(its.path(SOURCE), "r+") as it:
+        it.write("F")
+    count.of("a source edited at once, its length as before", its.start() == BUILDS)
 
 
 def try_places(count, folder):
@@ -176,12 +197,27 @@ def try_places(count, folder):
     with concurrent.futures.ThreadPoolExecutor(8) as pool:
         found = list(pool.map(lambda _: its.start()[:2], range(16)))
     count.of(f"many starts at once: {found}", found == [SLOW[:2]] * 16)
-    count.of(f"left behind: {os.listdir(its.path('.spt'))}", sorted(os.listdir(its.path(".spt"))) == ["files", "sources", "spt", "stamp"])
+    count.of(f"left behind: {os.listdir(its.path('.spt'))}", sorted(os.listdir(its.path(".spt"))) == ["code", "sources", "spt"])
     os.symlink(its.path("spt"), f"{folder}/link")
     os.symlink("link", f"{folder}/second")
     its.known["CDPATH"] = its.home
     for words, cwd in ([f"{folder}/link"], "/"), (["./second"], folder), (["./spt"], its.home), (["sh", "spt"], its.home), (["bash", "spt"], its.home), (["bash", "share/../spt"], its.home), (["../spt"], its.path("share")):
         count.of(f"{words} in {cwd}", its.start(*words, cwd=cwd) == QUICK)
+
+
+def try_alone(count, folder):
+    """With a stamp a start is the shell alone, which finds no other command here; a name that says more to a shell has no stamp."""
+    its = Repository(folder)
+    time.sleep(SETTLED)
+    its.start()
+    its.known["PATH"] = "/nowhere"
+    told = its.start()
+    count.of(f"no command on the path: {told}", told == QUICK)
+    its = Repository(f"{folder}/other")
+    put(its.path("crates/sp_one/src/a;b.rt"), "")
+    put(its.path(".spt/sources"), its.sources())
+    time.sleep(SETTLED)
+    count.of("a name with a semicolon", [its.start(), its.start(), its.is_stamped()] == [SLOW, SLOW, False])
 
 
 def try_without_stamp(count, folder):
@@ -196,7 +232,7 @@ def try_without_stamp(count, folder):
 
 def main():
     count = Count()
-    for tried in (try_changes, try_lately, try_places, try_without_stamp):
+    for tried in (try_changes, try_lately, try_places, try_alone, try_without_stamp):
         with tempfile.TemporaryDirectory() as folder:
             tried(count, folder)
     return count.end()
