@@ -118,6 +118,11 @@ impl Stand {
                 count,
                 bytes: bytes.saturating_add(more),
             },
+            Report::Runs { done, count, bytes } => Report::Runs {
+                done,
+                count,
+                bytes: bytes.saturating_add(more),
+            },
             Report::Lines { done, count, bytes } => Report::Lines {
                 done,
                 count,
@@ -142,7 +147,9 @@ impl Stand {
     /// Once the workers have counted so many vertices that they relaxed. A vertex that is relaxed anew counts anew, so what was
     /// told of them stays where a report takes some of them back.
     pub fn with_counted(self, counted: u64) -> Self {
-        let (Report::Sources { done, count, .. } | Report::Pairs { done, count }) = self.report
+        let (Report::Sources { done, count, .. }
+        | Report::Runs { done, count, .. }
+        | Report::Pairs { done, count }) = self.report
         else {
             return self;
         };
@@ -168,9 +175,9 @@ impl Stand {
             Report::Read { bytes, .. } => self.size.map(|all| Share { done: bytes, all }),
             Report::Graph { .. } => None,
             Report::Lines { done, count, .. } => Some(Share { done, all: count }),
-            Report::Sources { done, count, .. } | Report::Pairs { done, count } => {
-                Some(self.share_of_runs(done, count))
-            }
+            Report::Sources { done, count, .. }
+            | Report::Runs { done, count, .. }
+            | Report::Pairs { done, count } => Some(self.share_of_runs(done, count)),
         }
     }
 
@@ -191,7 +198,8 @@ impl Stand {
     // What is done for a source, where there is one left.
     fn stage(&self) -> &'static str {
         match self.report {
-            Report::Sources { done, count, .. } if done < count => {
+            Report::Sources { done, count, .. } | Report::Runs { done, count, .. }
+                if done < count => {
                 if self.trees == 0 && self.vertex == 0 {
                     ", relaxing"
                 } else {

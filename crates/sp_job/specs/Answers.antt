@@ -16,6 +16,6 @@ is_early (Gr e) = true
 is_early (Ss e) = true
 is_early (Targets e) = true
 is_early (Pairs e) = true
-is_early (NoSuchVertex s) = true
+is_early (NoSuchVertex s role) = true
 is_early Memory = false
 is_early Write = false

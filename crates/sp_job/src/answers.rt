@@ -17,6 +17,13 @@ pub struct Summary {
     pub bytes: u64,
 }
 
+/// What a number is asked for as.
+#[derive(Clone, Copy, Debug, PartialEq, Eq)]
+pub enum Role {
+    Source,
+    Target,
+}
+
 /// The reason why a batch wasn't written to its end.
 #[derive(Clone, Copy, Debug, PartialEq, Eq, Error)]
 pub enum BatchError {
@@ -32,9 +39,9 @@ pub enum BatchError {
     /// The text of the pairs has a fault. This is its first one.
     #[error("pairs: {0}")]
     Pairs(DimacsError),
-    /// A source or a target isn't a vertex of the graph. This is the first such number.
+    /// A source or a target isn't a vertex of the graph. This is the first such number, and which of the two it is.
     #[error("source {0}: no such vertex")]
-    NoSuchVertex(u32),
+    NoSuchVertex(u32, Role),
     /// Memory was refused.
     #[error("memory")]
     Memory,

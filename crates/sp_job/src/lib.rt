@@ -9,7 +9,7 @@ mod progress;
 mod vertices;
 mod width;
 
-pub use answers::{BatchError, Summary};
+pub use answers::{BatchError, Role, Summary};
 pub use job::Job;
 pub use places::{Places, chosen};
 pub use progress::{Listener, Nobody, Progress};

@@ -10,6 +10,8 @@ pub enum Progress {
     Graph { vertices: u32, arcs: usize },
     /// The answers that the summary counts are written, of `count` sources in all.
     Sources { written: Summary, count: usize },
+    /// The answers that the summary counts are written, of `count` runs in all, each from all sources.
+    Runs { written: Summary, count: usize },
     /// The lines of a matrix that the summary counts are written, of `count` in all.
     Lines { written: Summary, count: usize },
     /// The answers for the first `found` of `count` pairs are known.
@@ -25,6 +27,10 @@ impl fmt::Display for Progress {
             Progress::Sources { written, count } => {
                 let Summary { sources, bytes, .. } = written;
                 write!(f, "{sources} of {count} sources, {bytes} bytes written")
+            }
+            Progress::Runs { written, count } => {
+                let Summary { sources, bytes, .. } = written;
+                write!(f, "{sources} of {count} runs, {bytes} bytes written")
             }
             Progress::Lines { written, count } => {
                 let Summary { sources, bytes, .. } = written;

@@ -42,7 +42,7 @@ module _ {W : Type 0} (P : ℕ) (file : GrFile) (sources : List ℕ) (limit : Op
   of_file graph answer old new (Err (Ss e)) same is wrote = absurd wrote
   of_file graph answer old new (Err (Targets e)) same is wrote = absurd wrote
   of_file graph answer old new (Err (Pairs e)) same is wrote = absurd wrote
-  of_file graph answer old new (Err (NoSuchVertex v)) same is wrote = absurd wrote
+  of_file graph answer old new (Err (NoSuchVertex v role)) same is wrote = absurd wrote
 
   -- Memory was refused before anything was written.
   pub refused_early : (old : W) → IsForestRun P file sources limit device old old (Err Memory)

@@ -13,14 +13,14 @@ use Rattle.sp_job.specs.declared.answers.Summary.{Summary}
 use Rattle.sp_job.specs.declared.answers.BatchError.{BatchError}
 use Rattle.sp_job.specs.declared.answers.BatchError.TheVariants.{Gr, Ss, Targets, Pairs, NoSuchVertex, Memory, Write}
 use Rattle.sp_job.specs.Places.{part_of}
-use Rattle.sp_job.specs.Vertices.{IsFirstAbove}
+use Rattle.sp_job.specs.Vertices.{IsFirstSource}
 use Rattle.sp_nearest.specs.Nearest.{Answer, IsAnswerTo, answer_text, IsSummary, HasBegun}
 
 -- For the sources of a graph exactly the text of their answer was written; or a source is no vertex, or memory was refused,
 -- and nothing was written; or the writer failed, and a beginning of the text stands.
 abbrev pub IsForestRun : {W : Type 0} → (P : ℕ) → GrFile → (sources : List ℕ) → (limit : Option ℕ) → Writer W → (old new : W) → Result Summary BatchError → Type 0
 IsForestRun P file sources limit w old new (Ok summary) = (answer : Answer) × IsAnswerTo P (graph_of file) sources limit answer × Appends (w.written old) (w.written new) (answer_text answer) × IsSummary answer summary
-IsForestRun P file sources limit w old new (Err (NoSuchVertex s)) = IsFirstAbove file.n sources s × (w.written new ≡ w.written old)
+IsForestRun P file sources limit w old new (Err (NoSuchVertex s role)) = IsFirstSource file.n sources s role × (w.written new ≡ w.written old)
 IsForestRun P file sources limit w old new (Err Memory) = All (λ s. s ≤ file.n) sources × (w.written new ≡ w.written old)
 IsForestRun P file sources limit w old new (Err Write) = All (λ s. s ≤ file.n) sources × HasBegun P (graph_of file) sources limit (w.written old) (w.written new) × (w.has_failed new ≡ true)
 IsForestRun P file sources limit w old new (Err (Gr e)) = ⊥

@@ -10,7 +10,9 @@ ghost use Rattle.sp_nearest.specs.Answered.{IsForestRun, ForestAnswered, ForestO
 use crate::answer::{find_answer, write_answer};
 use sp_dimacs::{GrFile, Read, Write, read_gr_by, read_ss};
 use sp_graph::Graph;
-use sp_job::{BatchError, Listener, Places, Progress, Settings, Summary, chosen, first_above};
+use sp_job::{
+    BatchError, Listener, Places, Progress, Role, Settings, Summary, chosen, first_above,
+};
 use sp_near::Nearest;
 use sp_word::Crew;
 use std::alloc::Global;
@@ -40,14 +42,14 @@ fn answer_file<const P: u32, R: Crew, W: Write, L: Listener>(
     ensures untouched { IfErr result (λ e. is_early e ≡ true → out.new ≡ out.old) }
 {
     if let Some(source) = first_above(asked.sources, file.n) {
-        return Err(BatchError::NoSuchVertex(source));
+        return Err(BatchError::NoSuchVertex(source, Role::Source));
     }
     let graph = Graph::from_arcs_by(rt, alloc, file.n, file.arcs, settings.workers)?;
     settings.listener.hear(Progress::Graph {
         vertices: graph.n(),
         arcs: graph.m(),
     });
-    settings.listener.hear(Progress::Sources {
+    settings.listener.hear(Progress::Runs {
         written: NOTHING,
         count: 1,
     });

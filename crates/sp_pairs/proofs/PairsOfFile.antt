@@ -44,7 +44,7 @@ pairs_done P file list graph device old new slots (Err (Gr e)) same most held cl
 pairs_done P file list graph device old new slots (Err (Ss e)) same most held closed h = absurd h
 pairs_done P file list graph device old new slots (Err (Targets e)) same most held closed h = absurd h
 pairs_done P file list graph device old new slots (Err (Pairs e)) same most held closed h = absurd h
-pairs_done P file list graph device old new slots (Err (NoSuchVertex v)) same most held closed h = absurd h
+pairs_done P file list graph device old new slots (Err (NoSuchVertex v role)) same most held closed h = absurd h
 
 -- Once lines are written, no file is refused.
 pub pairs_not_early : {W : Type 0} (device : Writer W) (pairs : List (ℕ × ℕ)) (slots : List Slot) (old new : W) (result : Result Summary BatchError) (same : Type 0) → ArePairsWritten device pairs (map answer_in slots) old result new → IfErr result (λ e. is_early e ≡ true → same)
@@ -55,4 +55,4 @@ pairs_not_early device pairs slots old new (Err (Gr e)) same is = absurd is
 pairs_not_early device pairs slots old new (Err (Ss e)) same is = absurd is
 pairs_not_early device pairs slots old new (Err (Targets e)) same is = absurd is
 pairs_not_early device pairs slots old new (Err (Pairs e)) same is = absurd is
-pairs_not_early device pairs slots old new (Err (NoSuchVertex v)) same is = absurd is
+pairs_not_early device pairs slots old new (Err (NoSuchVertex v role)) same is = absurd is

@@ -17,7 +17,7 @@ use Rattle.sp_pairs.specs.Pairs.{ArePairsDone, PairsAnswered, PairsOfSome, MayFa
 pub pairs_answered : {G S W : Type 0} (P : ℕ) (gr_text list_text : List ℕ) (g : Reader G) (graph : G) (s : Reader S) (named : S) (w : Writer W) (old new : W) (file : GrFile) (list : PairsFile) (result : Result Summary BatchError)
     → SpellsGraph P gr_text file → SpellsPairs P list_text list → ArePairsDone P file list w old new result → PairsAnswered P gr_text list_text g graph s named w old new result
 pairs_answered P gr_text list_text g graph s named w old new file list (Ok summary) spelled within is = (file, list, spelled, within, is)
-pairs_answered P gr_text list_text g graph s named w old new file list (Err (NoSuchVertex v)) spelled within is = (file, list, spelled, within, is)
+pairs_answered P gr_text list_text g graph s named w old new file list (Err (NoSuchVertex v role)) spelled within is = (file, list, spelled, within, is)
 pairs_answered P gr_text list_text g graph s named w old new file list (Err Memory) spelled within is = (file, list, spelled, within, is)
 pairs_answered P gr_text list_text g graph s named w old new file list (Err Write) spelled within is = (file, list, spelled, within, is)
 pairs_answered P gr_text list_text g graph s named w old new file list (Err (Gr e)) spelled within is = absurd is
@@ -28,7 +28,7 @@ pairs_answered P gr_text list_text g graph s named w old new file list (Err (Pai
 pub pairs_of_some : {W : Type 0} (P : ℕ) (gr_text list_text : List ℕ) (w : Writer W) (old new : W) (file : GrFile) (list : PairsFile) (result : Result Summary BatchError)
     → SpellsGraph P gr_text file → SpellsPairs P list_text list → ArePairsDone P file list w old new result → PairsOfSome P w old new result
 pairs_of_some P gr_text list_text w old new file list (Ok summary) spelled within is = (gr_text, list_text, file, list, spelled, within, is)
-pairs_of_some P gr_text list_text w old new file list (Err (NoSuchVertex v)) spelled within is = (gr_text, list_text, file, list, spelled, within, is)
+pairs_of_some P gr_text list_text w old new file list (Err (NoSuchVertex v role)) spelled within is = (gr_text, list_text, file, list, spelled, within, is)
 pairs_of_some P gr_text list_text w old new file list (Err Memory) spelled within is = (gr_text, list_text, file, list, spelled, within, is)
 pairs_of_some P gr_text list_text w old new file list (Err Write) spelled within is = (gr_text, list_text, file, list, spelled, within, is)
 pairs_of_some P gr_text list_text w old new file list (Err (Gr e)) spelled within is = absurd is
@@ -39,7 +39,7 @@ pairs_of_some P gr_text list_text w old new file list (Err (Pairs e)) spelled wi
 -- What was answered for a graph and pairs tells of no device.
 pub may_fail : {W : Type 0} (P : ℕ) (gr pairs : Failing) (w : Writer W) (old new : W) (file : GrFile) (list : PairsFile) (result : Result Summary BatchError) → ArePairsDone P file list w old new result → IfErr result (MayFail gr pairs)
 may_fail P gr pairs w old new file list (Ok summary) is = tt
-may_fail P gr pairs w old new file list (Err (NoSuchVertex v)) is = tt
+may_fail P gr pairs w old new file list (Err (NoSuchVertex v role)) is = tt
 may_fail P gr pairs w old new file list (Err Memory) is = tt
 may_fail P gr pairs w old new file list (Err Write) is = tt
 may_fail P gr pairs w old new file list (Err (Gr e)) is = absurd is

@@ -16,6 +16,8 @@ use Rattle.sp_dimacs.specs.declared.pairs.PairsFile.{PairsFile}
 use Rattle.sp_dimacs.specs.Graph.{graph_of, SpellsGraph, GraphRead}
 use Rattle.sp_dimacs.specs.Pairs.{SpellsPairs, PairsRead}
 use Rattle.sp_job.specs.declared.answers.Summary.{Summary}
+use Rattle.sp_job.specs.declared.answers.Role.{Role}
+use Rattle.sp_job.specs.declared.answers.Role.TheVariants.{Source, Target}
 use Rattle.sp_job.specs.declared.answers.BatchError.{BatchError}
 use Rattle.sp_job.specs.declared.answers.BatchError.TheVariants.{Gr, Ss, Targets, Pairs, NoSuchVertex, Memory, Write}
 use Rattle.sp_job.specs.Answers.{IsCount}
@@ -69,16 +71,16 @@ pub record HasBegunPairs (P : ℕ) (g : Graph) (pairs : List (ℕ × ℕ)) (old 
 abbrev pub IsPairUpTo : (n : ℕ) → ℕ × ℕ → Type 0
 IsPairUpTo n pair = (pair.0 ≤ n) × (pair.1 ≤ n)
 
--- the first number of a pair that is above n, the source before the target
-abbrev pub IsFirstOfPair : (n : ℕ) → ℕ × ℕ → (v : ℕ) → Type 0
-IsFirstOfPair n pair v = (n < v) × ((v ≡ pair.0) ⊎ ((pair.0 ≤ n) × (v ≡ pair.1)))
+-- the first number of a pair that is above n, the source before the target, and which of the two it is
+abbrev pub IsFirstOfPair : (n : ℕ) → ℕ × ℕ → (v : ℕ) → Role → Type 0
+IsFirstOfPair n pair v role = (n < v) × (((v ≡ pair.0) × (role ≡ Source)) ⊎ ((pair.0 ≤ n) × (v ≡ pair.1) × (role ≡ Target)))
 
 -- The first number above n, pair after pair.
-pub record IsFirstPairAbove (n : ℕ) (pairs : List (ℕ × ℕ)) (v : ℕ) : Type 0 where
+pub record IsFirstPairAbove (n : ℕ) (pairs : List (ℕ × ℕ)) (v : ℕ) (role : Role) : Type 0 where
   pub place : ℕ
   pub pair : ℕ × ℕ
   pub there : slice_get pairs place ≡ Some pair
-  pub first : IsFirstOfPair n pair v
+  pub first : IsFirstOfPair n pair v role
   pub before : (k : ℕ) (other : ℕ × ℕ) → k < place → slice_get pairs k ≡ Some other → IsPairUpTo n other
 
 -- ## Answers to two texts
@@ -87,7 +89,7 @@ pub record IsFirstPairAbove (n : ℕ) (pairs : List (ℕ × ℕ)) (v : ℕ) : Ty
 -- written; or memory was refused, and nothing was written; or the writer failed, and a beginning of the text stands.
 abbrev pub ArePairsDone : {W : Type 0} → (P : ℕ) → GrFile → PairsFile → Writer W → (old new : W) → Result Summary BatchError → Type 0
 ArePairsDone P file list w old new (Ok summary) = (answers : List PairAnswer) × ArePairAnswers P (graph_of file) list.pairs.items answers × Appends (w.written old) (w.written new) (pairs_text list.pairs.items answers) × IsPairsSummary list.pairs.items answers summary
-ArePairsDone P file list w old new (Err (NoSuchVertex v)) = IsFirstPairAbove file.n list.pairs.items v × (w.written new ≡ w.written old)
+ArePairsDone P file list w old new (Err (NoSuchVertex v role)) = IsFirstPairAbove file.n list.pairs.items v role × (w.written new ≡ w.written old)
 ArePairsDone P file list w old new (Err Memory) = All (IsPairUpTo file.n) list.pairs.items × (w.written new ≡ w.written old)
 ArePairsDone P file list w old new (Err Write) = All (IsPairUpTo file.n) list.pairs.items × HasBegunPairs P (graph_of file) list.pairs.items (w.written old) (w.written new) × (w.has_failed new ≡ true)
 ArePairsDone P file list w old new (Err (Gr e)) = ⊥

@@ -10,21 +10,21 @@ use crate::asking::find_answers;
 use crate::pair_lines::write_pairs;
 use sp_dimacs::{GrFile, PairsFile, Read, Write, read_gr_by, read_pairs};
 use sp_graph::Graph;
-use sp_job::{BatchError, BucketWidth, Job, Listener, Nobody, Progress, Settings, Summary};
+use sp_job::{BatchError, BucketWidth, Job, Listener, Nobody, Progress, Role, Settings, Summary};
 use sp_word::{Crew, Meter, Workers};
 use std::alloc::Global;
 
 // Returns the first number that isn't a vertex, of a pair the source before the target, if one isn't.
-fn first_pair_above(pairs: &[(u32, u32)], n: u32) -> Option<u32>
-    ensures first { IfSome result (IsFirstPairAbove n pairs.now) }
+fn first_pair_above(pairs: &[(u32, u32)], n: u32) -> Option<(u32, Role)>
+    ensures first { IfSome result (λ named. IsFirstPairAbove n pairs.now named.0 named.1) }
     ensures none { IfNone result (All (IsPairUpTo n) pairs.now) }
 {
     for (source, target) in pairs {
         if *source > n {
-            return Some(*source);
+            return Some((*source, Role::Source));
         }
         if *target > n {
-            return Some(*target);
+            return Some((*target, Role::Target));
         }
     }
     None
@@ -46,8 +46,8 @@ fn answer_pairs<const P: u32, R: Crew, W: Write, L: Listener>(
     ensures done { ArePairsDone P file list.now W.Write out.old out.new result }
     ensures untouched { IfErr result (λ e. is_early e ≡ true → out.new ≡ out.old) }
 {
-    if let Some(vertex) = first_pair_above(&list.pairs, file.n) {
-        return Err(BatchError::NoSuchVertex(vertex));
+    if let Some((number, role)) = first_pair_above(&list.pairs, file.n) {
+        return Err(BatchError::NoSuchVertex(number, role));
     }
     let graph = Graph::from_arcs_by(rt, alloc, file.n, file.arcs, settings.workers)?;
     settings.listener.hear(Progress::Graph {
