@@ -99,7 +99,7 @@ of_file P limit file sources graph device old new (Err (Gr e)) same ok is = absu
 of_file P limit file sources graph device old new (Err (Ss e)) same ok is = absurd is
 of_file P limit file sources graph device old new (Err (Targets e)) same ok is = absurd is
 of_file P limit file sources graph device old new (Err (Pairs e)) same ok is = absurd is
-of_file P limit file sources graph device old new (Err (NoSuchVertex v)) same ok is = absurd is
+of_file P limit file sources graph device old new (Err (NoSuchVertex v role)) same ok is = absurd is
 
 -- Memory was refused before anything was written.
 pub refused_early : {W : Type 0} (P : ℕ) (limit : Option ℕ) (file : GrFile) (sources : List ℕ) (device : Writer W) (old : W) → AreSources P limit file sources → IsBatch P limit file sources device old old (Err Memory)

@@ -13,14 +13,14 @@ use Rattle.sp_job.specs.declared.answers.Summary.{Summary}
 use Rattle.sp_job.specs.declared.answers.BatchError.{BatchError}
 use Rattle.sp_job.specs.declared.answers.BatchError.TheVariants.{Gr, Ss, Targets, Pairs, NoSuchVertex, Memory, Write}
 use Rattle.sp_job.specs.Places.{part_of}
-use Rattle.sp_job.specs.Vertices.{IsFirstAbove}
+use Rattle.sp_job.specs.Vertices.{IsFirstSource}
 use Rattle.sp_batch.specs.Batch.{Answer, AreAnswers, batch_text, IsSummary, HasBegun}
 
 -- For the sources of a graph exactly the text of their answers was written, up to the limit if there is one; or a source is no vertex, and nothing was
 -- written; or memory was refused or the writer failed, and a beginning of the text stands.
 abbrev pub IsBatch : {W : Type 0} → (P : ℕ) → (limit : Option ℕ) → GrFile → (sources : List ℕ) → Writer W → (old new : W) → Result Summary BatchError → Type 0
 IsBatch P limit file sources w old new (Ok summary) = (answers : List Answer) × AreAnswers P limit (graph_of file) sources answers × Appends (w.written old) (w.written new) (batch_text answers) × IsSummary answers summary
-IsBatch P limit file sources w old new (Err (NoSuchVertex s)) = IsFirstAbove file.n sources s × (w.written new ≡ w.written old)
+IsBatch P limit file sources w old new (Err (NoSuchVertex s role)) = IsFirstSource file.n sources s role × (w.written new ≡ w.written old)
 IsBatch P limit file sources w old new (Err Memory) = All (λ s. s ≤ file.n) sources × HasBegun P limit (graph_of file) sources (w.written old) (w.written new)
 IsBatch P limit file sources w old new (Err Write) = All (λ s. s ≤ file.n) sources × HasBegun P limit (graph_of file) sources (w.written old) (w.written new) × (w.has_failed new ≡ true)
 IsBatch P limit file sources w old new (Err (Gr e)) = ⊥

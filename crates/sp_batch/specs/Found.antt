@@ -1,5 +1,5 @@
 -- What was found for sources, before it is written.
-use Rattle.std.specs.Prelude.{◌≡◌, ◌≤◌, ℕ, cond, Option, None, Some, IfSome}
+use Rattle.std.specs.Prelude.{◌≡◌, ◌≤◌, ℕ, List, All, cond, Option, None, Some, IfSome}
 use Rattle.sp_word.specs.Word.{max_dist}
 use Rattle.sp_paths.specs.Paths.{Graph, IsVertex}
 use Rattle.sp_answer.specs.Answer.{IsRefusal}
@@ -38,3 +38,11 @@ pub record CanFind (P : ℕ) (limit : Option ℕ) (g : Graph) (s : ℕ) : Type 0
   pub limit_within : IfSome limit (λ l. l ≤ max_dist P)
   pub ready : IsReady P g
   pub vertex : IsVertex g.n s
+
+-- That is so of each source that is asked.
+abbrev pub CanFindAll : (P : ℕ) → (limit : Option ℕ) → Graph → (sources : List ℕ) → Type 0
+CanFindAll P limit g sources = All (CanFind P limit g) sources
+
+-- What is told answers the source.
+abbrev pub Answers : (P : ℕ) → (limit : Option ℕ) → Graph → (s : ℕ) → Told → Type 0
+Answers P limit g s told = IsTold P limit g s told

@@ -4,7 +4,6 @@ ghost use denote.Param.Send.{IsSync};
 ghost use Rattle.sp_sources.specs.Told.{IsDue, AreWritten};
 ghost use Rattle.sp_batch.specs.Found.{told_by, IsTold, CanFind, IsRefusalUpTo};
 
-use crate::watch::Watch;
 use sp_answer::{Tree, WordTree};
 use sp_device::{Write, write_all};
 use sp_graph::Graph;
@@ -12,7 +11,7 @@ use sp_job::{BatchError, Progress, Summary};
 use sp_solve::{Part, RunError, run_within_metered, useful_team, words_by_team};
 use sp_sources::Question;
 use sp_tree::{text_of, text_of_words, write_far, write_tree_in_pages, write_words_in_pages};
-use sp_word::{Delta, Meter, Team, Workers};
+use sp_word::{Alone, Crew, Meter, Team, Workers};
 use std::alloc::{AllocError, Global};
 use std::sync::Wait;
 use std::thread::Threads;
@@ -23,7 +22,7 @@ const MANY_WORKERS: u32 = 8;
 
 /// The answer for a source.
 #[derive(Drop)]
-pub(crate) enum SourceAnswer<const P: u32> {
+pub enum SourceAnswer<const P: u32> {
     /// The shortest-path tree of the source.
     Tree(WordTree<P>),
     /// The part of that tree within the limit.
@@ -36,23 +35,19 @@ pub(crate) enum SourceAnswer<const P: u32> {
 
 /// The question of a batch: what is the tree of a source of the graph, or its part within a limit.
 #[derive(Drop)]
-pub(crate) struct TreeQuestion<'a, const P: u32, V> {
+pub struct TreeQuestion<'a, const P: u32> {
     pub(crate) graph: &'a Graph,
-    /// The width of a bucket.
-    pub(crate) delta: Delta<P>,
-    /// The number of workers.
-    pub(crate) workers: Workers,
+    /// The width of a bucket, and the number of workers.
+    pub(crate) team: Team<P>,
     /// The greatest distance that is told, if there is a limit.
     pub(crate) limit: Option<u64>,
     /// The meter on which the workers count the vertices that they relax.
     pub(crate) meter: &'a Meter,
-    /// Who hears of each source before its answer is found.
-    pub(crate) watch: &'a V,
 }
 
-impl<const P: u32, V> TreeQuestion<'_, P, V> {
+impl<const P: u32> TreeQuestion<'_, P> {
     // Returns the tree of a source, or its part within the limit if there is one.
-    fn run<R: Threads + Wait + Sync>(
+    fn run<R: Crew>(
         &self,
         rt: &R,
         alloc: Global,
@@ -80,7 +75,33 @@ impl<const P: u32, V> TreeQuestion<'_, P, V> {
     }
 }
 
-impl<'a, const P: u32, V: Watch + Sync> Question for TreeQuestion<'a, P, V> {
+// Finds the answer of a source by so many workers.
+fn answer_of<const P: u32, R: Crew>(
+    rt: &R,
+    alloc: Global,
+    question: &TreeQuestion<'_, P>,
+    workers: Workers,
+    source: u32,
+) -> Result<SourceAnswer<P>, AllocError>
+    requires { CanFind P question.now.limit question.now.graph.now source }
+    ensures { IfOk result (λ found. IsDue
+        (λ s told. IsTold P question.now.limit question.now.graph.now s told)
+        source (told_by found)) }
+{
+    let asked = Team {
+        delta: question.team.delta,
+        workers,
+    };
+    let team = useful_team(rt, question.graph.n(), &asked);
+    match question.run::<R>(rt, alloc, team, source) {
+        Ok(found) => Ok(found),
+        Err(RunError::TooFar(vertex)) => Ok(SourceAnswer::TooFar { source, vertex }),
+        Err(RunError::NoSuchVertex) => unreachable!(),
+        Err(RunError::Memory) => Err(AllocError),
+    }
+}
+
+impl<'a, const P: u32> Question for TreeQuestion<'a, P> {
     type Found = SourceAnswer<P>;
 
     ghost told = { told_by };
@@ -106,25 +127,29 @@ impl<'a, const P: u32, V: Watch + Sync> Question for TreeQuestion<'a, P, V> {
             (λ s told. IsTold P self.now.limit self.now.graph.now s told)
             source (told_by found)) }
     {
-        self.watch.before_source(source);
-        let asked = Team {
-            delta: self.delta,
-            workers,
-        };
-        let team = useful_team(rt, self.graph.n(), &asked);
-        match self.run::<R>(rt, alloc, team, source) {
-            Ok(found) => Ok(found),
-            Err(RunError::TooFar(vertex)) => Ok(SourceAnswer::TooFar { source, vertex }),
-            Err(RunError::NoSuchVertex) => unreachable!(),
-            Err(RunError::Memory) => Err(AllocError),
-        }
+        answer_of::<P, R>(rt, alloc, self, workers, source)
+    }
+
+    fn find_alone<R: Threads + Sync>(
+        &self,
+        rt: &R,
+        alloc: Global,
+        source: u32,
+    ) -> Result<SourceAnswer<P>, AllocError>
+        requires source { CanFind P self.now.limit self.now.graph.now source }
+        requires sync { IsSync R.row }
+        ensures { IfOk result (λ found. IsDue
+            (λ s told. IsTold P self.now.limit self.now.graph.now s told)
+            source (told_by found)) }
+    {
+        answer_of::<P, _>(&Alone::new(rt), alloc, self, Workers::one(), source)
     }
 
     // Where workers are many, makes the text of a tree, and lets go of the tree. Where memory for the text is refused, the tree stays.
     fn ready(&self, alloc: Global, found: SourceAnswer<P>) -> SourceAnswer<P>
         ensures { told_by result ≡ told_by found.entry }
     {
-        if self.workers.get() < MANY_WORKERS {
+        if self.team.workers.get() < MANY_WORKERS {
             return found;
         }
         match found {

@@ -2,8 +2,9 @@
 #![tactic(auto)]
 
 mod batch;
+mod crews;
 mod finding;
-mod watch;
 
 pub use batch::{run_batch, run_batch_told, run_given_told};
+pub use crews::TreeCrew;
 pub use sp_job::{BatchError, BucketWidth, Listener, Nobody, Places, Progress, Settings, Summary};

@@ -49,7 +49,7 @@ module _ {W : Type 0} (P : ℕ) (file : GrFile) (sources targets : List ℕ) (de
   of_file graph old new (Err (Ss e)) same ok is = absurd is
   of_file graph old new (Err (Targets e)) same ok is = absurd is
   of_file graph old new (Err (Pairs e)) same ok is = absurd is
-  of_file graph old new (Err (NoSuchVertex v)) same ok is = absurd is
+  of_file graph old new (Err (NoSuchVertex v role)) same ok is = absurd is
 
   -- Memory was refused before anything was written.
   pub refused_early : (old : W) → AreLists P file sources targets → IsMatrix P file sources targets device old old (Err Memory)

@@ -15,7 +15,7 @@ use Rattle.sp_matrix.specs.Answered.{Texts, SpellMatrix, MatrixAnswered, MatrixO
 pub answered : {G S T W : Type 0} (P : ℕ) (places : Option (ℕ × ℕ)) (texts : Texts) (g : Reader G) (gr : G) (s : Reader S) (ss : S) (t : Reader T) (targets : T) (w : Writer W) (old new : W) (result : Result Summary BatchError)
     → SpellMatrix P places texts w old new result → MatrixAnswered P places texts g gr s ss t targets w old new result
 answered P places texts g gr s ss t targets w old new (Ok summary) is = is
-answered P places texts g gr s ss t targets w old new (Err (NoSuchVertex v)) is = is
+answered P places texts g gr s ss t targets w old new (Err (NoSuchVertex v role)) is = is
 answered P places texts g gr s ss t targets w old new (Err Memory) is = is
 answered P places texts g gr s ss t targets w old new (Err Write) is = is
 answered P places texts g gr s ss t targets w old new (Err (Gr e)) is = absurd is.matrix
@@ -25,7 +25,7 @@ answered P places texts g gr s ss t targets w old new (Err (Pairs e)) is = is
 
 pub of_some : {W : Type 0} (P : ℕ) (places : Option (ℕ × ℕ)) (texts : Texts) (w : Writer W) (old new : W) (result : Result Summary BatchError) → SpellMatrix P places texts w old new result → MatrixOfSome P places w old new result
 of_some P places texts w old new (Ok summary) is = (texts, is)
-of_some P places texts w old new (Err (NoSuchVertex v)) is = (texts, is)
+of_some P places texts w old new (Err (NoSuchVertex v role)) is = (texts, is)
 of_some P places texts w old new (Err Memory) is = (texts, is)
 of_some P places texts w old new (Err Write) is = (texts, is)
 of_some P places texts w old new (Err (Gr e)) is = absurd is.matrix
@@ -37,7 +37,7 @@ of_some P places texts w old new (Err (Pairs e)) is = (texts, is)
 pub given_answered : {G T W : Type 0} (P : ℕ) (gr_text sources targets_text : List ℕ) (g : Reader G) (gr : G) (t : Reader T) (targets : T) (w : Writer W) (old new : W) (result : Result Summary BatchError)
     → SpellGivenMatrix P gr_text sources targets_text w old new result → GivenMatrixAnswered P gr_text sources targets_text g gr t targets w old new result
 given_answered P gr_text sources targets_text g gr t targets w old new (Ok summary) is = is
-given_answered P gr_text sources targets_text g gr t targets w old new (Err (NoSuchVertex v)) is = is
+given_answered P gr_text sources targets_text g gr t targets w old new (Err (NoSuchVertex v role)) is = is
 given_answered P gr_text sources targets_text g gr t targets w old new (Err Memory) is = is
 given_answered P gr_text sources targets_text g gr t targets w old new (Err Write) is = is
 given_answered P gr_text sources targets_text g gr t targets w old new (Err (Gr e)) is = absurd is.matrix
@@ -48,7 +48,7 @@ given_answered P gr_text sources targets_text g gr t targets w old new (Err (Pai
 pub given_of_some : {W : Type 0} (P : ℕ) (gr_text sources targets_text : List ℕ) (w : Writer W) (old new : W) (result : Result Summary BatchError)
     → SpellGivenMatrix P gr_text sources targets_text w old new result → GivenMatrixOfSome P sources w old new result
 given_of_some P gr_text sources targets_text w old new (Ok summary) is = (gr_text, targets_text, is)
-given_of_some P gr_text sources targets_text w old new (Err (NoSuchVertex v)) is = (gr_text, targets_text, is)
+given_of_some P gr_text sources targets_text w old new (Err (NoSuchVertex v role)) is = (gr_text, targets_text, is)
 given_of_some P gr_text sources targets_text w old new (Err Memory) is = (gr_text, targets_text, is)
 given_of_some P gr_text sources targets_text w old new (Err Write) is = (gr_text, targets_text, is)
 given_of_some P gr_text sources targets_text w old new (Err (Gr e)) is = absurd is.matrix
@@ -59,7 +59,7 @@ given_of_some P gr_text sources targets_text w old new (Err (Pairs e)) is = (gr_
 -- What was answered for a graph tells of no device.
 pub may_fail : {W : Type 0} (P : ℕ) (sources targets : List ℕ) (gr ss ends : Failing) (w : Writer W) (old new : W) (file : GrFile) (result : Result Summary BatchError) → IsMatrix P file sources targets w old new result → IfErr result (MayFail gr ss ends)
 may_fail P sources targets gr ss ends w old new file (Ok summary) is = tt
-may_fail P sources targets gr ss ends w old new file (Err (NoSuchVertex v)) is = tt
+may_fail P sources targets gr ss ends w old new file (Err (NoSuchVertex v role)) is = tt
 may_fail P sources targets gr ss ends w old new file (Err Memory) is = tt
 may_fail P sources targets gr ss ends w old new file (Err Write) is = tt
 may_fail P sources targets gr ss ends w old new file (Err (Gr e)) is = absurd is

@@ -55,3 +55,11 @@ pub record CanFind (P : ℕ) (g : Graph) (targets : List ℕ) (s : ℕ) : Type 0
   pub source : IsVertex g.n s
   pub vertices : All (IsVertex g.n) targets
   pub few : length targets ≤ 1048576
+
+-- That is so of each source that is asked.
+abbrev pub CanFindAll : (P : ℕ) → Graph → (targets sources : List ℕ) → Type 0
+CanFindAll P g targets sources = All (CanFind P g targets) sources
+
+-- What is told answers the source.
+abbrev pub Answers : (P : ℕ) → Graph → (targets : List ℕ) → (s : ℕ) → Told → Type 0
+Answers P g targets s told = IsTold P g targets s told

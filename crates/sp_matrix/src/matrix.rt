@@ -9,15 +9,15 @@ ghost use Rattle.sp_job.specs.Answers.{is_early};
 ghost use Rattle.sp_matrix.specs.Matrix.{IsMatrix};
 ghost use Rattle.sp_matrix.specs.Answered.{Texts, MatrixAnswered, MatrixOfSome, GivenMatrixAnswered, GivenMatrixOfSome, MayFail};
 
-use crate::row::RowQuestion;
+use crate::crews::RowCrew;
 use sp_dimacs::{GrFile, Read, SsFile, Write, read_gr_by, read_ss};
 use sp_graph::Graph;
-use sp_job::{BatchError, Listener, Places, Progress, Settings, Summary, chosen, first_above};
-use sp_sources::{Asked, LEAST_ITEMS, answer_sources};
+use sp_job::{
+    BatchError, Listener, Places, Progress, Role, Settings, Summary, chosen, first_above,
+};
+use sp_sources::{Asked, LEAST_ITEMS};
 use sp_word::Meter;
 use std::alloc::Global;
-use std::sync::Wait;
-use std::thread::Threads;
 
 /// What the sources of a matrix are asked: the file of the graph, and the targets.
 #[derive(Drop)]
@@ -36,7 +36,7 @@ pub(crate) struct Starts<'a> {
 
 /// Tests the sources and then the targets of a matrix, and then finds and writes its lines.
 #[tactic(auto, using(sp_sources::proofs::ToldInOrder::not_early))]
-pub(crate) fn answer_matrix<'a, const P: u32, R: Threads + Wait + Sync, W: Write, L: Listener>(
+pub(crate) fn answer_matrix<'a, const P: u32, R: RowCrew<P>, W: Write, L: Listener>(
     rt: &R,
     alloc: Global,
     asking: Asking,
@@ -44,6 +44,7 @@ pub(crate) fn answer_matrix<'a, const P: u32, R: Threads + Wait + Sync, W: Write
     settings: &Settings<'a, P, L>,
     out: &mut W,
 ) -> Result<Summary, BatchError>
+    requires crew { R.is_shared }
     requires layout { is_layout P ≡ true }
     requires network { IsNetwork P asking.file }
     requires sources { AreNumbered starts.now.sources.now }
@@ -54,10 +55,10 @@ pub(crate) fn answer_matrix<'a, const P: u32, R: Threads + Wait + Sync, W: Write
 {
     let Asking { file, targets } = asking;
     if let Some(source) = first_above(starts.sources, file.n) {
-        return Err(BatchError::NoSuchVertex(source));
+        return Err(BatchError::NoSuchVertex(source, Role::Source));
     }
     if let Some(target) = first_above(&targets, file.n) {
-        return Err(BatchError::NoSuchVertex(target));
+        return Err(BatchError::NoSuchVertex(target, Role::Target));
     }
     let graph = Graph::from_arcs_by(rt, alloc, file.n, file.arcs, settings.workers)?;
     settings.listener.hear(Progress::Graph {
@@ -66,12 +67,7 @@ pub(crate) fn answer_matrix<'a, const P: u32, R: Threads + Wait + Sync, W: Write
     });
     let uncounted = Meter::new();
     let team = settings.team_for(&graph);
-    let question = RowQuestion {
-        graph: &graph,
-        delta: team.delta,
-        meter: settings.listener.meter().unwrap_or(&uncounted),
-        targets: &targets,
-    };
+    let meter = settings.listener.meter().unwrap_or(&uncounted);
     let asked = Asked {
         sources: starts.sources,
         count: starts.sources.len().saturating_mul(targets.len()),
@@ -80,7 +76,7 @@ pub(crate) fn answer_matrix<'a, const P: u32, R: Threads + Wait + Sync, W: Write
         workers: team.workers,
         listener: settings.listener,
     };
-    answer_sources::<RowQuestion<P>, R, W, L>(rt, alloc, &question, &asked, out)
+    rt.answer_rows::<W, L>(alloc, &graph, team.delta, &targets, meter, &asked, out)
 }
 
 // A list, and the places at which its sources are asked.
@@ -91,7 +87,7 @@ struct Listed {
 }
 
 // Answers the sources at some places of a list.
-fn answer_places<const P: u32, R: Threads + Wait + Sync, W: Write, L: Listener>(
+fn answer_places<const P: u32, R: RowCrew<P>, W: Write, L: Listener>(
     rt: &R,
     alloc: Global,
     asking: Asking,
@@ -99,6 +95,7 @@ fn answer_places<const P: u32, R: Threads + Wait + Sync, W: Write, L: Listener>(
     settings: &Settings<P, L>,
     out: &mut W,
 ) -> Result<Summary, BatchError>
+    requires crew { R.is_shared }
     requires layout { is_layout P ≡ true }
     requires network { IsNetwork P asking.file }
     requires sources { AreSourcesWithin P listed.now.list }
@@ -125,10 +122,11 @@ fn answer_places<const P: u32, R: Threads + Wait + Sync, W: Write, L: Listener>(
 ///
 /// It makes one run from each source, no further than to the farthest of the targets. Several sources are answered at once,
 /// as `run_batch` does; a source's lines are written as soon as they and those before them are known. The listener hears
-/// when the graph stands, and before each source, or each group of sources that are answered at once.
+/// when the graph stands, and before each source, or each group of sources that are answered at once. The crew is as in
+/// `run_batch_told`.
 pub fn run_matrix_told<
     const P: u32,
-    R: Threads + Wait + Sync,
+    R: RowCrew<P>,
     G: Read,
     S: Read,
     T: Read,
@@ -144,6 +142,7 @@ pub fn run_matrix_told<
     out: &mut W,
     settings: &Settings<P, L>,
 ) -> Result<Summary, BatchError>
+    requires crew { R.is_shared }
     requires layout { is_layout P ≡ true }
     ensures exact { (texts : Texts) → G.left gr.old ≡ Some texts.gr
         → S.left ss.old ≡ Some texts.ss → T.left targets.old ≡ Some texts.targets
@@ -175,14 +174,7 @@ pub fn run_matrix_told<
 }
 
 /// Does what `run_matrix_told` does, for sources that are given in place of the text of a list.
-pub fn run_matrix_given_told<
-    const P: u32,
-    R: Threads + Wait + Sync,
-    G: Read,
-    T: Read,
-    W: Write,
-    L: Listener,
->(
+pub fn run_matrix_given_told<const P: u32, R: RowCrew<P>, G: Read, T: Read, W: Write, L: Listener>(
     rt: &R,
     alloc: Global,
     gr: &mut G,
@@ -191,6 +183,7 @@ pub fn run_matrix_given_told<
     out: &mut W,
     settings: &Settings<P, L>,
 ) -> Result<Summary, BatchError>
+    requires crew { R.is_shared }
     requires layout { is_layout P ≡ true }
     requires sources { AreNumbered sources.now }
     ensures exact { (gr_text targets_text : List ℕ)

@@ -11,21 +11,21 @@ use sp_graph::Graph;
 use sp_job::{BatchError, Progress, Summary};
 use sp_solve::{Query, Reach, run_targets, useful_team};
 use sp_sources::Question;
-use sp_word::{Delta, Meter, Team, Workers};
+use sp_word::{Alone, Crew, Delta, Meter, Team, Workers};
 use std::alloc::{AllocError, Global};
 use std::sync::Wait;
 use std::thread::Threads;
 
 /// The row of a source: each target with its answer, in the order of the targets.
 #[derive(Drop)]
-pub(crate) struct Row {
+pub struct Row {
     pub(crate) source: u32,
     pub(crate) lines: Vec<(u32, PairAnswer)>,
 }
 
 /// The question of a matrix: what are the answers of a source of the graph for all targets.
 #[derive(Drop)]
-pub(crate) struct RowQuestion<'a, const P: u32> {
+pub struct RowQuestion<'a, const P: u32> {
     pub(crate) graph: &'a Graph,
     /// The width of a bucket.
     pub(crate) delta: Delta<P>,
@@ -49,37 +49,34 @@ fn row_of<const P: u32>(alloc: Global, reach: &Reach<P>) -> Result<Row, AllocErr
     })
 }
 
-impl<'a, const P: u32> RowQuestion<'a, P> {
-    // Returns the row of a source, by a run that goes no further than the targets ask for; without targets by none.
-    fn row<R: Threads + Wait + Sync>(
-        &self,
-        rt: &R,
-        alloc: Global,
-        workers: Workers,
-        source: u32,
-    ) -> Result<Row, AllocError>
-        requires source { CanFind P self.now.graph.now self.now.targets.now source }
-        requires sync { IsSync R.row }
-        ensures { IfOk result (IsRow P self.now.graph.now source self.now.targets.now) }
-    {
-        if self.targets.is_empty() {
-            return Ok(Row {
-                source,
-                lines: Vec::new(alloc),
-            });
-        }
-        let query = Query {
+// Returns the row of a source, by a run that goes no further than the targets ask for; without targets by none.
+fn find_row<const P: u32, R: Crew>(
+    rt: &R,
+    alloc: Global,
+    question: &RowQuestion<'_, P>,
+    workers: Workers,
+    source: u32,
+) -> Result<Row, AllocError>
+    requires { CanFind P question.now.graph.now question.now.targets.now source }
+    ensures { IfOk result (IsRow P question.now.graph.now source question.now.targets.now) }
+{
+    if question.targets.is_empty() {
+        return Ok(Row {
             source,
-            targets: self.targets.to_vec(alloc)?,
-        };
-        let asked = Team {
-            delta: self.delta,
-            workers,
-        };
-        let team = useful_team(rt, self.graph.n(), &asked);
-        let reach = run_targets::<P, R>(rt, alloc, self.graph, team, self.meter, query)?;
-        row_of::<P>(alloc, &reach)
+            lines: Vec::new(alloc),
+        });
     }
+    let query = Query {
+        source,
+        targets: question.targets.to_vec(alloc)?,
+    };
+    let asked = Team {
+        delta: question.delta,
+        workers,
+    };
+    let team = useful_team(rt, question.graph.n(), &asked);
+    let reach = run_targets::<P, R>(rt, alloc, question.graph, team, question.meter, query)?;
+    row_of::<P>(alloc, &reach)
 }
 
 impl<'a, const P: u32> Question for RowQuestion<'a, P> {
@@ -108,7 +105,22 @@ impl<'a, const P: u32> Question for RowQuestion<'a, P> {
             IsDue (λ s told. IsTold P self.now.graph.now self.now.targets.now s told)
             source (told_of found)) }
     {
-        self.row(rt, alloc, workers, source)
+        find_row::<P, R>(rt, alloc, self, workers, source)
+    }
+
+    fn find_alone<R: Threads + Sync>(
+        &self,
+        rt: &R,
+        alloc: Global,
+        source: u32,
+    ) -> Result<Row, AllocError>
+        requires source { CanFind P self.now.graph.now self.now.targets.now source }
+        requires sync { IsSync R.row }
+        ensures { IfOk result (λ found.
+            IsDue (λ s told. IsTold P self.now.graph.now self.now.targets.now s told)
+            source (told_of found)) }
+    {
+        find_row::<P, _>(&Alone::new(rt), alloc, self, Workers::one(), source)
     }
 
     fn write<W: Write>(

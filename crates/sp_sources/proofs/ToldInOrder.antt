@@ -125,7 +125,7 @@ written_refused device all first second later old mid new one (Gr e) parts h beg
 written_refused device all first second later old mid new one (Ss e) parts h begun = absurd begun
 written_refused device all first second later old mid new one (Targets e) parts h begun = absurd begun
 written_refused device all first second later old mid new one (Pairs e) parts h begun = absurd begun
-written_refused device all first second later old mid new one (NoSuchVertex v) parts h begun = absurd begun
+written_refused device all first second later old mid new one (NoSuchVertex v role) parts h begun = absurd begun
 
 pub counts_fit : {W : Type 0} (device : Writer W) (first second : List Told) (old mid new : W) (one two : Summary) → IsWritten device first old one mid → IsWritten device second mid two new
     → sum_by count_of first + sum_by count_of second < 2 ^ 64 → sum_by far_of first + sum_by far_of second < 2 ^ 64 → Fits one two
@@ -184,7 +184,7 @@ module _ {W : Type 0} (Answers : ℕ → Told → Type 0) (device : Writer W) wh
   all_written sources all old new (Err (Ss e)) are h = absurd h
   all_written sources all old new (Err (Targets e)) are h = absurd h
   all_written sources all old new (Err (Pairs e)) are h = absurd h
-  all_written sources all old new (Err (NoSuchVertex v)) are h = absurd h
+  all_written sources all old new (Err (NoSuchVertex v role)) are h = absurd h
 
 -- Memory was refused before anything was written.
 pub none_begun : (Answers : ℕ → Told → Type 0) (sources : List ℕ) (old : Option (List ℕ)) → HasBegunFirst Answers sources old old
@@ -218,7 +218,7 @@ module _ {W : Type 0} (Answers : ℕ → Told → Type 0) (sources front back la
   refused_later new one (Ss e) parts h begun = absurd begun
   refused_later new one (Targets e) parts h begun = absurd begun
   refused_later new one (Pairs e) parts h begun = absurd begun
-  refused_later new one (NoSuchVertex v) parts h begun = absurd begun
+  refused_later new one (NoSuchVertex v role) parts h begun = absurd begun
 
 -- Once answers are written, no file is refused.
 pub not_early : {W : Type 0} (Answers : ℕ → Told → Type 0) (sources : List ℕ) (device : Writer W) (old new : W) (result : Result Summary BatchError) (same : Type 0) → AreAllAnswered Answers sources device old result new → IfErr result (λ e. is_early e ≡ true → same)
@@ -229,7 +229,7 @@ not_early Answers sources device old new (Err (Gr e)) same is = absurd is
 not_early Answers sources device old new (Err (Ss e)) same is = absurd is
 not_early Answers sources device old new (Err (Targets e)) same is = absurd is
 not_early Answers sources device old new (Err (Pairs e)) same is = absurd is
-not_early Answers sources device old new (Err (NoSuchVertex v)) same is = absurd is
+not_early Answers sources device old new (Err (NoSuchVertex v role)) same is = absurd is
 
 -- ## Groups of sources
 

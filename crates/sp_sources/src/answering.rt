@@ -36,13 +36,13 @@ pub struct Asked<'a, L> {
     pub listener: &'a L,
 }
 
-// Returns how many sources are answered at once: as many as there are workers, but no more than processors; one where there
-// are no others, or where the graph is too small.
+// Returns how many threads are worth their start: as many as there are workers, but no more than processors; one where the
+// graph is too small.
 fn count_at_once<R: Threads, L>(rt: &R, asked: &Asked<L>) -> Workers
     ensures { result ≤ asked.now.workers }
 {
     let workers = asked.workers;
-    if workers.get() == 1 || asked.sources.len() < 2 || asked.items < asked.least_items {
+    if workers.get() == 1 || asked.items < asked.least_items {
         return Workers::one();
     }
     match thread::available_parallelism(rt) {
@@ -51,9 +51,9 @@ fn count_at_once<R: Threads, L>(rt: &R, asked: &Asked<L>) -> Workers
     }
 }
 
-// Finds the answer for one source, writes and counts it.
+// Finds the answer for one source by all workers, writes and counts it.
 #[tactic(auto, using(crate::proofs::ToldInOrder::none_begun))]
-fn answer_source<Q: Question, R: Threads + Wait + Sync, W: Write>(
+fn answer_together<Q: Question, R: Threads + Wait + Sync, W: Write>(
     rt: &R,
     alloc: Global,
     question: &Q,
@@ -70,8 +70,27 @@ fn answer_source<Q: Question, R: Threads + Wait + Sync, W: Write>(
     }
 }
 
-// Answers sources one after the other, each by all workers.
-fn answer_in_turn<Q: Question, R: Threads + Wait + Sync, W: Write, L: Listener>(
+// Finds the answer for one source by this thread alone, writes and counts it.
+#[tactic(auto, using(crate::proofs::ToldInOrder::none_begun))]
+fn answer_source<Q: Question, R: Threads + Sync, W: Write>(
+    rt: &R,
+    alloc: Global,
+    question: &Q,
+    source: u32,
+    out: &mut W,
+) -> Result<Summary, BatchError>
+    requires { Q.can_ask question.now source }
+    ensures { AreAllAnswered (Q.answers question.now) (source ∷ []) W.Write out.old result out.new }
+{
+    match question.find_alone(rt, alloc, source) {
+        Ok(found) => question.write(alloc, &found, out),
+        Err(AllocError) => Err(BatchError::Memory),
+    }
+}
+
+/// Answers the sources that are asked as `answer_sources` does, one after the other, by this thread alone, which waits for no
+/// other.
+pub fn answer_alone<Q: Question, R: Threads + Sync, W: Write, L: Listener>(
     rt: &R,
     alloc: Global,
     question: &Q,
@@ -87,7 +106,7 @@ fn answer_in_turn<Q: Question, R: Threads + Wait + Sync, W: Write, L: Listener>(
     let mut summary = nothing();
     for source in sources {
         asked.listener.hear(Q::progress(summary, asked.count));
-        let one = answer_source::<Q, R, W>(rt, alloc, question, asked.workers, *source, out)?;
+        let one = answer_source::<Q, R, W>(rt, alloc, question, *source, out)?;
         summary = sum(summary, one);
     }
     Ok(summary)
@@ -149,7 +168,7 @@ pub(crate) struct Step<F> {
 }
 
 // Answers a group of sources, behind those whose answers wait: these are written, and those of the group wait then. Where
-// memory for the group is refused, its sources are answered one after the other.
+// memory for the group is refused, its sources are answered one after the other, by this thread.
 fn answer_group<Q: Question, R: Threads + Wait + Sync, W: Write>(
     rt: &R,
     alloc: Global,
@@ -176,7 +195,7 @@ fn answer_group<Q: Question, R: Threads + Wait + Sync, W: Write>(
         }),
         Err(AllocError) => {
             drop(waiting);
-            let more = answer_in_turn::<Q, R, W, Nobody>(rt, alloc, question, asked, out)?;
+            let more = answer_alone::<Q, R, W, Nobody>(rt, alloc, question, asked, out)?;
             Ok(Step {
                 summary: sum(summary, more),
                 waiting: Vec::new(alloc),
@@ -247,7 +266,11 @@ pub fn answer_sources<Q: Question, R: Threads + Wait + Sync, W: Write, L: Listen
 {
     let workers = count_at_once(rt, asked);
     if workers.get() == 1 {
-        return answer_in_turn::<Q, R, W, L>(rt, alloc, question, asked, out);
+        return answer_alone::<Q, R, W, L>(rt, alloc, question, asked, out);
+    }
+    if let [source] = asked.sources {
+        asked.listener.hear(Q::progress(nothing(), asked.count));
+        return answer_together::<Q, R, W>(rt, alloc, question, asked.workers, *source, out);
     }
     let groups = Asked {
         sources: asked.sources,

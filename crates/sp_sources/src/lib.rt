@@ -6,5 +6,5 @@ mod finding;
 mod question;
 mod writing;
 
-pub use answering::{Asked, LEAST_ITEMS, answer_sources};
+pub use answering::{Asked, LEAST_ITEMS, answer_alone, answer_sources};
 pub use question::Question;

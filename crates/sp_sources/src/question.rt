@@ -40,6 +40,17 @@ pub trait Question: Sync {
         requires sync { IsSync R.row }
         ensures { IfOk result (λ found. IsDue (answers self.now) source (told found)) };
 
+    /// Finds the answer of a source by the calling thread alone, which waits for no other.
+    fn find_alone<R: Threads + Sync>(
+        &self,
+        rt: &R,
+        alloc: Global,
+        source: u32,
+    ) -> Result<Self::Found, AllocError>
+        requires source { can_ask self.now source }
+        requires sync { IsSync R.row }
+        ensures { IfOk result (λ found. IsDue (answers self.now) source (told found)) };
+
     /// Makes an answer that waits for others ready to be written, on the thread that found it. By default it stays as it was found.
     fn ready(&self, _alloc: Global, found: Self::Found) -> Self::Found
         ensures { told result ≡ told found }

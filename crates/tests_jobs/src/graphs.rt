@@ -2,6 +2,7 @@
 
 use crate::batches::{AMPLE, Case, run, summary, width_of};
 use sp_batch::{BatchError, BucketWidth, Summary};
+use sp_job::Role;
 use std::process::Abort;
 use std::sync::Wait;
 use std::test::Fail;
@@ -56,7 +57,7 @@ fn is_answered(
 
 #[test]
 fn sources_of_the_diamond(rt: HostRuntime) -> Result<(), Fail> {
-    let none = Err(BatchError::NoSuchVertex(9));
+    let none = Err(BatchError::NoSuchVertex(9, Role::Source));
     let wrong = "p aux sp ss 3\ns 1\ns 9\ns 7\n";
     assert!(rt; is_answered(&rt, (DIAMOND, TWO), summary(2, 0, 68), TWO_TEXT));
     assert!(rt; is_answered(&rt, (DIAMOND, "p aux sp ss 0\n"), summary(0, 0, 0), ""));

@@ -35,7 +35,7 @@ fn writers_that_fail_in_any_group(rt: HostRuntime) -> Result<(), Fail> {
 fn is_whole_or_refused(ran: &Ran) -> bool {
     match ran.answer {
         Ok(_) => ran.gave(summary(5, 0, 197), FIVE_TEXT),
-        Err(BatchError::NoSuchVertex(_)) => false,
+        Err(BatchError::NoSuchVertex(_, _)) => false,
         Err(_) => FIVE_TEXT.as_bytes().starts_with(ran.out.taken()),
     }
 }

@@ -3,6 +3,7 @@
 use crate::batches::{crew, summary, width_of};
 use crate::graphs::{DIAMOND, TWO, WIDE};
 use sp_device::{OfRead, UpToWriter};
+use sp_job::Role;
 use sp_matrix::{BatchError, Nobody, Settings, Summary, run_matrix_given_told, run_matrix_told};
 use std::process::Abort;
 use std::sync::Wait;
@@ -33,7 +34,7 @@ fn is_written(
 ) -> bool {
     let mut out = UpToWriter::new(rt.alloc(), room as usize, 1000);
     let told = run_matrix_told(
-        rt,
+        &rt,
         rt.alloc(),
         &mut OfRead::new(gr.as_bytes()),
         &mut OfRead::new(TWO.as_bytes()),
@@ -72,7 +73,7 @@ fn is_written_of_4(
 ) -> bool {
     let mut out = UpToWriter::new(rt.alloc(), 1000, 1000);
     let told = run_matrix_given_told(
-        rt,
+        &rt,
         rt.alloc(),
         &mut OfRead::new(DIAMOND.as_bytes()),
         &[4],
@@ -87,7 +88,7 @@ fn is_written_of_4(
 #[test]
 fn matrix_of_a_given_source(rt: HostRuntime) -> Result<(), Fail> {
     let lines = "d 4 4 0 0\nn 4 1\nd 4 4 0 0\n";
-    let none = Err(BatchError::NoSuchVertex(5));
+    let none = Err(BatchError::NoSuchVertex(5, Role::Target));
     assert!(rt; is_written_of_4(&rt, TARGETS, summary(3, 0, 26), lines));
     assert!(rt; is_written_of_4(&rt, "p aux sp ss 2\ns 1\ns 5\n", none, ""));
     Ok(())

@@ -75,6 +75,16 @@ impl Question for Meeting {
         Ok(source)
     }
 
+    fn find_alone<R: Threads + Sync>(
+        &self,
+        _rt: &R,
+        _alloc: Global,
+        source: u32,
+    ) -> Result<u32, AllocError> {
+        self.meet();
+        Ok(source)
+    }
+
     fn write<W: Write>(
         &self,
         _alloc: Global,

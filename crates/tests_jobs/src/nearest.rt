@@ -6,6 +6,7 @@ ghost use Rattle.sp_job.specs.Places.{AreNumbered};
 use crate::batches::{crew, summary};
 use crate::graphs::DIAMOND;
 use sp_device::{OfRead, UpToWriter};
+use sp_job::Role;
 use sp_nearest::{
     BatchError, BucketWidth, Nobody, Settings, Summary, run_nearest_given_told, run_nearest_told,
 };
@@ -162,7 +163,7 @@ fn is_written_of(
 // Sources in place of a list, one of them no vertex, and a writer that fails.
 #[test]
 fn given_sources(rt: HostRuntime) -> Result<(), Fail> {
-    let none = Err(BatchError::NoSuchVertex(5));
+    let none = Err(BatchError::NoSuchVertex(5, Role::Source));
     assert!(rt; is_written_of(&rt, &[3, 5, 6], 1000, none, ""));
     let failed = Err(BatchError::Write);
     assert!(rt; is_written_of(&rt, &[3, 1], 13, failed, "p near 4 2\nv "));

@@ -90,8 +90,8 @@ pub fn call_run_matrix<R: AllocGlobal + Print + Threads + Wait + Sync, W: Write>
         workers,
         listener: &Nobody,
     };
-    let answer = run_matrix_told::<28, R, _, _, _, _, _>(
-        rt,
+    let answer = run_matrix_told::<28, &R, _, _, _, _, _>(
+        &rt,
         rt.alloc(),
         &mut OfRead::new(sample.gr().as_bytes()),
         &mut OfRead::new(FROM_ONE.as_bytes()),

@@ -11,5 +11,5 @@ returns-in_err-graph-clause-batch g c =
 
 pub returns-clause-batch : goal.returns-clause-batch
 returns-clause-batch g c =
-    of_file g.row.P c.args.batch.now.limit c.args.file c.args.batch.now.sources.now c.in_ok-graph.graph g.W.Write c.args.out.now c.answer_sources.new.out c.answer_sources.result
-    (same_graph c.args.file c.in_ok-graph.graph c.in_ok-graph.ensures.n c.in_ok-graph.ensures.arcs) (record { layout = c.requires.layout; network = c.requires.network; numbered = c.requires.sources; limit_within = c.requires.limit; within = c.in_default.ensures.none }) c.answer_sources.ensures
+    of_file g.row.P c.args.batch.now.limit c.args.file c.args.batch.now.sources.now c.in_ok-graph.graph g.W.Write c.args.out.now c.answer_trees.new.out c.answer_trees.result
+    (same_graph c.args.file c.in_ok-graph.graph c.in_ok-graph.ensures.n c.in_ok-graph.ensures.arcs) (record { layout = c.requires.layout; network = c.requires.network; numbered = c.requires.sources; limit_within = c.requires.limit; within = c.in_default.ensures.none }) c.answer_trees.ensures

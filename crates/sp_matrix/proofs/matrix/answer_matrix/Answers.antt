@@ -20,6 +20,6 @@ returns-clause-matrix g c =
     let targets = c.args.asking.targets.items in
     let second = rw c.deref.ensures.value at c.in_default-first_above.ensures.none in
     let ok : AreLists g.row.P file sources targets = record { layout = c.requires.layout; network = c.requires.network; numbered_sources = c.requires.sources; numbered_targets = c.requires.targets; within = record { each_source = c.in_default.ensures.none; each_target = second } } in
-    let answers = rw c.deref-2.ensures.value at c.answer_sources.ensures in
-    of_file g.row.P file sources targets g.W.Write c.in_ok-graph.graph c.args.out.now c.answer_sources.new.out c.answer_sources.result
+    let answers = rw c.deref-2.ensures.value at c.answer_rows.ensures in
+    of_file g.row.P file sources targets g.W.Write c.in_ok-graph.graph c.args.out.now c.answer_rows.new.out c.answer_rows.result
     (same_graph file c.in_ok-graph.graph c.in_ok-graph.ensures.n c.in_ok-graph.ensures.arcs) ok answers

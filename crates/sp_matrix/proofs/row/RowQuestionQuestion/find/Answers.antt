@@ -9,5 +9,5 @@ returns g c =
     let graph = c.args.self.now.graph.now in
     let targets = c.args.self.now.targets.now in
     let source = c.args.source in
-    IfOk-weaker c.row.result (λ row. IsRow g.row.P graph source targets row) (λ row. IsDue (λ s told. IsTold g.row.P graph targets s told) source (told_of row))
-    (λ row is. row_due g.row.P graph source targets row c.requires.source.few is) c.row.ensures
+    IfOk-weaker c.find_row.result (λ row. IsRow g.row.P graph source targets row) (λ row. IsDue (λ s told. IsTold g.row.P graph targets s told) source (told_of row))
+    (λ row is. row_due g.row.P graph source targets row c.requires.source.few is) c.find_row.ensures
