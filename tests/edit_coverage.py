@@ -5,7 +5,7 @@ whether each edit and its twin fit the sources: what they change stands there on
 An edit is a function's where it changes its body, or that of the one function that its body passes on to: a body that is a call and
 nothing else. Public are the functions that a crate's root file exports, the methods of its types, also those of traits, and what C
 calls. A function ensures something where it has an `ensures`, or its trait has one, or the impl of the trait says what the trait's
-clauses mean there. A law, whose body is empty, has nothing to change, and is left out.
+clauses mean there, where it is none of this repository's. A law, whose body is empty, has nothing to change, and is left out.
 
 Usage: python3 tests/edit_coverage.py [--list]
 
@@ -70,16 +70,18 @@ def block(lines, first):
 
 
 def ensured_by_traits():
-    """The methods of the traits of this repository that have an `ensures` there, each with its trait."""
-    found = set()
+    """The traits of this repository, and those of their methods that have an `ensures` there, each with its trait."""
+    traits, found = set(), set()
     for path in glob.glob(f"{HOME}/crates/*/src/**/*.rt", recursive=True):
         lines = read(path).split("\n")
         for number, line in enumerate(lines):
             trait = re.match(r"(?:pub )?trait (\w+)", line)
+            if trait:
+                traits.add(trait[1])
             for head, text in methods(block(lines, number)) if trait else ():
                 if ENSURES.search(text):
                     found.add((trait[1], head))
-    return found
+    return traits, found
 
 
 def methods(lines):
@@ -121,7 +123,8 @@ def functions(crate, ensured):
             it = tried.function_at(file, text, number)
             contract, body = parted(it.text)
             trait = TRAIT.match(lines[owner]) if head[1] else None
-            means = bool(trait) and ((trait[1], it.name) in ensured or bool(MEANS.search("\n".join(block(lines, owner)))))
+            traits, those = ensured
+            means = bool(trait) and ((trait[1], it.name) in those or trait[1] not in traits and bool(MEANS.search("\n".join(block(lines, owner)))))
             is_called = bool(OF_C.match(line)) or (bool(trait) or line.lstrip().startswith(("pub fn", "pub const fn"))) and (it.owner or it.name) in public
             yield Public(crate, it, is_called, means or bool(ENSURES.search(contract)), body)
 

@@ -25,9 +25,13 @@ SPECIFIED = "its parameters are specified, and the runtime's handle and the allo
 # what does the same for a listener
 LIKE_SPECIFIED = "it takes what run_batch takes, whose parameters are specified, and the places of the list and a limit"
 # what does the same for two lists
-LIKE_MATRIX = "it takes what run_batch_told or run_given_told takes, and the targets"
+LIKE_MATRIX = "it takes what run_batch_told takes, and the targets"
 # what does the same for one forest
 LIKE_NEAREST = "it takes what run_batch_told or run_given_told takes, and the limit"
+# what a struct can't hold: the kit can't fit a method to its trait's where it takes a struct with a lifetime and a layout
+OF_A_TRAIT = "a method of a trait takes no struct with a lifetime and a layout"
+# what stands between a function whose parameters are specified and what it calls
+BETWEEN = "it hands on what the function above takes"
 EXCEPTIONS = {
     ("spt_c", "spt_tree"): OF_C,
     ("spt_c", "spt_trees"): OF_C,
@@ -39,7 +43,10 @@ EXCEPTIONS = {
     ("sp_batch", "run_batch"): SPECIFIED,
     ("sp_batch", "run_batch_told"): LIKE_SPECIFIED,
     ("sp_batch", "run_given_told"): LIKE_SPECIFIED,
+    ("sp_batch", "answer_trees"): OF_A_TRAIT,
+    ("sp_batch", "answer_places"): BETWEEN,
     ("sp_pairs", "run_pairs"): SPECIFIED,
+    ("sp_matrix", "answer_rows"): OF_A_TRAIT,
     ("sp_matrix", "run_matrix_told"): LIKE_MATRIX,
     ("sp_matrix", "run_matrix_given_told"): LIKE_MATRIX,
     ("sp_nearest", "run_nearest_told"): LIKE_NEAREST,

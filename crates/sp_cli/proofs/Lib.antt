@@ -3,3 +3,4 @@ pub mod Near
 pub mod Told
 pub mod ToldOfMatrix
 pub mod ToldOfNearest
+pub mod Simple

@@ -13,13 +13,14 @@ use Rattle.sp_matrix.specs.Matrix.{IsMatrix}
 use Rattle.sp_matrix.specs.Answered.{Texts, SpellMatrix, MatrixAnswered, MatrixOfSome as OfSomeTexts, SpellGivenMatrix, GivenMatrixAnswered, GivenMatrixOfSome, MayFail}
 use Rattle.sp_command.specs.declared.faults.Fault.{Fault}
 use Rattle.sp_command.specs.declared.faults.Fault.TheVariants as fault
+use Rattle.sp_command.specs.declared.faults.FileKind.{FileKind}
 use Rattle.sp_command.specs.declared.faults.FileKind.TheVariants as file
 use Rattle.sp_command.specs.Causes.{Paths, IsBorneOut}
 use Rattle.sp_command.specs.Scene.{Files, scene}
 use Rattle.sp_cli.specs.Answers.{InText, These}
 use Rattle.sp_cli.specs.MatrixAnswers.{HasLists, IsMatrixWritten, IsMatrixBegun, MatrixTold, MatrixInSome}
 use Rattle.sp_cli.proofs.Told.{end_after}
-use Rattle.sp_options.specs.Ends.{end_of}
+use Rattle.sp_options.specs.Ends.{end_of, kind_of}
 
 -- ## One matrix
 
@@ -47,8 +48,8 @@ pub after_matrix : {G S T W : Type 0} (P : ℕ) (far_ok : Bool) (places : Option
     → MatrixAnswered P places texts g gr s ss t targets w old new answer → MatrixTold P far_ok texts.gr (InText places texts.ss) texts.targets (scene files (w.written old) (w.written new) (w.has_failed new)) (end_after far_ok answer)
 after_matrix P far_ok places texts files g gr s ss t targets w old new (Ok summary) read =
     (lists P places texts w old new (Ok summary) read, written P far_ok read.file (part_of places read.list.sources.items) read.targets.sources.items files w old new summary read.matrix)
-after_matrix P far_ok places texts files g gr s ss t targets w old new (Err (NoSuchVertex v)) read =
-    let done = read.matrix in (lists P places texts w old new (Err (NoSuchVertex v)) read, done.0, done.1)
+after_matrix P far_ok places texts files g gr s ss t targets w old new (Err (NoSuchVertex v role)) read =
+    let done = read.matrix in (lists P places texts w old new (Err (NoSuchVertex v role)) read, role, done.0, refl, done.1)
 after_matrix P far_ok places texts files g gr s ss t targets w old new (Err Memory) read =
     let done = read.matrix in (lists P places texts w old new (Err Memory) read, done.0, done.1)
 after_matrix P far_ok places texts files g gr s ss t targets w old new (Err Write) read =
@@ -64,8 +65,8 @@ pub after_given_matrix : {G T W : Type 0} (P : ℕ) (far_ok : Bool) (gr_text sou
     → GivenMatrixAnswered P gr_text sources targets_text g gr t targets w old new answer → MatrixTold P far_ok gr_text (These sources) targets_text (scene files (w.written old) (w.written new) (w.has_failed new)) (end_after far_ok answer)
 after_given_matrix P far_ok gr_text sources targets_text files g gr t targets w old new (Ok summary) read =
     (given_lists P gr_text sources targets_text w old new (Ok summary) read, written P far_ok read.file sources read.targets.sources.items files w old new summary read.matrix)
-after_given_matrix P far_ok gr_text sources targets_text files g gr t targets w old new (Err (NoSuchVertex v)) read =
-    let done = read.matrix in (given_lists P gr_text sources targets_text w old new (Err (NoSuchVertex v)) read, done.0, done.1)
+after_given_matrix P far_ok gr_text sources targets_text files g gr t targets w old new (Err (NoSuchVertex v role)) read =
+    let done = read.matrix in (given_lists P gr_text sources targets_text w old new (Err (NoSuchVertex v role)) read, role, done.0, refl, done.1)
 after_given_matrix P far_ok gr_text sources targets_text files g gr t targets w old new (Err Memory) read =
     let done = read.matrix in (given_lists P gr_text sources targets_text w old new (Err Memory) read, done.0, done.1)
 after_given_matrix P far_ok gr_text sources targets_text files g gr t targets w old new (Err Write) read =
@@ -98,10 +99,10 @@ failed_of : {W : Type 0} (P : ℕ) (graph : GrFile) (sources targets : List ℕ)
 failed_of P graph sources targets w old new (within, begun, failed) = failed
 
 pub matrix_borne_out : {W : Type 0} (P : ℕ) (far_ok : Bool) (places : Option (ℕ × ℕ)) (paths : Paths) (own : Fault → Type 0) (files : Files) (graph path targets_path : List ℕ) (gr ss targets : Failing) (w : Writer W) (old new : W) (answer : Result Summary BatchError)
-    → paths file.Graph ≡ Some graph → paths file.Sources ≡ Some path → paths file.Targets ≡ Some targets_path → gr ≡ files.failing graph → ss ≡ files.failing path → targets ≡ files.failing targets_path → ((v : ℕ) → own (fault.NoSuchVertex v))
+    → paths file.Graph ≡ Some graph → paths file.Sources ≡ Some path → paths file.Targets ≡ Some targets_path → gr ≡ files.failing graph → ss ≡ files.failing path → targets ≡ files.failing targets_path → ((v : ℕ) (kind : FileKind) → own (fault.NoSuchVertex v kind))
     → IfErr answer (MayFail gr ss targets) → OfSomeTexts P places w old new answer → IfErr (end_after far_ok answer) (IsBorneOut paths own (scene files (w.written old) (w.written new) (w.has_failed new)))
 matrix_borne_out P far_ok places paths own files graph path targets_path gr ss targets w old new (Ok summary) graph_is path_is targets_is gr_fails ss_fails targets_fail vertex may is = tt
-matrix_borne_out P far_ok places paths own files graph path targets_path gr ss targets w old new (Err (NoSuchVertex v)) graph_is path_is targets_is gr_fails ss_fails targets_fail vertex may is = vertex v
+matrix_borne_out P far_ok places paths own files graph path targets_path gr ss targets w old new (Err (NoSuchVertex v role)) graph_is path_is targets_is gr_fails ss_fails targets_fail vertex may is = vertex v (kind_of role)
 matrix_borne_out P far_ok places paths own files graph path targets_path gr ss targets w old new (Err Memory) graph_is path_is targets_is gr_fails ss_fails targets_fail vertex may is = tt
 matrix_borne_out P far_ok places paths own files graph path targets_path gr ss targets w old new (Err Write) graph_is path_is targets_is gr_fails ss_fails targets_fail vertex may (texts, read) = failed_of P read.file (part_of places read.list.sources.items) read.targets.sources.items w old new read.matrix
 matrix_borne_out P far_ok places paths own files graph path targets_path gr ss targets w old new (Err (Gr e)) graph_is path_is targets_is gr_fails ss_fails targets_fail vertex may is = (graph, graph_is, λ read never. may read (gr_fails ∙ never))
@@ -110,10 +111,10 @@ matrix_borne_out P far_ok places paths own files graph path targets_path gr ss t
 matrix_borne_out P far_ok places paths own files graph path targets_path gr ss targets w old new (Err (Pairs e)) graph_is path_is targets_is gr_fails ss_fails targets_fail vertex may (texts, read) = absurd read.matrix
 
 pub given_matrix_borne_out : {W : Type 0} (P : ℕ) (far_ok : Bool) (sources : List ℕ) (paths : Paths) (own : Fault → Type 0) (files : Files) (graph targets_path : List ℕ) (gr targets : Failing) (w : Writer W) (old new : W) (answer : Result Summary BatchError)
-    → paths file.Graph ≡ Some graph → paths file.Targets ≡ Some targets_path → gr ≡ files.failing graph → targets ≡ files.failing targets_path → ((v : ℕ) → own (fault.NoSuchVertex v))
+    → paths file.Graph ≡ Some graph → paths file.Targets ≡ Some targets_path → gr ≡ files.failing graph → targets ≡ files.failing targets_path → ((v : ℕ) (kind : FileKind) → own (fault.NoSuchVertex v kind))
     → IfErr answer (MayFail gr Anytime targets) → GivenMatrixOfSome P sources w old new answer → IfErr (end_after far_ok answer) (IsBorneOut paths own (scene files (w.written old) (w.written new) (w.has_failed new)))
 given_matrix_borne_out P far_ok sources paths own files graph targets_path gr targets w old new (Ok summary) graph_is targets_is gr_fails targets_fail vertex may is = tt
-given_matrix_borne_out P far_ok sources paths own files graph targets_path gr targets w old new (Err (NoSuchVertex v)) graph_is targets_is gr_fails targets_fail vertex may is = vertex v
+given_matrix_borne_out P far_ok sources paths own files graph targets_path gr targets w old new (Err (NoSuchVertex v role)) graph_is targets_is gr_fails targets_fail vertex may is = vertex v (kind_of role)
 given_matrix_borne_out P far_ok sources paths own files graph targets_path gr targets w old new (Err Memory) graph_is targets_is gr_fails targets_fail vertex may is = tt
 given_matrix_borne_out P far_ok sources paths own files graph targets_path gr targets w old new (Err Write) graph_is targets_is gr_fails targets_fail vertex may (gr_text, targets_text, read) = failed_of P read.file sources read.targets.sources.items w old new read.matrix
 given_matrix_borne_out P far_ok sources paths own files graph targets_path gr targets w old new (Err (Gr e)) graph_is targets_is gr_fails targets_fail vertex may is = (graph, graph_is, λ read never. may read (gr_fails ∙ never))

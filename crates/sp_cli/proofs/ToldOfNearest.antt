@@ -1,6 +1,7 @@
 -- From what the job of a forest answers to what its command tells.
 use Rattle.std.proofs.Common.{◌≡◌, ℕ, Bool, List, [], ◌∙◌, Option, None, Some, Result, Ok, Err, refl, sym, subst}
 use Rattle.std.specs.Prelude.{IfOk, IfErr}
+use Rattle.sp_options.specs.Ends.{kind_of}
 use Rattle.sp_device.specs.Failing.{Failing, Anytime}
 use Rattle.sp_device.specs.declared.devices.Read.{Ghosts as Reader}
 use Rattle.sp_device.specs.declared.devices.Write.{Ghosts as Writer}
@@ -14,6 +15,7 @@ use Rattle.sp_nearest.specs.Nearest.{Answer, ForestOf, FarFromAll, IsAnswerTo, f
 use Rattle.sp_nearest.specs.Answered.{ForestAnswered, ForestOfSome as OfSomeTexts, GivenAnswered, GivenOfSome, MayFail}
 use Rattle.sp_command.specs.declared.faults.Fault.{Fault}
 use Rattle.sp_command.specs.declared.faults.Fault.TheVariants as fault
+use Rattle.sp_command.specs.declared.faults.FileKind.{FileKind}
 use Rattle.sp_command.specs.declared.faults.FileKind.TheVariants as file
 use Rattle.sp_command.specs.Causes.{Paths, IsBorneOut}
 use Rattle.sp_command.specs.declared.faults.Status.{Status}
@@ -29,8 +31,8 @@ pub after_nearest : {G S W : Type 0} (P : ℕ) (far_ok : Bool) (places : Option 
     → ForestAnswered P places limit gr_text ss_text g gr s ss w old new answer → ForestTold P far_ok limit gr_text (InText places ss_text) (scene files (w.written old) (w.written new) (w.has_failed new)) (end_after far_ok answer)
 after_nearest P far_ok places limit gr_text ss_text files g gr s ss w old new (Ok summary) (graph, list, graph_is, list_is, (answer, is, wrote, counts)) =
     (record { graph = graph; sources = part_of places list.sources.items; graph_spelled = graph_is; are_asked = (list, list_is, refl) }, record { answer = answer; summary = summary; is = is; wrote = wrote; counts = counts; ends = refl })
-after_nearest P far_ok places limit gr_text ss_text files g gr s ss w old new (Err (NoSuchVertex v)) (graph, list, graph_is, list_is, (first, same)) =
-    (record { graph = graph; sources = part_of places list.sources.items; graph_spelled = graph_is; are_asked = (list, list_is, refl) }, first, same)
+after_nearest P far_ok places limit gr_text ss_text files g gr s ss w old new (Err (NoSuchVertex v role)) (graph, list, graph_is, list_is, (first, same)) =
+    (record { graph = graph; sources = part_of places list.sources.items; graph_spelled = graph_is; are_asked = (list, list_is, refl) }, role, first, refl, same)
 after_nearest P far_ok places limit gr_text ss_text files g gr s ss w old new (Err Memory) (graph, list, graph_is, list_is, (within, same)) =
     ((record { graph = graph; sources = part_of places list.sources.items; graph_spelled = graph_is; are_asked = (list, list_is, refl) }, within), same)
 after_nearest P far_ok places limit gr_text ss_text files g gr s ss w old new (Err Write) (graph, list, graph_is, list_is, (within, begun, failed)) =
@@ -45,8 +47,8 @@ pub after_given_nearest : {G W : Type 0} (P : ℕ) (far_ok : Bool) (limit : Opti
     → GivenAnswered P limit gr_text sources g gr w old new answer → ForestTold P far_ok limit gr_text (These sources) (scene files (w.written old) (w.written new) (w.has_failed new)) (end_after far_ok answer)
 after_given_nearest P far_ok limit gr_text sources files g gr w old new (Ok summary) (graph, graph_is, (answer, is, wrote, counts)) =
     (record { graph = graph; sources = sources; graph_spelled = graph_is; are_asked = refl }, record { answer = answer; summary = summary; is = is; wrote = wrote; counts = counts; ends = refl })
-after_given_nearest P far_ok limit gr_text sources files g gr w old new (Err (NoSuchVertex v)) (graph, graph_is, (first, same)) =
-    (record { graph = graph; sources = sources; graph_spelled = graph_is; are_asked = refl }, first, same)
+after_given_nearest P far_ok limit gr_text sources files g gr w old new (Err (NoSuchVertex v role)) (graph, graph_is, (first, same)) =
+    (record { graph = graph; sources = sources; graph_spelled = graph_is; are_asked = refl }, role, first, refl, same)
 after_given_nearest P far_ok limit gr_text sources files g gr w old new (Err Memory) (graph, graph_is, (within, same)) =
     ((record { graph = graph; sources = sources; graph_spelled = graph_is; are_asked = refl }, within), same)
 after_given_nearest P far_ok limit gr_text sources files g gr w old new (Err Write) (graph, graph_is, (within, begun, failed)) =
@@ -71,10 +73,10 @@ given_nearest_of_some P far_ok limit sources files w old new (Err error) is = tt
 
 -- A fault of the job is borne out.
 pub nearest_borne_out : {W : Type 0} (P : ℕ) (far_ok : Bool) (places : Option (ℕ × ℕ)) (limit : Option ℕ) (paths : Paths) (own : Fault → Type 0) (files : Files) (graph path : List ℕ) (gr ss : Failing) (w : Writer W) (old new : W) (answer : Result Summary BatchError)
-    → paths file.Graph ≡ Some graph → paths file.Sources ≡ Some path → gr ≡ files.failing graph → ss ≡ files.failing path → ((v : ℕ) → own (fault.NoSuchVertex v))
+    → paths file.Graph ≡ Some graph → paths file.Sources ≡ Some path → gr ≡ files.failing graph → ss ≡ files.failing path → ((v : ℕ) (kind : FileKind) → own (fault.NoSuchVertex v kind))
     → IfErr answer (MayFail gr ss) → OfSomeTexts P places limit w old new answer → IfErr (end_after far_ok answer) (IsBorneOut paths own (scene files (w.written old) (w.written new) (w.has_failed new)))
 nearest_borne_out P far_ok places limit paths own files graph path gr ss w old new (Ok summary) graph_is path_is gr_fails ss_fails vertex may is = tt
-nearest_borne_out P far_ok places limit paths own files graph path gr ss w old new (Err (NoSuchVertex v)) graph_is path_is gr_fails ss_fails vertex may is = vertex v
+nearest_borne_out P far_ok places limit paths own files graph path gr ss w old new (Err (NoSuchVertex v role)) graph_is path_is gr_fails ss_fails vertex may is = vertex v (kind_of role)
 nearest_borne_out P far_ok places limit paths own files graph path gr ss w old new (Err Memory) graph_is path_is gr_fails ss_fails vertex may is = tt
 nearest_borne_out P far_ok places limit paths own files graph path gr ss w old new (Err Write) graph_is path_is gr_fails ss_fails vertex may (_, _, _, _, _, _, (within, begun, failed)) = failed
 nearest_borne_out P far_ok places limit paths own files graph path gr ss w old new (Err (Gr e)) graph_is path_is gr_fails ss_fails vertex may is = (graph, graph_is, λ read never. may read (gr_fails ∙ never))
@@ -83,10 +85,10 @@ nearest_borne_out P far_ok places limit paths own files graph path gr ss w old n
 nearest_borne_out P far_ok places limit paths own files graph path gr ss w old new (Err (Targets e)) graph_is path_is gr_fails ss_fails vertex may (_, _, _, _, _, _, is) = absurd is
 
 pub given_nearest_borne_out : {W : Type 0} (P : ℕ) (far_ok : Bool) (limit : Option ℕ) (sources : List ℕ) (paths : Paths) (own : Fault → Type 0) (files : Files) (graph : List ℕ) (gr : Failing) (w : Writer W) (old new : W) (answer : Result Summary BatchError)
-    → paths file.Graph ≡ Some graph → gr ≡ files.failing graph → ((v : ℕ) → own (fault.NoSuchVertex v))
+    → paths file.Graph ≡ Some graph → gr ≡ files.failing graph → ((v : ℕ) (kind : FileKind) → own (fault.NoSuchVertex v kind))
     → IfErr answer (MayFail gr Anytime) → GivenOfSome P limit sources w old new answer → IfErr (end_after far_ok answer) (IsBorneOut paths own (scene files (w.written old) (w.written new) (w.has_failed new)))
 given_nearest_borne_out P far_ok limit sources paths own files graph gr w old new (Ok summary) graph_is gr_fails vertex may is = tt
-given_nearest_borne_out P far_ok limit sources paths own files graph gr w old new (Err (NoSuchVertex v)) graph_is gr_fails vertex may is = vertex v
+given_nearest_borne_out P far_ok limit sources paths own files graph gr w old new (Err (NoSuchVertex v role)) graph_is gr_fails vertex may is = vertex v (kind_of role)
 given_nearest_borne_out P far_ok limit sources paths own files graph gr w old new (Err Memory) graph_is gr_fails vertex may is = tt
 given_nearest_borne_out P far_ok limit sources paths own files graph gr w old new (Err Write) graph_is gr_fails vertex may (_, _, _, (within, begun, failed)) = failed
 given_nearest_borne_out P far_ok limit sources paths own files graph gr w old new (Err (Gr e)) graph_is gr_fails vertex may is = (graph, graph_is, λ read never. may read (gr_fails ∙ never))

@@ -1,4 +1,5 @@
 -- What the answers of `tree` and `pairs` say of the texts of their files and of what is written then.
+use Rattle.sp_job.specs.declared.answers.Role.{Role}
 use Rattle.std.specs.Prelude.{◌≡◌, ◌≤◌, ℕ, Bool, true, List, All, Option, Some, None, Result, Ok, Err, IfOk}
 use Rattle.std.specs.Io.KnownBytes.{Appends}
 use Rattle.sp_text.specs.declared.faults.DimacsError.{DimacsError}
@@ -12,7 +13,7 @@ use Rattle.sp_dimacs.specs.Pairs.{SpellsPairs, PairsRead}
 use Rattle.sp_job.specs.declared.answers.Summary.{Summary}
 use Rattle.sp_batch.specs.Batch.{Answer, AreAnswers, batch_text, IsSummary, HasBegun}
 use Rattle.sp_job.specs.Places.{part_of}
-use Rattle.sp_job.specs.Vertices.{IsFirstAbove}
+use Rattle.sp_job.specs.Vertices.{IsFirstSource}
 use Rattle.sp_pairs.specs.Pairs.{ArePairAnswers, pairs_text, IsPairsSummary, HasBegunPairs, IsPairUpTo, IsFirstPairAbove}
 use Rattle.sp_command.specs.declared.faults.FileKind.TheVariants as file
 use Rattle.sp_command.specs.Causes.{Paths}
@@ -29,7 +30,7 @@ use Rattle.sp_options.specs.declared.sources.Sources.TheVariants.{File, Part, Gi
 use Rattle.sp_options.specs.Sources.{path_of}
 use Rattle.sp_options.specs.Width.{IsBucket}
 use Rattle.sp_options.specs.Within.{IsLimit}
-use Rattle.sp_options.specs.Ends.{end_of}
+use Rattle.sp_options.specs.Ends.{end_of, kind_of}
 
 -- ## Texts
 
@@ -98,7 +99,7 @@ abbrev pub TreesTold : (P : ℕ) → (far_ok : Bool) → (limit : Option ℕ) �
 TreesTold P far_ok limit gr asked s (Ok status) = (read : HasGraphAndSources P gr asked) × AreTreesWritten P far_ok limit read.graph read.sources s status
 TreesTold P far_ok limit gr asked s (Err (fault.Input file.Graph e)) = GraphIn P gr (Err e) × IsUnwritten s
 TreesTold P far_ok limit gr asked s (Err (fault.Input file.Sources e)) = HoldsGraph P gr × AreRefused P asked e × IsUnwritten s
-TreesTold P far_ok limit gr asked s (Err (fault.NoSuchVertex v)) = (read : HasGraphAndSources P gr asked) × IsFirstAbove read.graph.n read.sources v × IsUnwritten s
+TreesTold P far_ok limit gr asked s (Err (fault.NoSuchVertex v kind)) = (read : HasGraphAndSources P gr asked) × (role : Role) × IsFirstSource read.graph.n read.sources v role × (kind ≡ kind_of role) × IsUnwritten s
 TreesTold P far_ok limit gr asked s (Err fault.Memory) = AreTreesBegun P limit gr asked s
 TreesTold P far_ok limit gr asked s (Err fault.WriteFailed) = (s.failed ≡ true) × AreTreesBegun P limit gr asked s
 TreesTold P far_ok limit gr asked s (Err (fault.CannotOpen kind)) = IsUnwritten s
@@ -170,7 +171,7 @@ abbrev pub tree_faults : (P : ℕ) → TreeCommand → Fault → Type 0
 tree_faults P tree fault.DeltaOutOfRange = ¬ (IsBucket P tree.options.width)
 tree_faults P tree fault.LimitOutOfRange = ¬ (IsLimit P tree.within.limit)
 tree_faults P tree fault.NoPlaces = LackPlaces tree.sources
-tree_faults P tree (fault.NoSuchVertex source) = Unit {0}
+tree_faults P tree (fault.NoSuchVertex source kind) = Unit {0}
 tree_faults P tree _ = ⊥
 
 -- ## Pairs
@@ -190,7 +191,7 @@ abbrev pub PairsTold : (P : ℕ) → (far_ok : Bool) → (gr pairs : List ℕ) �
 PairsTold P far_ok gr pairs s (Ok status) = (read : HoldGraphAndPairs P gr pairs) × ArePairsWritten P far_ok read.graph read.list s status
 PairsTold P far_ok gr pairs s (Err (fault.Input file.Graph e)) = GraphIn P gr (Err e) × IsUnwritten s
 PairsTold P far_ok gr pairs s (Err (fault.Input file.Pairs e)) = HoldsGraph P gr × PairsIn P pairs (Err e) × IsUnwritten s
-PairsTold P far_ok gr pairs s (Err (fault.NoSuchVertex v)) = (read : HoldGraphAndPairs P gr pairs) × IsFirstPairAbove read.graph.n read.list.pairs.items v × IsUnwritten s
+PairsTold P far_ok gr pairs s (Err (fault.NoSuchVertex v kind)) = (read : HoldGraphAndPairs P gr pairs) × (role : Role) × IsFirstPairAbove read.graph.n read.list.pairs.items v role × (kind ≡ kind_of role) × IsUnwritten s
 PairsTold P far_ok gr pairs s (Err fault.Memory) = (read : HoldGraphAndPairs P gr pairs) × All (IsPairUpTo read.graph.n) read.list.pairs.items × IsUnwritten s
 PairsTold P far_ok gr pairs s (Err fault.WriteFailed) = (s.failed ≡ true) × ((read : HoldGraphAndPairs P gr pairs) × All (IsPairUpTo read.graph.n) read.list.pairs.items × HasBegunPairs P (graph_of read.graph) read.list.pairs.items s.before s.after)
 PairsTold P far_ok gr pairs s (Err (fault.CannotOpen kind)) = IsUnwritten s
@@ -224,5 +225,5 @@ pairs_paths given _ = None
 -- These faults the words of `pairs` or its texts may bring about: the layout has no such width, or a number is no vertex.
 abbrev pub pairs_faults : (P : ℕ) → PairsCommand → Fault → Type 0
 pairs_faults P given fault.DeltaOutOfRange = ¬ (IsBucket P given.options.width)
-pairs_faults P given (fault.NoSuchVertex number) = Unit {0}
+pairs_faults P given (fault.NoSuchVertex number kind) = Unit {0}
 pairs_faults P given _ = ⊥

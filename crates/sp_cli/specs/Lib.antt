@@ -1,3 +1,4 @@
 pub mod Answers
 pub mod MatrixAnswers
 pub mod NearestAnswers
+pub mod Words

@@ -1,4 +1,5 @@
 -- What the answers of `matrix` say of the texts of its files and of what is written then.
+use Rattle.sp_job.specs.declared.answers.Role.{Role}
 use Rattle.std.specs.Prelude.{◌≡◌, ℕ, Bool, true, List, Option, Some, None, Result, Ok, Err, IfOk}
 use Rattle.std.specs.Io.KnownBytes.{Appends}
 use Rattle.sp_paths.specs.Paths.{PairAnswer}
@@ -22,7 +23,7 @@ use Rattle.sp_options.specs.declared.sources.Sources.{Sources}
 use Rattle.sp_options.specs.declared.sources.Sources.TheVariants.{File, Part, Given}
 use Rattle.sp_options.specs.Sources.{path_of}
 use Rattle.sp_options.specs.Width.{IsBucket}
-use Rattle.sp_options.specs.Ends.{end_of}
+use Rattle.sp_options.specs.Ends.{end_of, kind_of}
 
 -- A text spells a graph, these are the sources, and another text spells the targets.
 pub record HasLists (P : ℕ) (gr : List ℕ) (asked : Asked) (ts : List ℕ) : Type 0 where
@@ -55,7 +56,7 @@ MatrixTold P far_ok gr asked ts s (Ok status) = (read : HasLists P gr asked ts) 
 MatrixTold P far_ok gr asked ts s (Err (fault.Input file.Graph e)) = GraphIn P gr (Err e) × IsUnwritten s
 MatrixTold P far_ok gr asked ts s (Err (fault.Input file.Sources e)) = HoldsGraph P gr × AreRefused P asked e × IsUnwritten s
 MatrixTold P far_ok gr asked ts s (Err (fault.Input file.Targets e)) = HasGraphAndSources P gr asked × SourcesIn P ts (Err e) × IsUnwritten s
-MatrixTold P far_ok gr asked ts s (Err (fault.NoSuchVertex v)) = (read : HasLists P gr asked ts) × IsFirstOfLists read.graph.n read.sources read.targets.sources.items v × IsUnwritten s
+MatrixTold P far_ok gr asked ts s (Err (fault.NoSuchVertex v kind)) = (read : HasLists P gr asked ts) × (role : Role) × IsFirstOfLists read.graph.n read.sources read.targets.sources.items v role × (kind ≡ kind_of role) × IsUnwritten s
 MatrixTold P far_ok gr asked ts s (Err fault.Memory) = IsMatrixBegun P gr asked ts s
 MatrixTold P far_ok gr asked ts s (Err fault.WriteFailed) = (s.failed ≡ true) × IsMatrixBegun P gr asked ts s
 MatrixTold P far_ok gr asked ts s (Err (fault.CannotOpen kind)) = IsUnwritten s
@@ -113,5 +114,5 @@ matrix_paths given _ = None
 abbrev pub matrix_faults : (P : ℕ) → MatrixCommand → Fault → Type 0
 matrix_faults P given fault.DeltaOutOfRange = ¬ (IsBucket P given.options.width)
 matrix_faults P given fault.NoPlaces = LackPlaces given.lists.sources
-matrix_faults P given (fault.NoSuchVertex number) = Unit {0}
+matrix_faults P given (fault.NoSuchVertex number kind) = Unit {0}
 matrix_faults P given _ = ⊥

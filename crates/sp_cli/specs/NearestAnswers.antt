@@ -1,10 +1,11 @@
 -- What the answers of `nearest` say of the texts of its files and of what is written then.
+use Rattle.sp_job.specs.declared.answers.Role.{Role}
 use Rattle.std.specs.Prelude.{◌≡◌, ◌≤◌, ℕ, Bool, true, List, All, Option, Some, None, Result, Ok, Err, IfOk}
 use Rattle.std.specs.Io.KnownBytes.{Appends}
 use Rattle.sp_dimacs.specs.declared.graphs.GrFile.{GrFile}
 use Rattle.sp_dimacs.specs.Graph.{graph_of}
 use Rattle.sp_job.specs.declared.answers.Summary.{Summary}
-use Rattle.sp_job.specs.Vertices.{IsFirstAbove}
+use Rattle.sp_job.specs.Vertices.{IsFirstSource}
 use Rattle.sp_nearest.specs.Nearest.{Answer, IsAnswerTo, answer_text, IsSummary, HasBegun}
 use Rattle.sp_command.specs.declared.faults.FileKind.TheVariants as file
 use Rattle.sp_command.specs.Causes.{Paths}
@@ -20,7 +21,7 @@ use Rattle.sp_options.specs.declared.sources.Sources.TheVariants.{File, Part, Gi
 use Rattle.sp_options.specs.Sources.{path_of}
 use Rattle.sp_options.specs.Width.{IsBucket}
 use Rattle.sp_options.specs.Within.{IsLimit}
-use Rattle.sp_options.specs.Ends.{end_of}
+use Rattle.sp_options.specs.Ends.{end_of, kind_of}
 
 -- The sources have an answer up to the limit, exactly its text was written, and the status tells whether it is a vertex that is too far.
 pub record IsForestWritten (P : ℕ) (far_ok : Bool) (limit : Option ℕ) (graph : GrFile) (sources : List ℕ) (s : Scene) (status : Status) : Type 0 where
@@ -45,7 +46,7 @@ abbrev pub ForestTold : (P : ℕ) → (far_ok : Bool) → (limit : Option ℕ) �
 ForestTold P far_ok limit gr asked s (Ok status) = (read : HasGraphAndSources P gr asked) × IsForestWritten P far_ok limit read.graph read.sources s status
 ForestTold P far_ok limit gr asked s (Err (fault.Input file.Graph e)) = GraphIn P gr (Err e) × IsUnwritten s
 ForestTold P far_ok limit gr asked s (Err (fault.Input file.Sources e)) = HoldsGraph P gr × AreRefused P asked e × IsUnwritten s
-ForestTold P far_ok limit gr asked s (Err (fault.NoSuchVertex v)) = (read : HasGraphAndSources P gr asked) × IsFirstAbove read.graph.n read.sources v × IsUnwritten s
+ForestTold P far_ok limit gr asked s (Err (fault.NoSuchVertex v kind)) = (read : HasGraphAndSources P gr asked) × (role : Role) × IsFirstSource read.graph.n read.sources v role × (kind ≡ kind_of role) × IsUnwritten s
 ForestTold P far_ok limit gr asked s (Err fault.Memory) = HasVertices P gr asked × IsUnwritten s
 ForestTold P far_ok limit gr asked s (Err fault.WriteFailed) = (s.failed ≡ true) × IsForestBegun P limit gr asked s
 ForestTold P far_ok limit gr asked s (Err (fault.CannotOpen kind)) = IsUnwritten s
@@ -106,5 +107,5 @@ abbrev pub nearest_faults : (P : ℕ) → NearestCommand → Fault → Type 0
 nearest_faults P given fault.DeltaOutOfRange = ¬ (IsBucket P given.options.width)
 nearest_faults P given fault.LimitOutOfRange = ¬ (IsLimit P given.within.limit)
 nearest_faults P given fault.NoPlaces = LackPlaces given.sources
-nearest_faults P given (fault.NoSuchVertex source) = Unit {0}
+nearest_faults P given (fault.NoSuchVertex source kind) = Unit {0}
 nearest_faults P given _ = ⊥

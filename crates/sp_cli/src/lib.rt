@@ -6,11 +6,14 @@
 
 mod commands;
 mod context;
+mod laws;
 mod matrix;
 mod nearest;
 mod pairs;
 mod run;
 mod tree;
 
+pub use commands::AnyCommand;
+pub use laws::every_program_is_simple;
 pub use run::run_command;
 pub use sp_command::{Encoding, Inputs, Outputs};

@@ -1,6 +1,5 @@
 //! The command `spt matrix`, which writes the distance from each source of a list to each target of another.
-ghost use denote.Param.Send.{IsSync};
-ghost use Rattle.std.specs.Prelude.{◌≡◌, ℕ, true, List, Option, Some, Ok, Err, IfOk, IfErr, MatchResult};
+ghost use Rattle.std.specs.Prelude.{◌≡◌, ℕ, true, List, Option, Some, Ok, Err, IfOk, IfErr, MatchResult, codes};
 ghost use Rattle.sp_word.specs.Word.{is_layout};
 ghost use Rattle.sp_command.specs.Faults.{is_done, is_early};
 ghost use Rattle.sp_command.specs.Causes.{IsBorneOut};
@@ -9,6 +8,7 @@ ghost use Rattle.sp_cli.specs.Answers.{InText, These};
 ghost use Rattle.sp_cli.specs.MatrixAnswers.{MatrixAnswers, MatrixOf, MatrixOfFile, MatrixOfGiven, MatrixOfSome, MatrixInSome, matrix_paths, matrix_faults};
 ghost use Rattle.sp_options.specs.Sources.{path_of};
 ghost use Rattle.sp_options.specs.Ends.{end_of, fault_of};
+ghost use Rattle.sp_cli.specs.Words.{IsMatrixOf, LacksMatrix, matrix_rules};
 
 use crate::context::{Context, SourceFile};
 use clap::{ArgMatches, Error};
@@ -17,18 +17,19 @@ use sp_command::{
 };
 use sp_device::Write;
 use sp_job::{BatchError, Listener, Progress, Summary};
-use sp_matrix::{run_matrix_given_told, run_matrix_told};
+use sp_matrix::{RowCrew, run_matrix_given_told, run_matrix_told};
 use sp_options::{Given, Lists, RunOptions, Sources, Teller, Watched};
+use sp_word::Alone;
 use std::alloc::Global;
 use std::sync::Wait;
 use std::thread::Threads;
 
 const WORKERS_LONG: &str = "\
-Threads that may work at once, from 1 to 64, the main thread counted,
-or `all` for as many as there are processors, at most 64: a good
-choice where they are free. Each finds the lines of another source. No
-more threads are started than there are processors, nor any for a
-small graph. Any number gives the same bytes";
+The most threads to use, from 1 to 64 including the main thread, or
+`all` for one per processor, at most 64: a good choice if they are
+free. Each finds the lines of a different source. No more threads are
+started than there are processors, and none for a small graph. The
+output is the same for any number";
 
 /// The command `matrix`, with its options and the paths of its files.
 #[derive(Drop)]
@@ -42,43 +43,50 @@ pub struct MatrixCommand<'a> {
 }
 
 impl<'a> Command<'a> for MatrixCommand<'a> {
-    const NAME: &'static str = "matrix";
+    ghost spelled = { codes "matrix" };
+
+    ghost rules = { matrix_rules };
+
+    ghost reads = { IsMatrixOf };
+
+    ghost lacks = { LacksMatrix };
 
     const ABOUT: &'static str = "Write the distance from each source to each target";
 
     const LONG_ABOUT: &'static str = "\
 Write the distance from each source to each target
 
-A distance is the least length of a walk from the source to the target. The
-predecessor is the vertex before the target on a shortest walk, the one with the
-smallest number where there are several. No run from a source goes further than
-the targets ask for. The same bytes are written for each delta and each number
-of workers.";
+The distance is the length of a shortest walk from the source to the target. The
+predecessor is the vertex before the target on a shortest walk; if there are
+several, the one with the smallest number. The run from a source goes no farther
+than the targets require. The output is the same for any delta and any number of
+workers.";
 
     const AFTER_HELP: &'static str = after_help!(
         "\
-The graph and the sources are files as `spt tree --help` tells, and the targets
-are a file like that of the sources. With --source there is no file of sources:
-spt matrix GR TARGETS --source V. The files are read in the order of the words,
-all sources are tested, and then all targets, before anything is written.
+The graph and the sources are files as described in `spt tree --help`, and the
+targets are in a file like that of the sources. With --source there is no file
+of sources: spt matrix GR TARGETS --source V. The files are read in the order in
+which they are named, and all sources and then all targets are checked, before
+anything is written.
 
 For each source, in the order of its file, and for each target, in the order of
-its file, one line is written, as `spt pairs` writes it for the two:
+its file, one line is written, as `spt pairs` writes it for that pair:
   d S T D P     target T has distance D and predecessor P from source S; S
                 itself has 0 and 0
-  x S V         T has no distance within the greatest of a word, and V is the
-                smallest vertex beyond that with an arc from one within it (exit
-                status 4 at the end)
+  x S V         T has no distance that fits (see --pred-bits), and V is the
+                smallest vertex that is too far and has an arc from a vertex
+                whose distance fits (exit status 4 at the end)
   n S T         T has no distance, and there is no such V: no walk leads from S
                 to T
 The lines of a source are written as soon as they and those before them are
 known.
 
-It takes as much memory as `spt tree` does, 8 bytes a target, and 28 bytes for
-each target of the rows that the workers are at: the number of lines plays no
-part.
+It takes as much memory as `spt tree` does, plus 8 bytes per target, and another
+28 bytes per target for each row that a worker is computing; the number of lines
+does not matter.
 
-Example: where diamond.gr is the graph of the example of `spt tree --help`, and
+Example: if diamond.gr is the graph of the example in `spt tree --help`, and
 some.ss and all.ss have the lines
   p aux sp ss 2
   s 1
@@ -96,43 +104,51 @@ the output of `spt matrix diamond.gr some.ss all.ss` is
   n 4 1
   d 4 4 0 0
 
-A fault of a file is told with its line, as in `spt: targets: line 2: 7 TooFew`;
-FILE is gr, ss or targets:
+An error in a file is reported with its line, as in
+`spt: targets: line 2: 7 TooFew`; FILE is gr, ss or targets:
 ",
         faults: "  6 TooMany        more than M arcs or K sources or targets
   7 TooFew         fewer than M arcs or K sources or targets
 ",
         others: "\
-Others are
+Other errors are
   spt: FILE: cannot open             (exit status 6)
-  spt: delta out of range            a word of this layout has no such distance
+  spt: delta out of range            it does not fit in a word (see --pred-bits)
                                      (exit status 1)
   spt: standard input twice          two of the files are `-` (exit status 1)
-  spt: sources are not A-B           two numbers, the first at least 1
+  spt: sources are not A-B           A and B are numbers, 1 <= A <= B
                                      (exit status 1)
   spt: source V: no such vertex      the first source above N, else the first
                                      target; nothing is written (exit status 2)
-  spt: memory                        a beginning of the output may stand
+  spt: memory                        part of the output may have been written
                                      (exit status 5)
-  spt: write failed                  a beginning of the output may stand
+  spt: write failed                  part of the output may have been written
                                      (exit status 6)
 ",
         statuses:
             0 "done"
             1 "the command line is wrong, or delta is out of range"
-            2 "a file is refused, or a source or a target is no vertex"
-            4 "for some line a vertex is too far, without --far-ok; all is written";
+            2 "a file is refused, or a source or target is not a vertex"
+            4 "for some line a vertex is too far (without --far-ok); all is written";
             "a file" "the output"
     );
 
+    fn word() -> &'static str
+        ensures { result.now ≡ codes "matrix" }
+    {
+        "matrix"
+    }
+
     fn build(alloc: Global) -> BuiltCommand<'a> {
-        let command = clap::Command::new(alloc, Self::NAME).arg(file(alloc, "GR", GRAPH_FILE))?;
+        let command = clap::Command::new(alloc, "matrix").arg(file(alloc, "GR", GRAPH_FILE))?;
         RunOptions::add_with_mean(Lists::add_to(command, alloc)?, alloc, WORKERS_LONG)
     }
 
     fn read(alloc: Global, given: &ArgMatches<'a>) -> Result<Option<Self>, Error> {
-        let (Some(graph), Some(options)) = (given.get_str("GR"), RunOptions::read(alloc, given)?)
-        else {
+        let Some(graph) = given.get_str("GR") else {
+            return Ok(None);
+        };
+        let Some(options) = RunOptions::read(alloc, given)? else {
             return Ok(None);
         };
         let Some(lists) = Lists::read(alloc, given)? else {
@@ -176,7 +192,7 @@ impl MatrixCommand<'_> {
     }
 
     // Runs from the sources of a file, or from those at some of its places.
-    fn run_file<const P: u32, R: Threads + Wait + Sync, F: Inputs, W: Write>(
+    fn run_file<const P: u32, R: RowCrew<P>, F: Inputs, W: Write>(
         &self,
         rt: &R,
         alloc: Global,
@@ -184,7 +200,7 @@ impl MatrixCommand<'_> {
         list: &SourceFile<'_>,
         out: &mut W,
     ) -> Result<Status, Fault>
-        requires run { (is_layout P ≡ true) × IsSync R.row }
+        requires run { (is_layout P ≡ true) × R.is_shared }
         requires path { path_of self.now.lists.sources ≡ Some list.now.path.now }
         ensures answered { MatrixOfFile P self.now list.now.path.now list.now.places
             (scene (F.files context.now.files.now)
@@ -225,7 +241,7 @@ impl MatrixCommand<'_> {
     }
 
     // Runs from the sources that the command line gives.
-    fn run_given<const P: u32, R: Threads + Wait + Sync, F: Inputs, W: Write>(
+    fn run_given<const P: u32, R: RowCrew<P>, F: Inputs, W: Write>(
         &self,
         rt: &R,
         alloc: Global,
@@ -233,7 +249,7 @@ impl MatrixCommand<'_> {
         given: &Given,
         out: &mut W,
     ) -> Result<Status, Fault>
-        requires { (is_layout P ≡ true) × IsSync R.row }
+        requires { (is_layout P ≡ true) × R.is_shared }
         ensures answered { MatrixOfGiven P self.now given.now.list.items
             (scene (F.files context.now.files.now)
             (W.written out.old) (W.written out.new) (W.has_failed out.new)) result }
@@ -269,14 +285,14 @@ impl MatrixCommand<'_> {
     }
 
     // Runs from the sources, wherever they stand.
-    fn run_all<const P: u32, R: Threads + Wait + Sync, F: Inputs, W: Write>(
+    fn run_all<const P: u32, R: RowCrew<P>, F: Inputs, W: Write>(
         &self,
         rt: &R,
         alloc: Global,
         context: &Context<'_, P, F>,
         out: &mut W,
     ) -> Result<Status, Fault>
-        requires { (is_layout P ≡ true) × IsSync R.row }
+        requires { (is_layout P ≡ true) × R.is_shared }
         ensures answered { MatrixOf P self.now self.now.lists.sources
             (scene (F.files context.now.files.now)
             (W.written out.old) (W.written out.new) (W.has_failed out.new)) result }
@@ -335,6 +351,9 @@ impl<const P: u32> Run<P> for MatrixCommand<'_> {
             settings: &settings,
             limit: None,
         };
-        self.run_all::<P, R, F, W>(rt, alloc, &context, out)
+        if settings.workers.get() == 1 {
+            return self.run_all::<P, _, F, W>(&Alone::new(rt), alloc, &context, out);
+        }
+        self.run_all::<P, _, F, W>(&rt, alloc, &context, out)
     }
 }

@@ -1,6 +1,6 @@
 //! The command `spt nearest`, which writes how far each vertex is from the nearest of several sources.
 ghost use denote.Param.Send.{IsSync};
-ghost use Rattle.std.specs.Prelude.{◌≡◌, ℕ, true, List, Option, Some, Ok, Err, IfOk, IfErr, MatchResult};
+ghost use Rattle.std.specs.Prelude.{◌≡◌, ℕ, true, List, Option, Some, Ok, Err, IfOk, IfErr, MatchResult, codes};
 ghost use Rattle.sp_word.specs.Word.{is_layout};
 ghost use Rattle.sp_command.specs.Faults.{is_done, is_early};
 ghost use Rattle.sp_command.specs.Causes.{IsBorneOut};
@@ -10,6 +10,7 @@ ghost use Rattle.sp_cli.specs.NearestAnswers.{NearestAnswers, ForestOf, ForestOf
 ghost use Rattle.sp_options.specs.Sources.{path_of};
 ghost use Rattle.sp_options.specs.Ends.{end_of, fault_of};
 ghost use Rattle.sp_options.specs.Within.{IsLimit};
+ghost use Rattle.sp_cli.specs.Words.{IsNearestOf, LacksTree, nearest_rules};
 
 use crate::context::{Context, SourceFile};
 use clap::{ArgMatches, Error};
@@ -26,11 +27,11 @@ use std::sync::Wait;
 use std::thread::Threads;
 
 const WORKERS_LONG: &str = "\
-Threads that may work at once, from 1 to 64, the main thread counted,
-or `all` for as many as there are processors, at most 64: a good
-choice where they are free. All work on the one run. No more threads
-are started than there are processors, nor any for a small graph. Any
-number gives the same bytes";
+The most threads to use, from 1 to 64 including the main thread, or
+`all` for one per processor, at most 64: a good choice if they are
+free. All work on a single run. No more threads are started than there
+are processors, and none for a small graph. The output is the same for
+any number";
 
 /// The command `nearest`, with its options and the paths of its files.
 #[derive(Drop)]
@@ -46,42 +47,48 @@ pub struct NearestCommand<'a> {
 }
 
 impl<'a> Command<'a> for NearestCommand<'a> {
-    const NAME: &'static str = "nearest";
+    ghost spelled = { codes "nearest" };
+
+    ghost rules = { nearest_rules };
+
+    ghost reads = { IsNearestOf };
+
+    ghost lacks = { LacksTree };
 
     const ABOUT: &'static str = "Write the nearest source of each vertex";
 
     const LONG_ABOUT: &'static str = "\
 Write the nearest source of each vertex
 
-A distance is the least length of a walk from any of the sources. The
-predecessor of a vertex is the vertex before it on such a walk, the one with the
-smallest number where there are several, and its root is the source to which the
-predecessors lead. Neither the order of the sources plays a part nor how often
-one is named. The same bytes are written for each delta and each number of
-workers.";
+The distance of a vertex is the length of a shortest walk from any of the
+sources. Its predecessor is the vertex before it on such a walk; if there are
+several, the one with the smallest number. Its root is the source to which the
+predecessors lead. The order of the sources does not matter, nor does naming one
+more than once. The output is the same for any delta and any number of workers.";
 
     const AFTER_HELP: &'static str = after_help!(
         "\
-The graph and the sources are files as `spt tree --help` tells. Both are read,
-the graph first, and all sources are tested, before anything is written. One of
-them may be `-` for standard input.
+The graph and the sources are files as described in `spt tree --help`. Both are
+read, the graph first, and all sources are checked, before anything is written.
+One of them may be `-` for standard input.
 
-One block is written, that of the forest of all sources:
-  p near N K    of N vertices; there are K sources, each counted once
-  v V D P S     vertex V has distance D, predecessor P and root S; a source has
-                0, 0 and itself; by rising V. A vertex that no walk leads to has
-                no line
-  e R           there were R lines of this kind
-or, where a vertex with an arc from one within the greatest distance of a word
-lies beyond it, one line that names the smallest such V (exit status 4):
+One block is written, the forest of all sources:
+  p near N K    there are N vertices, and K sources, each counted once
+  v V D P S     vertex V has distance D, predecessor P and root S (0, 0 and
+                itself for a source), in ascending order of V; a vertex that no
+                walk leads to has no line
+  e R           the number of v lines is R
+or, if a vertex is too far, that is, its distance does not fit (see
+--pred-bits), one line with the smallest such V that has an arc from a vertex
+whose distance fits (exit status 4):
   x V
-With --within L vertices farther than L have no line; there is no such x line,
-and the run goes no farther.
+With --within L vertices farther than L have no line, there is no x line, and
+the run goes no farther.
 
 It makes one run, and takes as much memory as `spt tree` does for one source,
-and at most 16 bytes a vertex and 12 a source more.
+plus at most 16 bytes per vertex and 12 per source.
 
-Example: where diamond.gr is the graph of the example of `spt tree --help`, and
+Example: if diamond.gr is the graph of the example in `spt tree --help`, and
 depots.ss has the lines
   p aux sp ss 2
   s 1
@@ -94,51 +101,59 @@ the output of `spt nearest diamond.gr depots.ss` is
   v 4 2 3 3
   e 4
 
-A fault of a file is told with its line, as in
+An error in a file is reported with its line, as in
 `spt: gr: line 2: 5 OutOfRange V`; FILE is gr or ss:
 ",
         faults: "  6 TooMany        more than M arcs or K sources
   7 TooFew         fewer than M arcs or K sources
 ",
         others: "\
-Others are
+Other errors are
   spt: FILE: cannot open             (exit status 6)
-  spt: delta out of range            a word of this layout has no such distance
+  spt: delta out of range            it does not fit in a word (see --pred-bits)
                                      (exit status 1)
-  spt: limit out of range            a word of this layout has no such distance
+  spt: limit out of range            it does not fit in a word (see --pred-bits)
                                      (exit status 1)
   spt: standard input twice          both files are `-` (exit status 1)
-  spt: sources are not A-B           two numbers, the first at least 1
+  spt: sources are not A-B           A and B are numbers, 1 <= A <= B
                                      (exit status 1)
   spt: source V: no such vertex      the first source above N; nothing is
                                      written (exit status 2)
   spt: memory                        nothing is written (exit status 5)
-  spt: write failed                  a beginning of the output may stand
+  spt: write failed                  part of the output may have been written
                                      (exit status 6)
 ",
         statuses:
             0 "done"
             1 "the command line is wrong, or delta or the limit is out of range"
-            2 "a file is refused, or a source is no vertex"
-            4 "a vertex is too far, without --far-ok and --within; all is written";
+            2 "a file is refused, or a source is not a vertex"
+            4 "a vertex is too far (without --far-ok or --within); all is written";
             "a file" "the output"
     );
 
+    fn word() -> &'static str
+        ensures { result.now ≡ codes "nearest" }
+    {
+        "nearest"
+    }
+
     fn build(alloc: Global) -> BuiltCommand<'a> {
-        let command = clap::Command::new(alloc, Self::NAME).arg(file(alloc, "GR", GRAPH_FILE))?;
+        let command = clap::Command::new(alloc, "nearest").arg(file(alloc, "GR", GRAPH_FILE))?;
         let command = Sources::add_all_to(command, alloc)?.arg(Within::option(alloc))?;
         RunOptions::add_with_mean(command, alloc, WORKERS_LONG)
     }
 
     fn read(alloc: Global, given: &ArgMatches<'a>) -> Result<Option<Self>, Error> {
-        let (Some(graph), Some(options)) = (given.get_str("GR"), RunOptions::read(alloc, given)?)
-        else {
+        let Some(graph) = given.get_str("GR") else {
             return Ok(None);
         };
-        let (Some(sources), Some(within)) = (
-            Sources::read(alloc, given)?,
-            Within::read(alloc, given)?,
-        ) else {
+        let Some(options) = RunOptions::read(alloc, given)? else {
+            return Ok(None);
+        };
+        let Some(sources) = Sources::read(alloc, given)? else {
+            return Ok(None);
+        };
+        let Some(within) = Within::read(alloc, given)? else {
             return Ok(None);
         };
         Ok(Some(NearestCommand {
@@ -170,7 +185,7 @@ impl NearestCommand<'_> {
             (λ error. result ≡ Err (fault_of error)) }
     {
         if let Ok(written) = answer {
-            teller.hear(Progress::Sources {
+            teller.hear(Progress::Runs {
                 written,
                 count: written.sources as usize,
             });

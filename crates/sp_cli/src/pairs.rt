@@ -1,12 +1,13 @@
 //! The command `spt pairs`, which writes the distance from source to target for each pair of a list.
 ghost use denote.Param.Send.{IsSync};
-ghost use Rattle.std.specs.Prelude.{◌≡◌, ℕ, true, List, Option, Some, Ok, Err, IfOk, IfErr, MatchResult};
+ghost use Rattle.std.specs.Prelude.{◌≡◌, ℕ, true, List, Option, Some, Ok, Err, IfOk, IfErr, MatchResult, codes};
 ghost use Rattle.sp_word.specs.Word.{is_layout};
 ghost use Rattle.sp_command.specs.Faults.{is_done, is_early};
 ghost use Rattle.sp_command.specs.Causes.{IsBorneOut};
 ghost use Rattle.sp_command.specs.Scene.{scene};
 ghost use Rattle.sp_cli.specs.Answers.{PairsAnswers, PairsTold, PairsOf, PairsOfSome, pairs_paths, pairs_faults};
 ghost use Rattle.sp_options.specs.Ends.{end_of, fault_of};
+ghost use Rattle.sp_cli.specs.Words.{IsPairsOf, LacksPairs, pairs_rules};
 
 use clap::{ArgMatches, Error};
 use sp_command::{
@@ -22,10 +23,10 @@ use std::sync::Wait;
 use std::thread::Threads;
 
 const WORKERS_LONG: &str = "\
-Threads that may work at once, from 1 to 64, the main thread counted,
-or `all` for as many as there are processors, at most 64: a good
-choice where they are free. No more threads are started than there are
-processors, nor any for a small graph. Any number gives the same bytes";
+The most threads to use, from 1 to 64 including the main thread, or
+`all` for one per processor, at most 64: a good choice if they are
+free. No more threads are started than there are processors, and none
+for a small graph. The output is the same for any number";
 
 /// The command `pairs`, with its options and the paths of its files.
 #[derive(Drop)]
@@ -39,42 +40,50 @@ pub struct PairsCommand<'a> {
 }
 
 impl<'a> Command<'a> for PairsCommand<'a> {
-    const NAME: &'static str = "pairs";
+    ghost spelled = { codes "pairs" };
 
-    const ABOUT: &'static str = "Write the distance of each pair of a source and a target";
+    ghost rules = { pairs_rules };
+
+    ghost reads = { IsPairsOf };
+
+    ghost lacks = { LacksPairs };
+
+    const ABOUT: &'static str = "Write the distance for each pair of source and target";
 
     const LONG_ABOUT: &'static str = "\
-Write the distance of each pair of a source and a target
+Write the distance for each pair of source and target
 
-A distance is the least length of a walk from the source to the target. The
-predecessor is the vertex before the target on a shortest walk, the one with the
-smallest number where there are several. Each source is run from once, wherever
-its pairs stand, and no further than its targets ask for. The same bytes are
-written for each delta and each number of workers.";
+The distance is the length of a shortest walk from the source to the target. The
+predecessor is the vertex before the target on a shortest walk; if there are
+several, the one with the smallest number. There is one run for each source,
+wherever its pairs stand, and it goes no farther than its targets require. The
+output is the same for any delta and any number of workers.";
 
     const AFTER_HELP: &'static str = after_help!(
         "\
-The graph is a .gr file, as `spt tree --help` tells. The pairs are a file of
-their own, its fields parted by blanks:
-  p pairs K     there are K pairs, at most 1048576; it stands first, and once
+The graph is a .gr file, as described in `spt tree --help`. The pairs are in a
+file of their own, with its fields separated by blanks:
+  p pairs K     there are K pairs, at most 1048576; it comes first, and only
+                once
   q S T         a pair of source S and target T; there are K of these lines
-  c ...         a comment; so is a line without a field
-Both are read, the graph first, all numbers are tested, and all answers are
-found, before anything is written.
+  c ...         a comment; so is a blank line
+Both files are read, the graph first, all numbers are checked, and all answers
+are found, before anything is written.
 
-For each pair, in the order of its file, one line is written:
+For each pair, in the order of the file, one line is written:
   d S T D P     target T has distance D and predecessor P from source S; S
                 itself has 0 and 0
-  x S V         T has no distance within the greatest of a word, and V is the
-                smallest vertex beyond that with an arc from one within it (exit
-                status 4 at the end)
+  x S V         T has no distance that fits (see --pred-bits), and V is the
+                smallest vertex that is too far and has an arc from a vertex
+                whose distance fits (exit status 4 at the end)
   n S T         T has no distance, and there is no such V: no walk leads from S
                 to T
 
-It takes as much memory as `spt tree` does for one source, and 28 bytes a pair.
+It takes as much memory as `spt tree` does for one source, plus 28 bytes per
+pair.
 
-Example: where diamond.gr is the graph of the example there, and diamond.pairs
-has the lines
+Example: if diamond.gr is the graph of the example in `spt tree --help`, and
+diamond.pairs has the lines
   p pairs 3
   q 1 4
   q 1 1
@@ -84,41 +93,50 @@ the output of `spt pairs diamond.gr diamond.pairs --delta 3` is
   d 1 1 0 0
   n 4 1
 
-A fault of a file is told with its line, as in `spt: pairs: line 2: 7 TooFew`;
-FILE is gr or pairs:
+An error in a file is reported with its line, as in
+`spt: pairs: line 2: 7 TooFew`; FILE is gr or pairs:
 ",
         faults: "  6 TooMany        more than M arcs or K pairs
   7 TooFew         fewer than M arcs or K pairs
 ",
         others: "\
-Others are
+Other errors are
   spt: FILE: cannot open             (exit status 6)
-  spt: delta out of range            a word of this layout has no such distance
+  spt: delta out of range            it does not fit in a word (see --pred-bits)
                                      (exit status 1)
   spt: standard input twice          both files are `-` (exit status 1)
   spt: memory                        nothing is written (exit status 5)
-  spt: write failed                  a beginning of the output may stand
+  spt: write failed                  part of the output may have been written
                                      (exit status 6)
-A number of a pair that is no vertex is told as `spt tree --help` tells it of a
+A number in a pair that is not a vertex is reported as `spt tree` reports such a
 source: the first number above N, S before T; nothing is written.
 ",
         statuses:
             0 "done"
             1 "the command line is wrong, or delta is out of range"
-            2 "a file is refused, or a source or a target is no vertex"
-            4 "for some pair a vertex is too far, without --far-ok; all is written";
+            2 "a file is refused, or a source or target is not a vertex"
+            4 "for some pair a vertex is too far (without --far-ok); all is written";
             "a file" "the output"
     );
 
+    fn word() -> &'static str
+        ensures { result.now ≡ codes "pairs" }
+    {
+        "pairs"
+    }
+
     fn build(alloc: Global) -> BuiltCommand<'a> {
-        let command = clap::Command::new(alloc, Self::NAME)
+        let command = clap::Command::new(alloc, "pairs")
             .arg(file(alloc, "GR", GRAPH_FILE))?
             .arg(file(alloc, "PAIRS", "The pairs, a file of lines q S T"))?;
         RunOptions::add_to(command, alloc, WORKERS_LONG)
     }
 
     fn read(alloc: Global, given: &ArgMatches<'a>) -> Result<Option<Self>, Error> {
-        let (Some(graph), Some(pairs)) = (given.get_str("GR"), given.get_str("PAIRS")) else {
+        let Some(graph) = given.get_str("GR") else {
+            return Ok(None);
+        };
+        let Some(pairs) = given.get_str("PAIRS") else {
             return Ok(None);
         };
         let Some(options) = RunOptions::read(alloc, given)? else {

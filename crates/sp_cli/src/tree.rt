@@ -1,6 +1,5 @@
 //! The command `spt tree`, which writes the shortest-path tree of each source of a list.
-ghost use denote.Param.Send.{IsSync};
-ghost use Rattle.std.specs.Prelude.{◌≡◌, ℕ, true, List, Option, Some, Ok, Err, IfOk, IfErr, MatchResult};
+ghost use Rattle.std.specs.Prelude.{◌≡◌, ℕ, true, List, Option, Some, Ok, Err, IfOk, IfErr, MatchResult, codes};
 ghost use Rattle.sp_word.specs.Word.{is_layout};
 ghost use Rattle.sp_command.specs.Faults.{is_done, is_early};
 ghost use Rattle.sp_command.specs.Causes.{IsBorneOut};
@@ -9,27 +8,29 @@ ghost use Rattle.sp_cli.specs.Answers.{TreeAnswers, TreesTold, InText, These, Tr
 ghost use Rattle.sp_options.specs.Sources.{path_of};
 ghost use Rattle.sp_options.specs.Within.{IsLimit};
 ghost use Rattle.sp_options.specs.Ends.{end_of, fault_of};
+ghost use Rattle.sp_cli.specs.Words.{IsTreeOf, LacksTree, tree_rules};
 
 use crate::context::{Context, SourceFile};
 use clap::{ArgMatches, Error};
-use sp_batch::{run_batch_told, run_given_told};
+use sp_batch::{TreeCrew, run_batch_told, run_given_told};
 use sp_command::{
     BuiltCommand, Command, Fault, FileKind, GRAPH_FILE, Inputs, Run, Status, after_help, file,
 };
 use sp_device::Write;
 use sp_job::{BatchError, Listener, Progress, Summary};
 use sp_options::{Given, RunOptions, Sources, Teller, Watched, Within};
+use sp_word::Alone;
 use std::alloc::Global;
 use std::sync::Wait;
 use std::thread::Threads;
 
 const WORKERS_LONG: &str = "\
-Threads that may work at once, from 1 to 64, the main thread counted,
-or `all` for as many as there are processors, at most 64: a good
-choice where they are free. All work on one tree, or each on a tree of
-its own where there are several sources. No more threads are started
-than there are processors, nor any for a small graph. Any number gives
-the same bytes";
+The most threads to use, from 1 to 64 including the main thread, or
+`all` for one per processor, at most 64: a good choice if they are
+free. All work on one tree, or each on its own tree if there are
+several sources. No more threads are started than there are
+processors, and none for a small graph. The output is the same for any
+number";
 
 /// The command `tree`, with its options and the paths of its files.
 #[derive(Drop)]
@@ -45,52 +46,60 @@ pub struct TreeCommand<'a> {
 }
 
 impl<'a> Command<'a> for TreeCommand<'a> {
-    const NAME: &'static str = "tree";
+    ghost spelled = { codes "tree" };
+
+    ghost rules = { tree_rules };
+
+    ghost reads = { IsTreeOf };
+
+    ghost lacks = { LacksTree };
 
     const ABOUT: &'static str = "Write the shortest-path tree of each source";
 
     const LONG_ABOUT: &'static str = "\
 Write the shortest-path tree of each source
 
-A distance is the least length of a walk from the source. The predecessor of a
-vertex is the vertex before it on a shortest walk, the one with the smallest
-number where there are several. So a source has one tree, and the same bytes are
-written for each delta and each number of workers.";
+The distance of a vertex is the length of a shortest walk from the source. Its
+predecessor is the vertex before it on a shortest walk; if there are several,
+the one with the smallest number. So each source has exactly one tree, and the
+output is the same for any delta and any number of workers.";
 
     const AFTER_HELP: &'static str = after_help!(
         "\
-The graph is a .gr file of the Ninth DIMACS Implementation Challenge, its fields
-parted by blanks:
+The graph is a .gr file of the Ninth DIMACS Implementation Challenge, with its
+fields separated by blanks:
   p sp N M      there are N vertices, numbered from 1, and M arcs, M at most
-                1073741824; it stands first, and once. N is at most the greatest
-                predecessor of a word
+                1073741824; it comes first, and only once. N is at most the
+                greatest predecessor that fits (see --pred-bits)
   a U V W       an arc from U to V of length W, 1 to 4294967295; there are M of
                 these lines
-  c ...         a comment; so is a line without a field
-The sources are a .ss file:
-  p aux sp ss K there are K sources, at most 1048576; it stands first, and once
+  c ...         a comment; so is a blank line
+The sources are in a .ss file:
+  p aux sp ss K there are K sources, at most 1048576; it comes first, and only
+                once
   s V           a source; there are K of these lines
-  c ...         a comment; so is a line without a field
-Both are read, the graph first, and all sources are tested, before anything is
-written. One of them may be `-` for standard input.
+  c ...         a comment; so is a blank line
+Both files are read, the graph first, and all sources are checked, before
+anything is written. One of them may be `-` for standard input.
 
-For each source, in the order of its file, a block is written:
-  p spt N S     the tree of source S, of N vertices
-  v V D P       vertex V has distance D and predecessor P, the source 0 and 0;
-                by rising V. A vertex that no walk leads to has no line
-  e R           there were R lines of this kind
-or, where a vertex with an arc from one within the greatest distance of a word
-lies beyond it, one line that names the smallest such V (exit status 4 at the
-end):
+For each source, in the order of the file, a block is written:
+  p spt N S     the tree of source S, over N vertices
+  v V D P       vertex V has distance D and predecessor P (0 and 0 for the
+                source), in ascending order of V; a vertex that no walk leads to
+                has no line
+  e R           the number of v lines is R
+or, if a vertex is too far, that is, its distance does not fit (see
+--pred-bits), one line with the smallest such V that has an arc from a vertex
+whose distance fits (exit status 4 at the end):
   x S V
-With --within L a block has the vertices at distances up to L alone, and no
-source has a line x.
+With --within L a block has only the vertices at distances up to L, and there
+are no x lines.
 
-It takes at most 28 bytes of memory a vertex, 24 an arc, 8 a source, and 4 MB;
-where several workers run several sources, 16 bytes a vertex and the text of
-two trees more for each worker.
+It takes at most 28 bytes of memory per vertex, 24 per arc and 8 per source,
+plus 4 MB; if several workers run several sources, another 16 bytes per vertex
+and the text of two trees for each worker.
 
-Example: where diamond.gr and diamond.ss have the lines
+Example: if diamond.gr and diamond.ss have the lines
   p sp 4 5
   a 1 2 3
   a 1 3 3
@@ -114,52 +123,60 @@ and with --within 3 it is
   v 3 3 1
   e 3
 
-A fault of a file is told with its line, as in
+An error in a file is reported with its line, as in
 `spt: gr: line 2: 5 OutOfRange V`; FILE is gr or ss:
 ",
         faults: "  6 TooMany        more than M arcs or K sources
   7 TooFew         fewer than M arcs or K sources
 ",
         others: "\
-Others are
+Other errors are
   spt: FILE: cannot open             (exit status 6)
-  spt: delta out of range            a word of this layout has no such distance
+  spt: delta out of range            it does not fit in a word (see --pred-bits)
                                      (exit status 1)
-  spt: limit out of range            a word of this layout has no such distance
+  spt: limit out of range            it does not fit in a word (see --pred-bits)
                                      (exit status 1)
   spt: standard input twice          both files are `-` (exit status 1)
-  spt: sources are not A-B           two numbers, the first at least 1
+  spt: sources are not A-B           A and B are numbers, 1 <= A <= B
                                      (exit status 1)
   spt: source V: no such vertex      the first source above N; nothing is
                                      written (exit status 2)
-  spt: memory                        a beginning of the output may stand
+  spt: memory                        part of the output may have been written
                                      (exit status 5)
-  spt: write failed                  a beginning of the output may stand
+  spt: write failed                  part of the output may have been written
                                      (exit status 6)
 ",
         statuses:
             0 "done"
             1 "the command line is wrong, or delta or the limit is out of range"
-            2 "a file is refused, or a source is no vertex"
-            4 "for some source a vertex is too far, without --far-ok; all is written";
+            2 "a file is refused, or a source is not a vertex"
+            4 "for some source a vertex is too far (without --far-ok); all is written";
             "a file" "the output"
     );
 
+    fn word() -> &'static str
+        ensures { result.now ≡ codes "tree" }
+    {
+        "tree"
+    }
+
     fn build(alloc: Global) -> BuiltCommand<'a> {
-        let command = clap::Command::new(alloc, Self::NAME).arg(file(alloc, "GR", GRAPH_FILE))?;
+        let command = clap::Command::new(alloc, "tree").arg(file(alloc, "GR", GRAPH_FILE))?;
         let command = Sources::add_to(command, alloc)?.arg(Within::option(alloc))?;
         RunOptions::add_to(command, alloc, WORKERS_LONG)
     }
 
     fn read(alloc: Global, given: &ArgMatches<'a>) -> Result<Option<Self>, Error> {
-        let (Some(graph), Some(options)) = (given.get_str("GR"), RunOptions::read(alloc, given)?)
-        else {
+        let Some(graph) = given.get_str("GR") else {
             return Ok(None);
         };
-        let (Some(sources), Some(within)) = (
-            Sources::read(alloc, given)?,
-            Within::read(alloc, given)?,
-        ) else {
+        let Some(options) = RunOptions::read(alloc, given)? else {
+            return Ok(None);
+        };
+        let Some(sources) = Sources::read(alloc, given)? else {
+            return Ok(None);
+        };
+        let Some(within) = Within::read(alloc, given)? else {
             return Ok(None);
         };
         Ok(Some(TreeCommand {
@@ -200,7 +217,7 @@ impl TreeCommand<'_> {
     }
 
     // Runs from the sources of a file, or from those at some of its places.
-    fn run_file<const P: u32, R: Threads + Wait + Sync, F: Inputs, W: Write>(
+    fn run_file<const P: u32, R: TreeCrew<P>, F: Inputs, W: Write>(
         &self,
         rt: &R,
         alloc: Global,
@@ -208,7 +225,7 @@ impl TreeCommand<'_> {
         list: &SourceFile<'_>,
         out: &mut W,
     ) -> Result<Status, Fault>
-        requires run { (is_layout P ≡ true) × IsSync R.row }
+        requires run { (is_layout P ≡ true) × R.is_shared }
         requires limit { IsLimit P context.now.limit }
         requires path { path_of self.now.sources ≡ Some list.now.path.now }
         ensures answered { TreesOfFile P self.now.options.far_ok context.now.limit
@@ -238,7 +255,7 @@ impl TreeCommand<'_> {
     }
 
     // Runs from the sources that the command line gives.
-    fn run_given<const P: u32, R: Threads + Wait + Sync, F: Inputs, W: Write>(
+    fn run_given<const P: u32, R: TreeCrew<P>, F: Inputs, W: Write>(
         &self,
         rt: &R,
         alloc: Global,
@@ -246,7 +263,7 @@ impl TreeCommand<'_> {
         given: &Given,
         out: &mut W,
     ) -> Result<Status, Fault>
-        requires run { (is_layout P ≡ true) × IsSync R.row }
+        requires run { (is_layout P ≡ true) × R.is_shared }
         requires limit { IsLimit P context.now.limit }
         ensures answered { TreesOfGiven P self.now.options.far_ok context.now.limit
             self.now.graph.now given.now.list.items (scene (F.files context.now.files.now)
@@ -278,14 +295,14 @@ impl TreeCommand<'_> {
     }
 
     // Runs from the sources, wherever they stand.
-    fn run_all<const P: u32, R: Threads + Wait + Sync, F: Inputs, W: Write>(
+    fn run_all<const P: u32, R: TreeCrew<P>, F: Inputs, W: Write>(
         &self,
         rt: &R,
         alloc: Global,
         context: &Context<'_, P, F>,
         out: &mut W,
     ) -> Result<Status, Fault>
-        requires run { (is_layout P ≡ true) × IsSync R.row }
+        requires run { (is_layout P ≡ true) × R.is_shared }
         requires limit { IsLimit P context.now.limit }
         ensures answered { TreesOf P self.now.options.far_ok context.now.limit
             self.now.graph.now self.now.sources
@@ -346,6 +363,9 @@ impl<const P: u32> Run<P> for TreeCommand<'_> {
             settings: &settings,
             limit: self.within.limit_for::<P>()?,
         };
-        self.run_all::<P, R, F, W>(rt, alloc, &context, out)
+        if settings.workers.get() == 1 {
+            return self.run_all::<P, _, F, W>(&Alone::new(rt), alloc, &context, out);
+        }
+        self.run_all::<P, _, F, W>(&rt, alloc, &context, out)
     }
 }

@@ -1,2 +1,3 @@
 pub mod LineSteps
 pub mod Displays
+pub mod Building

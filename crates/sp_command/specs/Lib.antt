@@ -8,3 +8,5 @@ pub mod Names
 pub mod Outputs
 pub mod Scene
 pub mod Words
+pub mod Rules
+pub mod Reading

@@ -61,7 +61,7 @@ impl fmt::Display for Advice<'_> {
                 wanted,
             } => write!(
                 f,
-                "a line of {}, where {} is wanted; see spt {command} --help",
+                "a line of {}, but {} is expected; see spt {command} --help",
                 of_kind(*found),
                 of_kind(*wanted)
             ),
@@ -85,30 +85,30 @@ impl fmt::Display for Advice<'_> {
     }
 }
 
-const TOO_FAR: &str = "an x line, of a source for which a vertex was too far";
+const TOO_FAR: &str = "an x line: a vertex was too far from its source";
 
 impl Advice<'_> {
     // Returns the words of advice that has no parameters to show.
     fn words(&self) -> &'static str {
         match self {
-            Advice::Comment => "comments begin with `c`, and a blank parts it from the rest",
+            Advice::Comment => "comments begin with `c` and a blank",
             Advice::Count(file) => count(*file),
             Advice::LongLine => "a line has at most 1024 bytes, and ends with an LF",
             Advice::FromZero => {
-                "vertices are numbered from 1; where yours begin with 0, add 1 to each"
+                "vertices are numbered from 1; if yours start at 0, add 1 to each"
             }
             Advice::Length => "lengths are whole numbers from 1 to 4294967295",
             Advice::FractionOfLength => {
-                "lengths are whole numbers from 1 to 4294967295; multiply them all, as by 1000"
+                "lengths are whole numbers from 1 to 4294967295; multiply them all, for example by 1000"
             }
             Advice::Spelling => {
-                "numbers are digits alone, with no sign, no point and no 0 before them"
+                "numbers consist of digits only: no sign, no decimal point, no leading 0"
             }
-            Advice::Rising => "V is from 1 to N, and greater than in the `v` line before",
-            Advice::Rows => "R of the line `e R` is the number of `v` lines",
+            Advice::Rising => "V is from 1 to N, and greater than V of the `v` line before",
+            Advice::Rows => "R in the line `e R` must be the number of `v` lines",
             Advice::Blocks => "the file has several blocks; use --all",
-            Advice::CutTree => "the file ends before the line `e R`: it is cut off",
-            _ => "vertices are numbered from 1 to the N of the line `p`",
+            Advice::CutTree => "the file ends before the line `e R`: it is incomplete",
+            _ => "vertices are numbered from 1 to N, given in the line `p`",
         }
     }
 }
@@ -140,11 +140,11 @@ fn problem(file: FileKind) -> &'static str {
 // Returns what the number of counted lines of a file must equal.
 fn count(file: FileKind) -> &'static str {
     match file {
-        FileKind::Graph => "M of the line `p sp N M` is the number of `a` lines",
+        FileKind::Graph => "M in the line `p sp N M` must be the number of `a` lines",
         FileKind::Sources | FileKind::Targets => {
-            "K of the line `p aux sp ss K` is the number of `s` lines"
+            "K in the line `p aux sp ss K` must be the number of `s` lines"
         }
-        FileKind::Pairs => "K of the line `p pairs K` is the number of `q` lines",
+        FileKind::Pairs => "K in the line `p pairs K` must be the number of `q` lines",
         FileKind::Tree | FileKind::Replay | FileKind::Offers => "the file has too many lines",
     }
 }
@@ -161,7 +161,7 @@ impl fmt::Display for Lines {
             FileKind::Sources => "and `s V` for each of its K sources",
             FileKind::Targets => "and `s V` for each of its K targets",
             FileKind::Pairs => "and `q S T` for each of its K pairs",
-            FileKind::Tree => "`v V D P` for each vertex, and `e R`, parted by one space",
+            FileKind::Tree => "`v V D P` for each vertex, and `e R`, separated by one space",
             FileKind::Replay => "and lines i, o, r, a and s: see spt replay --help",
             FileKind::Offers => "and `o A V D P` for each offer",
         };

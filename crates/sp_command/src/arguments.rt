@@ -1,4 +1,8 @@
 //! The arguments of commands.
+ghost use Rattle.std.specs.Prelude.{◌≡◌};
+ghost use Rattle.clap.specs.Walk.{rule_of};
+ghost use Rattle.sp_command.specs.Rules.{file_rule, flag_rule, valued_rule};
+
 use clap::{Arg, ArgAction};
 use std::alloc::Global;
 
@@ -6,12 +10,16 @@ use std::alloc::Global;
 pub const PLACES: &str = "sources";
 
 /// Returns the argument for a file that a command needs.
-pub fn file<'a>(alloc: Global, name: &'a str, about: &'a str) -> Arg<'a> {
+pub fn file<'a>(alloc: Global, name: &'a str, about: &'a str) -> Arg<'a>
+    ensures { rule_of result ≡ file_rule name.entry.now }
+{
     Arg::new(alloc, name).help(about).required(true)
 }
 
 /// Returns an option without a value.
-pub fn flag<'a>(alloc: Global, name: &'a str, about: &'a str) -> Arg<'a> {
+pub fn flag<'a>(alloc: Global, name: &'a str, about: &'a str) -> Arg<'a>
+    ensures { rule_of result ≡ flag_rule name.entry.now }
+{
     Arg::new(alloc, name)
         .long(name)
         .action(ArgAction::SetTrue)
@@ -25,7 +33,9 @@ pub fn valued<'a>(
     value: &'a str,
     about: &'a str,
     more: &'a str,
-) -> Arg<'a> {
+) -> Arg<'a>
+    ensures { rule_of result ≡ valued_rule name.entry.now }
+{
     Arg::new(alloc, name)
         .long(name)
         .value_name(value)

@@ -1,5 +1,12 @@
 //! Commands, and several of them as one.
+ghost use Rattle.std.specs.Prelude.{◌≡◌, ◌⊎◌, ◌++◌, ◌∷◌, [], ℕ, List, IfOk, IfErr, MatchOption};
+ghost use Rattle.clap.specs.Matches.{found_of};
+ghost use Rattle.clap.specs.Simple.{Shape};
+ghost use Rattle.clap.specs.Walk.{Rule};
+ghost use Rattle.clap.specs.declared.parser.matches.Found.{Found};
 ghost use Rattle.sp_command.specs.Either.{either_of};
+ghost use Rattle.sp_command.specs.Reading.{IsLacking, IsNamed, IsRefusedFor, IsUnnamed};
+ghost use Rattle.sp_command.specs.Rules.{AddsCommands, IsBuilt, shape_with};
 
 use crate::faults::{Fault, FileKind, Status};
 use crate::inputs::Inputs;
@@ -18,7 +25,16 @@ pub type BuiltCommand<'a> = Result<clap::Command<'a>, AllocError>;
 /// A command that a command line can name.
 pub trait Command<'a>: Drop {
     /// The word that names it.
-    const NAME: &'static str;
+    ghost spelled: { List ℕ };
+
+    /// The arguments that it has besides the layout and the file of its output, as `clap` reads them.
+    ghost rules: { List Rule };
+
+    /// The command that is read of what `clap` has found in its words.
+    ghost reads: { Found → Self → Type 0 };
+
+    /// What `clap` has found lacks something that the command needs.
+    ghost lacks: { Found → Type 0 };
 
     /// What it does.
     const ABOUT: &'static str;
@@ -29,11 +45,19 @@ pub trait Command<'a>: Drop {
     /// The text that ends its help: its files, what it writes, an example, faults and exit statuses.
     const AFTER_HELP: &'static str;
 
+    /// Returns the word that names it.
+    fn word() -> &'static str
+        ensures { result.now ≡ spelled };
+
     /// Builds it with its name, and the arguments that it has besides the layout and the file of its output.
-    fn build(alloc: Global) -> BuiltCommand<'a>;
+    fn build(alloc: Global) -> BuiltCommand<'a>
+        ensures { IfOk result (IsBuilt spelled rules) };
 
     /// Reads its arguments, or finds a fault in words that `clap` accepted.
-    fn read(alloc: Global, given: &ArgMatches<'a>) -> Result<Option<Self>, Error>;
+    fn read(alloc: Global, given: &ArgMatches<'a>) -> Result<Option<Self>, Error>
+        ensures read { IfOk result (λ found.
+            MatchOption found (lacks (found_of given.now)) (reads (found_of given.now))) }
+        ensures refused { IfErr result (IsRefusedFor (lacks (found_of given.now))) };
 
     /// Returns the path of its file of this kind, if it has one.
     fn path_of(&self, file: FileKind) -> Option<&'a str>;
@@ -41,11 +65,27 @@ pub trait Command<'a>: Drop {
 
 /// One command, or a choice of several. A value is one of them.
 pub trait Commands<'a>: Drop {
+    /// The commands as `clap` reads them, each without the layout and the file of its output.
+    ghost shapes: { List Shape };
+
+    /// The command of this name that is read of what `clap` has found in its words.
+    ghost named: { (name : List ℕ) → Found → Self → Type 0 };
+
+    /// No command has this name, or what `clap` has found lacks something that the command needs.
+    ghost unnamed: { (name : List ℕ) → Found → Type 0 };
+
+    /// A command has this name, and what `clap` has found lacks something that it needs.
+    ghost lacking: { (name : List ℕ) → Found → Type 0 };
+
     /// Adds each command to the program.
-    fn add_to(program: clap::Command<'a>, alloc: Global) -> BuiltCommand<'a>;
+    fn add_to(program: clap::Command<'a>, alloc: Global) -> BuiltCommand<'a>
+        ensures { IfOk result (AddsCommands program.entry shapes) };
 
     /// Reads the arguments of the command that has this name.
-    fn read_named(alloc: Global, name: &str, given: &ArgMatches<'a>) -> Result<Option<Self>, Error>;
+    fn read_named(alloc: Global, name: &str, given: &ArgMatches<'a>) -> Result<Option<Self>, Error>
+        ensures read { IfOk result (λ found. MatchOption found
+            (unnamed name.now (found_of given.now)) (named name.now (found_of given.now))) }
+        ensures refused { IfErr result (IsRefusedFor (lacking name.now (found_of given.now))) };
 
     /// Returns the word that names the command.
     fn name(&self) -> &'a str;
@@ -55,6 +95,14 @@ pub trait Commands<'a>: Drop {
 }
 
 impl<'a, C: Command<'a>> Commands<'a> for C {
+    ghost shapes = { shape_with C.spelled C.rules ∷ [] };
+
+    ghost named = { IsNamed C.spelled C.reads };
+
+    ghost unnamed = { IsUnnamed C.spelled C.lacks };
+
+    ghost lacking = { IsLacking C.spelled C.lacks };
+
     fn add_to(program: clap::Command<'a>, alloc: Global) -> BuiltCommand<'a> {
         let command = C::build(alloc)?
             .about(C::ABOUT)
@@ -70,7 +118,7 @@ impl<'a, C: Command<'a>> Commands<'a> for C {
         name: &str,
         given: &ArgMatches<'a>,
     ) -> Result<Option<Self>, Error> {
-        if name == C::NAME {
+        if name == C::word() {
             C::read(alloc, given)
         } else {
             Ok(None)
@@ -78,7 +126,7 @@ impl<'a, C: Command<'a>> Commands<'a> for C {
     }
 
     fn name(&self) -> &'a str {
-        C::NAME
+        C::word()
     }
 
     fn path(&self, file: FileKind) -> Option<&'a str> {
@@ -94,6 +142,14 @@ pub enum OneOf<A, B> {
 }
 
 impl<'a, A: Commands<'a>, B: Commands<'a>> Commands<'a> for OneOf<A, B> {
+    ghost shapes = { A.shapes ++ B.shapes };
+
+    ghost named = { λ name found. either_of (A.named name found) (B.named name found) };
+
+    ghost unnamed = { λ name found. A.unnamed name found × B.unnamed name found };
+
+    ghost lacking = { λ name found. A.lacking name found ⊎ B.lacking name found };
+
     fn add_to(program: clap::Command<'a>, alloc: Global) -> BuiltCommand<'a> {
         B::add_to(A::add_to(program, alloc)?, alloc)
     }

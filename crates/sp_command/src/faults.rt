@@ -175,7 +175,7 @@ pub enum Fault {
     /// A file's text has a fault, its device failed, or there was no memory for its values.
     Input { file: FileKind, error: DimacsError },
     /// A source, or a target, is no vertex of the graph.
-    NoSuchVertex(u32),
+    NoSuchVertex(u32, FileKind),
     /// A run has more steps than a picture shows.
     TooManySteps,
     /// An allocation failed.
@@ -202,7 +202,7 @@ impl Fault {
                 Kind::Read => Status::Failed,
                 _ => Status::Refused,
             },
-            Fault::NoSuchVertex(_) => Status::Refused,
+            Fault::NoSuchVertex(_, _) => Status::Refused,
             Fault::TooManySteps => Status::Refused,
             Fault::Memory => Status::Memory,
         }

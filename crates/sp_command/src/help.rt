@@ -15,10 +15,10 @@ macro_rules! after_help {
         concat!(
             $text,
             $("  1 LongLine       a line has more than 1024 bytes
-  2 BadLine        a line is none of those above
-  3 NoProblem      a line stands before the p line, or there is no p line
+  2 BadLine        a line has none of the forms above
+  3 NoProblem      a line comes before the p line, or there is no p line
   4 SecondProblem  a second p line
-  5 OutOfRange V   a field is out of its range; the letter is that of the field
+  5 OutOfRange V   a field is out of range; the letter names the field
 ", $fault, "  8 Memory         there is not enough memory for a line (exit status 5)
   9 Read           reading failed (exit status 6)
 ",)?

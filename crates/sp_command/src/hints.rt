@@ -53,11 +53,11 @@ impl Encoding {
 impl fmt::Display for Encoding {
     fn fmt<W: fmt::Write>(&self, f: &mut fmt::Formatter<W>) -> fmt::Result {
         f.write_str(match self {
-            Encoding::Gzip => "compressed by gzip",
-            Encoding::Bzip2 => "compressed by bzip2",
-            Encoding::Xz => "compressed by xz",
-            Encoding::Zstd => "compressed by zstd",
-            Encoding::Zip => "compressed by zip",
+            Encoding::Gzip => "compressed with gzip",
+            Encoding::Bzip2 => "compressed with bzip2",
+            Encoding::Xz => "compressed with xz",
+            Encoding::Zstd => "compressed with zstd",
+            Encoding::Zip => "compressed with zip",
             Encoding::Marked => "begins with a byte order mark",
             Encoding::Utf16 => "text in UTF-16",
         })
@@ -78,7 +78,7 @@ pub enum PlacesFault {
 impl fmt::Display for PlacesFault {
     fn fmt<W: fmt::Write>(&self, f: &mut fmt::Formatter<W>) -> fmt::Result {
         f.write_str(match self {
-            PlacesFault::Spelling => "two numbers and a `-` between them are needed, as in 1-100",
+            PlacesFault::Spelling => "give two numbers with a `-` between them, as in 1-100",
             PlacesFault::FromZero => "places are counted from 1",
             PlacesFault::Backwards => "the last place is before the first",
         })
@@ -94,8 +94,10 @@ pub enum Naming<'a> {
     Source { path: &'a str, line: u64 },
     /// On a line of a file, as a target.
     Target { path: &'a str, line: u64 },
-    /// In a file that can't be read again.
+    /// In a file that can't be read again, as a source.
     Unseen,
+    /// In a file that can't be read again, as a target.
+    UnseenTarget,
 }
 
 /// The second line of a fault. It displays with its line end.
@@ -145,6 +147,15 @@ pub enum Hint<'a> {
     AnyLimit,
     /// What can take the place of a file of sources.
     NoSources,
+    /// A width that serves where nothing else is known.
+    NoDelta,
+    /// How sources are given by their numbers.
+    NoSource,
+    /// A number in the place of a file, which the system can't open.
+    NumberAsFile {
+        number: &'a str,
+        reason: io::Error,
+    },
 }
 
 impl fmt::Display for Hint<'_> {
@@ -196,7 +207,19 @@ impl fmt::Display for Hint<'_> {
                 let most = PredBits::Bits20.max_dist();
                 write!(f, "L is a whole number from 0 to {most}")?;
             }
-            Hint::NoSources => f.write_str("SS, or --source V, says where trees begin")?,
+            Hint::NoSources => f.write_str(
+                "give the sources in a file SS, or each with --source V",
+            )?,
+            Hint::NoDelta => f.write_str("use --delta mean if you know no better width")?,
+            Hint::NoSource => {
+                f.write_str("a source is a number from 1 to N; give each its own --source")?;
+            }
+            Hint::NumberAsFile { number, reason } => {
+                write!(
+                    f,
+                    "{number}: {reason}; for vertex {number} use --source {number}"
+                )?;
+            }
         }
         f.write_str("\n")
     }
@@ -236,10 +259,11 @@ fn write_vertex<W: fmt::Write>(
             write!(f, "{}: line {line}: target {vertex}; ", Shown(path))?;
         }
         Naming::Unseen => {}
+        Naming::UnseenTarget => write!(f, "target {vertex}: ")?,
     }
     match vertices {
         Some(count) => write!(f, "the graph has {count} vertices"),
-        None => f.write_str("vertices are numbered from 1 to the N of the line `p sp N M`"),
+        None => f.write_str("vertices are numbered from 1 to N, given in the line `p sp N M`"),
     }
 }
 
@@ -257,7 +281,7 @@ pub fn hint_of<'a, C: Commands<'a>, F: Inputs>(
     files: &F,
 ) -> Option<Hint<'a>> {
     match fault {
-        Fault::CannotOpen(file) => reason_of(command.path(*file)?, files),
+        Fault::CannotOpen(file) => opening_hint(*file, command.path(*file)?, files),
         Fault::Input { file, error } => input_hint(*file, error.kind, command, files),
         Fault::WriteFailed | Fault::CannotWrite => output_hint(output, files),
         _ => None,
@@ -286,6 +310,18 @@ fn input_hint<'a, C: Commands<'a>, F: Inputs>(
             encoding: files.encoding()?,
         }),
     }
+}
+
+// Returns the system's reason for not opening a file, and what a number in the place of a file of sources was meant for.
+fn opening_hint<'a, F: Inputs>(file: FileKind, path: &'a str, files: &F) -> Option<Hint<'a>> {
+    let reason = files.reason()?;
+    if file == FileKind::Sources && path.parse::<u32>().is_ok() {
+        return Some(Hint::NumberAsFile {
+            number: path,
+            reason,
+        });
+    }
+    Some(Hint::Reason { name: path, reason })
 }
 
 // Returns where standard input appears in the words of a command if it is its file of this kind.

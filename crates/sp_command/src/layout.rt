@@ -4,6 +4,8 @@ ghost use Rattle.std.specs.Prelude.{◌≡◌, ◌<◌, ◌≤◌, true, IfNone,
 ghost use Rattle.sp_word.specs.Word.{max_dist, max_pred};
 ghost use Rattle.sp_command.specs.Faults.{is_done, is_early};
 ghost use Rattle.sp_command.specs.Layouts.{IsRunIn, Runs};
+ghost use Rattle.clap.specs.Walk.{rule_of};
+ghost use Rattle.sp_command.specs.Rules.{IsLayoutRule};
 ghost use Rattle.sp_command.specs.Scene.{scene};
 ghost use Rattle.sp_command.specs.Words.{ReadsSpelling, bits_in};
 
@@ -21,12 +23,12 @@ use std::sync::Wait;
 use std::thread::Threads;
 
 const HELP: &str = "\
-Bits of a word that hold the predecessor; the others of its 64 hold
-the distance. So distances D and predecessors P range
-  with 20 from 0 to 17592186044414 and from 0 to 1048574
-  with 24 from 0 to 1099511627774 and from 0 to 16777214
-  with 28 from 0 to 68719476734 and from 0 to 268435454
-  with 32 from 0 to 4294967294 and from 0 to 4294967294";
+Bits of a word that hold the predecessor; the rest of its 64 bits hold
+the distance. The greatest distance and predecessor that fit are
+  with 20 bits: 17592186044414 and 1048574
+  with 24 bits: 1099511627774 and 16777214
+  with 28 bits: 68719476734 and 268435454
+  with 32 bits: 4294967294 and 4294967294";
 
 static SPELLINGS: [&str; 4] = ["20", "24", "28", "32"];
 
@@ -64,7 +66,9 @@ impl PredBits {
     pub const ID: &'static str = "pred-bits";
 
     /// Returns the option that gives the number of bits.
-    pub fn option<'a>(alloc: Global) -> Arg<'a> {
+    pub fn option<'a>(alloc: Global) -> Arg<'a>
+        ensures { IsLayoutRule (rule_of result) }
+    {
         let about = "Bits of a word that hold the predecessor\n";
         valued(alloc, Self::ID, "P", about, HELP)
             .value_parser(SPELLINGS.as_slice())

@@ -15,7 +15,10 @@ impl Fault {
         ensures { IsLineWritten W.Write self.now out.old result out.new }
     {
         match self {
-            Fault::Usage(error) => print(out, error),
+            Fault::Usage(error) => match print(out, error) {
+                Ok(()) => Ok(()),
+                Err(_) => Err(WriteFault),
+            },
             Fault::DeltaOutOfRange => write_all(out, b"spt: delta out of range\n"),
             Fault::LimitOutOfRange => write_all(out, b"spt: limit out of range\n"),
             Fault::InputTwice => write_all(out, b"spt: standard input twice\n"),
@@ -27,7 +30,7 @@ impl Fault {
                 )
             }
             Fault::Input { file, error } => write_input_line(out, *file, *error),
-            Fault::NoSuchVertex(vertex) => {
+            Fault::NoSuchVertex(vertex, _) => {
                 let mut digits = Buffer::new();
                 let number = digits.format(*vertex).as_bytes();
                 write_texts(out, &[b"spt: source ", number, b": no such vertex", b"\n"])

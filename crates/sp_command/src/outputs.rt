@@ -1,5 +1,7 @@
 //! A file to which the output of a command goes, in place of standard output.
 ghost use Rattle.std.specs.Prelude.{◌≡◌, ℕ, false, List, IfNone, IfOk, IfSome, OnErr, OnOk};
+ghost use Rattle.clap.specs.Walk.{rule_of};
+ghost use Rattle.sp_command.specs.Rules.{output_rule};
 ghost use Rattle.sp_command.specs.Outputs.{IsBlank, OutputFiles, unknown_outputs, with_kept};
 
 use crate::arguments::valued;
@@ -12,12 +14,11 @@ use std::alloc::{AllocError, Global};
 pub const OUTPUT: &str = "output";
 
 const HELP: &str = "\
-Write the output to the file OUT, in place of standard output. Until
-the command has ended with exit status 0, 3 or 4 it stands in a new
-file in the folder of OUT, with a name of its own (.spt-PID-*.part),
-and then takes the name OUT; else the new file is removed, and what
-OUT held stays. What is no regular file, as a device or a pipe, is
-written to straight";
+Write the output to the file OUT instead of standard output. It goes
+to a new file in the folder of OUT (.spt-PID-*.part), which is renamed
+to OUT when the command ends with exit status 0, 3 or 4; otherwise the
+new file is removed, and OUT keeps what it held. If OUT is a device or
+a pipe, or anything else but a regular file, it is written to directly";
 
 /// Where files of output are created.
 pub trait Outputs: Inputs {
@@ -76,7 +77,9 @@ pub trait Outputs: Inputs {
 }
 
 /// Returns the option that names the file.
-pub fn option<'a>(alloc: Global) -> Arg<'a> {
-    let about = "Write the output to a file, in place of standard output";
+pub fn option<'a>(alloc: Global) -> Arg<'a>
+    ensures { rule_of result ≡ output_rule }
+{
+    let about = "Write the output to a file instead of standard output";
     valued(alloc, OUTPUT, "OUT", about, HELP).short('o')
 }

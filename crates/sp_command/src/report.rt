@@ -11,6 +11,8 @@ pub enum Report {
     Graph { vertices: u32, arcs: u64 },
     /// The trees of the first `done` of `count` sources are written, in this many bytes.
     Sources { done: u64, count: u64, bytes: u64 },
+    /// The answers of the first `done` of `count` runs, each from all sources, are written, in this many bytes.
+    Runs { done: u64, count: u64, bytes: u64 },
     /// The first `done` of the `count` lines of a matrix are written, in this many bytes.
     Lines { done: u64, count: u64, bytes: u64 },
     /// The answers to the first `done` of `count` pairs are found.
@@ -24,6 +26,7 @@ impl Report {
             (Report::Read { file, .. }, Report::Read { file: next, .. }) => file == next,
             (Report::Graph { .. }, Report::Graph { .. }) => true,
             (Report::Sources { .. }, Report::Sources { .. }) => true,
+            (Report::Runs { .. }, Report::Runs { .. }) => true,
             (Report::Lines { .. }, Report::Lines { .. }) => true,
             (Report::Pairs { .. }, Report::Pairs { .. }) => true,
             _ => false,
@@ -40,6 +43,9 @@ impl fmt::Display for Report {
             }
             Report::Sources { done, count, bytes } => {
                 write!(f, "{done} of {count} sources, {bytes} bytes written")
+            }
+            Report::Runs { done, count, bytes } => {
+                write!(f, "{done} of {count} runs, {bytes} bytes written")
             }
             Report::Lines { done, count, bytes } => {
                 write!(f, "{done} of {count} lines, {bytes} bytes written")

@@ -1,9 +1,11 @@
 //! Text on a device.
-ghost use Rattle.std.specs.Prelude.{◌≡◌, ◌++◌, ℕ, List, Some, OnOk};
+ghost use Rattle.std.specs.Prelude.{◌≡◌, ◌++◌, ◌⊎◌, ℕ, true, List, Some, IfErr, OnOk};
 ghost use Rattle.std.specs.Io.KnownBytes.{Appends};
 ghost use Rattle.std.specs.Fmt.{WritesText};
 ghost use Rattle.sp_command.specs.Lines.{IsPlain, MayAppend, MayShow, is_plain};
+ghost use Rattle.sp_command.specs.declared.faults.Fault.TheVariants.{Memory, WriteFailed};
 
+use crate::faults::Fault;
 use crate::names::is_unprintable;
 use sp_device::{Block, Write, WriteFault, write_all};
 use std::fmt;
@@ -90,10 +92,12 @@ fn display_on<T: fmt::Write, D: fmt::Display>(writer: T, shown: &D) -> (T, fmt::
 }
 
 /// Writes the display form of a value, with `?` for each character that a terminal doesn't show. It allocates no
-/// memory. A value that refuses to be displayed is answered like a device that fails.
-pub fn print<W: Write, D: fmt::Display>(out: &mut W, shown: &D) -> Result<(), WriteFault>
+/// memory. A value that refuses to be displayed is told as memory that was refused.
+pub fn print<W: Write, D: fmt::Display>(out: &mut W, shown: &D) -> Result<(), Fault>
     ensures shown { (text : List ℕ) → D.output shown.now ≡ Some text → IsPlain text
         → OnOk result (Appends (W.written out.old) (W.written out.new) text) }
+    ensures refused { IfErr result (λ fault. (fault ≡ Memory)
+        ⊎ ((fault ≡ WriteFailed) × (W.has_failed out.new ≡ true))) }
 {
     let inner = TextWriter { device: out };
     let (writer, ended) = display_on(LineWriter { inner }, shown);
@@ -104,7 +108,11 @@ pub fn print<W: Write, D: fmt::Display>(out: &mut W, shown: &D) -> Result<(), Wr
     let _ = &*device;
     match ended {
         Ok(()) => Ok(()),
-        Err(fmt::Error) => Err(WriteFault),
+        // A device that has failed fails again.
+        Err(fmt::Error) => match out.write(b"") {
+            Ok(_) => Err(Fault::Memory),
+            Err(_) => Err(Fault::WriteFailed),
+        },
     }
 }
 

@@ -3,8 +3,11 @@ use Rattle.std.specs.Prelude.{Bool, true, false, ◌==◌, if◌then◌else◌}
 use Rattle.sp_job.specs.declared.answers.Summary.{Summary}
 use Rattle.sp_job.specs.declared.answers.BatchError.{BatchError}
 use Rattle.sp_job.specs.declared.answers.BatchError.TheVariants as batch
+use Rattle.sp_job.specs.declared.answers.Role.{Role}
+use Rattle.sp_job.specs.declared.answers.Role.TheVariants as role
 use Rattle.sp_command.specs.declared.faults.Fault.{Fault}
 use Rattle.sp_command.specs.declared.faults.Fault.TheVariants as fault
+use Rattle.sp_command.specs.declared.faults.FileKind.{FileKind}
 use Rattle.sp_command.specs.declared.faults.FileKind.TheVariants as file
 use Rattle.sp_command.specs.declared.faults.Status.{Status}
 use Rattle.sp_command.specs.declared.faults.Status.TheVariants as status
@@ -14,11 +17,16 @@ abbrev pub end_of : Bool → Summary → Status
 end_of true summary = status.Done
 end_of false summary = if summary.too_far == 0 then status.Done else status.TooFar
 
+-- The list that names a number of this role.
+abbrev pub kind_of : Role → FileKind
+kind_of role.Source = file.Sources
+kind_of role.Target = file.Targets
+
 abbrev pub fault_of : BatchError → Fault
 fault_of (batch.Gr error) = fault.Input file.Graph error
 fault_of (batch.Ss error) = fault.Input file.Sources error
 fault_of (batch.Targets error) = fault.Input file.Targets error
 fault_of (batch.Pairs error) = fault.Input file.Pairs error
-fault_of (batch.NoSuchVertex source) = fault.NoSuchVertex source
+fault_of (batch.NoSuchVertex number role) = fault.NoSuchVertex number (kind_of role)
 fault_of batch.Memory = fault.Memory
 fault_of batch.Write = fault.WriteFailed

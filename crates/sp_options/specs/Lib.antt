@@ -3,6 +3,7 @@ pub mod Given
 pub mod Lists
 pub mod Numbers
 pub mod Places
+pub mod Rules
 pub mod Running
 pub mod Sources
 pub mod Width

@@ -1,6 +1,8 @@
 //! Sources that the command line gives, in place of a file of sources.
 ghost use Rattle.std.specs.Prelude.{◌≡◌, ◌<◌, ◌^◌, ℕ, List, All, IfOk, MatchOption};
 ghost use Rattle.clap.specs.Matches.{found_of, values_left};
+ghost use Rattle.clap.specs.Walk.{rule_of};
+ghost use Rattle.sp_options.specs.Rules.{source_rule};
 ghost use Rattle.sp_job.specs.Places.{AreNumbered};
 ghost use Rattle.sp_options.specs.Numbers.{SpellNumbers};
 ghost use Rattle.sp_options.specs.Given.{AreGiven, LacksGiven};
@@ -27,13 +29,15 @@ pub struct Given {
 
 impl Given {
     /// Returns the option that gives a source.
-    pub fn option<'a>(alloc: Global) -> Arg<'a> {
+    pub fn option<'a>(alloc: Global) -> Arg<'a>
+        ensures { rule_of result ≡ source_rule }
+    {
         Arg::new(alloc, ID)
             .long(ID)
             .value_name("V")
             .value_parser(value_parser!(u32).range(1..=MAX_VERTEX))
             .action(ArgAction::Append)
-            .help("A source, in place of a file of them; as often as wanted")
+            .help("A source, instead of a file of them; can be repeated")
     }
 
     /// Reads the sources from what `clap` has found, or returns `None` if none are given, if one of them is no source, or if

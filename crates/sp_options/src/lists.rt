@@ -1,19 +1,24 @@
 //! The sources and the targets of `spt matrix`, in files or on the command line.
-ghost use Rattle.std.specs.Prelude.{◌≡◌, IfOk, MatchOption};
+ghost use Rattle.std.specs.Prelude.{◌≡◌, IfOk, MatchOption, codes};
 ghost use Rattle.clap.specs.Matches.{found_of};
+ghost use Rattle.clap.specs.Walk.{rule_of};
+ghost use Rattle.sp_command.specs.Rules.{AddsRules};
+ghost use Rattle.sp_options.specs.Rules.{file_unless_sources, lists_rules};
 ghost use Rattle.sp_options.specs.Lists.{AreListed, ListsNone};
 
 use crate::given::Given;
-use crate::sources::Sources;
+use crate::sources::{Sources, places_option};
 use clap::{Arg, ArgMatches, Command};
-use sp_command::{BuiltCommand, PLACES, file, valued};
+use sp_command::{BuiltCommand, file};
 use std::alloc::{AllocError, Global};
 
 const TARGETS: &str = "TARGETS";
 
+const PART: &str = "Write only the lines of the sources at these places";
+
 const PART_LONG: &str = "\
-Write the lines of the sources at the places from A to B of their file
-alone, counted from 1. Places beyond its end have no line";
+Write only the lines of the sources at places A to B of their file,
+counted from 1. Places beyond its end are ignored";
 
 /// The sources of a matrix, and the file of its targets.
 #[derive(Drop)]
@@ -27,25 +32,24 @@ pub struct Lists<'a> {
 impl<'a> Lists<'a> {
     /// Adds the arguments for the two files to a command, and the options for a part of the sources or for sources in place
     /// of their file. Where these are given, the one file is that of the targets.
-    pub fn add_to(command: Command<'a>, alloc: Global) -> BuiltCommand<'a> {
+    pub fn add_to(command: Command<'a>, alloc: Global) -> BuiltCommand<'a>
+        ensures { IfOk result (AddsRules command.entry lists_rules) }
+    {
         let about = "The sources, a .ss file; with --source, the targets";
         command
             .arg(file(alloc, "SS", about).value_name("SOURCES"))?
             .arg(Self::targets(alloc)?)?
             .arg(Given::option(alloc))?
-            .arg(Self::part(alloc)?)
+            .arg(places_option(alloc, PART, PART_LONG)?)
     }
 
-    fn targets(alloc: Global) -> Result<Arg<'a>, AllocError> {
+    fn targets(alloc: Global) -> Result<Arg<'a>, AllocError>
+        ensures { IfOk result (λ arg. rule_of arg ≡ file_unless_sources (codes "TARGETS")) }
+    {
         Arg::new(alloc, TARGETS)
             .help("The targets, a .ss file; it may be that of the sources")
             .required_unless_present("source")?
             .conflicts_with("source")
-    }
-
-    fn part(alloc: Global) -> Result<Arg<'a>, AllocError> {
-        let about = "The places of the file whose sources have lines";
-        valued(alloc, PLACES, "A-B", about, PART_LONG).conflicts_with("source")
     }
 
     /// Reads the lists from what `clap` has found, or returns `None` if the sources or the targets are missing.

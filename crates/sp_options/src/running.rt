@@ -1,9 +1,12 @@
 //! The options that say how runs from sources are made, the reports of their progress, and the way in which they end.
-ghost use Rattle.std.specs.Prelude.{◌≡◌, ℕ, true, List, Some, Ok, Err, IfOk, IfErr, MatchOption, MatchResult};
+ghost use Rattle.std.specs.Prelude.{◌≡◌, ◌∷◌, ℕ, true, List, Some, Ok, Err, codes, IfOk, IfErr, MatchOption, MatchResult};
 ghost use Rattle.sp_word.specs.Word.{is_layout};
 ghost use Rattle.clap.specs.Matches.{found_of};
 ghost use Rattle.sp_options.specs.Ends.{end_of, fault_of};
 ghost use Rattle.sp_options.specs.Numbers.{IsFlag};
+ghost use Rattle.clap.specs.Walk.{rule_of};
+ghost use Rattle.sp_command.specs.Rules.{AddsRules, flag_rule};
+ghost use Rattle.sp_options.specs.Rules.{mean_rule, running_rules, width_rule};
 ghost use Rattle.sp_options.specs.Running.{IsAskedFor, LacksOptions};
 ghost use Rattle.sp_options.specs.Width.{bucket_of, IsBucket};
 ghost use Rattle.sp_command.specs.declared.faults.Fault.TheVariants.{DeltaOutOfRange};
@@ -12,7 +15,7 @@ use crate::width::Width;
 use crate::workers::{WORKERS, read_workers, workers_option};
 use clap::{Arg, ArgMatches, Command, Error};
 use sp_command::{BuiltCommand, Fault, FileKind, Inputs, Report, Status, flag};
-use sp_job::{BatchError, Listener, Progress, Settings, Summary};
+use sp_job::{BatchError, Listener, Progress, Role, Settings, Summary};
 use sp_word::{Meter, Workers};
 use std::alloc::Global;
 
@@ -33,7 +36,9 @@ pub struct RunOptions {
 
 impl RunOptions {
     /// Adds these options to a command. `workers` is the text that its help adds on the number of threads.
-    pub fn add_to<'a>(command: Command<'a>, alloc: Global, workers: &'a str) -> BuiltCommand<'a> {
+    pub fn add_to<'a>(command: Command<'a>, alloc: Global, workers: &'a str) -> BuiltCommand<'a>
+        ensures { IfOk result (AddsRules command.entry (width_rule ∷ running_rules)) }
+    {
         Self::add_rest(command.arg(Width::option(alloc))?, alloc, workers)
     }
 
@@ -42,25 +47,33 @@ impl RunOptions {
         command: Command<'a>,
         alloc: Global,
         workers: &'a str,
-    ) -> BuiltCommand<'a> {
+    ) -> BuiltCommand<'a>
+        ensures { IfOk result (AddsRules command.entry (mean_rule ∷ running_rules)) }
+    {
         Self::add_rest(command.arg(Width::option_or_mean(alloc))?, alloc, workers)
     }
 
     // Adds the options behind the width.
-    fn add_rest<'a>(command: Command<'a>, alloc: Global, workers: &'a str) -> BuiltCommand<'a> {
+    fn add_rest<'a>(command: Command<'a>, alloc: Global, workers: &'a str) -> BuiltCommand<'a>
+        ensures { IfOk result (AddsRules command.entry running_rules) }
+    {
         command
             .arg(workers_option(alloc, workers))?
             .arg(Self::far_ok(alloc))?
             .arg(Self::progress(alloc))
     }
 
-    fn far_ok<'a>(alloc: Global) -> Arg<'a> {
-        let about = "End with exit status 0 where a vertex is too far";
+    fn far_ok<'a>(alloc: Global) -> Arg<'a>
+        ensures { rule_of result ≡ flag_rule (codes "far-ok") }
+    {
+        let about = "Exit with status 0 even if a vertex is too far";
         flag(alloc, "far-ok", about)
     }
 
-    fn progress<'a>(alloc: Global) -> Arg<'a> {
-        let about = "Tell on standard error how far the run is";
+    fn progress<'a>(alloc: Global) -> Arg<'a>
+        ensures { rule_of result ≡ flag_rule (codes "progress") }
+    {
+        let about = "Report progress on standard error";
         flag(alloc, "progress", about)
     }
 
@@ -188,6 +201,11 @@ fn report_of(progress: Progress) -> Report {
             count: count as u64,
             bytes: written.bytes,
         },
+        Progress::Runs { written, count } => Report::Runs {
+            done: written.sources,
+            count: count as u64,
+            bytes: written.bytes,
+        },
         Progress::Lines { written, count } => Report::Lines {
             done: written.sources,
             count: count as u64,
@@ -220,7 +238,12 @@ fn fault_of(error: BatchError) -> Fault
         BatchError::Ss(error) => FileKind::Sources.fault(error),
         BatchError::Targets(error) => FileKind::Targets.fault(error),
         BatchError::Pairs(error) => FileKind::Pairs.fault(error),
-        BatchError::NoSuchVertex(vertex) => Fault::NoSuchVertex(vertex),
+        BatchError::NoSuchVertex(number, Role::Source) => {
+            Fault::NoSuchVertex(number, FileKind::Sources)
+        }
+        BatchError::NoSuchVertex(number, Role::Target) => {
+            Fault::NoSuchVertex(number, FileKind::Targets)
+        }
         BatchError::Memory => Fault::Memory,
         BatchError::Write => Fault::WriteFailed,
     }

@@ -1,18 +1,26 @@
 //! The sources of a command, which stand in a file or on the command line.
+ghost use Rattle.std.specs.Prelude.{◌≡◌, IfOk};
+ghost use Rattle.clap.specs.Walk.{rule_of};
+ghost use Rattle.sp_options.specs.Rules.{places_rule};
+
 use crate::given::Given;
 use crate::places::places_of;
 use clap::{Arg, ArgMatches, Command};
-use sp_command::{BuiltCommand, PLACES, valued};
+use sp_command::{BuiltCommand, PLACES};
 use sp_job::Places;
 use std::alloc::{AllocError, Global};
 
+const PART: &str = "Write only the trees of the sources at these places";
+
 const PART_LONG: &str = "\
-Write the trees of the sources at the places from A to B of the file
-alone, counted from 1. Places beyond its end have no tree";
+Write only the trees of the sources at places A to B of the file,
+counted from 1. Places beyond its end are ignored";
+
+const TAKEN: &str = "Use only the sources at these places of the file";
 
 const TAKEN_LONG: &str = "\
-Take the sources at the places from A to B of the file alone, counted
-from 1. Places beyond its end are passed over";
+Use only the sources at places A to B of the file, counted from 1.
+Places beyond its end are ignored";
 
 /// The sources of a command that runs from them.
 #[derive(Drop)]
@@ -27,20 +35,25 @@ pub enum Sources<'a> {
 }
 
 impl<'a> Sources<'a> {
-    ghost use Rattle.std.specs.Prelude.{◌≡◌, IfOk, MatchOption, option_map};
+    ghost use Rattle.std.specs.Prelude.{◌≡◌, IfOk, MatchOption, codes, option_map};
     ghost use Rattle.clap.specs.Matches.{found_of};
+    ghost use Rattle.clap.specs.Walk.{rule_of};
+    ghost use Rattle.sp_command.specs.Rules.{AddsRules};
+    ghost use Rattle.sp_options.specs.Rules.{file_unless_sources, sources_rules};
     ghost use Rattle.sp_options.specs.Sources.{AreNamed, NamesNone, path_of};
 
     /// Adds the argument for the file to a command, and the options for a part of it or for sources in its place.
-    pub fn add_to(command: Command<'a>, alloc: Global) -> BuiltCommand<'a> {
-        let about = "The places of the file whose sources have a tree";
-        Self::add_with_part(command, alloc, about, PART_LONG)
+    pub fn add_to(command: Command<'a>, alloc: Global) -> BuiltCommand<'a>
+        ensures { IfOk result (AddsRules command.entry sources_rules) }
+    {
+        Self::add_with_part(command, alloc, PART, PART_LONG)
     }
 
     /// Adds the same to a command that answers all sources at once.
-    pub fn add_all_to(command: Command<'a>, alloc: Global) -> BuiltCommand<'a> {
-        let about = "The places of the file whose sources are taken";
-        Self::add_with_part(command, alloc, about, TAKEN_LONG)
+    pub fn add_all_to(command: Command<'a>, alloc: Global) -> BuiltCommand<'a>
+        ensures { IfOk result (AddsRules command.entry sources_rules) }
+    {
+        Self::add_with_part(command, alloc, TAKEN, TAKEN_LONG)
     }
 
     // Adds these, with the texts of the option for a part.
@@ -49,14 +62,18 @@ impl<'a> Sources<'a> {
         alloc: Global,
         about: &'a str,
         long: &'a str,
-    ) -> BuiltCommand<'a> {
+    ) -> BuiltCommand<'a>
+        ensures { IfOk result (AddsRules command.entry sources_rules) }
+    {
         command
             .arg(Self::file(alloc)?)?
             .arg(Given::option(alloc))?
-            .arg(valued(alloc, PLACES, "A-B", about, long).conflicts_with("source")?)
+            .arg(places_option(alloc, about, long)?)
     }
 
-    fn file(alloc: Global) -> Result<Arg<'a>, AllocError> {
+    fn file(alloc: Global) -> Result<Arg<'a>, AllocError>
+        ensures { IfOk result (λ arg. rule_of arg ≡ file_unless_sources (codes "SS")) }
+    {
         Arg::new(alloc, "SS")
             .help("The sources, a .ss file")
             .required_unless_present("source")?
@@ -89,4 +106,20 @@ impl<'a> Sources<'a> {
             Sources::Given(_) => None,
         }
     }
+}
+
+/// Returns the option for places of a file, with the text that its help says of them in short and in full.
+pub fn places_option<'a>(
+    alloc: Global,
+    about: &'a str,
+    long: &'a str,
+) -> Result<Arg<'a>, AllocError>
+    ensures { IfOk result (λ arg. rule_of arg ≡ places_rule) }
+{
+    Arg::new(alloc, PLACES)
+        .long(PLACES)
+        .value_name("A-B")
+        .help(about)
+        .long_help(long)
+        .conflicts_with("source")
 }

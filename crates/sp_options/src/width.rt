@@ -2,6 +2,8 @@
 ghost use Rattle.std.specs.Prelude.{◌≡◌, ◌≤◌, ℕ, true, Ok, Some, IfOk, IfSome, IsNone, MatchOption};
 ghost use Rattle.std.specs.Option.{SomeIff};
 ghost use Rattle.sp_word.specs.Word.{is_layout};
+ghost use Rattle.clap.specs.Walk.{rule_of};
+ghost use Rattle.sp_options.specs.Rules.{mean_rule, width_rule};
 ghost use Rattle.sp_options.specs.Numbers.{SpellsNumber};
 ghost use Rattle.sp_options.specs.Width.{bucket_of, IsBucket, SpellsWidth};
 
@@ -19,9 +21,10 @@ const MEAN: &str = "mean";
 
 const LONG: &str = "\
 The width of a bucket of tentative distances, from 1 to the greatest
-distance of a word, or `mean` for the mean length of an arc, rounded
-down. The mean is a good choice, and so are a third of it and thirty
-times as much. Any delta gives the same bytes";
+distance that fits (see --pred-bits), or `mean` for the mean length of
+an arc, rounded down. The mean is a good choice, and so is anything
+from a third of it to thirty times as much. The output is the same for
+any delta";
 
 /// The width of a bucket as the command line gives it. It may be greater than the greatest distance of the layout in which
 /// the command runs.
@@ -38,13 +41,17 @@ impl Width {
     pub const ID: &'static str = "delta";
 
     /// Returns the option, which takes any text as its value.
-    pub fn option<'a>(alloc: Global) -> Arg<'a> {
+    pub fn option<'a>(alloc: Global) -> Arg<'a>
+        ensures { rule_of result ≡ width_rule }
+    {
         let about = "The width of a bucket of tentative distances, or `mean`";
         valued(alloc, Self::ID, "D", about, LONG).required(true)
     }
 
     /// Returns the same option with `mean` for its value where it isn't given.
-    pub fn option_or_mean<'a>(alloc: Global) -> Arg<'a> {
+    pub fn option_or_mean<'a>(alloc: Global) -> Arg<'a>
+        ensures { rule_of result ≡ mean_rule }
+    {
         let about = "The width of a bucket of distances";
         valued(alloc, Self::ID, "D", about, LONG).default_value(MEAN)
     }

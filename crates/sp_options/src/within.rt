@@ -2,6 +2,8 @@
 ghost use Rattle.std.specs.Prelude.{◌≡◌, ℕ, true, Ok, Some, IfOk, IfErr, IfSome, IsNone, MatchOption, MatchResult};
 ghost use Rattle.sp_word.specs.Word.{is_layout};
 ghost use Rattle.clap.specs.Matches.{found_of};
+ghost use Rattle.clap.specs.Walk.{rule_of};
+ghost use Rattle.sp_options.specs.Rules.{within_rule};
 ghost use Rattle.sp_options.specs.Within.{HasLimit, IsLimit, LacksLimit, SpellsLimit};
 ghost use Rattle.sp_command.specs.declared.faults.Fault.TheVariants.{LimitOutOfRange};
 
@@ -14,10 +16,10 @@ use std::alloc::Global;
 const MAX_LIMIT: u64 = 17_592_186_044_414;
 
 const LONG: &str = "\
-The greatest distance that is told, a number from 0 to the greatest
-distance of a word. A vertex beyond L has no line, however far it is;
-and the run goes no farther, so that a small part of a large graph
-takes little time";
+The greatest distance to report, from 0 to the greatest that fits (see
+--pred-bits). A vertex beyond L has no line, however far it is, and
+the run goes no farther, so a small part of a large graph takes little
+time";
 
 /// The greatest distance that is told, as the command line gives it, if it gives one. It may be greater than the greatest
 /// distance of the layout in which the command runs.
@@ -31,8 +33,10 @@ impl Within {
     pub const ID: &'static str = "within";
 
     /// Returns the option, which takes any text as its value.
-    pub fn option<'a>(alloc: Global) -> Arg<'a> {
-        let about = "The greatest distance that is told";
+    pub fn option<'a>(alloc: Global) -> Arg<'a>
+        ensures { rule_of result ≡ within_rule }
+    {
+        let about = "The greatest distance to report";
         valued(alloc, Self::ID, "L", about, LONG)
     }
 

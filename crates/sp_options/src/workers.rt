@@ -1,6 +1,8 @@
 //! The number of workers, which is a number or that of the processors.
 ghost use Rattle.std.specs.Prelude.{◌≡◌, ℕ, Ok, Some, IfOk, IfSome, IsNone, MatchOption};
 ghost use Rattle.sp_word.specs.Ranges.{IsCrew};
+ghost use Rattle.clap.specs.Walk.{rule_of};
+ghost use Rattle.sp_options.specs.Rules.{workers_rule};
 ghost use Rattle.sp_options.specs.Numbers.{SpellsNumber};
 ghost use Rattle.sp_options.specs.Workers.{SpellsWorkers};
 
@@ -16,8 +18,10 @@ pub const WORKERS: &str = "workers";
 const ALL: &str = "all";
 
 /// Returns the option, which takes any text as its value. `more` is the text that its help adds.
-pub fn workers_option<'a>(alloc: Global, more: &'a str) -> Arg<'a> {
-    let about = "Threads that may work at once, or `all`";
+pub fn workers_option<'a>(alloc: Global, more: &'a str) -> Arg<'a>
+    ensures { rule_of result ≡ workers_rule }
+{
+    let about = "The most threads to use, or `all`";
     valued(alloc, WORKERS, "W", about, more).default_value("1")
 }
 

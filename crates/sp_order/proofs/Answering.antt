@@ -1,5 +1,5 @@
 -- From an answer to what a whole run leaves.
-use Rattle.std.proofs.Common.{◌≡◌, ◌≤◌, ℕ, true, Result, Ok, Err, IfOk, IfErr, MatchResult, refl, sym, ap, ◌∙◌, subst, arith}
+use Rattle.std.proofs.Common.{◌≡◌, ◌≤◌, ℕ, true, List, Result, Ok, Err, IfOk, IfErr, MatchResult, refl, ap, ◌∙◌, subst, arith}
 use Rattle.std.proofs.lemmas.Bool.{false≢true}
 use Rattle.sp_device.specs.declared.devices.Write.{Ghosts as Writer}
 use Rattle.sp_command.specs.declared.faults.Fault.{Fault}
@@ -12,17 +12,16 @@ use Rattle.sp_command.specs.Outputs.{OutputFiles}
 use Rattle.sp_command.specs.Scene.{Scene}
 use Rattle.sp_order.specs.declared.hints.Refusal.{Refusal}
 use Rattle.sp_order.specs.declared.hints.Telling.TheVariants.{Nothing}
-use Rattle.sp_command.specs.Layouts.{Runs}
-use Rattle.sp_order.specs.Orders.{IsObeyed}
+use Rattle.sp_order.specs.Orders.{IsObeyed, Obeying}
 use Rattle.sp_order.specs.Told.{EndsWith, IsAnswered}
 use Rattle.sp_order.proofs.Telling.{told_by}
 
 -- What was obeyed and told is answered.
-pub answered : {Command E : Type 0} (runs : Runs Command) (s : Scene) (old new : OutputFiles) (e : Writer E) (err_old err_new : E) (answer : Result Status Refusal) (end : Status) (code : ℕ)
-    → MatchResult answer (λ status. IsObeyed runs s old new (Ok status)) (λ refusal. IsObeyed runs s old new (Err refusal.fault)) → IfErr answer (λ refusal. refusal.telling ≡ Nothing → refusal.fault ≡ WriteFailed)
-    → EndsWith e answer err_old err_new end → code ≡ code_of end → IsAnswered runs s old new e err_old err_new code
-answered runs s old new e err_old err_new (Ok done) end code obeyed unread told is = (Ok done, obeyed, is ∙ ap code_of told.0, told.1)
-answered runs s old new e err_old err_new (Err refusal) end code obeyed unread told is = (Err refusal.fault, obeyed, is ∙ ap code_of told.0, told_by e refusal.telling refusal.fault err_old err_new unread told.1)
+pub answered : {Command Text E : Type 0} (by : Obeying Command Text) (words : List (List ℕ)) (s : Scene) (old new : OutputFiles) (e : Writer E) (err_old err_new : E) (answer : Result Status Refusal) (end : Status) (code : ℕ)
+    → MatchResult answer (λ status. IsObeyed by words s old new (Ok status)) (λ refusal. IsObeyed by words s old new (Err refusal.fault)) → IfErr answer (λ refusal. refusal.telling ≡ Nothing → refusal.fault ≡ WriteFailed)
+    → EndsWith e answer err_old err_new end → code ≡ code_of end → IsAnswered by words s old new e err_old err_new code
+answered by words s old new e err_old err_new (Ok done) end code obeyed unread told is = (Ok done, obeyed, is ∙ ap code_of told.0, told.1)
+answered by words s old new e err_old err_new (Err refusal) end code obeyed unread told is = (Err refusal.fault, obeyed, is ∙ ap code_of told.0, told_by e refusal.telling refusal.fault err_old err_new unread told.1)
 
 done_apart : (end : Status) → is_done end ≡ true → 1 ≤ code_of end → code_of end ≤ 2 → ⊥
 done_apart status.Done done some few = omega (arith, some)
@@ -42,7 +41,7 @@ early fault.InputTwice few = refl
 early fault.NoPlaces few = refl
 early (fault.CannotOpen file) few = refl
 early (fault.Input file error) few = refl
-early (fault.NoSuchVertex source) few = refl
+early (fault.NoSuchVertex source kind) few = refl
 early fault.TooManySteps few = refl
 early fault.Memory few = absurd (let no : ⊥ = omega (arith, few) in no)
 early fault.WriteFailed few = absurd (let no : ⊥ = omega (arith, few) in no)

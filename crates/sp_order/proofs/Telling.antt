@@ -1,5 +1,5 @@
 -- What is left on standard error by a fault's line, and by what comes behind it.
-use Rattle.std.proofs.Common.{◌≡◌, true, false, ℕ, List, [], ◌++◌, Some, Result, Ok, Err, IsOk, IsErr, refl, sym, subst, inl, inr}
+use Rattle.std.proofs.Common.{◌≡◌, [], Result, Ok, Err, IsOk, IsErr, refl, sym, subst, inl, inr}
 use Rattle.std.proofs.lemmas.List.{append-nil}
 use Rattle.std.specs.Io.KnownBytes.{Appends}
 use Rattle.std.proofs.lemmas.Bool.{false≢true}

@@ -1,3 +1,4 @@
 pub mod Words
+pub mod Reads
 pub mod Orders
 pub mod Told

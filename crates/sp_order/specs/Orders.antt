@@ -1,5 +1,8 @@
 -- What comes of an order.
-use Rattle.std.specs.Prelude.{◌≡◌, ℕ, Bool, false, ◌⊎◌, List, Some, None, Option, Result, Ok, Err}
+use Rattle.std.specs.Prelude.{◌≡◌, ℕ, Bool, false, true, ◌⊎◌, List, Some, None, Option, Result, Ok, Err}
+use Rattle.std.specs.Io.KnownBytes.{Appends}
+use Rattle.clap.specs.declared.error.Error.{Error}
+use Rattle.sp_command.specs.declared.commands.Commands.{Ghosts as Speaking}
 use Rattle.sp_command.specs.declared.faults.Fault.{Fault}
 use Rattle.sp_command.specs.declared.faults.Fault.TheVariants as fault
 use Rattle.sp_command.specs.declared.faults.Status.{Status}
@@ -9,6 +12,8 @@ use Rattle.sp_command.specs.Faults.{status_of}
 use Rattle.sp_command.specs.Layouts.{Runs}
 use Rattle.sp_command.specs.Outputs.{OutputFiles, IsBlank, with_kept}
 use Rattle.sp_command.specs.Scene.{Files, Scene, scene, IsUnwritten}
+use Rattle.sp_command.specs.Lines.{IsPlain}
+use Rattle.sp_order.specs.Reads.{IsDisordered, IsOrdered}
 use Rattle.sp_order.specs.declared.words.Order.{Order}
 use Rattle.sp_order.specs.declared.words.Order.TheVariants.{Show, Run}
 
@@ -38,32 +43,39 @@ RunsInto runs bits command path files old new (Err why) = IsFaultOfFile runs bit
 
 -- ## An order
 
--- A text was shown, or the writer failed.
-abbrev pub IsShown : Result Status Fault → Type 0
-IsShown (Ok end) = end ≡ status.Done
-IsShown (Err why) = why ≡ fault.WriteFailed
+-- Exactly the text that a value is displayed as was written, if that is known and a terminal shows it; or the writer failed; or
+-- the value refused to be displayed.
+abbrev pub IsShown : Option (List ℕ) → Scene → Result Status Fault → Type 0
+IsShown output s (Ok end) = (end ≡ status.Done) × ((text : List ℕ) → output ≡ Some text → IsPlain text → Appends s.before s.after text)
+IsShown output s (Err why) = (why ≡ fault.Memory) ⊎ ((why ≡ fault.WriteFailed) × (s.failed ≡ true))
 
 -- A text is shown; or a command runs in the layout that was ordered; or its output goes to a file, and nothing is
 -- written to standard output. No other file is kept.
-abbrev pub IsCarriedOut : {Command : Type 0} → Runs Command → Order Command → Scene → (old new : OutputFiles) → Result Status Fault → Type 0
-IsCarriedOut runs (Show text) s old new result = IsShown result × (new ≡ old)
-IsCarriedOut runs (Run command bits None places) s old new result = runs bits command s result × (new ≡ old)
-IsCarriedOut runs (Run command bits (Some path) places) s old new result = RunsInto runs bits command path.now s.files old new result × IsUnwritten s
+abbrev pub IsCarriedOut : {Command Text : Type 0} → Runs Command → (output : Text → Option (List ℕ)) → Order Command Text → Scene → (old new : OutputFiles) → Result Status Fault → Type 0
+IsCarriedOut runs output (Show text) s old new result = IsShown (output text) s result × (new ≡ old)
+IsCarriedOut runs output (Run command bits None places) s old new result = runs bits command s result × (new ≡ old)
+IsCarriedOut runs output (Run command bits (Some path) places) s old new result = RunsInto runs bits command path.now s.files old new result × IsUnwritten s
 
--- The words name no valid command, or memory was refused while they were read.
-abbrev pub IsOfWords : Fault → Type 0
-IsOfWords (fault.Usage error) = Unit {0}
-IsOfWords fault.Memory = Unit {0}
-IsOfWords _ = ⊥
+-- What an order is read by and carried out by: what is said of commands in words, what they do, how a text is made of what
+-- `clap` answers, and what is displayed of it.
+pub record Obeying (Command Text : Type 0) : Type 1 where
+  pub speaking : Speaking Command
+  pub runs : Runs Command
+  pub made : Error → Text → Type 0
+  pub output : Text → Option (List ℕ)
+
+abbrev pub obeying : {Command Text : Type 0} → Speaking Command → Runs Command → (made : Error → Text → Type 0) → (output : Text → Option (List ℕ)) → Obeying Command Text
+obeying speaking runs made output = record { speaking = speaking; runs = runs; made = made; output = output }
 
 -- The words have a fault, and nothing was written or kept.
-abbrev pub IsNoOrder : Scene → (old new : OutputFiles) → Result Status Fault → Type 0
-IsNoOrder s old new (Ok end) = ⊥
-IsNoOrder s old new (Err why) = IsOfWords why × IsUnwritten s × (new ≡ old)
+abbrev pub IsNoOrder : {Command Text : Type 0} → Obeying Command Text → (words : List (List ℕ)) → Scene → (old new : OutputFiles) → Result Status Fault → Type 0
+IsNoOrder by words s old new (Ok end) = ⊥
+IsNoOrder by words s old new (Err why) = IsDisordered by.speaking words why × IsUnwritten s × (new ≡ old)
 
--- Some order was read in the words, and carried out like this; or the words give none.
-abbrev pub IsObeyed : {Command : Type 0} → Runs Command → Scene → (old new : OutputFiles) → Result Status Fault → Type 0
-IsObeyed {Command} runs s old new result = ((order : Order Command) × IsCarriedOut runs order s old new result) ⊎ IsNoOrder s old new result
+-- What the words order was carried out like this; or they order nothing.
+abbrev pub IsObeyed : {Command Text : Type 0} → Obeying Command Text → (words : List (List ℕ)) → Scene → (old new : OutputFiles) → Result Status Fault → Type 0
+IsObeyed {Command} {Text} by words s old new result =
+    ((order : Order Command Text) × IsOrdered by.speaking by.made words order × IsCarriedOut by.runs by.output order s old new result) ⊎ IsNoOrder by words s old new result
 
 -- This is the status of an answer.
 abbrev pub end_of : Result Status Fault → Status

@@ -7,14 +7,13 @@ use Rattle.sp_command.specs.declared.faults.Fault.{Fault}
 use Rattle.sp_command.specs.declared.faults.Fault.TheVariants.{WriteFailed}
 use Rattle.sp_command.specs.declared.faults.Status.{Status}
 use Rattle.sp_command.specs.Faults.{code_of, status_of}
-use Rattle.sp_command.specs.Layouts.{Runs}
 use Rattle.sp_command.specs.Lines.{line_of}
 use Rattle.sp_command.specs.Outputs.{OutputFiles}
 use Rattle.sp_command.specs.Scene.{Scene}
 use Rattle.sp_order.specs.declared.hints.Refusal.{Refusal}
 use Rattle.sp_order.specs.declared.hints.Telling.{Telling}
 use Rattle.sp_order.specs.declared.hints.Telling.TheVariants.{Nothing, Line, Lines}
-use Rattle.sp_order.specs.Orders.{IsObeyed, end_of}
+use Rattle.sp_order.specs.Orders.{IsObeyed, Obeying, end_of}
 
 -- The writer has failed, and a beginning of the text was written.
 abbrev pub BreaksOff : {E : Type 0} → Writer E → List ℕ → (old new : E) → Type 0
@@ -46,6 +45,6 @@ IsTold e (Ok end) old new = new ≡ old
 IsTold e (Err why) old new = IsFaultTold e why old new ⊎ ((why ≡ WriteFailed) × (new ≡ old))
 
 -- The words were obeyed with some answer. The number is the exit status of that answer, and its fault is told.
-abbrev pub IsAnswered : {Command E : Type 0} → Runs Command → Scene → (old new : OutputFiles) → Writer E → (err_old err_new : E) → (code : ℕ) → Type 0
-IsAnswered runs s old new e err_old err_new code =
-    (result : Result Status Fault) × IsObeyed runs s old new result × (code ≡ code_of (end_of result)) × IsTold e result err_old err_new
+abbrev pub IsAnswered : {Command Text E : Type 0} → Obeying Command Text → (words : List (List ℕ)) → Scene → (old new : OutputFiles) → Writer E → (err_old err_new : E) → (code : ℕ) → Type 0
+IsAnswered by words s old new e err_old err_new code =
+    (result : Result Status Fault) × IsObeyed by words s old new result × (code ≡ code_of (end_of result)) × IsTold e result err_old err_new

@@ -14,13 +14,13 @@ is_text kind.DisplayVersion = true
 is_text _ = false
 
 -- The output goes to a file.
-abbrev pub names_output : {C : Type 0} → Order C → Bool
-names_output (Show error) = false
+abbrev pub names_output : {C T : Type 0} → Order C T → Bool
+names_output (Show text) = false
 names_output (Run command pred_bits output places) = is_some output
 
 -- This is the path of that file.
-abbrev pub output_of : {C : Type 0} → Order C → Option (List ℕ)
-output_of (Show error) = None
+abbrev pub output_of : {C T : Type 0} → Order C T → Option (List ℕ)
+output_of (Show text) = None
 output_of (Run command pred_bits output places) = option_map (λ path. path.now) output
 
 -- The value of `--output` is this path, and not `-`, which is standard output.

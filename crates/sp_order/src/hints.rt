@@ -35,7 +35,11 @@ pub struct Refusal<'a> {
 
 impl<'a> Refusal<'a> {
     /// Makes the refusal of an order. If standard output has lost its reader, the refusal has no text.
-    pub fn new<C: Commands<'a>, F: Inputs>(fault: Fault, order: &Order<'a, C>, files: &F) -> Self
+    pub fn new<C: Commands<'a>, T, F: Inputs>(
+        fault: Fault,
+        order: &Order<'a, C, T>,
+        files: &F,
+    ) -> Self
         ensures fault { result.fault ≡ fault }
         ensures unread { result.telling ≡ Nothing → fault ≡ WriteFailed }
     {
@@ -81,7 +85,7 @@ impl From<Fault> for Refusal<'_> {
 }
 
 // Returns whether the reader of standard output has closed it.
-fn is_unread<C>(fault: &Fault, order: &Order<'_, C>, hint: &Hint<'_>) -> bool
+fn is_unread<C, T>(fault: &Fault, order: &Order<'_, C, T>, hint: &Hint<'_>) -> bool
     ensures { result ≡ true → fault.now ≡ WriteFailed }
 {
     let (Fault::WriteFailed, Hint::Reason { reason, .. }) = (fault, hint) else {
@@ -99,9 +103,9 @@ fn told_of_words<'a>(fault: &Fault) -> Option<Hint<'a>> {
 }
 
 // Returns the second line of a fault, if it has one.
-fn second_line<'a, C: Commands<'a>, F: Inputs>(
+fn second_line<'a, C: Commands<'a>, T, F: Inputs>(
     fault: &Fault,
-    order: &Order<'a, C>,
+    order: &Order<'a, C, T>,
     files: &F,
 ) -> Option<Hint<'a>> {
     let Order::Run {
@@ -117,7 +121,9 @@ fn second_line<'a, C: Commands<'a>, F: Inputs>(
         Fault::DeltaOutOfRange => Some(Hint::Delta(*pred_bits)),
         Fault::LimitOutOfRange => Some(Hint::Limit(*pred_bits)),
         Fault::NoPlaces => Some(places_hint((*places)?)),
-        Fault::NoSuchVertex(vertex) => Some(vertex_hint(*vertex, command, *places, files)),
+        Fault::NoSuchVertex(vertex, list) => {
+            Some(vertex_hint(*vertex, *list, command, *places, files))
+        }
         Fault::Input { file, error } => input_hint(
             fault, *file, *error, command, *pred_bits, files,
         ),

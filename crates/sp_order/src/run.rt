@@ -1,25 +1,28 @@
 //! A whole run of the program.
 ghost use Rattle.std.specs.Prelude.{◌≡◌, ◌≤◌, true, IfOk, IfErr, MatchResult};
+ghost use Rattle.clap.specs.Walk.{texts};
 ghost use Rattle.sp_command.specs.Faults.{is_done, is_early};
 ghost use Rattle.sp_command.specs.Scene.{scene};
 ghost use Rattle.sp_command.specs.declared.faults.Fault.TheVariants.{WriteFailed};
 ghost use Rattle.sp_order.specs.declared.hints.Telling.TheVariants.{Nothing};
-ghost use Rattle.sp_order.specs.Orders.{IsCarriedOut, IsObeyed, RunsInto};
+ghost use Rattle.sp_order.specs.Orders.{IsCarriedOut, IsObeyed, RunsInto, obeying};
 ghost use Rattle.sp_order.specs.Told.{EndsWith, IsAnswered};
 ghost use Rattle.sp_order.specs.Words.{names_output};
 
 use crate::hints::Refusal;
-use crate::words::{Order, read_order};
+use crate::words::{Answer, Order, read_order};
 use sp_command::{Commands, Fault, Outputs, PredBits, RunIn, Status, print};
 use sp_device::Write;
 use std::alloc::Global;
+use std::fmt::Display;
 use std::sync::Wait;
 use std::thread::Threads;
 
-/// Runs the command that the words name, where the first word is the program's name, and returns the exit status. The
+/// Runs the command that the words name, where the first word is the program's name, and returns the exit status. Help and the
+/// version are shown as a `T`, which is made of what `clap` answers. The
 /// command's output goes to `out`, or to the file that the words name for it, and the text of a fault to `err`; whether
 /// `err` takes that text changes no status.
-pub fn run_line<'a, C, R: Threads + Wait + Sync, F: Outputs, W: Write, E: Write>(
+pub fn run_line<'a, C, T, R: Threads + Wait + Sync, F: Outputs, W: Write, E: Write>(
     rt: &R,
     alloc: Global,
     words: &'a [&'a str],
@@ -29,18 +32,19 @@ pub fn run_line<'a, C, R: Threads + Wait + Sync, F: Outputs, W: Write, E: Write>
 ) -> u8
 where
     C: Commands<'a> + RunIn,
+    T: Answer,
     ensures range { result ≤ 6 }
     ensures silent { result ≡ 0 → err.new ≡ err.old }
     ensures silent_no { result ≡ 3 → err.new ≡ err.old }
     ensures silent_far { result ≡ 4 → err.new ≡ err.old }
     ensures unwritten { 1 ≤ result → result ≤ 2 → out.new ≡ out.old }
-    ensures obeyed { IsAnswered C.runs
+    ensures obeyed { IsAnswered (obeying C.Commands C.runs T.from_gives T.output) (texts words.now)
         (scene (F.files files.old)
         (W.written out.old) (W.written out.new) (W.has_failed out.new))
         (F.outputs files.old) (F.outputs files.new)
         E.Write err.old err.new result }
 {
-    let answer = obey::<C, R, F, W>(rt, alloc, words, files, out);
+    let answer = obey::<C, T, R, F, W>(rt, alloc, words, files, out);
     tell_end(&answer, err).code()
 }
 
@@ -58,7 +62,7 @@ fn tell_end<E: Write>(answer: &Result<Status, Refusal<'_>>, err: &mut E) -> Stat
     }
 }
 
-fn obey<'a, C, R: Threads + Wait + Sync, F: Outputs, W: Write>(
+fn obey<'a, C, T, R: Threads + Wait + Sync, F: Outputs, W: Write>(
     rt: &R,
     alloc: Global,
     words: &'a [&'a str],
@@ -67,19 +71,21 @@ fn obey<'a, C, R: Threads + Wait + Sync, F: Outputs, W: Write>(
 ) -> Result<Status, Refusal<'a>>
 where
     C: Commands<'a> + RunIn,
+    T: Answer,
     ensures done { IfOk result (λ status. is_done status ≡ true) }
     ensures untouched { IfErr result
         (λ refusal. is_early refusal.fault ≡ true → out.new ≡ out.old) }
     ensures unread { IfErr result
         (λ refusal. refusal.telling ≡ Nothing → refusal.fault ≡ WriteFailed) }
-    ensures obeyed { let obeyed = IsObeyed C.runs
+    ensures obeyed { let obeyed = IsObeyed
+        (obeying C.Commands C.runs T.from_gives T.output) (texts words.now)
         (scene (F.files files.old)
         (W.written out.old) (W.written out.new) (W.has_failed out.new))
         (F.outputs files.old) (F.outputs files.new)
         in MatchResult result
         (λ status. obeyed (Ok status)) (λ refusal. obeyed (Err refusal.fault)) }
 {
-    let order: Order<'a, C> = read_order(alloc, words)?;
+    let order: Order<'a, C, T> = read_order(alloc, words)?;
     match carry_out(rt, alloc, &order, files, out) {
         Ok(status) => Ok(status),
         Err(fault) => Err(Refusal::new(fault, &order, files)),
@@ -87,10 +93,10 @@ where
 }
 
 // Carries out the order. If it names a file for the output, nothing is written to `out`.
-fn carry_out<C, R: Threads + Wait + Sync, F: Outputs, W: Write>(
+fn carry_out<C, T: Display, R: Threads + Wait + Sync, F: Outputs, W: Write>(
     rt: &R,
     alloc: Global,
-    order: &Order<'_, C>,
+    order: &Order<'_, C, T>,
     files: &mut F,
     out: &mut W,
 ) -> Result<Status, Fault>
@@ -99,16 +105,16 @@ where
     ensures done { IfOk result (λ status. is_done status ≡ true) }
     ensures untouched { IfErr result (λ fault. is_early fault ≡ true → out.new ≡ out.old) }
     ensures elsewhere { names_output order.now ≡ true → out.new ≡ out.old }
-    ensures carried { IsCarriedOut C.runs
+    ensures carried { IsCarriedOut C.runs T.output
         order.now (scene (F.files files.old)
         (W.written out.old) (W.written out.new) (W.has_failed out.new))
         (F.outputs files.old) (F.outputs files.new) result }
 {
     match order {
-        Order::Show(text) => {
-            print(out, text)?;
-            Ok(Status::Done)
-        }
+        Order::Show(text) => match print(out, text) {
+            Ok(()) => Ok(Status::Done),
+            Err(fault) => Err(fault),
+        },
         Order::Run {
             command,
             pred_bits,

@@ -4,16 +4,17 @@ use sp_command::{Commands, FileKind, Hint, Inputs, Naming};
 use sp_device::Read;
 use sp_dimacs::Lines;
 
-/// Returns the second line about a vertex that a graph doesn't have. The sources may be selected by a word for their
-/// places.
+/// Returns the second line about a vertex that a graph doesn't have, and which stands among the sources or the targets. The
+/// sources may be selected by a word for their places.
 pub fn vertex_hint<'a, C: Commands<'a>, F: Inputs>(
     vertex: u32,
+    list: FileKind,
     command: &C,
     places: Option<&str>,
     files: &F,
 ) -> Hint<'a> {
     Hint::Vertex {
-        naming: naming_of(vertex, command, places, files),
+        naming: naming_of(vertex, list, command, places, files),
         vertex,
         vertices: vertices_in(command.path(FileKind::Graph), files),
     }
@@ -36,28 +37,33 @@ pub fn vertices_in<F: Inputs>(graph: Option<&str>, files: &F) -> Option<u64> {
 // Returns where the command was given the number.
 fn naming_of<'a, C: Commands<'a>, F: Inputs>(
     vertex: u32,
+    list: FileKind,
     command: &C,
     places: Option<&str>,
     files: &F,
 ) -> Naming<'a> {
     if let Some(path) = command.path(FileKind::Pairs) {
-        return naming_pair(vertex, path, files).unwrap_or(Naming::Unseen);
+        return naming_pair(vertex, path, files).unwrap_or(unseen(list));
     }
-    let sources = command.path(FileKind::Sources);
-    let first = places.and_then(first_place).unwrap_or(1);
-    if let Some(path) = sources
-        && let Some(line) = line_of(vertex, path, first, files)
-    {
-        return Naming::Source { path, line };
+    let first = match list {
+        FileKind::Sources => places.and_then(first_place).unwrap_or(1),
+        _ => 1,
+    };
+    let Some(path) = command.path(list) else {
+        return Naming::Option;
+    };
+    match (line_of(vertex, path, first, files), list) {
+        (Some(line), FileKind::Sources) => Naming::Source { path, line },
+        (Some(line), _) => Naming::Target { path, line },
+        (None, _) => unseen(list),
     }
-    if let Some(path) = command.path(FileKind::Targets)
-        && let Some(line) = line_of(vertex, path, 1, files)
-    {
-        return Naming::Target { path, line };
-    }
-    match sources {
-        Some(_) => Naming::Unseen,
-        None => Naming::Option,
+}
+
+// Returns where a number stands whose file can't be read again.
+fn unseen<'a>(list: FileKind) -> Naming<'a> {
+    match list {
+        FileKind::Targets => Naming::UnseenTarget,
+        _ => Naming::Unseen,
     }
 }
 

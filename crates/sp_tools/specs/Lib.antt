@@ -5,3 +5,4 @@ pub mod CheckAnswers
 pub mod ReplayAnswers
 pub mod OffersAnswers
 pub mod Early
+pub mod Words

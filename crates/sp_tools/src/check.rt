@@ -1,5 +1,5 @@
 //! `spt check`: checks whether a tree file holds the shortest-path tree of its source, or a forest's file that of its sources.
-ghost use Rattle.std.specs.Prelude.{◌≡◌, ◌≢◌, ℕ, List, ◌++◌, true, false, IfOk, IfErr};
+ghost use Rattle.std.specs.Prelude.{◌≡◌, ◌≢◌, ℕ, List, ◌++◌, true, false, IfOk, IfErr, codes};
 ghost use Rattle.sp_word.specs.Word.{is_layout};
 ghost use Rattle.sp_device.specs.Printing.{IsSending, Finished};
 ghost use Rattle.sp_command.specs.Causes.{IsBorneOut};
@@ -10,6 +10,7 @@ ghost use Rattle.sp_tools.specs.Verdict.{IsVerdict, IsForestVerdict, IsVerdictOn
 ghost use Rattle.sp_tools.specs.CheckAnswers.{TreeJudged, IsTreeRefused, TellsVerdict, GiveTexts, SaysOf, SaysOfSome, CheckAnswers, check_paths, check_faults};
 ghost use Rattle.sp_options.specs.Within.{IsLimit};
 ghost use Rattle.sp_tools.specs.Early.{IsEarly};
+ghost use Rattle.sp_tools.specs.Words.{IsCheck, LacksCheck, check_rules};
 
 use crate::check_all::check_all_files;
 use crate::graphs::read_graph;
@@ -41,91 +42,108 @@ pub struct CheckCommand<'a> {
 }
 
 impl<'a> Command<'a> for CheckCommand<'a> {
-    const NAME: &'static str = "check";
+    ghost spelled = { codes "check" };
+
+    ghost rules = { check_rules };
+
+    ghost reads = { IsCheck };
+
+    ghost lacks = { LacksCheck };
 
     const ABOUT: &'static str = "Check a tree or a forest against its graph";
 
     const LONG_ABOUT: &'static str = "\
 Check a tree or a forest against its graph
 
-The answer is `yes` where the file holds the shortest-path tree of its source
-and no vertex is too far for a word, whoever made the file. Else it is `no V R`,
-with the lowest vertex V at which a rule fails and the number R of its lowest
-such rule:
-  1  the tree's number of vertices is not the graph's (V is 0, and nothing else
-     is looked at)
-  2  the source's line has another distance or predecessor than 0
+The answer is `yes` if the file holds the shortest-path tree of its source and
+no vertex is too far (every distance fits, see --pred-bits), whatever program
+wrote the file. Otherwise it is `no V R`, with the lowest vertex V at which a
+rule fails and the number R of the first rule that fails there:
+  1  the tree and the graph differ in their number of vertices (V is 0, and
+     nothing else is checked)
+  2  the distance or the predecessor of the source is not 0
   3  an arc from a vertex of the tree offers V a shorter distance, or the same
-     one with a smaller predecessor, within the greatest distance of a word
+     one with a smaller predecessor, and the distance fits
   4  V is not the source, and its predecessor is not a vertex of the tree with
-     an arc to V of exactly the difference of the two distances
-  5  V has no line, and an arc leads to it from a vertex of the tree, beyond the
-     greatest distance
+     an arc to V whose length is the difference of the two distances
+  5  V has no line, and an arc from a vertex of the tree offers it a distance
+     that does not fit
   6  the distance of V is above the limit
   7  V is not a source, and its root is not its predecessor's root
 
-With --within L it is `yes` where the file holds the part of the tree up to the
-distance L. Rule 3 then asks for offers up to L, and rule 5 for nothing.
+With --within L it is `yes` if the file holds the part of the tree up to
+distance L. Rule 3 then considers only distances up to L, and rule 5 does not
+apply. Without --within a part is `no`, unless nothing lies beyond it.
 
-A file whose first line begins with `p near` is read as a forest, of `spt
-nearest`. Its sources are the vertices whose line has predecessor 0. Rule 1 then
-also asks that there are as many of them as the first line tells, and rule 2
-that each is its own root.
+A file whose first line begins with `p near` is read as a forest, as written by
+`spt nearest`. Its sources are the vertices whose line has predecessor 0. Rule 1
+then also requires that there are as many of them as the first line says, and
+rule 2 that each is its own root.
 
-With --all the file has one block of a tree or more, as `spt tree` writes for
-several sources. Each is checked, and has a line of its own: `yes`, or
-`no S V R` with its source S.";
+With --all the file has one or more blocks of trees, as `spt tree` writes them
+for several sources. Each is checked and gets its own line: `yes`, or `no S V R`
+with its source S.";
 
     const AFTER_HELP: &'static str = after_help!(
         "\
-The graph is a .gr file, as `spt tree --help` tells. The tree file has one block
-as `spt tree` writes it for a source, with one space between fields and an LF at
-the end of each line:
-  p spt N S, then v V D P by rising V, then e R
+The graph is a .gr file, as described in `spt tree --help`. The tree file has
+one block, as `spt tree` writes it for a source, with one space between fields
+and an LF at the end of each line:
+  p spt N S, then v V D P in ascending order of V, then e R
 or the block of a forest of K sources, with the root S of each vertex:
-  p near N K, then v V D P S by rising V, then e R
+  p near N K, then v V D P S in ascending order of V, then e R
 
-It takes as much memory as `spt tree` does for one source, and 16 bytes a vertex
-more, for a forest at most 32; with --all 32 bytes a block besides.
+It takes as much memory as `spt tree` does for one source, plus 16 bytes per
+vertex (at most 32 for a forest) and, with --all, 32 bytes per block.
 
-Example: for the graph and the tree of the example there,
-`spt check diamond.gr diamond.tree` writes `yes`. With `v 4 5 3` for `v 4 5 2`
-it writes `no 4 3`, since vertex 2 offers the same distance. With --within 4 the
-whole tree is `no 4 6`, since vertex 4 has distance 5.
+Example: for the graph and the tree of the example in `spt tree --help`,
+`spt check diamond.gr diamond.tree` writes `yes`. With `v 4 5 3` instead of
+`v 4 5 2` it writes `no 4 3`, since vertex 2 offers the same distance. With
+--within 4 the whole tree is `no 4 6`, since vertex 4 has distance 5.
 
-A fault is told with its line, as in `spt: tree: line 3: 5 OutOfRange V`, FILE
-being gr or tree; the kinds are those of `spt tree --help`. In a tree file
-  2 BadLine        a line is none of these, or is spelled in another way; so is
-                   an x line
+An error in a file is reported with its line, as in
+`spt: tree: line 3: 5 OutOfRange V`; FILE is gr or tree, and the kinds are those
+of `spt tree --help`. In a tree file
+  2 BadLine        a line has none of these forms, or is not spelled exactly as
+                   above; an x line is one
   5 OutOfRange     also a V that is not greater than the one before, and an R
                    that is not the number of v lines
-  6 TooMany        something stands after the e line; with --all a further block
-                   may, and anything else is told as what is wrong with that
+  6 TooMany        something follows the e line; with --all another block may,
+                   and anything else is reported as an error in that block
   7 TooFew         the file ends before the e line
-A limit above the greatest distance of a word is told before a file is opened.
+A limit that does not fit (see --pred-bits) is reported before a file is opened.
 ",
         statuses:
-            0 "yes; with --all of each block"
+            0 "yes; with --all, for each block"
             1 "the command line is wrong"
             2 "a file is refused"
-            3 "no; with --all of some block";
+            3 "no; with --all, for some block";
             "a file" "the answer"
     );
 
+    fn word() -> &'static str
+        ensures { result.now ≡ codes "check" }
+    {
+        "check"
+    }
+
     fn build(alloc: Global) -> BuiltCommand<'a> {
-        clap::Command::new(alloc, Self::NAME)
+        clap::Command::new(alloc, "check")
             .arg(file(alloc, "GR", GRAPH_FILE))?
-            .arg(file(alloc, "TREE", "The tree file, or that of a forest"))?
+            .arg(file(alloc, "TREE", "The file of a tree or a forest"))?
             .arg(flag(
                 alloc,
                 "all",
-                "Check each block of a file that has one or more",
+                "Check each block of a file that may have several",
             ))?
             .arg(Within::option(alloc))
     }
 
     fn read(alloc: Global, given: &ArgMatches<'a>) -> Result<Option<Self>, Error> {
-        let (Some(graph), Some(tree)) = (given.get_str("GR"), given.get_str("TREE")) else {
+        let Some(graph) = given.get_str("GR") else {
+            return Ok(None);
+        };
+        let Some(tree) = given.get_str("TREE") else {
             return Ok(None);
         };
         let Some(within) = Within::read(alloc, given)? else {

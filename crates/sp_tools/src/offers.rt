@@ -1,5 +1,5 @@
 //! `spt offers`: makes the offers of several actors on threads.
-ghost use Rattle.std.specs.Prelude.{◌≡◌, ◌≢◌, ℕ, List, Some, true, IfOk, IfErr};
+ghost use Rattle.std.specs.Prelude.{◌≡◌, ◌≢◌, ℕ, List, Some, true, IfOk, IfErr, codes};
 ghost use Rattle.sp_word.specs.Word.{is_layout};
 ghost use Rattle.sp_command.specs.declared.faults.Status.TheVariants.{Done};
 ghost use Rattle.sp_command.specs.Causes.{IsBorneOut};
@@ -8,6 +8,7 @@ ghost use Rattle.sp_command.specs.Answers.{Hinders};
 ghost use Rattle.sp_replay.specs.Offers.{IsOffersFile};
 ghost use Rattle.sp_tools.specs.OffersAnswers.{SpellsOffers, IsOffersRefused, TellsWords, TellsWordsOfSome, OffersAnswers, offers_paths};
 ghost use Rattle.sp_tools.specs.Early.{IsEarly, no_faults};
+ghost use Rattle.sp_tools.specs.Words.{IsOffers, LacksFile, offers_rules};
 
 use clap::{ArgMatches, Error};
 use sp_actors::final_words;
@@ -27,36 +28,42 @@ pub struct OffersCommand<'a> {
 }
 
 impl<'a> Command<'a> for OffersCommand<'a> {
-    const NAME: &'static str = "offers";
+    ghost spelled = { codes "offers" };
+
+    ghost rules = { offers_rules };
+
+    ghost reads = { IsOffers };
+
+    ghost lacks = { LacksFile };
 
     const ABOUT: &'static str =
-        "Make the offers of several actors at once, and write the words left";
+        "Make the offers of several actors at once and write the final words";
 
     const LONG_ABOUT: &'static str = "\
-Make the offers of several actors at once, and write the words left
+Make the offers of several actors at once and write the final words
 
 A word of the table is unreached, or holds a distance and a predecessor. An
 offer of a pair leaves the lesser of the two, by distance, then by predecessor.
-Each actor has a thread of its own, and no thread waits for another's offers.
-Whatever their order, the words that are left are the same.";
+Each actor has its own thread, and no thread waits for another's offers. The
+final words are the same whatever the order of the offers.";
 
     const AFTER_HELP: &'static str = after_help!(
         "\
-The file has a line for each of these, its fields parted by blanks:
-  p off N K    there are N words, 1 to 65536, and K actors, 1 to 64; it stands
-               first, and once
+The file has lines of these forms, with their fields separated by blanks:
+  p off N K    there are N words, 1 to 65536, and K actors, 1 to 64; it comes
+               first, and only once
   o A V D P    actor A, 1 to K, offers distance D and predecessor P to word V, 1
                to N
-  c ...        a comment; so is a line without a field
-An actor makes its offers in the order of the file. There are at most 1048576
-offers. All words are unreached before.
+  c ...        a comment; so is a blank line
+Each actor makes its offers in the order of the file. There are at most 1048576
+offers. All words start unreached.
 
-The output has a line for each word that is reached, by rising V, and then their
-number:
+The output has a line for each word that is reached, in ascending order of V,
+and then their number:
   w V D P      word V holds distance D and predecessor P
-  e R          there are R lines of this kind
+  e R          the number of w lines is R
 
-Example: where the file offers.off has the lines
+Example: if the file offers.off has the lines
   p off 1 2
   o 1 1 9 1
   o 1 1 7 4
@@ -66,9 +73,10 @@ the output of `spt offers offers.off` is
   w 1 7 2
   e 1
 
-A fault is told with its line, as in `spt: offers: line 2: 5 OutOfRange A`:
+An error in the file is reported with its line, as in
+`spt: offers: line 2: 5 OutOfRange A`:
 ",
-        faults: "  6 TooMany        an offer is one too many\n",
+        faults: "  6 TooMany        there are too many offers\n",
         statuses:
             0 "done"
             1 "the command line is wrong"
@@ -76,12 +84,21 @@ A fault is told with its line, as in `spt: offers: line 2: 5 OutOfRange A`:
             "the file" "the output"
     );
 
+    fn word() -> &'static str
+        ensures { result.now ≡ codes "offers" }
+    {
+        "offers"
+    }
+
     fn build(alloc: Global) -> BuiltCommand<'a> {
-        clap::Command::new(alloc, Self::NAME).arg(file(alloc, "FILE", "The offers file"))
+        clap::Command::new(alloc, "offers").arg(file(alloc, "FILE", "The offers file"))
     }
 
     fn read(_alloc: Global, given: &ArgMatches<'a>) -> Result<Option<Self>, Error> {
-        Ok(given.get_str("FILE").map(|file| OffersCommand { file }))
+        let Some(file) = given.get_str("FILE") else {
+            return Ok(None);
+        };
+        Ok(Some(OffersCommand { file }))
     }
 
     fn path_of(&self, file: FileKind) -> Option<&'a str> {

@@ -1,5 +1,5 @@
 //! `spt replay`: runs a replay file, and writes its report or its picture.
-ghost use Rattle.std.specs.Prelude.{◌≡◌, ◌≢◌, ◌<◌, ◌≤◌, ◌⊎◌, ◌↔◌, ℕ, List, Some, true, false, length, All, IfOk, IfErr};
+ghost use Rattle.std.specs.Prelude.{◌≡◌, ◌≢◌, ◌<◌, ◌≤◌, ◌⊎◌, ◌↔◌, ℕ, List, Some, true, false, length, All, IfOk, IfErr, codes};
 ghost use Rattle.sp_word.specs.Word.{is_layout};
 ghost use Rattle.sp_command.specs.declared.faults.Fault.TheVariants.{Memory, TooManySteps, WriteFailed};
 ghost use Rattle.sp_command.specs.declared.faults.Status.TheVariants.{Done};
@@ -11,6 +11,7 @@ ghost use Rattle.sp_replay.specs.ReplayFile.{IsReplayFile};
 ghost use Rattle.sp_tools.specs.Reading.{SpellsReplay};
 ghost use Rattle.sp_tools.specs.ReplayAnswers.{IsReplayRefused, IsPictureOf, TellsReport, TellsPicture, SaysOfSome, ReplayAnswers, replay_paths, replay_faults};
 ghost use Rattle.sp_tools.specs.Early.{IsEarly};
+ghost use Rattle.sp_tools.specs.Words.{IsReplay, LacksFile, replay_rules};
 
 use clap::{ArgMatches, Error};
 use sp_command::{
@@ -33,52 +34,58 @@ pub struct ReplayCommand<'a> {
 }
 
 impl<'a> Command<'a> for ReplayCommand<'a> {
-    const NAME: &'static str = "replay";
+    ghost spelled = { codes "replay" };
 
-    const ABOUT: &'static str = "Run the steps of several actors in a given order, and report them";
+    ghost rules = { replay_rules };
+
+    ghost reads = { IsReplay };
+
+    ghost lacks = { LacksFile };
+
+    const ABOUT: &'static str = "Run the steps of several actors in a given order and report them";
 
     const LONG_ABOUT: &'static str = "\
-Run the steps of several actors in a given order, and report them
+Run the steps of several actors in a given order and report them
 
 The actors share one table of words. A word of the table is unreached, or holds
-a distance and a predecessor. A call of an actor reads a word, or offers a pair
+a distance and a predecessor. A call by an actor reads a word, or offers a pair
 to a word, which keeps the lesser of the two, or relaxes an arc: it reads the
-tail's word, and offers the sum to the head. One step is one load of a word, or
-one exchange. An exchange is lost where another actor has changed the word since
-it was loaded.";
+tail's word, and offers the sum to the head. A step is one load of a word or one
+exchange. An exchange is lost if another actor has changed the word since it was
+loaded.";
 
     const AFTER_HELP: &'static str = after_help!(
         "\
-The file has a line for each of these, its fields parted by blanks:
-  p rep N K    there are N words, 1 to 65536, and K actors, 1 to 64; it stands
-               first, and once
-  i V D P      word V, 1 to N, begins as distance D and predecessor P; the
-               others begin unreached
+The file has lines of these forms, with their fields separated by blanks:
+  p rep N K    there are N words, 1 to 65536, and K actors, 1 to 64; it comes
+               first, and only once
+  i V D P      word V, 1 to N, starts with distance D and predecessor P; the
+               others start unreached
   o A V D P    a call: actor A, 1 to K, offers distance D and predecessor P to
                word V
   r A V        a call: actor A reads word V
   a A U V L    a call: actor A relaxes an arc from U to V of length L, 1 to
                4294967295
   s A          a step of actor A
-  c ...        a comment; so is a line without a field
-An actor makes its calls in the order of the file. The steps are made in the
+  c ...        a comment; so is a blank line
+Each actor makes its calls in the order of the file. The steps are made in the
 order of the s lines, whatever stands between them. There are at most 1048576
 calls and 16777216 steps.
 
-The report has a line for each call that ended, F and L being the numbers of its
-first and last step, and then the words at the end. The read and the offer of a
-relaxation have a line each.
-  o A V D P REPLY F L    shorter: the distance became less; smaller: the
-                         predecessor alone did; kept: the word was no greater
+The report has a line for each call that ended, where F and L are the numbers of
+its first and last step, and then the words at the end. The read and the offer
+of a relaxation have a line each.
+  o A V D P REPLY F L    shorter: the distance decreased; smaller: only the
+                         predecessor decreased; kept: the word was no greater
                          than the offer
   r A V D P F L          the read found distance D and predecessor P
   r A V none F L         the read found unreached
   w V D P                word V at the end, unless it is unreached
   t WINS LOSSES          how many exchanges were won and how many were lost
   closed yes             each arc of an a line whose tail is reached was relaxed
-                         from the tail's last distance; else closed no
+                         from the tail's last distance; otherwise closed no
 
-Example: where the file lost_exchange.rep has the lines
+Example: if the file lost_exchange.rep has the lines
   p rep 1 2
   o 1 1 5 3
   o 2 1 5 2
@@ -87,25 +94,25 @@ Example: where the file lost_exchange.rep has the lines
   s 1
   s 2
   s 2
-both actors load the word, actor 1 wins its exchange, actor 2 loses one and then
-wins one. The report of `spt replay lost_exchange.rep` is
+both actors load the word, actor 1 wins its exchange, and actor 2 loses one and
+then wins one. The report of `spt replay lost_exchange.rep` is
   o 1 1 5 3 shorter 1 3
   o 2 1 5 2 smaller 2 5
   w 1 5 2
   t 2 1
   closed yes
 
-With --svg a picture of the run, in SVG, is written in place of the report: a
-lane for each word that a step looks at and for each actor, a bar for each call
-that ended, and a mark for each step. A lost exchange is tied to the store that
-beat it, and to the load whose word it expected. A picture shows 60 steps at
-most.
+With --svg an SVG picture of the run is written instead of the report: a lane
+for each word that a step looks at and for each actor, a bar for each call that
+ended, and a mark for each step. A lost exchange is tied to the store that beat
+it, and to the load whose word it expected. A picture shows at most 60 steps.
 
-A fault is told with its line, as in `spt: replay: line 2: 5 OutOfRange V`:
+An error in the file is reported with its line, as in
+`spt: replay: line 2: 5 OutOfRange V`:
 ",
-        faults: "  6 TooMany        a call or a step is one too many\n",
+        faults: "  6 TooMany        there are too many calls or steps\n",
         others: "\
-Others are
+Other errors are
   spt: replay: cannot open           (exit status 6)
   spt: replay: more than 60 steps    with --svg; nothing is written
                                      (exit status 2)
@@ -117,20 +124,25 @@ Others are
             "the file" "the output"
     );
 
+    fn word() -> &'static str
+        ensures { result.now ≡ codes "replay" }
+    {
+        "replay"
+    }
+
     fn build(alloc: Global) -> BuiltCommand<'a> {
-        let svg = "Write a picture of the run in place of the report, as SVG";
-        clap::Command::new(alloc, Self::NAME)
+        let svg = "Write an SVG picture of the run instead of the report";
+        clap::Command::new(alloc, "replay")
             .arg(file(alloc, "FILE", "The replay file"))?
             .arg(flag(alloc, "svg", svg))
     }
 
     fn read(_alloc: Global, given: &ArgMatches<'a>) -> Result<Option<Self>, Error> {
+        let Some(file) = given.get_str("FILE") else {
+            return Ok(None);
+        };
         let svg = given.get_flag("svg");
-        Ok(
-            given
-                .get_str("FILE")
-                .map(|file| ReplayCommand { file, svg }),
-        )
+        Ok(Some(ReplayCommand { file, svg }))
     }
 
     fn path_of(&self, file: FileKind) -> Option<&'a str> {

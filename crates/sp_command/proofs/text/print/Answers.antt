@@ -12,4 +12,5 @@ returns-in-Ok g c = record {
       let calls = text_taken (λ old part new. (new.inner.device.ghost_name ≡ old.inner.device.ghost_name) × Appends (written old.inner.device.now) (written new.inner.device.now) part) _ _ shown.result.0 shown.result.1 text known plain (search rules) shown.ensures in
       let (same, appended) = Appends-of_writes (λ s. s.inner.device.ghost_name) (λ s. written s.inner.device.now) _ text shown.result.0 calls in
       search rules;
+  refused = tt;
 }

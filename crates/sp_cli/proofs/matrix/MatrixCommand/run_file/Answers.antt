@@ -13,7 +13,7 @@ returns-clause-answered g c = λ gr_text ss_text targets_text gr_is ss_is target
     let files = g.F.Inputs.files c.args.context.now.files.now in
     let ran = c.run_matrix_told-answer in
     after_end c.args.self.now.options.far_ok (MatrixTold g.row.P c.args.self.now.options.far_ok gr_text (InText c.args.list.now.places ss_text) targets_text (scene files (g.W.Write.written c.args.out.now) (g.W.Write.written ran.new.out) (g.W.Write.has_failed ran.new.out))) ran.result c.end.result c.end.ensures
-    (after_matrix g.row.P c.args.self.now.options.far_ok c.args.list.now.places (record { gr = gr_text; ss = ss_text; targets = targets_text }) files (Rattle.sp_options.specs.contracts.reading.WatchedRead.TheImpl.ghosts (Rattle.sp_cli.proofs.matrix.MatrixCommand.run_file.Lts.impl_arg-4-0 g.row.P g.row.R g.row.F g.row.W g.row.F-File g.P.fits g.R.laws g.F.laws g.W.laws g.F.File.laws g.R.Threads-dict g.R.Wait-dict g.F.Inputs-dict g.F.File.Read-dict g.W.Write-dict g.F.File.Destruct-dict c.before.before.before.before.run_matrix_told-answer.lifetimes) (Rattle.sp_cli.proofs.matrix.MatrixCommand.run_file.Lts.impl_arg-4-1 g.row.P g.row.R g.row.F g.row.W g.row.F-File g.P.fits g.R.laws g.F.laws g.W.laws g.F.File.laws g.R.Threads-dict g.R.Wait-dict g.F.Inputs-dict g.F.File.Read-dict g.W.Write-dict g.F.File.Destruct-dict c.before.before.before.before.run_matrix_told-answer.lifetimes) (Rattle.sp_cli.proofs.matrix.MatrixCommand.run_file.Lts.impl_arg-4-2 g.row.P g.row.R g.row.F g.row.W g.row.F-File g.P.fits g.R.laws g.F.laws g.W.laws g.F.File.laws g.R.Threads-dict g.R.Wait-dict g.F.Inputs-dict g.F.File.Read-dict g.W.Write-dict g.F.File.Destruct-dict c.before.before.before.before.run_matrix_told-answer.lifetimes) g.F.File.Read g.F.File.Read-dict g.F.Inputs g.F.Inputs-dict g.F.File.Read g.F.File.Read-dict g.F.File.Destruct-dict) ran.new.gr (Rattle.sp_options.specs.contracts.reading.WatchedRead.TheImpl.ghosts (Rattle.sp_cli.proofs.matrix.MatrixCommand.run_file.Lts.impl_arg-4-3 g.row.P g.row.R g.row.F g.row.W g.row.F-File g.P.fits g.R.laws g.F.laws g.W.laws g.F.File.laws g.R.Threads-dict g.R.Wait-dict g.F.Inputs-dict g.F.File.Read-dict g.W.Write-dict g.F.File.Destruct-dict c.before.before.before.before.run_matrix_told-answer.lifetimes) (Rattle.sp_cli.proofs.matrix.MatrixCommand.run_file.Lts.impl_arg-4-4 g.row.P g.row.R g.row.F g.row.W g.row.F-File g.P.fits g.R.laws g.F.laws g.W.laws g.F.File.laws g.R.Threads-dict g.R.Wait-dict g.F.Inputs-dict g.F.File.Read-dict g.W.Write-dict g.F.File.Destruct-dict c.before.before.before.before.run_matrix_told-answer.lifetimes) (Rattle.sp_cli.proofs.matrix.MatrixCommand.run_file.Lts.impl_arg-4-5 g.row.P g.row.R g.row.F g.row.W g.row.F-File g.P.fits g.R.laws g.F.laws g.W.laws g.F.File.laws g.R.Threads-dict g.R.Wait-dict g.F.Inputs-dict g.F.File.Read-dict g.W.Write-dict g.F.File.Destruct-dict c.before.before.before.before.run_matrix_told-answer.lifetimes) g.F.File.Read g.F.File.Read-dict g.F.Inputs g.F.Inputs-dict g.F.File.Read g.F.File.Read-dict g.F.File.Destruct-dict) ran.new.ss (Rattle.sp_options.specs.contracts.reading.WatchedRead.TheImpl.ghosts (Rattle.sp_cli.proofs.matrix.MatrixCommand.run_file.Lts.impl_arg-4-6 g.row.P g.row.R g.row.F g.row.W g.row.F-File g.P.fits g.R.laws g.F.laws g.W.laws g.F.File.laws g.R.Threads-dict g.R.Wait-dict g.F.Inputs-dict g.F.File.Read-dict g.W.Write-dict g.F.File.Destruct-dict c.before.before.before.before.run_matrix_told-answer.lifetimes) (Rattle.sp_cli.proofs.matrix.MatrixCommand.run_file.Lts.impl_arg-4-7 g.row.P g.row.R g.row.F g.row.W g.row.F-File g.P.fits g.R.laws g.F.laws g.W.laws g.F.File.laws g.R.Threads-dict g.R.Wait-dict g.F.Inputs-dict g.F.File.Read-dict g.W.Write-dict g.F.File.Destruct-dict c.before.before.before.before.run_matrix_told-answer.lifetimes) (Rattle.sp_cli.proofs.matrix.MatrixCommand.run_file.Lts.impl_arg-4-8 g.row.P g.row.R g.row.F g.row.W g.row.F-File g.P.fits g.R.laws g.F.laws g.W.laws g.F.File.laws g.R.Threads-dict g.R.Wait-dict g.F.Inputs-dict g.F.File.Read-dict g.W.Write-dict g.F.File.Destruct-dict c.before.before.before.before.run_matrix_told-answer.lifetimes) g.F.File.Read g.F.File.Read-dict g.F.Inputs g.F.Inputs-dict g.F.File.Read g.F.File.Read-dict g.F.File.Destruct-dict) ran.new.targets g.W.Write c.args.out.now ran.new.out ran.result
+    (after_matrix g.row.P c.args.self.now.options.far_ok c.args.list.now.places (record { gr = gr_text; ss = ss_text; targets = targets_text }) files (Rattle.sp_options.specs.contracts.reading.WatchedRead.TheImpl.ghosts (Rattle.sp_cli.proofs.matrix.MatrixCommand.run_file.Lts.impl_arg-4-0 g.row.P g.row.R g.row.F g.row.W g.row.F-File g.P.fits g.R.laws g.F.laws g.W.laws g.F.File.laws g.R.RowCrew-dict g.R.Crew-dict g.R.Threads-dict g.F.Inputs-dict g.F.File.Read-dict g.W.Write-dict g.F.File.Destruct-dict c.before.before.before.before.run_matrix_told-answer.lifetimes) (Rattle.sp_cli.proofs.matrix.MatrixCommand.run_file.Lts.impl_arg-4-1 g.row.P g.row.R g.row.F g.row.W g.row.F-File g.P.fits g.R.laws g.F.laws g.W.laws g.F.File.laws g.R.RowCrew-dict g.R.Crew-dict g.R.Threads-dict g.F.Inputs-dict g.F.File.Read-dict g.W.Write-dict g.F.File.Destruct-dict c.before.before.before.before.run_matrix_told-answer.lifetimes) (Rattle.sp_cli.proofs.matrix.MatrixCommand.run_file.Lts.impl_arg-4-2 g.row.P g.row.R g.row.F g.row.W g.row.F-File g.P.fits g.R.laws g.F.laws g.W.laws g.F.File.laws g.R.RowCrew-dict g.R.Crew-dict g.R.Threads-dict g.F.Inputs-dict g.F.File.Read-dict g.W.Write-dict g.F.File.Destruct-dict c.before.before.before.before.run_matrix_told-answer.lifetimes) g.F.File.Read g.F.File.Read-dict g.F.Inputs g.F.Inputs-dict g.F.File.Read g.F.File.Read-dict g.F.File.Destruct-dict) ran.new.gr (Rattle.sp_options.specs.contracts.reading.WatchedRead.TheImpl.ghosts (Rattle.sp_cli.proofs.matrix.MatrixCommand.run_file.Lts.impl_arg-4-3 g.row.P g.row.R g.row.F g.row.W g.row.F-File g.P.fits g.R.laws g.F.laws g.W.laws g.F.File.laws g.R.RowCrew-dict g.R.Crew-dict g.R.Threads-dict g.F.Inputs-dict g.F.File.Read-dict g.W.Write-dict g.F.File.Destruct-dict c.before.before.before.before.run_matrix_told-answer.lifetimes) (Rattle.sp_cli.proofs.matrix.MatrixCommand.run_file.Lts.impl_arg-4-4 g.row.P g.row.R g.row.F g.row.W g.row.F-File g.P.fits g.R.laws g.F.laws g.W.laws g.F.File.laws g.R.RowCrew-dict g.R.Crew-dict g.R.Threads-dict g.F.Inputs-dict g.F.File.Read-dict g.W.Write-dict g.F.File.Destruct-dict c.before.before.before.before.run_matrix_told-answer.lifetimes) (Rattle.sp_cli.proofs.matrix.MatrixCommand.run_file.Lts.impl_arg-4-5 g.row.P g.row.R g.row.F g.row.W g.row.F-File g.P.fits g.R.laws g.F.laws g.W.laws g.F.File.laws g.R.RowCrew-dict g.R.Crew-dict g.R.Threads-dict g.F.Inputs-dict g.F.File.Read-dict g.W.Write-dict g.F.File.Destruct-dict c.before.before.before.before.run_matrix_told-answer.lifetimes) g.F.File.Read g.F.File.Read-dict g.F.Inputs g.F.Inputs-dict g.F.File.Read g.F.File.Read-dict g.F.File.Destruct-dict) ran.new.ss (Rattle.sp_options.specs.contracts.reading.WatchedRead.TheImpl.ghosts (Rattle.sp_cli.proofs.matrix.MatrixCommand.run_file.Lts.impl_arg-4-6 g.row.P g.row.R g.row.F g.row.W g.row.F-File g.P.fits g.R.laws g.F.laws g.W.laws g.F.File.laws g.R.RowCrew-dict g.R.Crew-dict g.R.Threads-dict g.F.Inputs-dict g.F.File.Read-dict g.W.Write-dict g.F.File.Destruct-dict c.before.before.before.before.run_matrix_told-answer.lifetimes) (Rattle.sp_cli.proofs.matrix.MatrixCommand.run_file.Lts.impl_arg-4-7 g.row.P g.row.R g.row.F g.row.W g.row.F-File g.P.fits g.R.laws g.F.laws g.W.laws g.F.File.laws g.R.RowCrew-dict g.R.Crew-dict g.R.Threads-dict g.F.Inputs-dict g.F.File.Read-dict g.W.Write-dict g.F.File.Destruct-dict c.before.before.before.before.run_matrix_told-answer.lifetimes) (Rattle.sp_cli.proofs.matrix.MatrixCommand.run_file.Lts.impl_arg-4-8 g.row.P g.row.R g.row.F g.row.W g.row.F-File g.P.fits g.R.laws g.F.laws g.W.laws g.F.File.laws g.R.RowCrew-dict g.R.Crew-dict g.R.Threads-dict g.F.Inputs-dict g.F.File.Read-dict g.W.Write-dict g.F.File.Destruct-dict c.before.before.before.before.run_matrix_told-answer.lifetimes) g.F.File.Read g.F.File.Read-dict g.F.Inputs g.F.Inputs-dict g.F.File.Read g.F.File.Read-dict g.F.File.Destruct-dict) ran.new.targets g.W.Write c.args.out.now ran.new.out ran.result
     (ran.ensures.exact (record { gr = gr_text; ss = ss_text; targets = targets_text }) (c.new-gr.ensures.left ∙ c.in_ok-gr.ensures.graph.gives gr_text gr_is) (c.new-ss.ensures.left ∙ c.in_ok-gr.ensures.sources.gives ss_text ss_is) (c.new-targets.ensures.left ∙ c.in_ok-gr.ensures.targets.gives targets_text targets_is)))
 
 pub returns-clause-of_some : goal.returns-clause-of_some
@@ -29,7 +29,7 @@ returns-clause-borne_out g c =
     let ran = c.run_matrix_told-answer in
     after_end c.args.self.now.options.far_ok (λ r. IfErr r (IsBorneOut (matrix_paths c.args.self.now) (matrix_faults g.row.P c.args.self.now) (scene files (g.W.Write.written c.args.out.now) (g.W.Write.written ran.new.out) (g.W.Write.has_failed ran.new.out)))) ran.result c.end.result c.end.ensures
     (matrix_borne_out g.row.P c.args.self.now.options.far_ok c.args.list.now.places (matrix_paths c.args.self.now) (matrix_faults g.row.P c.args.self.now) files c.args.self.now.graph.now c.args.list.now.path.now c.args.self.now.lists.targets.now _ _ _ g.W.Write c.args.out.now ran.new.out ran.result
-    refl c.requires.path refl (c.new-gr.ensures.failing ∙ c.in_ok-gr.ensures.graph.failing) (c.new-ss.ensures.failing ∙ c.in_ok-gr.ensures.sources.failing) (c.new-targets.ensures.failing ∙ c.in_ok-gr.ensures.targets.failing) (λ v. tt) ran.ensures.may_fail ran.ensures.found)
+    refl c.requires.path refl (c.new-gr.ensures.failing ∙ c.in_ok-gr.ensures.graph.failing) (c.new-ss.ensures.failing ∙ c.in_ok-gr.ensures.sources.failing) (c.new-targets.ensures.failing ∙ c.in_ok-gr.ensures.targets.failing) (λ v kind. tt) ran.ensures.may_fail ran.ensures.found)
 
 pub returns-in_err-gr-clause-borne_out : goal.returns-in_err-gr-clause-borne_out
 returns-in_err-gr-clause-borne_out g c =

@@ -30,7 +30,7 @@ returns-clause-borne_out g c =
     let ran = c.run_nearest_told-answer in
     after_end c.args.self.now.options.far_ok (λ r. IfErr r (IsBorneOut (nearest_paths c.args.self.now) (nearest_faults g.row.P c.args.self.now) (scene files (g.W.Write.written c.args.out.now) (g.W.Write.written ran.new.out) (g.W.Write.has_failed ran.new.out)))) ran.result c.end.result c.end.ensures
     (nearest_borne_out g.row.P c.args.self.now.options.far_ok c.args.list.now.places c.args.context.now.limit (nearest_paths c.args.self.now) (nearest_faults g.row.P c.args.self.now) files c.args.self.now.graph.now c.args.list.now.path.now _ _ g.W.Write c.args.out.now ran.new.out ran.result
-    refl c.requires.path (c.new-gr.ensures.failing ∙ c.in_ok-gr.ensures.graph.failing) (c.new-ss.ensures.failing ∙ c.in_ok-gr.ensures.file.failing) (λ v. tt) ran.ensures.may_fail ran.ensures.found)
+    refl c.requires.path (c.new-gr.ensures.failing ∙ c.in_ok-gr.ensures.graph.failing) (c.new-ss.ensures.failing ∙ c.in_ok-gr.ensures.file.failing) (λ v kind. tt) ran.ensures.may_fail ran.ensures.found)
 
 pub returns-in_err-gr-clause-borne_out : goal.returns-in_err-gr-clause-borne_out
 returns-in_err-gr-clause-borne_out g c =

@@ -31,7 +31,7 @@ returns-clause-borne_out g c =
     let ran = c.run_nearest_given_told-answer in
     after_end c.args.self.now.options.far_ok (λ r. IfErr r (IsBorneOut (nearest_paths c.args.self.now) (nearest_faults g.row.P c.args.self.now) (scene files (g.W.Write.written c.args.out.now) (g.W.Write.written ran.new.out) (g.W.Write.has_failed ran.new.out)))) ran.result c.end.result c.end.ensures
     (given_nearest_borne_out g.row.P c.args.self.now.options.far_ok c.args.context.now.limit c.args.given.now.list.items (nearest_paths c.args.self.now) (nearest_faults g.row.P c.args.self.now) files c.args.self.now.graph.now _ g.W.Write c.args.out.now ran.new.out ran.result
-    refl (c.new-gr.ensures.failing ∙ c.in_ok-gr.ensures.opened.failing) (λ v. tt) ran.ensures.may_fail found)
+    refl (c.new-gr.ensures.failing ∙ c.in_ok-gr.ensures.opened.failing) (λ v kind. tt) ran.ensures.may_fail found)
 
 pub returns-clause-near : goal.returns-clause-near
 returns-clause-near g c =

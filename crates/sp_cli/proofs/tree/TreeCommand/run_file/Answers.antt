@@ -13,7 +13,7 @@ returns-clause-answered g c = λ gr_text ss_text gr_is ss_is.
     let files = g.F.Inputs.files c.args.context.now.files.now in
     let ran = c.run_batch_told-answer in
     after_end c.args.self.now.options.far_ok (TreesTold g.row.P c.args.self.now.options.far_ok c.args.context.now.limit gr_text (InText c.args.list.now.places ss_text) (scene files (g.W.Write.written c.args.out.now) (g.W.Write.written ran.new.out) (g.W.Write.has_failed ran.new.out))) ran.result c.end.result c.end.ensures
-    (after_batch g.row.P c.args.self.now.options.far_ok c.args.context.now.limit c.args.list.now.places gr_text ss_text files (Rattle.sp_options.specs.contracts.reading.WatchedRead.TheImpl.ghosts (Rattle.sp_cli.proofs.tree.TreeCommand.run_file.Lts.impl_arg-4-0 g.row.P g.row.R g.row.F g.row.W g.row.F-File g.P.fits g.R.laws g.F.laws g.W.laws g.F.File.laws g.R.Threads-dict g.R.Wait-dict g.F.Inputs-dict g.F.File.Read-dict g.W.Write-dict g.F.File.Destruct-dict c.before.before.before.run_batch_told-answer.lifetimes) (Rattle.sp_cli.proofs.tree.TreeCommand.run_file.Lts.impl_arg-4-1 g.row.P g.row.R g.row.F g.row.W g.row.F-File g.P.fits g.R.laws g.F.laws g.W.laws g.F.File.laws g.R.Threads-dict g.R.Wait-dict g.F.Inputs-dict g.F.File.Read-dict g.W.Write-dict g.F.File.Destruct-dict c.before.before.before.run_batch_told-answer.lifetimes) (Rattle.sp_cli.proofs.tree.TreeCommand.run_file.Lts.impl_arg-4-2 g.row.P g.row.R g.row.F g.row.W g.row.F-File g.P.fits g.R.laws g.F.laws g.W.laws g.F.File.laws g.R.Threads-dict g.R.Wait-dict g.F.Inputs-dict g.F.File.Read-dict g.W.Write-dict g.F.File.Destruct-dict c.before.before.before.run_batch_told-answer.lifetimes) g.F.File.Read g.F.File.Read-dict g.F.Inputs g.F.Inputs-dict g.F.File.Read g.F.File.Read-dict g.F.File.Destruct-dict) ran.new.gr (Rattle.sp_options.specs.contracts.reading.WatchedRead.TheImpl.ghosts (Rattle.sp_cli.proofs.tree.TreeCommand.run_file.Lts.impl_arg-4-3 g.row.P g.row.R g.row.F g.row.W g.row.F-File g.P.fits g.R.laws g.F.laws g.W.laws g.F.File.laws g.R.Threads-dict g.R.Wait-dict g.F.Inputs-dict g.F.File.Read-dict g.W.Write-dict g.F.File.Destruct-dict c.before.before.before.run_batch_told-answer.lifetimes) (Rattle.sp_cli.proofs.tree.TreeCommand.run_file.Lts.impl_arg-4-4 g.row.P g.row.R g.row.F g.row.W g.row.F-File g.P.fits g.R.laws g.F.laws g.W.laws g.F.File.laws g.R.Threads-dict g.R.Wait-dict g.F.Inputs-dict g.F.File.Read-dict g.W.Write-dict g.F.File.Destruct-dict c.before.before.before.run_batch_told-answer.lifetimes) (Rattle.sp_cli.proofs.tree.TreeCommand.run_file.Lts.impl_arg-4-5 g.row.P g.row.R g.row.F g.row.W g.row.F-File g.P.fits g.R.laws g.F.laws g.W.laws g.F.File.laws g.R.Threads-dict g.R.Wait-dict g.F.Inputs-dict g.F.File.Read-dict g.W.Write-dict g.F.File.Destruct-dict c.before.before.before.run_batch_told-answer.lifetimes) g.F.File.Read g.F.File.Read-dict g.F.Inputs g.F.Inputs-dict g.F.File.Read g.F.File.Read-dict g.F.File.Destruct-dict) ran.new.ss g.W.Write c.args.out.now ran.new.out ran.result
+    (after_batch g.row.P c.args.self.now.options.far_ok c.args.context.now.limit c.args.list.now.places gr_text ss_text files (Rattle.sp_options.specs.contracts.reading.WatchedRead.TheImpl.ghosts (Rattle.sp_cli.proofs.tree.TreeCommand.run_file.Lts.impl_arg-4-0 g.row.P g.row.R g.row.F g.row.W g.row.F-File g.P.fits g.R.laws g.F.laws g.W.laws g.F.File.laws g.R.TreeCrew-dict g.R.Crew-dict g.R.Threads-dict g.F.Inputs-dict g.F.File.Read-dict g.W.Write-dict g.F.File.Destruct-dict c.before.before.before.run_batch_told-answer.lifetimes) (Rattle.sp_cli.proofs.tree.TreeCommand.run_file.Lts.impl_arg-4-1 g.row.P g.row.R g.row.F g.row.W g.row.F-File g.P.fits g.R.laws g.F.laws g.W.laws g.F.File.laws g.R.TreeCrew-dict g.R.Crew-dict g.R.Threads-dict g.F.Inputs-dict g.F.File.Read-dict g.W.Write-dict g.F.File.Destruct-dict c.before.before.before.run_batch_told-answer.lifetimes) (Rattle.sp_cli.proofs.tree.TreeCommand.run_file.Lts.impl_arg-4-2 g.row.P g.row.R g.row.F g.row.W g.row.F-File g.P.fits g.R.laws g.F.laws g.W.laws g.F.File.laws g.R.TreeCrew-dict g.R.Crew-dict g.R.Threads-dict g.F.Inputs-dict g.F.File.Read-dict g.W.Write-dict g.F.File.Destruct-dict c.before.before.before.run_batch_told-answer.lifetimes) g.F.File.Read g.F.File.Read-dict g.F.Inputs g.F.Inputs-dict g.F.File.Read g.F.File.Read-dict g.F.File.Destruct-dict) ran.new.gr (Rattle.sp_options.specs.contracts.reading.WatchedRead.TheImpl.ghosts (Rattle.sp_cli.proofs.tree.TreeCommand.run_file.Lts.impl_arg-4-3 g.row.P g.row.R g.row.F g.row.W g.row.F-File g.P.fits g.R.laws g.F.laws g.W.laws g.F.File.laws g.R.TreeCrew-dict g.R.Crew-dict g.R.Threads-dict g.F.Inputs-dict g.F.File.Read-dict g.W.Write-dict g.F.File.Destruct-dict c.before.before.before.run_batch_told-answer.lifetimes) (Rattle.sp_cli.proofs.tree.TreeCommand.run_file.Lts.impl_arg-4-4 g.row.P g.row.R g.row.F g.row.W g.row.F-File g.P.fits g.R.laws g.F.laws g.W.laws g.F.File.laws g.R.TreeCrew-dict g.R.Crew-dict g.R.Threads-dict g.F.Inputs-dict g.F.File.Read-dict g.W.Write-dict g.F.File.Destruct-dict c.before.before.before.run_batch_told-answer.lifetimes) (Rattle.sp_cli.proofs.tree.TreeCommand.run_file.Lts.impl_arg-4-5 g.row.P g.row.R g.row.F g.row.W g.row.F-File g.P.fits g.R.laws g.F.laws g.W.laws g.F.File.laws g.R.TreeCrew-dict g.R.Crew-dict g.R.Threads-dict g.F.Inputs-dict g.F.File.Read-dict g.W.Write-dict g.F.File.Destruct-dict c.before.before.before.run_batch_told-answer.lifetimes) g.F.File.Read g.F.File.Read-dict g.F.Inputs g.F.Inputs-dict g.F.File.Read g.F.File.Read-dict g.F.File.Destruct-dict) ran.new.ss g.W.Write c.args.out.now ran.new.out ran.result
     (ran.ensures.exact gr_text ss_text (c.new-gr.ensures.left ∙ c.in_ok-gr.ensures.graph.gives gr_text gr_is) (c.new-ss.ensures.left ∙ c.in_ok-gr.ensures.file.gives ss_text ss_is)))
 
 pub returns-clause-of_some : goal.returns-clause-of_some
@@ -29,7 +29,7 @@ returns-clause-borne_out g c =
     let ran = c.run_batch_told-answer in
     after_end c.args.self.now.options.far_ok (λ r. IfErr r (IsBorneOut (tree_paths c.args.self.now) (tree_faults g.row.P c.args.self.now) (scene files (g.W.Write.written c.args.out.now) (g.W.Write.written ran.new.out) (g.W.Write.has_failed ran.new.out)))) ran.result c.end.result c.end.ensures
     (batch_borne_out g.row.P c.args.self.now.options.far_ok c.args.context.now.limit c.args.list.now.places (tree_paths c.args.self.now) (tree_faults g.row.P c.args.self.now) files c.args.self.now.graph.now c.args.list.now.path.now _ _ g.W.Write c.args.out.now ran.new.out ran.result
-    refl c.requires.path (c.new-gr.ensures.failing ∙ c.in_ok-gr.ensures.graph.failing) (c.new-ss.ensures.failing ∙ c.in_ok-gr.ensures.file.failing) (λ v. tt) ran.ensures.may_fail ran.ensures.found)
+    refl c.requires.path (c.new-gr.ensures.failing ∙ c.in_ok-gr.ensures.graph.failing) (c.new-ss.ensures.failing ∙ c.in_ok-gr.ensures.file.failing) (λ v kind. tt) ran.ensures.may_fail ran.ensures.found)
 
 pub returns-in_err-gr-clause-borne_out : goal.returns-in_err-gr-clause-borne_out
 returns-in_err-gr-clause-borne_out g c =

@@ -12,7 +12,7 @@ returns-clause-answered g c = λ gr_text gr_is.
     let files = g.F.Inputs.files c.args.context.now.files.now in
     let ran = c.run_given_told-answer in
     after_end c.args.self.now.options.far_ok (TreesTold g.row.P c.args.self.now.options.far_ok c.args.context.now.limit gr_text (These c.args.given.now.list.items) (scene files (g.W.Write.written c.args.out.now) (g.W.Write.written ran.new.out) (g.W.Write.has_failed ran.new.out))) ran.result c.end.result c.end.ensures
-    (after_given g.row.P c.args.self.now.options.far_ok c.args.context.now.limit gr_text c.args.given.now.list.items files (Rattle.sp_options.specs.contracts.reading.WatchedRead.TheImpl.ghosts (Rattle.sp_cli.proofs.tree.TreeCommand.run_given.Lts.impl_arg-5-0 g.row.P g.row.R g.row.F g.row.W g.row.F-File g.P.fits g.R.laws g.F.laws g.W.laws g.F.File.laws g.R.Threads-dict g.R.Wait-dict g.F.Inputs-dict g.F.File.Read-dict g.W.Write-dict g.F.File.Destruct-dict c.before.before.run_given_told-answer.lifetimes) (Rattle.sp_cli.proofs.tree.TreeCommand.run_given.Lts.impl_arg-5-1 g.row.P g.row.R g.row.F g.row.W g.row.F-File g.P.fits g.R.laws g.F.laws g.W.laws g.F.File.laws g.R.Threads-dict g.R.Wait-dict g.F.Inputs-dict g.F.File.Read-dict g.W.Write-dict g.F.File.Destruct-dict c.before.before.run_given_told-answer.lifetimes) (Rattle.sp_cli.proofs.tree.TreeCommand.run_given.Lts.impl_arg-5-2 g.row.P g.row.R g.row.F g.row.W g.row.F-File g.P.fits g.R.laws g.F.laws g.W.laws g.F.File.laws g.R.Threads-dict g.R.Wait-dict g.F.Inputs-dict g.F.File.Read-dict g.W.Write-dict g.F.File.Destruct-dict c.before.before.run_given_told-answer.lifetimes) g.F.File.Read g.F.File.Read-dict g.F.Inputs g.F.Inputs-dict g.F.File.Read g.F.File.Read-dict g.F.File.Destruct-dict) ran.new.gr g.W.Write c.args.out.now ran.new.out ran.result
+    (after_given g.row.P c.args.self.now.options.far_ok c.args.context.now.limit gr_text c.args.given.now.list.items files (Rattle.sp_options.specs.contracts.reading.WatchedRead.TheImpl.ghosts (Rattle.sp_cli.proofs.tree.TreeCommand.run_given.Lts.impl_arg-5-0 g.row.P g.row.R g.row.F g.row.W g.row.F-File g.P.fits g.R.laws g.F.laws g.W.laws g.F.File.laws g.R.TreeCrew-dict g.R.Crew-dict g.R.Threads-dict g.F.Inputs-dict g.F.File.Read-dict g.W.Write-dict g.F.File.Destruct-dict c.before.before.run_given_told-answer.lifetimes) (Rattle.sp_cli.proofs.tree.TreeCommand.run_given.Lts.impl_arg-5-1 g.row.P g.row.R g.row.F g.row.W g.row.F-File g.P.fits g.R.laws g.F.laws g.W.laws g.F.File.laws g.R.TreeCrew-dict g.R.Crew-dict g.R.Threads-dict g.F.Inputs-dict g.F.File.Read-dict g.W.Write-dict g.F.File.Destruct-dict c.before.before.run_given_told-answer.lifetimes) (Rattle.sp_cli.proofs.tree.TreeCommand.run_given.Lts.impl_arg-5-2 g.row.P g.row.R g.row.F g.row.W g.row.F-File g.P.fits g.R.laws g.F.laws g.W.laws g.F.File.laws g.R.TreeCrew-dict g.R.Crew-dict g.R.Threads-dict g.F.Inputs-dict g.F.File.Read-dict g.W.Write-dict g.F.File.Destruct-dict c.before.before.run_given_told-answer.lifetimes) g.F.File.Read g.F.File.Read-dict g.F.Inputs g.F.Inputs-dict g.F.File.Read g.F.File.Read-dict g.F.File.Destruct-dict) ran.new.gr g.W.Write c.args.out.now ran.new.out ran.result
     (exact_is gr_text (c.new-gr.ensures.left ∙ c.in_ok-gr.ensures.opened.gives gr_text gr_is)))
 
 pub returns-clause-of_some : goal.returns-clause-of_some
@@ -30,7 +30,7 @@ returns-clause-borne_out g c =
     let ran = c.run_given_told-answer in
     after_end c.args.self.now.options.far_ok (λ r. IfErr r (IsBorneOut (tree_paths c.args.self.now) (tree_faults g.row.P c.args.self.now) (scene files (g.W.Write.written c.args.out.now) (g.W.Write.written ran.new.out) (g.W.Write.has_failed ran.new.out)))) ran.result c.end.result c.end.ensures
     (given_borne_out g.row.P c.args.self.now.options.far_ok c.args.context.now.limit c.args.given.now.list.items (tree_paths c.args.self.now) (tree_faults g.row.P c.args.self.now) files c.args.self.now.graph.now _ g.W.Write c.args.out.now ran.new.out ran.result
-    refl (c.new-gr.ensures.failing ∙ c.in_ok-gr.ensures.opened.failing) (λ v. tt) ran.ensures.may_fail found)
+    refl (c.new-gr.ensures.failing ∙ c.in_ok-gr.ensures.opened.failing) (λ v kind. tt) ran.ensures.may_fail found)
 
 pub returns-clause-near : goal.returns-clause-near
 returns-clause-near g c =

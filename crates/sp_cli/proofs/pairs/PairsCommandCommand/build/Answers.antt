@@ -1,0 +1,14 @@
+use Rattle.std.proofs.Common.{◌≡◌, ◌∙◌, [], ap, codes, refl, rules}
+use Rattle.clap.specs.Words.{new_app, rule_of}
+use Rattle.sp_command.specs.Rules.{IsBuilt, file_rule}
+use Rattle.sp_command.proofs.Building.{new_built, with_arg, then_built}
+use Rattle.sp_cli.proofs.pairs.PairsCommandCommand.build.Goals as goal
+
+pub returns : goal.returns
+returns c =
+    let gr : rule_of c.file.result ≡ file_rule (codes "GR") = search rules in
+    let pairs : rule_of c.file-2.result ≡ file_rule (codes "PAIRS") = search rules in
+    let bare : IsBuilt (codes "pairs") [] c.new.result = new_built _ _ c.new.ensures.app c.new.ensures.local in
+    let one = with_arg _ _ _ _ _ _ bare gr refl c.in_ok-arg.ensures in
+    let two = with_arg _ _ _ _ _ _ one pairs refl c.in_ok-command.ensures in
+    then_built _ _ _ _ c.add_to.result two c.add_to.ensures

@@ -1,0 +1,14 @@
+use Rattle.std.proofs.Common.{◌≡◌, ◌∙◌, [], ap, codes, refl, rules}
+use Rattle.clap.specs.Words.{new_app, rule_of}
+use Rattle.sp_command.specs.Rules.{IsBuilt, file_rule}
+use Rattle.sp_command.proofs.Building.{new_built, with_arg, then_built}
+use Rattle.sp_cli.proofs.tree.TreeCommandCommand.build.Goals as goal
+
+pub returns : goal.returns
+returns c =
+    let gr : rule_of c.file.result ≡ file_rule (codes "GR") = search rules in
+    let bare : IsBuilt (codes "tree") [] c.new.result = new_built _ _ c.new.ensures.app c.new.ensures.local in
+    let one = with_arg _ _ _ _ _ _ bare gr refl c.in_ok-command.ensures in
+    let listed = c.in_ok-add_to.ensures _ _ one in
+    let within = with_arg _ _ _ _ _ _ listed c.option.ensures refl c.in_ok-command-2.ensures in
+    then_built _ _ _ _ c.add_to-2.result within c.add_to-2.ensures

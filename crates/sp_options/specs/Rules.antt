@@ -1,0 +1,47 @@
+-- What `clap` reads of the options of commands that run from sources.
+use Rattle.std.specs.Prelude.{ℕ, List, [], ◌∷◌, false, true, Some, pos, codes}
+use Rattle.clap.specs.Simple.{new_rule}
+use Rattle.clap.specs.Walk.{Rule}
+use Rattle.clap.specs.declared.builder.action.ArgAction.TheVariants.{Append}
+use Rattle.clap.specs.declared.builder.value_parser.ValueParser.TheVariants as parser
+use Rattle.sp_command.specs.Rules.{file_rule, flag_rule, valued_rule}
+
+-- ## How runs are made
+
+abbrev pub width_rule : Rule
+width_rule = record (valued_rule (codes "delta")) { required = true }
+
+-- The same with `mean` where it isn't given.
+abbrev pub mean_rule : Rule
+mean_rule = record (valued_rule (codes "delta")) { defaults = codes "mean" ∷ [] }
+
+abbrev pub workers_rule : Rule
+workers_rule = record (valued_rule (codes "workers")) { defaults = codes "1" ∷ [] }
+
+-- The options behind the width.
+abbrev pub running_rules : List Rule
+running_rules = workers_rule ∷ flag_rule (codes "far-ok") ∷ flag_rule (codes "progress") ∷ []
+
+abbrev pub within_rule : Rule
+within_rule = valued_rule (codes "within")
+
+-- ## Sources
+
+-- A source, from 1 to the greatest predecessor of any word, as often as wanted.
+abbrev pub source_rule : Rule
+source_rule = record (valued_rule (codes "source")) { action = Some Append; parser = Some (parser.Signed (pos 1) (pos 4294967294)) }
+
+-- The places of a file, which stand with no source.
+abbrev pub places_rule : Rule
+places_rule = record (valued_rule (codes "sources")) { is_free = false }
+
+-- A file that is needed where no source is given, and stands with none.
+abbrev pub file_unless_sources : List ℕ → Rule
+file_unless_sources name = record (new_rule name) { is_free = false }
+
+abbrev pub sources_rules : List Rule
+sources_rules = file_unless_sources (codes "SS") ∷ source_rule ∷ places_rule ∷ []
+
+-- The lists of a matrix.
+abbrev pub lists_rules : List Rule
+lists_rules = record (file_rule (codes "SS")) { value_names = 1 } ∷ file_unless_sources (codes "TARGETS") ∷ source_rule ∷ places_rule ∷ []

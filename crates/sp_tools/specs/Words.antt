@@ -1,0 +1,51 @@
+-- What a command line says of `check`, `replay` and `offers`.
+use Rattle.std.specs.Prelude.{◌≡◌, ◌⊎◌, ℕ, List, [], ◌∷◌, Some, None, codes}
+use Rattle.clap.specs.Matches.{first_value}
+use Rattle.clap.specs.Walk.{Rule}
+use Rattle.clap.specs.declared.parser.matches.Found.{Found}
+use Rattle.sp_command.specs.Rules.{file_rule, flag_rule}
+use Rattle.sp_options.specs.Numbers.{IsFlag}
+use Rattle.sp_options.specs.Rules.{within_rule}
+use Rattle.sp_options.specs.Within.{HasLimit, LacksLimit}
+use Rattle.sp_tools.specs.declared.check.CheckCommand.{CheckCommand}
+use Rattle.sp_tools.specs.declared.replay.ReplayCommand.{ReplayCommand}
+use Rattle.sp_tools.specs.declared.offers.OffersCommand.{OffersCommand}
+
+-- A command line has no value for this name.
+abbrev pub LacksValue : Found → (name : List ℕ) → Type 0
+LacksValue found name = first_value found name ≡ None
+
+-- ## check
+
+abbrev pub check_rules : List Rule
+check_rules = file_rule (codes "GR") ∷ file_rule (codes "TREE") ∷ flag_rule (codes "all") ∷ within_rule ∷ []
+
+pub record IsCheck (found : Found) (command : CheckCommand) : Type 0 where
+  pub graph : first_value found (codes "GR") ≡ Some command.graph.now
+  pub tree : first_value found (codes "TREE") ≡ Some command.tree.now
+  pub all : IsFlag found (codes "all") command.all
+  pub within : HasLimit found command.within.limit
+
+abbrev pub LacksCheck : Found → Type 0
+LacksCheck found = LacksValue found (codes "GR") ⊎ (LacksValue found (codes "TREE") ⊎ LacksLimit found)
+
+-- ## replay
+
+abbrev pub replay_rules : List Rule
+replay_rules = file_rule (codes "FILE") ∷ flag_rule (codes "svg") ∷ []
+
+pub record IsReplay (found : Found) (command : ReplayCommand) : Type 0 where
+  pub file : first_value found (codes "FILE") ≡ Some command.file.now
+  pub svg : IsFlag found (codes "svg") command.svg
+
+-- ## offers
+
+abbrev pub offers_rules : List Rule
+offers_rules = file_rule (codes "FILE") ∷ []
+
+pub record IsOffers (found : Found) (command : OffersCommand) : Type 0 where
+  pub file : first_value found (codes "FILE") ≡ Some command.file.now
+
+-- `replay` and `offers` lack their file.
+abbrev pub LacksFile : Found → Type 0
+LacksFile found = LacksValue found (codes "FILE")
