@@ -40,11 +40,11 @@ def zstd(data):
 
 # what a file is, how it is made of a text, how it is told, and what reads it
 FORMS = [
-    ("gzip", gzip.compress, "compressed by gzip", "zcat"),
-    ("bzip2", bz2.compress, "compressed by bzip2", "bzcat"),
-    ("xz", lzma.compress, "compressed by xz", "xzcat"),
-    ("zstd", zstd, "compressed by zstd", "zstdcat"),
-    ("zip", zipped, "compressed by zip", "funzip"),
+    ("gzip", gzip.compress, "compressed with gzip", "zcat"),
+    ("bzip2", bz2.compress, "compressed with bzip2", "bzcat"),
+    ("xz", lzma.compress, "compressed with xz", "xzcat"),
+    ("zstd", zstd, "compressed with zstd", "zstdcat"),
+    ("zip", zipped, "compressed with zip", "funzip"),
     ("a byte order mark", lambda data: b"\xef\xbb\xbf" + data, "begins with a byte order mark", "tail -c +4"),
     ("UTF-16", lambda data: b"\xff\xfe" + data.decode().encode("utf-16-le"), "text in UTF-16", "iconv -f UTF-16 -t UTF-8"),
     ("UTF-16 of the other order", lambda data: b"\xfe\xff" + data.decode().encode("utf-16-be"), "text in UTF-16", "iconv -f UTF-16 -t UTF-8"),
@@ -55,15 +55,15 @@ FORMS = [
 GR = "a .gr file has one `p sp N M`, and `a U V W` for each of its M arcs"
 SS = "a .ss file has one `p aux sp ss K`, and `s V` for each of its K sources"
 PAIRS = "a file of pairs has one `p pairs K`, and `q S T` for each of its K pairs"
-BLOCK = "a tree file has one `p spt N S`, `v V D P` for each vertex, and `e R`, parted by one space"
+BLOCK = "a tree file has one `p spt N S`, `v V D P` for each vertex, and `e R`, separated by one space"
 OFFERS = "a file of offers has one `p off N K`, and `o A V D P` for each offer"
 RUN = "a replay file has one `p rep N K`, and lines i, o, r, a and s: see spt replay --help"
 NO_PROBLEM = f"no `p sp N M` line; {GR}"
-COMMENT = "comments begin with `c`, and a blank parts it from the rest"
+COMMENT = "comments begin with `c` and a blank"
 LENGTHS = "lengths are whole numbers from 1 to 4294967295"
-SPELLING = "numbers are digits alone, with no sign, no point and no 0 before them"
-FROM_ZERO = "vertices are numbered from 1; where yours begin with 0, add 1 to each"
-TOO_FAR = "an x line, of a source for which a vertex was too far"
+SPELLING = "numbers consist of digits only: no sign, no decimal point, no leading 0"
+FROM_ZERO = "vertices are numbered from 1; if yours start at 0, add 1 to each"
+TOO_FAR = "an x line: a vertex was too far from its source"
 
 
 def second(told):
@@ -117,6 +117,11 @@ def reasons(count, program, folder):
     for words, lines in cases:
         told = run(program, *words)
         count.of(f"{' '.join(words)}: {told}", told == (6, "", lines))
+    for command, number in (("tree", "1"), ("nearest", "4294967294"), ("matrix", "7")):
+        words = (command, GRAPH, number) + (("--delta", "mean") if command == "tree" else (SOURCES,) if command == "matrix" else ())
+        told = run(program, *words)
+        meant = f"spt: {number}: No such file or directory (os error 2); for vertex {number} use --source {number}\n"
+        count.of(f"{' '.join(words)}: {told}", told == (6, "", f"spt: ss: cannot open\n{meant}"))
 
 
 def layouts(count, program, folder):
@@ -165,17 +170,27 @@ def vertices(count, program, folder):
         told = run(program, command, graph, path, "--delta", "3", *words)
         count.of(f"{command}, {text}: {told}", told == (2, "", f"{first}spt: {path}: {place}the graph has 4 vertices\n"))
         told = run(program, command, graph, "-", "--delta", "3", *words, given=text.encode())
-        count.of(f"{command} on standard input, {text}: {told}", told == (2, "", f"{first}spt: the graph has 4 vertices\n"))
+        role = f"target {vertex}: " if "target" in place else ""
+        count.of(f"{command} on standard input, {text}: {told}", told == (2, "", f"{first}spt: {role}the graph has 4 vertices\n"))
         told = run(program, command, "-", path, "--delta", "3", *words, given=read_bytes(graph))
-        count_unknown = "vertices are numbered from 1 to the N of the line `p sp N M`"
+        count_unknown = "vertices are numbered from 1 to N, given in the line `p sp N M`"
         count.of(f"{command} beside standard input, {text}: {told}", told == (2, "", f"{first}spt: {path}: {place}{count_unknown}\n"))
     told = run(program, "tree", graph, "--source", "4", "--source", "12", "--delta", "3")
     count.of(f"--source 12: {told}", told == (2, "", "spt: source 12: no such vertex\nspt: --source 12: the graph has 4 vertices\n"))
+    targets = b"p aux sp ss 2\ns 1\ns 9\n"
+    first = "spt: source 9: no such vertex\n"
+    told = run(program, "matrix", graph, "-", "--source", "1", given=targets)
+    count.of(f"a target on standard input: {told}", told == (2, "", f"{first}spt: target 9: the graph has 4 vertices\n"))
+    path = put(f"{folder}/targets", targets)
+    told = run(program, "matrix", graph, path, "--source", "1")
+    count.of(f"a target of a file: {told}", told == (2, "", f"{first}spt: {path}: line 3: target 9; the graph has 4 vertices\n"))
+    told = run(program, "matrix", graph, path, path)
+    count.of(f"a source and a target: {told}", told == (2, "", f"{first}spt: {path}: line 3: source 9; the graph has 4 vertices\n"))
 
 
 # of a graph: what is wrong, its text, its fault, and what is told of that; and what is told where it comes by standard input
 GRAPHS = [
-    ("a fraction as a length", "p sp 2 1\na 1 2 3.5\n", "line 2: 2 BadLine", f"{LENGTHS}; multiply them all, as by 1000", GR),
+    ("a fraction as a length", "p sp 2 1\na 1 2 3.5\n", "line 2: 2 BadLine", f"{LENGTHS}; multiply them all, for example by 1000", GR),
     ("a negative length", "p sp 2 1\na 1 2 -3\n", "line 2: 2 BadLine", LENGTHS, GR),
     ("a negative fraction", "p sp 2 1\na 1 2 -3.5\n", "line 2: 2 BadLine", LENGTHS, GR),
     ("a length in exponents", "p sp 2 1\na 1 2 1e3\n", "line 2: 2 BadLine", LENGTHS, GR),
@@ -183,13 +198,13 @@ GRAPHS = [
     ("a great length", "p sp 2 1\na 1 2 4294967296\n", "line 2: 5 OutOfRange W", LENGTHS, LENGTHS),
     ("a leading 0", "p sp 2 1\na 1 2 03\n", "line 2: 2 BadLine", SPELLING, GR),
     ("a sign", "p sp 2 1\na +1 2 3\n", "line 2: 2 BadLine", SPELLING, GR),
-    ("a vertex of 0", "p sp 2 1\na 0 1 3\n", "line 2: 5 OutOfRange U", FROM_ZERO, "vertices are numbered from 1 to the N of the line `p`"),
+    ("a vertex of 0", "p sp 2 1\na 0 1 3\n", "line 2: 5 OutOfRange U", FROM_ZERO, "vertices are numbered from 1 to N, given in the line `p`"),
     (
         "a vertex above N",
         "p sp 2 1\na 1 3 3\n",
         "line 2: 5 OutOfRange V",
         "vertices are numbered from 1 to 2",
-        "vertices are numbered from 1 to the N of the line `p`",
+        "vertices are numbered from 1 to N, given in the line `p`",
     ),
     ("a negative vertex", "p sp 2 1\na -1 2 3\n", "line 2: 2 BadLine", "vertices are numbered from 1 to 2", GR),
     ("a fraction as a vertex", "p sp 2 1\na 1.0 2 3\n", "line 2: 2 BadLine", "vertices are numbered from 1 to 2", GR),
@@ -207,43 +222,43 @@ GRAPHS = [
     ("arcs without lengths", "p sp 2 1\na 1 2\n", "line 2: 2 BadLine", GR, GR),
     ("half of a problem line", "p sp 2\n", "line 1: 2 BadLine", GR, GR),
     ("two problem lines", "p sp 1 0\np sp 1 0\n", "line 2: 4 SecondProblem", GR, GR),
-    ("too few arcs", "p sp 2 2\na 1 2 5\n", "line 3: 7 TooFew", *["M of the line `p sp N M` is the number of `a` lines"] * 2),
-    ("too many arcs", "p sp 2 0\na 1 2 5\n", "line 2: 6 TooMany", *["M of the line `p sp N M` is the number of `a` lines"] * 2),
+    ("too few arcs", "p sp 2 2\na 1 2 5\n", "line 3: 7 TooFew", *["M in the line `p sp N M` must be the number of `a` lines"] * 2),
+    ("too many arcs", "p sp 2 0\na 1 2 5\n", "line 2: 6 TooMany", *["M in the line `p sp N M` must be the number of `a` lines"] * 2),
     ("a long line", "c" + 1024 * " ", "line 1: 1 LongLine", *["a line has at most 1024 bytes, and ends with an LF"] * 2),
     ("text that is no UTF-8", "p sp 1 0\n\xff\n", "line 2: 2 BadLine", GR, GR),
-    ("a list of sources", "c\np aux sp ss 1\ns 1\n", "line 2: 2 BadLine", "a line of a .ss file, where a .gr file is wanted; see spt tree --help", GR),
-    ("sources alone", "s 1\n", "line 1: 2 BadLine", "a line of a .ss file, where a .gr file is wanted; see spt tree --help", GR),
-    ("a tree", "p spt 1 1\nv 1 0 0\ne 1\n", "line 1: 2 BadLine", "a line of a tree file, where a .gr file is wanted; see spt tree --help", GR),
-    ("pairs", "p pairs 1\nq 1 1\n", "line 1: 2 BadLine", "a line of a file of pairs, where a .gr file is wanted; see spt tree --help", GR),
+    ("a list of sources", "c\np aux sp ss 1\ns 1\n", "line 2: 2 BadLine", "a line of a .ss file, but a .gr file is expected; see spt tree --help", GR),
+    ("sources alone", "s 1\n", "line 1: 2 BadLine", "a line of a .ss file, but a .gr file is expected; see spt tree --help", GR),
+    ("a tree", "p spt 1 1\nv 1 0 0\ne 1\n", "line 1: 2 BadLine", "a line of a tree file, but a .gr file is expected; see spt tree --help", GR),
+    ("pairs", "p pairs 1\nq 1 1\n", "line 1: 2 BadLine", "a line of a file of pairs, but a .gr file is expected; see spt tree --help", GR),
 ]
 
 # of another file, beside the diamond's graph: the command, the name of its file, and the same
 OTHERS = [
     ("tree", "ss", "p aux sp ss 1\ns 0\n", "line 2: 5 OutOfRange V", FROM_ZERO),
-    ("tree", "ss", "p aux sp ss 1\ns 1.5\n", "line 2: 2 BadLine", "vertices are numbered from 1 to the N of the line `p`"),
+    ("tree", "ss", "p aux sp ss 1\ns 1.5\n", "line 2: 2 BadLine", "vertices are numbered from 1 to N, given in the line `p`"),
     ("tree", "ss", "p aux sp ss 1\ns 01\n", "line 2: 2 BadLine", SPELLING),
     ("tree", "ss", "1\n4\n", "line 1: 2 BadLine", f"no `p aux sp ss K` line; {SS}"),
     ("tree", "ss", "s 1\n", "line 1: 3 NoProblem", f"no `p aux sp ss K` line; {SS}"),
-    ("tree", "ss", "p aux sp ss 2\ns 1\n", "line 3: 7 TooFew", "K of the line `p aux sp ss K` is the number of `s` lines"),
+    ("tree", "ss", "p aux sp ss 2\ns 1\n", "line 3: 7 TooFew", "K in the line `p aux sp ss K` must be the number of `s` lines"),
     ("tree", "ss", "p aux sp ss 1048577\n", "line 1: 5 OutOfRange K", "K is a number from 0 to 1048576"),
-    ("tree", "ss", "p sp 1 0\n", "line 1: 2 BadLine", "a line of a .gr file, where a .ss file is wanted; see spt tree --help"),
-    ("tree", "ss", "c\na 1 2 3\n", "line 2: 2 BadLine", "a line of a .gr file, where a .ss file is wanted; see spt tree --help"),
-    ("pairs", "pairs", "p aux sp ss 1\ns 1\n", "line 1: 2 BadLine", "a line of a .ss file, where a file of pairs is wanted; see spt pairs --help"),
+    ("tree", "ss", "p sp 1 0\n", "line 1: 2 BadLine", "a line of a .gr file, but a .ss file is expected; see spt tree --help"),
+    ("tree", "ss", "c\na 1 2 3\n", "line 2: 2 BadLine", "a line of a .gr file, but a .ss file is expected; see spt tree --help"),
+    ("pairs", "pairs", "p aux sp ss 1\ns 1\n", "line 1: 2 BadLine", "a line of a .ss file, but a file of pairs is expected; see spt pairs --help"),
     ("pairs", "pairs", "p pairs 1\nq 0 1\n", "line 2: 5 OutOfRange S", FROM_ZERO),
     ("pairs", "pairs", "p pairs 1\nq 1 2 # home\n", "line 2: 2 BadLine", PAIRS),
-    ("pairs", "pairs", "p pairs 2\nq 1 2\n", "line 3: 7 TooFew", "K of the line `p pairs K` is the number of `q` lines"),
+    ("pairs", "pairs", "p pairs 2\nq 1 2\n", "line 3: 7 TooFew", "K in the line `p pairs K` must be the number of `q` lines"),
     ("check", "tree", "p spt 4 1\nv 1 0 0\ne 1\np spt 4 2\nv 2 0 0\ne 1\n", "line 4: 6 TooMany", "the file has several blocks; use --all"),
     ("check", "tree", "p spt 4 1\nv 1 0 0\ne 1\n\n", "line 4: 6 TooMany", BLOCK),
-    ("check", "tree", "p spt 4 1\nv 1 0 0\nv 1 0 0\ne 2\n", "line 3: 5 OutOfRange V", "V is from 1 to N, and greater than in the `v` line before"),
-    ("check", "tree", "p spt 4 1\nv 1 0 0\ne 2\n", "line 3: 5 OutOfRange R", "R of the line `e R` is the number of `v` lines"),
-    ("check", "tree", "p spt 4 1\nv 1 0 0\n", "line 3: 7 TooFew", "the file ends before the line `e R`: it is cut off"),
+    ("check", "tree", "p spt 4 1\nv 1 0 0\nv 1 0 0\ne 2\n", "line 3: 5 OutOfRange V", "V is from 1 to N, and greater than V of the `v` line before"),
+    ("check", "tree", "p spt 4 1\nv 1 0 0\ne 2\n", "line 3: 5 OutOfRange R", "R in the line `e R` must be the number of `v` lines"),
+    ("check", "tree", "p spt 4 1\nv 1 0 0\n", "line 3: 7 TooFew", "the file ends before the line `e R`: it is incomplete"),
     ("check", "tree", "p spt 4 1\nv 1 68719476735 0\n", "line 2: 5 OutOfRange D", "D is a number from 0 to 68719476734"),
     ("check", "tree", "p spt  4 1\n", "line 1: 2 BadLine", BLOCK),
     ("check", "tree", "c of the diamond\n", "line 1: 2 BadLine", f"no `p spt N S` line; {BLOCK}"),
     ("check", "tree", "# of the diamond\n", "line 1: 2 BadLine", "a tree file has no comments"),
     ("check", "tree", "x 1 4\n", "line 1: 2 BadLine", f"{TOO_FAR}; --pred-bits 20 reaches farther"),
     ("check", "tree", "p spt 4 1\nv 1 0 0\ne 1\nx 2 4\n", "line 4: 6 TooMany", f"{TOO_FAR}; --pred-bits 20 reaches farther"),
-    ("check", "tree", "p sp 1 0\n", "line 1: 2 BadLine", "a line of a .gr file, where a tree file is wanted; see spt check --help"),
+    ("check", "tree", "p sp 1 0\n", "line 1: 2 BadLine", "a line of a .gr file, but a tree file is expected; see spt check --help"),
 ]
 
 
@@ -266,7 +281,7 @@ def lines(count, program, folder):
     path = put(f"{folder}/offers", b"p off 1 2\no 3 1 1 1\n")
     told = run(program, "offers", path)
     count.of(f"an actor above K: {told}", told == (2, "", f"spt: offers: line 2: 5 OutOfRange A\nspt: {path}: {OFFERS}\n"))
-    within = "vertices are numbered from 1 to the N of the line `p`"
+    within = "vertices are numbered from 1 to N, given in the line `p`"
     runs = [
         ("o 1 2 5 0", "V", within),
         ("o 1 0 5 1", "V", FROM_ZERO),
@@ -287,7 +302,7 @@ def lines(count, program, folder):
 
 def words(count, program, folder):
     """Of places that are none, and of deltas that a layout doesn't have."""
-    spelled = "two numbers and a `-` between them are needed, as in 1-100"
+    spelled = "give two numbers with a `-` between them, as in 1-100"
     cases = [
         ("2-1", "the last place is before the first"),
         ("2-0", "the last place is before the first"),
@@ -331,7 +346,7 @@ def names(count, program, folder):
         done = subprocess.run([program, "tree", name, SOURCES, "--delta", "3"], cwd=inner, capture_output=True, timeout=SECONDS)
         told = done.returncode, done.stdout.decode(), done.stderr.decode()
         tool = "zcat" if word is None else f"zcat {word}"
-        wanted = f"spt: gr: line 1: 2 BadLine\nspt: {shown}: compressed by gzip; use {tool} | spt tree - ..\n"
+        wanted = f"spt: gr: line 1: 2 BadLine\nspt: {shown}: compressed with gzip; use {tool} | spt tree - ..\n"
         count.of(f"a file {name!r}: {told}", told == (2, "", wanted))
         if word is not None:
             given = subprocess.run(f"zcat {word}", shell=True, cwd=inner, capture_output=True, timeout=SECONDS).stdout
@@ -342,7 +357,7 @@ def names(count, program, folder):
     inner = tempfile.mkdtemp(dir=folder)
     put(f"{inner}/-x.gz", gzip.compress(read_bytes(GRAPH)))
     done = subprocess.run([program, "tree", "--delta", "3", "--", "-x.gz", SOURCES], cwd=inner, capture_output=True, timeout=SECONDS)
-    wanted = "spt: gr: line 1: 2 BadLine\nspt: -x.gz: compressed by gzip; use zcat ./-x.gz | spt tree - ..\n"
+    wanted = "spt: gr: line 1: 2 BadLine\nspt: -x.gz: compressed with gzip; use zcat ./-x.gz | spt tree - ..\n"
     count.of(f"a file -x.gz: {done}", done.stderr.decode() == wanted)
     done = subprocess.run([os.fsencode(program), b"replay", b"\xff.rep"], capture_output=True, timeout=SECONDS)
     wanted = b"spt: an argument is not UTF-8\nspt: use - and a redirection, as in spt tree - SS .. < GR > OUT\n"

@@ -108,7 +108,7 @@ def last_lines(count, program, folder):
         ("a tree", ("tree", GRAPH, SOURCES, "--delta", "3"), r"1 of 1 sources, {} bytes written"),
         ("three sources", ("tree", GRAPH, "--source", "1", "--source", "4", "--source", "2", "--delta", "mean"), r"3 of 3 sources, {} bytes written"),
         ("three pairs", ("pairs", GRAPH, PAIRS, "--delta", "mean"), r"3 of 3 pairs"),
-        ("a forest", ("nearest", GRAPH, CORNERS), r"1 of 1 sources, {} bytes written"),
+        ("a forest", ("nearest", GRAPH, CORNERS), r"1 of 1 runs, {} bytes written"),
         ("six lines of a matrix", ("matrix", GRAPH, CORNERS, "--source", "1", "--source", "4", "--source", "2"), r"6 of 6 lines, {} bytes written"),
     ]
     for name, words, line in cases:

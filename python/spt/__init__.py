@@ -8,12 +8,13 @@
     >>> graph.path(1, 4)
     [1, 2, 4]
 
-Vertices are numbered from 1; vertex v stands at place v - 1 of a list. They have names where the graph is made of a frame or of
-one of NetworkX (`Graph.from_frame`, `Graph.from_networkx`). Lengths are 1 to 4294967295, or fractions in a `unit`. Where several
-walks are shortest, the predecessor is the smallest-numbered vertex before the last on one of them, so each answer is the only
-right one. Where no walk leads the distance is UNREACHED, 2^64 - 1, which wraps around in sums (`Tree.masked`, `Tree.floats`).
+Vertices are numbered from 1; vertex v is at index v - 1 of a list. They have names if the graph is made from a frame or from a
+NetworkX graph (`Graph.from_frame`, `Graph.from_networkx`). Lengths are 1 to 4294967295, or fractions with a `unit`. If there are
+several shortest walks, the predecessor is the smallest-numbered vertex before the last on any of them, so there is exactly one
+right answer. The distance of an unreachable vertex is UNREACHED, 2^64 - 1, which wraps around in sums (`Tree.masked`,
+`Tree.floats`).
 
-The library is taken from $SPT_LIBRARY, beside this package's files, or where the system's loader looks.
+The library is looked for in $SPT_LIBRARY, then beside this package's files, then by the system's loader.
 """
 
 from ._convert import dijkstra

@@ -1,4 +1,4 @@
-"""Lists of numbers that C reads and writes where they stand."""
+"""Lists of numbers that C reads and writes in place."""
 
 from __future__ import annotations
 
@@ -9,7 +9,7 @@ from typing import Any, Iterable
 
 
 class _Buffer(ctypes.Structure):
-    """Py_buffer, as the stable interface of CPython has it."""
+    """Py_buffer, as in CPython's stable ABI."""
 
     _fields_ = [
         ("buf", ctypes.c_void_p),
@@ -30,14 +30,14 @@ _get = ctypes.pythonapi.PyObject_GetBuffer
 _get.argtypes = [ctypes.py_object, ctypes.POINTER(_Buffer), ctypes.c_int]
 _release = ctypes.pythonapi.PyBuffer_Release
 _release.argtypes, _release.restype = [ctypes.POINTER(_Buffer)], None
-# where a list of no items stands, since no pointer is null
+# the address of an empty list, since no pointer may be null
 _NOTHING = ctypes.c_uint64()
-# bytes of a number of each format
+# bytes per number of each format
 _BYTES = {"I": 4, "Q": 8}
 
 
 def address(view: memoryview) -> int:
-    """Where a list stands, also one that is only read. It stays there while the view lives."""
+    """The address of a list, which may be read-only. It stays valid while the view lives."""
     told = _Buffer()
     _get(view, ctypes.byref(told), 0)
     at = told.buf
@@ -46,12 +46,12 @@ def address(view: memoryview) -> int:
 
 
 def zeros(format: str, places: int) -> memoryview:
-    """A new list of this format ('I' or 'Q'), which C may write."""
+    """A new list of this format ('I' or 'Q') that C may write to."""
     return memoryview(array.array(format, [0]) * places)
 
 
 def is_buffer(given: Any) -> bool:
-    """Whether it is an array, a memoryview, or any other list that stands in memory as C has it."""
+    """Whether it is an array, a memoryview, or any other list laid out in memory as in C."""
     try:
         memoryview(given)
     except TypeError:
@@ -60,7 +60,7 @@ def is_buffer(given: Any) -> bool:
 
 
 def words(numbers: Any) -> memoryview:
-    """A flat list of unsigned numbers of 32 bits: the one given, where it is one and has no gaps, and else a copy.
+    """A flat list of unsigned 32-bit numbers: the given list itself if it is one and has no gaps, otherwise a copy.
 
     ValueError: a number is below 0 or above 4294967295. TypeError: it isn't a list of integers.
     """
@@ -69,7 +69,7 @@ def words(numbers: Any) -> memoryview:
     view = memoryview(numbers)
     kind = _kind(view)
     if kind not in list("bBhHiIlLqQ"):
-        raise TypeError(f"numbers of format {view.format!r}: integers are needed, best of unsigned 32 bits")
+        raise TypeError(f"numbers of format {view.format!r}: must be integers, preferably unsigned 32-bit")
     if not view.nbytes:
         return zeros("I", 0)
     flat = _bytes(view, view.itemsize)
@@ -81,39 +81,39 @@ def words(numbers: Any) -> memoryview:
 
 
 def kept(numbers: Any) -> memoryview:
-    """As `words`, in a list that nobody can write: a copy of what is given, unless it is of bytes, which never change."""
+    """Like `words`, but in a list that nobody can write to: a copy of what is given, unless that is `bytes`, which never change."""
     found = words(numbers)
     is_others = is_buffer(numbers) and found.obj is memoryview(numbers).obj and not isinstance(found.obj, bytes)
     return in_bytes(found.tobytes(), "I") if is_others else found.toreadonly()
 
 
 def column(numbers: Any, format: str) -> memoryview:
-    """A flat list of this format ('I' or 'Q') that is only read: the one given, where it is only read, and else a copy.
+    """A flat, read-only list of this format ('I' or 'Q'): the given list itself if it is read-only, otherwise a copy.
 
-    Unsigned numbers of as many bits are taken under any name of C's: NumPy calls those of 64 bits 'L'. ValueError: it has several
+    Unsigned numbers of the same size are accepted under any of C's names: NumPy calls 64-bit ones 'L'. ValueError: it has several
     dimensions. TypeError: it isn't a list of such numbers.
     """
     view = memoryview(numbers)
     if _kind(view) not in ("I", "L", "Q") or view.itemsize != _BYTES[format]:
-        raise TypeError(f"numbers of format {view.format!r}: unsigned numbers of {8 * _BYTES[format]} bits are needed")
+        raise TypeError(f"numbers of format {view.format!r}: must be unsigned {8 * _BYTES[format]}-bit numbers")
     if view.ndim != 1:
-        raise ValueError(f"a list of shape {view.shape}: one number for each vertex is needed")
+        raise ValueError(f"a list of shape {view.shape}: must have one number for each vertex")
     return in_bytes(view if view.readonly else view.tobytes(), format)
 
 
 def in_bytes(given: Any, format: str) -> memoryview:
-    """The numbers of this format ('I' or 'Q') whose bytes are given."""
+    """The numbers of this format ('I' or 'Q') that have these bytes."""
     view = memoryview(given)
     return _bytes(view, _BYTES[format]).cast(format) if view.nbytes else zeros(format, 0).toreadonly()
 
 
 def _kind(view: memoryview) -> str:
-    """C's letter of the numbers; those that are turned around keep their sign of it."""
+    """C's letter for the numbers; numbers in the other byte order keep the sign that says so."""
     return view.format.lstrip("@=<")
 
 
 def _bytes(view: memoryview, size: int) -> memoryview:
-    """The bytes of a list, where they stand if they have no gaps and begin where numbers of this size may, and else a copy."""
+    """The bytes of a list: in place if they have no gaps and are aligned for numbers of this size, otherwise a copy."""
     is_plain = view.c_contiguous and len(view.format) == 1 and address(view) % size == 0
     return view.cast("B") if is_plain else memoryview(view.tobytes())
 

@@ -1,4 +1,4 @@
-"""Graphs of SciPy and NetworkX, and frames. Their modules are imported where they are asked for."""
+"""Graphs from SciPy, NetworkX and frames. Their modules are imported only when needed."""
 
 from __future__ import annotations
 
@@ -13,12 +13,12 @@ from ._faults import BadArc, BadDelta
 from ._lengths import joined, length_fault, unit_of, unsigned, whole_length, whole_lengths
 from ._library import reach
 
-# what SciPy tells as the predecessor of a vertex that has none
+# SciPy's predecessor of a vertex that has none
 _NONE = -9999
 
 
 def _lengths_by(weight: Any, several: bool) -> Callable[[Any, Any, Any], Iterable[Any]]:
-    """What tells the lengths of all edges from a node to another, None for one that has no length."""
+    """A function that returns the lengths of all edges from one node to another, None for an edge without a length."""
 
     def by_function(tail: Any, head: Any, data: Any) -> Iterable[Any]:
         given = weight(tail, head, data)
@@ -43,7 +43,7 @@ def arcs_of_networkx(graph: Any, weight: Any, unit: Optional[float]) -> tuple[tu
                 tails.append(tail)
                 heads.append(head)
                 lengths.append(given)
-    # (what is no plain number is looked at one by one)
+    # (anything that isn't a plain number is checked one by one)
     whole = whole_lengths(lengths, unit) if set(map(type, lengths)) <= {int, float} else None
     if whole is None:
         edges = zip(tails, heads, lengths)
@@ -55,7 +55,7 @@ def arcs_of_networkx(graph: Any, weight: Any, unit: Optional[float]) -> tuple[tu
 
 def _length_of_edge(tail: Any, head: Any, given: Any, weight: Any, unit: Optional[float]) -> int:
     if given is None:
-        raise ValueError(f"edge ({tail!r}, {head!r}) has no {weight!r}: give it one, or a function as weight")
+        raise ValueError(f"edge ({tail!r}, {head!r}) has no {weight!r}: add one, or give a function as weight")
     try:
         return whole_length(given, unit)
     except ValueError as told:
@@ -63,7 +63,7 @@ def _length_of_edge(tail: Any, head: Any, given: Any, weight: Any, unit: Optiona
 
 
 def _column(edges: Any, name: Any) -> Any:
-    """A column of a frame, or a part of the names of its rows, or a column of a mapping."""
+    """A column of a frame or of a mapping, or a level of a frame's index."""
     try:
         return edges[name]
     except KeyError:
@@ -71,7 +71,7 @@ def _column(edges: Any, name: Any) -> Any:
         if name in rows:
             return edges.index.get_level_values(name)
         known = [*(it for it in rows if it is not None), *getattr(edges, "columns", edges)]
-        raise KeyError(f"there is no column {name!r}: those that there are are {', '.join(map(repr, known))}") from None
+        raise KeyError(f"there is no column {name!r}: the columns are {', '.join(map(repr, known))}") from None
 
 
 def _listed(column: Any) -> list[Any]:
@@ -79,7 +79,7 @@ def _listed(column: Any) -> list[Any]:
 
 
 def _is_missing(name: Any) -> bool:
-    """Whether it is None, NaN, or what pandas has where nothing is."""
+    """Whether it is None, NaN, or a missing value of pandas."""
     try:
         return name is None or bool(name != name)
     except TypeError:
@@ -112,7 +112,7 @@ def _by_array(tails: Any, heads: Any) -> tuple[Any, ...]:
 
 
 def _numbered(tails: Any, heads: Any) -> tuple[Any, ...]:
-    """The names of two columns in the order in which they appear, and the number of each, from 1; 0 may stand where it is missing."""
+    """The names of two columns in order of appearance, and the number of each, from 1; a missing name may get the number 0."""
     dtypes = [getattr(it, "dtype", None) for it in (tails, heads)]
     if dtypes[0] is None or dtypes[0] != dtypes[1]:
         return _by_dict(_listed(tails), _listed(heads))
@@ -127,12 +127,12 @@ def arcs_of_frame(edges: Any, columns: tuple[Any, Any, Any], unit: Optional[floa
     """The names, in the order of their numbers, and the arcs between these."""
     tails, heads, lengths = (_column(edges, name) for name in columns)
     if not len(tails) == len(heads) == len(lengths):
-        raise ValueError(f"columns of {len(tails)}, {len(heads)} and {len(lengths)} rows: each arc has one in each")
+        raise ValueError(f"columns of {len(tails)}, {len(heads)} and {len(lengths)} rows: they must have the same number")
     names, begins, ends = _numbered(tails, heads)
     if 0 in begins or 0 in ends or not hasattr(names, "dtype") and any(map(_is_missing, names)):
         missing = ([_is_missing(it) for it in _listed(column)] for column in (tails, heads))
         index, (no_tail, _) = next((at, both) for at, both in enumerate(zip(*missing)) if any(both))
-        raise ValueError(f"arc {index} (row {index + 1}) has no name of its {'tail' if no_tail else 'head'}")
+        raise ValueError(f"arc {index} (row {index + 1}) has no name for its {'tail' if no_tail else 'head'}")
     whole = whole_lengths(lengths, unit)
     if whole is None:
         raise _first_length(len(names), list(zip(*map(_listed, (tails, heads, lengths)))), unit)
@@ -140,7 +140,7 @@ def arcs_of_frame(edges: Any, columns: tuple[Any, Any, Any], unit: Optional[floa
 
 
 def _first_length(n: int, arcs: Sequence[Any], unit: Optional[float]) -> Exception:
-    """Why the first length that is none isn't one."""
+    """Why the first invalid length is invalid."""
     for index, (tail, head, length) in enumerate(arcs):
         why = length_fault(length, unit)
         if why:
@@ -154,12 +154,12 @@ def _entries(matrix: Any) -> tuple[tuple[int, ...], Any, Any, Any]:
     import scipy.sparse
 
     if scipy.sparse.issparse(matrix):
-        # (entries of a COO matrix that are given twice are summed by this)
+        # (this sums duplicate entries of a COO matrix)
         entries = matrix.tocsr().tocoo()
         return entries.shape, entries.row, entries.col, entries.data
     dense = numpy.asarray(matrix)
     if dense.dtype.kind not in "buif" or dense.ndim != 2:
-        raise ValueError(f"an array of shape {dense.shape} and type {dense.dtype}: a matrix of numbers is needed")
+        raise ValueError(f"an array of shape {dense.shape} and type {dense.dtype}: must be a matrix of numbers")
     if isinstance(matrix, numpy.ma.MaskedArray):
         is_entry = ~numpy.asarray(numpy.ma.getmaskarray(matrix))  # type: ignore[no-untyped-call]
     else:
@@ -169,17 +169,17 @@ def _entries(matrix: Any) -> tuple[tuple[int, ...], Any, Any, Any]:
 
 
 def arcs_of_matrix(matrix: Any, unit: Optional[float], unweighted: bool = False) -> tuple[int, memoryview]:
-    """The number of vertices of a matrix, and its arcs, of length 1 each where they are unweighted."""
+    """The number of vertices of a matrix, and its arcs, each of length 1 if unweighted."""
     import numpy
 
     shape, row, column, lengths = _entries(matrix)
     if lengths.dtype.kind not in "buif":
-        raise ValueError(f"entries of type {lengths.dtype}: numbers are needed")
+        raise ValueError(f"entries of type {lengths.dtype}: must be numbers")
     if shape[0] != shape[1]:
-        raise ValueError(f"a matrix of shape {shape} is no graph: as many rows as columns are needed")
+        raise ValueError(f"a matrix of shape {shape} is not a graph: it must be square")
     if unweighted:
         lengths = numpy.ones(len(lengths), numpy.uint32)
-    # no walk is shorter by an arc that never ends, or by one of length 0 from a vertex to itself
+    # an arc of infinite length, or of length 0 from a vertex to itself, makes no walk shorter
     is_arc = ~((lengths == numpy.inf) | numpy.isnan(lengths) | ((lengths == 0) & (row == column)))
     row, column, lengths = row[is_arc], column[is_arc], lengths[is_arc]
     whole = whole_lengths(lengths, None if unweighted else unit)
@@ -190,7 +190,7 @@ def arcs_of_matrix(matrix: Any, unit: Optional[float], unweighted: bool = False)
 
 
 def _first_entry(entries: Iterable[Any], unit: Optional[float]) -> Exception:
-    """Why the first entry that is no length isn't one."""
+    """Why the first invalid entry is not a length."""
     for row, column, given in entries:
         why = length_fault(given.item(), unit)
         if why:
@@ -231,31 +231,30 @@ def dijkstra(
     workers: int = 1,
     unit: Optional[float] = None,
 ) -> Any:
-    """Distances, and where asked for predecessors, as `scipy.sparse.csgraph.dijkstra` answers them.
+    """Distances and, if requested, predecessors, as `scipy.sparse.csgraph.dijkstra` returns them.
 
-    Vertices are numbered from 0, as SciPy's are; a distance is `inf` where no walk leads, a predecessor -9999 where there is
-    none.
+    Vertices are numbered from 0, as in SciPy. The distance of an unreachable vertex is `inf`, and a missing predecessor is -9999.
 
     csgraph: a sparse, dense or masked matrix, read as SciPy reads it (`Graph.from_scipy`), or a Graph, whose vertex v is v - 1
-        here. Lengths are whole numbers from 1; fractions, negative lengths and lengths of 0 are refused by a ValueError. With a
-        `unit` they are any from half of it on.
-    directed: where it is False, an arc leads both ways, and of one that is given both ways the shorter is taken.
-    indices: the sources, in any shape, all vertices where it is None; -1 is the last vertex.
-    return_predecessors: whether the answer is a tuple of distances and predecessors.
-    unweighted: whether each arc has length 1, whatever its entry is, also a fraction or 0.
-    limit: vertices that are farther are told as those that no walk leads to, and the search goes no farther.
-    min_only: whether one row is answered, of the distances from the nearest source. The tuple has the sources too, then.
-    delta, workers: as for `Graph.trees`; SciPy has neither. `min_only` is answered by one thread.
-    unit: the length that is told as 1, as for `Graph`, where `csgraph` is a matrix. Distances and `limit` are in the lengths' own unit.
+        here. Lengths are whole numbers from 1; fractions, negative lengths and lengths of 0 raise a ValueError. With a `unit`
+        they may be any number above half of it.
+    directed: if False, arcs lead both ways, and if an arc is given both ways the shorter one is used.
+    indices: the sources, in any shape; all vertices if None. -1 is the last vertex.
+    return_predecessors: whether to return a tuple of distances and predecessors.
+    unweighted: whether each arc has length 1, whatever its entry, even a fraction or 0.
+    limit: vertices farther than this count as unreachable, and the search goes no farther.
+    min_only: whether to return a single row, the distances from the nearest source. The tuple then also has the sources.
+    delta, workers: as for `Graph.trees`; SciPy has neither. `min_only` uses one thread.
+    unit: the length that counts as 1, as for `Graph`, if `csgraph` is a matrix. Distances and `limit` are in the lengths' own unit.
 
-    Distances are SciPy's, and exact; with a unit they are those of the lengths' next whole numbers of units. Of several
-    predecessors SciPy takes any, and this the smallest. TooFar tells its source and vertex as `Graph.tree` and `Graph.nearest`
-    do, from 1; with a limit nothing is too far.
+    Distances are the same as SciPy's, and exact; with a unit they are those of the lengths rounded to whole units. If there are
+    several predecessors, SciPy takes any of them and this function the smallest. TooFar has its source and vertex numbered from 1,
+    as from `Graph.tree` and `Graph.nearest`; with a limit nothing is too far.
     """
     import numpy
 
     if not isinstance(directed, (bool, numpy.bool_)):
-        raise TypeError(f"directed is True or False, not {directed!r}; the sources are `indices`")
+        raise TypeError(f"directed must be True or False, not {directed!r}; the sources go into `indices`")
     if not limit >= 0:
         raise ValueError(f"limit must be >= 0, not {limit!r}")
     graph = _asked(csgraph, directed, unweighted, unit)
@@ -271,7 +270,7 @@ def dijkstra(
 
 
 def _within(graph: Any, limit: float) -> Optional[float]:
-    """SciPy's limit as a tree takes it. No distance is above the greatest, and without a unit each is whole."""
+    """SciPy's limit in the form that a tree takes. No distance is above the greatest, and without a unit all are whole."""
     if math.isinf(limit):
         return None
     if graph.unit is not None:
@@ -280,7 +279,7 @@ def _within(graph: Any, limit: float) -> Optional[float]:
 
 
 def _asked(csgraph: Any, directed: bool, unweighted: bool, unit: Any) -> Any:
-    """The graph that SciPy's function would search, its vertices by numbers."""
+    """The graph that SciPy's function would search, with numbered vertices."""
     import numpy
     from ._graph import Graph
 
@@ -301,20 +300,20 @@ def _asked(csgraph: Any, directed: bool, unweighted: bool, unit: Any) -> Any:
 
 
 def _sources(indices: Any, n: int) -> Any:
-    """The sources, from 0, in the shape in which they are asked for."""
+    """The sources, from 0, in the shape given."""
     import numpy
 
     asked = numpy.arange(n) if indices is None else numpy.asarray(indices)
     if asked.size and asked.dtype.kind not in "iu":
-        raise TypeError(f"indices of type {asked.dtype}: whole numbers are needed")
+        raise TypeError(f"indices of type {asked.dtype}: must be whole numbers")
     asked = asked.astype(numpy.int64)
     if ((asked < -n) | (asked >= n)).any():
-        raise ValueError(f"indices out of range: a graph of {n} vertices has 0 to {n - 1}, or from the last on -1 to {-n}")
+        raise ValueError(f"indices out of range: a graph of {n} vertices has 0 to {n - 1}, or -1 to {-n} counted from the last")
     return numpy.where(asked < 0, asked + n, asked)
 
 
 def _from_zero(vertices: memoryview) -> Any:
-    """The vertices as SciPy numbers them, and what it tells where there is none."""
+    """The vertices as SciPy numbers them, and its value for a missing one."""
     import numpy
 
     told = numpy.asarray(vertices)
@@ -322,7 +321,7 @@ def _from_zero(vertices: memoryview) -> Any:
 
 
 def _from_each(graph: Any, sources: Any, within: Optional[float], delta: Optional[int], workers: int) -> tuple[Any, ...]:
-    """Distances and predecessors, a row for each source, in the shape of these."""
+    """Distances and predecessors, a row for each source, in the shape of the sources."""
     import numpy
 
     distances = numpy.empty((sources.size, graph.n))
@@ -335,6 +334,6 @@ def _from_each(graph: Any, sources: Any, within: Optional[float], delta: Optiona
 
 
 def _from_nearest(graph: Any, sources: Any, within: Optional[float], delta: Optional[int]) -> tuple[Any, ...]:
-    """Distances from the nearest source, predecessors, and which source that is."""
+    """Distances from the nearest source, predecessors, and the nearest sources themselves."""
     forest = graph.nearest((sources + 1).tolist(), within=within, delta=delta)
     return forest.floats(), _from_zero(forest.predecessors), _from_zero(forest.sources)

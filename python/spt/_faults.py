@@ -1,4 +1,4 @@
-"""What the library refuses, as exceptions."""
+"""The library's errors, as exceptions."""
 
 from __future__ import annotations
 
@@ -8,23 +8,23 @@ KINDS = ("", "LongLine", "BadLine", "NoProblem", "SecondProblem", "OutOfRange", 
 
 
 class SptError(Exception):
-    """Any refusal of the library. Memory that is wanting is a MemoryError. It can be pickled, with its fields."""
+    """Any error from the library, except lack of memory, which is a MemoryError. It can be pickled, with its fields."""
 
     def __reduce__(self) -> tuple[Any, ...]:
         return _again, (type(self), self.args), self.__dict__
 
 
 def _again(kind: type[SptError], told: tuple[Any, ...]) -> SptError:
-    """The exception that said this; its fields come after."""
+    """The exception with this message; its fields are set afterwards."""
     return kind.__new__(kind, *told)
 
 
 class Fault(SptError, ValueError):
-    """The first fault of a text: its line, from 1, its kind, the field that is out of range, if one is, and a hint, if there is
+    """The first error in a text: its line, from 1, its kind, the field that is out of range, if any, and a hint, if there is
     one.
 
-    The kinds are those that the program `spt` tells, and the fields 'U' and 'V' (vertices), 'W' (a length), 'N' and 'M' (how
-    many vertices and arcs). The hint, which is the second line of the message, says why or what to do, as the program's does.
+    The kinds are those that the program `spt` reports; the fields are 'U' and 'V' (vertices), 'W' (a length), 'N' and 'M' (the
+    numbers of vertices and arcs). The hint, the second line of the message, says why or what to do, like the program's.
     """
 
     def __init__(self, name: str, line: int, number: int, field: Optional[str], hint: Optional[str] = None) -> None:
@@ -34,27 +34,27 @@ class Fault(SptError, ValueError):
 
 
 class BadArc(SptError, ValueError):
-    """The arc at this index, from 0, leads from or to no vertex, or its length is none. Those before it are arcs."""
+    """The arc at this index, from 0, has an end that is not a vertex, or an invalid length. The arcs before it are valid."""
 
     def __init__(self, n: int, index: int, arc: tuple[Any, ...], why: Optional[str] = None) -> None:
         self.index, self.arc = index, arc
-        super().__init__(f"arc {index} (row {index + 1}): {why or f'{arc} is no arc of a graph of {n} vertices'}")
+        super().__init__(f"arc {index} (row {index + 1}): {why or f'{arc} is not an arc of a graph with {n} vertices'}")
 
 
 class NoSuchVertex(SptError, ValueError):
-    """A source or target that is no vertex: 0, or above the number of vertices, or no name of a graph that has names."""
+    """A source or target that is not a vertex: 0, above the number of vertices, or not a name in a graph that has names."""
 
     def __init__(self, n: int, vertex: Any, has_names: bool = False) -> None:
         self.vertex = vertex
         if has_names:
-            told = f"{vertex!r} is no name of a graph of {n} vertices, which has names (Graph.names)"
+            told = f"{vertex!r} is not a vertex name in this graph of {n} vertices, which has names (Graph.names)"
         else:
-            told = f"{vertex} is no vertex of a graph of {n}{': vertices are numbered from 1' if vertex == 0 else ''}"
+            told = f"{vertex} is not a vertex of a graph with {n} vertices{': vertices are numbered from 1' if vertex == 0 else ''}"
         super().__init__(told)
 
 
 class BadDelta(SptError, ValueError):
-    """A width of a bucket below 1 or above `reach(n)`."""
+    """A bucket width below 1 or above `reach(n)`."""
 
     def __init__(self, n: int, delta: int, most: int) -> None:
         self.delta = delta
@@ -62,7 +62,7 @@ class BadDelta(SptError, ValueError):
 
 
 class BadLimit(SptError, ValueError):
-    """A distance below 0 or above `reach(n)`, in the unit of the graph, within which something is asked for."""
+    """A `within` below 0 or above `reach(n)`, in the unit of the graph."""
 
     def __init__(self, n: int, limit: Any, most: Any) -> None:
         self.limit = limit
@@ -70,10 +70,10 @@ class BadLimit(SptError, ValueError):
 
 
 class TooFar(SptError, ArithmeticError):
-    """The distance of `vertex`, the smallest such, is above `reach(n)`, so this source has no tree. `source` is None where the
-    nearest of several sources is asked for."""
+    """The distance of `vertex`, the smallest such vertex, is above `reach(n)`, so this source has no tree. `source` is None for
+    the nearest of several sources."""
 
     def __init__(self, source: Any, vertex: Any, unit: Optional[float] = None) -> None:
         self.source, self.vertex = source, vertex
-        more = "" if unit is None else f": take a greater unit than {unit!r}, or `within`"
+        more = "" if unit is None else f": use a larger unit than {unit!r}, or `within`"
         super().__init__(f"from {'the nearest source' if source is None else source}, vertex {vertex} is too far{more}")

@@ -1,4 +1,4 @@
-"""Graphs, and the trees that the library answers."""
+"""Graphs, and the trees that the library computes."""
 
 from __future__ import annotations
 
@@ -27,18 +27,18 @@ from ._trees import BEYOND, UNREACHED, Forest, Matrix, Pair, Tree, in_rows, pick
 
 __all__ = ["BEYOND", "UNREACHED", "Forest", "Graph", "Matrix", "Pair", "Tree"]
 
-# places of the trees that one call of the library answers at most, unless one tree has more
+# the most places in the trees of one call to the library, unless a single tree has more
 _MOST_PLACES = 1 << 22
-# how long, in seconds for each vertex and arc, a path is looked for by its pairs, before a tree is asked: some half of what that takes
+# how long, in seconds per vertex and arc, a path is searched pair by pair before a tree is computed, in about twice the time
 _SECONDS_EACH = 5e-8
 
 def _want_near() -> None:
-    """Raises where the library has no calls for what is near."""
+    """Raises an error if the library lacks `spt_graph_nearest` and its companions."""
     if not HAS_NEAR:
-        raise SptError("the library is older than 1.2: it has no spt_graph_within, spt_graph_nearest and spt_graph_matrix")
+        raise SptError("the library is older than 1.2: it has no spt_graph_within, spt_graph_nearest or spt_graph_matrix")
 
 
-# the trees of a block of sources, up to the first that has none, and why that has none
+# the trees of a block of sources, up to the first source without one, and why it has none
 _Solved = Tuple[List[Tree], Optional[Exception]]
 
 
@@ -50,27 +50,27 @@ def _each(solved: _Solved) -> Iterator[Tree]:
 
 
 class Graph:
-    """A graph of the vertices 1 to n, or of vertices by names of their own (`from_frame`, `from_networkx`).
+    """A graph with the vertices 1 to n, or with named vertices (`from_frame`, `from_networkx`).
 
     `arcs` are triples of tail, head and length, a NumPy array of shape (m, 3), or all their numbers in one flat list: an
-    array('I'), a memoryview. The library keeps the graph in its own form, ready for each tree, and the graph a copy of the
-    numbers beside it, 12 bytes an arc, for `arcs` and `check`: what becomes of the list that was given plays no part. Several
-    threads may use one graph. It can be pickled, by the numbers of its arcs, and copied.
+    array('I'), a memoryview. The library keeps the graph in its own form, ready for each tree, and the Graph also keeps a copy of
+    the numbers, 12 bytes per arc, for `arcs` and `check`, so the list that was given may change afterwards. Several threads may
+    use one graph. It can be copied, and pickled as the numbers of its arcs.
 
-    Lengths are whole numbers from 1 to 4294967295. Where `unit` is given they are any numbers above 0, and each is told as the
-    next whole number of units, `round(length / unit)`. Answers are exact for these; so the length of a walk of k arcs is within k
-    halves of a unit of the true one. `within`, `floats`, frames and matrices are in the lengths' own unit then: of seconds in
-    units of a hundredth, `unit=0.01`, they are seconds.
+    Lengths are whole numbers from 1 to 4294967295. With `unit` they may be any numbers above 0, and each is rounded to a whole
+    number of units, `round(length / unit)`. Answers are exact for the rounded lengths, so the length of a walk of k arcs is within
+    k half units of the true one. `within`, `floats`, frames and matrices are then in the lengths' own unit: seconds, for example,
+    for lengths in seconds with `unit=0.01`, a hundredth.
 
-    BadArc: an arc is none, or its length becomes 0 or too long in the unit. ValueError: there are no or too many vertices, or an
-    array has another shape. TypeError: what is given are no whole numbers.
+    BadArc: an arc is invalid, or its length rounds to 0 or is too long in the unit. ValueError: there are no vertices or too many,
+    or an array has the wrong shape. TypeError: the numbers given are not whole.
 
     >>> graph = Graph(3, [(1, 2, 7), (2, 3, 1), (1, 3, 9)])
     >>> graph.n, graph.m
     (3, 3)
     >>> Graph(3, [(1, 2, 7), (2, 4, 1)])
     Traceback (most recent call last):
-    spt._faults.BadArc: arc 1 (row 2): 4 is no vertex of a graph of 3
+    spt._faults.BadArc: arc 1 (row 2): 4 is not a vertex of a graph with 3 vertices
     >>> list(Graph(3, [(1, 2, 7.5), (2, 3, 1)], unit=0.5).tree(1).distances)
     [0, 15, 17]
     """
@@ -85,7 +85,7 @@ class Graph:
 
     @classmethod
     def _of(cls, terms: Terms, numbers: memoryview) -> Graph:
-        """The graph of these numbers."""
+        """The graph with these numbers."""
         graph = cls.__new__(cls)
         graph._keep(terms, numbers)
         return graph
@@ -108,21 +108,21 @@ class Graph:
 
     @property
     def arcs(self) -> memoryview:
-        """The numbers of the arcs, three for each: tail, head, length. They can only be read."""
+        """The numbers of the arcs, three for each: tail, head, length. They are read-only."""
         return self._arcs
 
     @property
     def names(self) -> Optional[Tuple[Any, ...]]:
-        """The vertices' own names, that of vertex v at place v - 1; None where they have none.
+        """The names of the vertices, that of vertex v at index v - 1; None if they have no names.
 
-        Where there are names, each call takes and tells vertices by these; lists of numbers (`Tree.predecessors`) stay as they
-        are.
+        If there are names, all calls take and return vertices by name; lists of numbers (`Tree.predecessors`) still hold
+        numbers.
         """
         return self._terms.names
 
     @property
     def unit(self) -> Optional[float]:
-        """The length that is told as 1, in the unit of the lengths that were given; None where these were told as they are."""
+        """The length that counts as 1, in the unit of the lengths that were given; None if these were used as they are."""
         return self._terms.unit
 
     def __repr__(self) -> str:
@@ -150,8 +150,8 @@ class Graph:
     def read(cls, file: Union[str, "os.PathLike[str]", BinaryIO]) -> Graph:
         """The graph of a .gr file (DIMACS: `p sp N M`, then `a TAIL HEAD LENGTH`), by the proved reader.
 
-        `file` is a path, also of a file that gzip made where it ends in .gz, or a file that is open for reading bytes. Fault
-        tells the first fault of the text.
+        `file` is a path (of a gzip file if it ends in .gz) or a file open for reading bytes. Fault: the text has an error; the
+        first one is reported.
 
         >>> import io
         >>> Graph.read(io.BytesIO(b"p sp 2 1\\na 1 2 3\\n"))
@@ -170,7 +170,7 @@ class Graph:
     @classmethod
     def _parsed(cls, text: bytes, name: str) -> Graph:
         view = memoryview(text)
-        # no line of an arc has fewer than 8 bytes, but that the last may lack its end
+        # the line of an arc has at least 8 bytes, except that the last may lack its line end
         places = (len(view) + 1) // 8
         numbers = zeros("I", 3 * places)
         told = library.spt_gr(address(view), len(view), address(numbers), places)
@@ -183,12 +183,12 @@ class Graph:
 
     @classmethod
     def from_scipy(cls, matrix: Any, *, unit: Optional[float] = None) -> Graph:
-        """The graph of a matrix as `scipy.sparse.csgraph` reads it, whose row i is vertex i + 1.
+        """The graph of a matrix as `scipy.sparse.csgraph` reads it; row i is vertex i + 1.
 
-        Its lengths are whole from 1, or in a `unit` (`Graph`). Entries of a COO matrix that are given twice are summed. In a
-        dense matrix 0, `inf` and NaN are no arcs, in a masked one what is masked, in a sparse one `inf` and NaN. ValueError: an
-        entry is no length. A 0 that a sparse matrix stores would be one of length 0, so it is refused too, but from a vertex to
-        itself, where it changes nothing.
+        Lengths are whole numbers from 1, or use a `unit` (`Graph`). Duplicate entries of a COO matrix are summed. 0, `inf` and NaN
+        in a dense matrix are not arcs, nor are masked entries in a masked one, nor `inf` and NaN in a sparse one. ValueError: an
+        entry is not a length. A 0 that is stored in a sparse matrix would be an arc of length 0, so it is refused too, except on
+        the diagonal, where it changes nothing.
         """
         unit = unit_of(unit)
         n, arcs = _convert.arcs_of_matrix(matrix, unit)
@@ -196,16 +196,16 @@ class Graph:
 
     @classmethod
     def from_networkx(cls, graph: Any, weight: Any = "weight", *, unit: Optional[float] = None) -> Graph:
-        """The graph of one of NetworkX, whose nodes are its names.
+        """The graph of a NetworkX graph; its nodes become the names of the vertices.
 
-        The attribute `weight` of an edge is its length, a whole number from 1, or any above 0 in a `unit` (`Graph`). Where
-        `weight` is a function, it is called with the two ends of an edge and the dict of its attributes (of a multigraph that of
-        all edges between the two, by their keys), and answers the length, or None to leave the edge out: as NetworkX calls it,
-        also both ways along an undirected edge. Where it is None each length is 1. An edge of an undirected graph is two arcs.
-        ValueError: an edge has no such attribute, or one that is no length; or a function answers of it what is no length.
+        The attribute `weight` of an edge is its length, a whole number from 1, or any number above 0 with a `unit` (`Graph`). If
+        `weight` is a function, it is called with the two ends of an edge and the dict of its attributes (in a multigraph, the dict
+        of all edges between the two, by key), and returns the length, or None to leave the edge out; as in NetworkX, it is called
+        both ways along an undirected edge. If it is None, each length is 1. An edge of an undirected graph is two arcs.
+        ValueError: an edge has no such attribute, or one that is not a length; or the function returns something that is not.
 
-        A missing attribute is read as 1, as NetworkX reads it, by `lambda tail, head, data: data.get("weight", 1)`; in a
-        multigraph, as each of OSMnx is, by `lambda tail, head, data: min(edge.get("weight", 1) for edge in data.values())`.
+        To read a missing attribute as 1, as NetworkX does, use `lambda tail, head, data: data.get("weight", 1)`; in a multigraph,
+        such as those of OSMnx, use `lambda tail, head, data: min(edge.get("weight", 1) for edge in data.values())`.
         """
         unit = unit_of(unit)
         names, arcs = _convert.arcs_of_networkx(graph, weight, unit)
@@ -213,15 +213,15 @@ class Graph:
 
     @classmethod
     def from_frame(cls, edges: Any, tail: Any, head: Any, length: Any, *, unit: Optional[float] = None) -> Graph:
-        """The graph of a frame of pandas, or of any mapping of columns: each row an arc, from the name in one column to that in
+        """The graph of a pandas frame, or of any mapping of columns: each row is an arc, from the name in one column to the name in
         another.
 
-        What stands in the columns `tail` and `head` are the names of the vertices: numbers, texts, anything that can be a key of
-        a dict. The column `length` has whole numbers from 1, or any above 0 in a `unit` (`Graph`). A street that leads both ways
-        has two rows. Names of the rows of a frame (its index) are columns too, so the edges of OSMnx are taken as they are.
+        The values in the columns `tail` and `head` are the names of the vertices: numbers, strings, anything that can be a dict
+        key. The column `length` has whole numbers from 1, or any numbers above 0 with a `unit` (`Graph`). A two-way street has two
+        rows. The index levels of a frame count as columns too, so the edges of OSMnx can be used as they are.
 
-        BadArc: a length is none, by its row. KeyError: there is no such column. ValueError: a name is missing, or columns have
-        different lengths.
+        BadArc: the length in some row is invalid. KeyError: there is no such column. ValueError: a name is missing, or the columns
+        have different numbers of rows.
 
         >>> roads = {"u": ["Depot", "Mill"], "v": ["Mill", "Quay"], "minutes": [2.5, 4]}
         >>> graph = Graph.from_frame(roads, "u", "v", "minutes", unit=0.5)
@@ -240,20 +240,20 @@ class Graph:
         return cls._of(Terms(len(names), names, unit), arcs)
 
     def to_scipy(self) -> Any:
-        """A sparse array of SciPy (csr, float64), whose row i is vertex i + 1. Of parallel arcs it has the shortest.
+        """A SciPy sparse array (csr, float64); row i is vertex i + 1. Of parallel arcs it has the shortest.
 
-        Its lengths are in the unit of those that were given, each a whole number of `unit`.
+        Its lengths are in the unit of those that were given, each a whole multiple of `unit`.
         """
         return self._terms.told(_convert.matrix_of_arcs(self.n, self._arcs))
 
     def tree(self, source: Any, *, within: Optional[float] = None, delta: Optional[int] = None) -> Tree:
         """The tree from a source, or its part within a distance.
 
-        Where `within` is given, a vertex that is farther is told as one that no walk leads to, and the search goes no farther.
-        `delta`, the width of a bucket, changes how long it takes and never the tree; None is the mean length of an arc. Where no
-        walk leads, the distance is UNREACHED, 2^64 - 1, which wraps around in sums (`Tree.masked`, `Tree.floats`).
-        NoSuchVertex, BadDelta, BadLimit: what is asked for is refused. TooFar: a distance is above `reach(n)`, and `within` isn't
-        given. MemoryError: memory is wanting.
+        If `within` is given, vertices farther than this count as unreachable, and the search goes no farther. `delta`, the width of
+        a bucket, affects only how long it takes, never the tree; None means the mean length of an arc. The distance of an
+        unreachable vertex is UNREACHED, 2^64 - 1, which wraps around in sums (`Tree.masked`, `Tree.floats`).
+        NoSuchVertex, BadDelta, BadLimit: an argument is invalid. TooFar: a distance is above `reach(n)`, and `within` isn't given.
+        MemoryError: there is not enough memory.
 
         >>> graph = Graph(3, [(1, 2, 7), (2, 3, 1), (1, 3, 9)])
         >>> list(graph.tree(1).distances)
@@ -278,12 +278,11 @@ class Graph:
         delta: Optional[int] = None,
         progress: Progress = None,
     ) -> Iterator[Tree]:
-        """The trees from several sources, in their order, by so many threads.
+        """The trees from several sources, in the order of the sources, computed by `workers` threads.
 
-        Each is answered as by `tree`, UNREACHED (2^64 - 1) where no walk leads, and an exception comes in its place. Trees that
-        are kept may share their memory with some beside them. Nothing is begun before the first is asked for. `progress`, where
-        it is given, is called with how many trees are found and how many there will be, some at a time, by the thread that takes
-        them.
+        Each tree is as from `tree`, with UNREACHED (2^64 - 1) for unreachable vertices; an exception is raised when its source is
+        due. A tree that is kept may share its memory with neighbouring trees. Nothing starts before the first tree is requested. If
+        `progress` is given, it is called every few trees, by the consuming thread, with the number of trees found and their total.
 
         >>> [tree.distances[2] for tree in Graph(3, [(1, 2, 7), (2, 3, 1)]).trees([1, 2], workers=2)]
         [8, 1]
@@ -294,10 +293,10 @@ class Graph:
         return itertools.chain.from_iterable(map(_each, blocks))
 
     def nearest(self, sources: Iterable[Any], *, within: Optional[float] = None, delta: Optional[int] = None) -> Forest:
-        """The distance of each vertex from the nearest of the sources, and the source that it is reached from.
+        """The distance of each vertex from the nearest of the sources, and the source from which it is reached.
 
-        The order of the sources plays no part, nor does how often one is named; without any, no vertex is reached. Where `within`
-        is given, a vertex that is farther is told as one that no walk leads to. Refusals are those of `tree`; a TooFar names no
+        The order of the sources does not matter, nor does naming one more than once; without sources, no vertex is reached. If
+        `within` is given, vertices farther than this count as unreachable. The exceptions are those of `tree`; a TooFar names no
         source.
 
         >>> list(Graph(4, [(1, 2, 3), (1, 3, 3), (2, 4, 2), (3, 4, 2)]).nearest([2, 3]).sources)
@@ -322,13 +321,13 @@ class Graph:
         delta: Optional[int] = None,
         progress: Progress = None,
     ) -> Matrix:
-        """The distances of the targets from each source, rows side by side by so many threads.
+        """The distances of the targets from each source, computed row by row by `workers` threads.
 
-        NumPy takes it for an array (uint64), of a row for each source and a column for each target, with UNREACHED (2^64 - 1)
-        where no walk leads, and BEYOND (2^64 - 2) where the target has no distance up to `reach(n)` and some vertex is too far;
-        `Matrix.floats`, `Matrix.masked` and `Matrix.frame` have neither. Where NumPy isn't installed `distances` is a
-        `memoryview` of that shape, and a flat one where it is empty. A row is searched no farther than its targets. `progress`,
-        where it is given, is called with how many rows are found and how many there are, some at a time, by the thread that asks.
+        NumPy treats it as an array (uint64) with a row for each source and a column for each target, with UNREACHED (2^64 - 1)
+        for an unreachable target, and BEYOND (2^64 - 2) if the target has no distance up to `reach(n)` and some vertex is too far;
+        `Matrix.floats`, `Matrix.masked` and `Matrix.frame` have neither. Without NumPy, `distances` is a `memoryview` of that
+        shape, or a flat one if it is empty. The search of a row goes no farther than its targets. If `progress` is given, it is
+        called every few rows, by the calling thread, with the number of rows found and their total.
         NoSuchVertex, BadDelta, MemoryError: as for `tree`.
 
         >>> Graph(4, [(1, 2, 3), (1, 3, 3), (2, 4, 2), (3, 4, 2)]).matrix([1, 2], [4, 2]).tolist()
@@ -350,7 +349,7 @@ class Graph:
         return Matrix(begins, ends, in_rows(distances, len(rows), many), self._terms)
 
     def pair(self, source: Any, target: Any) -> Optional[Pair]:
-        """Distance and predecessor of a target, None where no walk leads to it. The search ends once they are known.
+        """The distance and predecessor of a target; None if no walk leads to it. The search ends as soon as they are known.
 
         >>> Graph(3, [(1, 2, 7), (2, 3, 1)]).pair(1, 3)
         Pair(distance=8, predecessor=2)
@@ -359,7 +358,7 @@ class Graph:
         return found and Pair(found[0], self._terms.name(found[1]))
 
     def _pair(self, source: int, target: int) -> Optional[Tuple[int, int]]:
-        """Distance of a target, and the number of the vertex before it."""
+        """The distance of a target, and the number of the vertex before it."""
         if not HAS_PAIR:
             tree = self._tree(source)
             told = Found(OK, tree.predecessors[target - 1], tree.distances[target - 1])
@@ -370,10 +369,10 @@ class Graph:
         return None if told.dist == UNREACHED else (told.dist, told.pred)
 
     def path(self, source: Any, target: Any) -> Optional[list[Any]]:
-        """The vertices of a shortest walk, its predecessors the smallest-numbered; None where no walk leads to the target.
+        """The vertices of a shortest walk, with the smallest-numbered predecessors; None if no walk leads to the target.
 
-        A short walk takes little time. A long one may take up to about twice as long as the tree: of several targets of one
-        source ask its `tree`.
+        A short walk takes little time. A long one may take up to about twice as long as the tree: for several targets from one
+        source use its `tree`.
 
         >>> Graph(3, [(1, 2, 7), (2, 3, 1)]).path(1, 3)
         [1, 2, 3]
@@ -386,7 +385,7 @@ class Graph:
                     walk = self._tree(begin).walk(begin, path[-1])
                     return walk and walk + [self._terms.name(it) for it in path[-2::-1]]
                 except TooFar:
-                    # The target may be nearer all the same.
+                    # The target itself may still be near enough.
                     end = inf
             found = self._pair(begin, path[-1])
             if found is None:
@@ -395,10 +394,10 @@ class Graph:
         return [self._terms.name(it) for it in reversed(path)]
 
     def check(self, tree: Tree) -> Any:
-        """None where this is the tree from its source, else the lowest vertex whose distance or predecessor is another.
+        """None if this is the tree from its source, otherwise the lowest vertex whose distance or predecessor is wrong.
 
-        ValueError: it has more or fewer places than the graph has vertices. TypeError: its distances aren't unsigned numbers of
-        64 bits, or its predecessors of 32.
+        ValueError: it has more or fewer entries than the graph has vertices. TypeError: its distances aren't unsigned 64-bit
+        numbers, or its predecessors aren't unsigned 32-bit numbers.
 
         >>> graph = Graph(2, [(1, 2, 7)])
         >>> graph.check(graph.tree(1)) is None
@@ -406,7 +405,7 @@ class Graph:
         """
         source, distances, predecessors = self._terms.number(tree.source), column(tree.distances, "Q"), column(tree.predecessors, "I")
         if len(distances) != self.n or len(predecessors) != self.n:
-            raise ValueError(f"a tree of {self.n} vertices has as many distances and predecessors")
+            raise ValueError(f"a tree of {self.n} vertices must have as many distances and predecessors")
         told = library.spt_check(
             address(self._arcs), self.m, self.n, source, address(distances), self.n, address(predecessors), self.n
         )
@@ -415,19 +414,19 @@ class Graph:
         return self._terms.name(told.vertex) if told.status == WRONG else None
 
     def _width(self, delta: Optional[int]) -> int:
-        """The width of a bucket as the library takes it."""
+        """The width of a bucket in the form that the library takes."""
         if delta is not None and not 1 <= delta <= reach(self.n):
             raise BadDelta(self.n, delta, reach(self.n))
         return delta or 0
 
     def _asked(self, sources: Iterable[Any], workers: int) -> list[int]:
-        """The sources that are asked for by so many threads."""
+        """The numbers of the sources. ValueError: there are no workers."""
         if workers < 1:
-            raise ValueError(f"{workers} workers")
+            raise ValueError(f"{workers} workers: at least 1 is needed")
         return [self._terms.number(source) for source in sources]
 
     def _solve(self, sources: list[int], limit: Optional[int], delta: Optional[int]) -> _Solved:
-        """The trees of sources, or their parts within a limit, up to the first that has none, and why."""
+        """The trees of sources, or their parts within a limit, up to the first source that has none, and why it has none."""
         n, k, width = self.n, len(sources), self._width(delta)
         distances, predecessors = zeros("Q", k * n), zeros("I", k * n)
         if limit is None:
@@ -465,7 +464,7 @@ class Graph:
         return len(sources), None
 
     def _refused(self, status: int, vertex: int, index: int, source: Optional[int]) -> Exception:
-        """What is raised for a refusal. Sources, delta and limit were tested before the call."""
+        """The exception for a status. Sources, delta and limit were checked before the call."""
         name = self._terms.name
         if status == BAD_ARC:
             arc = tuple(self._arcs[3 * index : 3 * index + 3])
@@ -474,4 +473,4 @@ class Graph:
             return TooFar(None if source is None else name(source), name(vertex), self.unit)
         if status == MEMORY:
             return MemoryError("spt: no memory for a graph or a tree")
-        return SptError(f"the library tells status {status}")
+        return SptError(f"the library returned status {status}")

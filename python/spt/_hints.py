@@ -1,4 +1,4 @@
-"""The second line of a fault: what the program `spt` says of a line of a graph's file that is refused, and why."""
+"""The second line of a Fault: what the program `spt` says about an invalid line of a graph file."""
 
 from __future__ import annotations
 
@@ -9,25 +9,25 @@ from typing import Optional
 from ._library import MOST_VERTICES
 
 _LINES = "a .gr file has one `p sp N M`, and `a U V W` for each of its M arcs"
-_COUNT = "M of the line `p sp N M` is the number of `a` lines"
+_COUNT = "M in the line `p sp N M` must be the number of `a` lines"
 _LENGTHS = "lengths are whole numbers from 1 to 4294967295"
-_SPELLING = "numbers are digits alone, with no sign, no point and no 0 before them"
-_COMMENT = "comments begin with `c`, and a blank parts it from the rest"
-_FROM_ZERO = "vertices are numbered from 1; where yours begin with 0, add 1 to each"
+_SPELLING = "numbers consist of digits only: no sign, no decimal point, no leading 0"
+_COMMENT = "comments begin with `c` and a blank"
+_FROM_ZERO = "vertices are numbered from 1; if yours start at 0, add 1 to each"
 _LONG = "a line has at most 1024 bytes, and ends with an LF"
 _MOST_ARCS = 1 << 30
-# how files begin that are none of text, what they are, and what reads them
+# how files begin that are not plain text, what they are, and how to read them
 _FORMS = (
-    (b"\x1f\x8b", "compressed by gzip", "gzip.open(path), or a name that ends in .gz"),
-    (b"BZh", "compressed by bzip2", "bz2.open(path)"),
-    (b"\xfd7zXZ\0", "compressed by xz", "lzma.open(path)"),
-    (b"\x28\xb5\x2f\xfd", "compressed by zstd", "its text"),
-    (b"PK\x03\x04", "compressed by zip", "zipfile.ZipFile(path).open(name)"),
+    (b"\x1f\x8b", "compressed with gzip", "gzip.open(path), or a name that ends in .gz"),
+    (b"BZh", "compressed with bzip2", "bz2.open(path)"),
+    (b"\xfd7zXZ\0", "compressed with xz", "lzma.open(path)"),
+    (b"\x28\xb5\x2f\xfd", "compressed with zstd", "its text"),
+    (b"PK\x03\x04", "compressed with zip", "zipfile.ZipFile(path).open(name)"),
     (b"\xef\xbb\xbf", "begins with a byte order mark", "what comes after it"),
     (b"\xff\xfe", "text in UTF-16", "it in UTF-8"),
     (b"\xfe\xff", "text in UTF-16", "it in UTF-8"),
 )
-# how lines of other files look
+# what lines of other files look like
 _OTHERS = (
     (r"p +aux +\S+ +ss\b|s +\S+$", "a .ss file"),
     (r"p +pairs\b|q +\S+ +\S+$", "a file of pairs"),
@@ -38,7 +38,7 @@ _OTHERS = (
 
 
 def second_line(text: bytes, number: int, kind: str, field: Optional[str]) -> Optional[str]:
-    """What is said of the line with this number, from 1, of a graph's text that has this fault; None where nothing is."""
+    """The hint for the line with this number, from 1, of a graph's text that has this fault; None if there is none."""
     for begin, what, reader in _FORMS:
         if text.startswith(begin):
             return f"{what}; give {reader}"
@@ -53,11 +53,11 @@ def second_line(text: bytes, number: int, kind: str, field: Optional[str]) -> Op
 
 
 def _of_vertex(vertices: Optional[int]) -> str:
-    return f"vertices are numbered from 1 to {'the N of the line `p`' if vertices is None else vertices}"
+    return f"vertices are numbered from 1 to {'N, given in the line `p`' if vertices is None else vertices}"
 
 
 def _of_range(line: bytes, field: Optional[str], vertices: Optional[int]) -> Optional[str]:
-    """Of a number that is out of range."""
+    """The hint for a number that is out of range."""
     ranges = {"N": f"N is a number from 1 to {MOST_VERTICES}", "M": f"M is a number from 0 to {_MOST_ARCS}", "W": _LENGTHS}
     if field in ranges:
         return ranges[field]
@@ -67,7 +67,7 @@ def _of_range(line: bytes, field: Optional[str], vertices: Optional[int]) -> Opt
 
 
 def _of_form(line: bytes, vertices: Optional[int]) -> str:
-    """Of a line that has no form, or comes before the problem line."""
+    """The hint for a line that has no known form, or comes before the problem line."""
     try:
         told = " ".join(line.decode().split())
     except UnicodeDecodeError:
@@ -76,7 +76,7 @@ def _of_form(line: bytes, vertices: Optional[int]) -> str:
         return _COMMENT
     for form, file in _OTHERS:
         if re.match(form, told):
-            return f"a line of {file}, where a .gr file is wanted"
+            return f"a line of {file}, but a .gr file is expected"
     if vertices is None and told[:1] != "p":
         return f"no `p sp N M` line; {_LINES}"
     fields = told.split(" ")
@@ -86,11 +86,11 @@ def _of_form(line: bytes, vertices: Optional[int]) -> str:
 
 
 def _of_number(fields: list[str], place: int, vertices: Optional[int]) -> str:
-    """Of a field that is no number."""
+    """The hint for a field that is not a number."""
     field = fields[place]
     if re.fullmatch(r"\d*|\+.*", field, re.ASCII) or fields[0] == "p":
         return _SPELLING
     if place != 3:
         return _of_vertex(vertices)
     is_fraction = "." in field and not field.startswith("-")
-    return f"{_LENGTHS}; multiply them all, as by 1000" if is_fraction else _LENGTHS
+    return f"{_LENGTHS}; multiply them all, for example by 1000" if is_fraction else _LENGTHS

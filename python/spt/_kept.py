@@ -14,9 +14,9 @@ from ._library import OK, Answer, Batch, Found, Place, library
 
 
 class Kept:
-    """A place that keeps a graph, in the library's own form, until it is let go.
+    """A handle that keeps a graph, in the library's own form, until it is released.
 
-    `told` is what the making told. Several threads may use it: each call has a place of its own for the same graph.
+    `told` is the result of making it. Several threads may use it: each call gets its own handle for the same graph.
     """
 
     def __init__(self, n: int, arcs: memoryview) -> None:
@@ -25,7 +25,7 @@ class Kept:
         weakref.finalize(self, library.spt_graph_free, byref(self._place))
 
     def trees(self, sources: memoryview, delta: int, distances: memoryview, predecessors: memoryview) -> Batch:
-        """Puts the trees of the sources, up to the first that has none."""
+        """Writes the trees of the sources, up to the first that has none."""
         with self._shared() as (own, status):
             if status != OK:
                 return Batch(status)
@@ -36,7 +36,7 @@ class Kept:
         return told
 
     def pair(self, source: int, target: int) -> Found:
-        """One target of a source. The search ends where that is found."""
+        """One target of a source. The search ends when it is found."""
         with self._shared() as (own, status):
             if status != OK:
                 return Found(status)
@@ -44,7 +44,7 @@ class Kept:
         return told
 
     def within(self, source: int, limit: int, delta: int, distances: memoryview, predecessors: memoryview) -> Answer:
-        """Puts the part of a tree within a limit."""
+        """Writes the part of a tree within a limit."""
         with self._shared() as (own, status):
             if status != OK:
                 return Answer(status)
@@ -52,7 +52,7 @@ class Kept:
         return told
 
     def nearest(self, sources: memoryview, limit: int, delta: int, lists: Sequence[memoryview]) -> Answer:
-        """Puts the distances, predecessors and roots of the forest of the sources."""
+        """Writes the distances, predecessors and roots of the forest of the sources."""
         with self._shared() as (own, status):
             if status != OK:
                 return Answer(status)
@@ -60,7 +60,7 @@ class Kept:
         return told
 
     def matrix(self, sources: memoryview, targets: memoryview, delta: int, distances: memoryview) -> Batch:
-        """Puts the distances of the targets from each of the sources, row after row."""
+        """Writes the distances of the targets from each of the sources, row by row."""
         with self._shared() as (own, status):
             if status != OK:
                 return Batch(status)
@@ -69,7 +69,7 @@ class Kept:
 
     @contextmanager
     def _shared(self) -> Iterator[Tuple[Place, int]]:
-        """A place of its own for one call, and whether it could be made."""
+        """A handle for a single call, and the status of making it."""
         own = Place()
         with self._lock:
             shared = library.spt_graph_share(byref(self._place), byref(own))
@@ -80,6 +80,6 @@ class Kept:
 
 
 def _slices(*lists: memoryview) -> Iterator[int]:
-    """Where each list stands, and how many places it has."""
+    """The address and the length of each list."""
     for numbers in lists:
         yield from (address(numbers), len(numbers))

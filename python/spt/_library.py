@@ -1,4 +1,4 @@
-"""The functions of spt.h, by ctypes. A call releases the interpreter's lock."""
+"""The functions of spt.h, through ctypes. A call releases the GIL."""
 
 from __future__ import annotations
 
@@ -13,7 +13,7 @@ NAME = "libspt.so.1"
 
 
 class LibraryNotFound(ImportError):
-    """There is no libspt.so where it is looked for."""
+    """libspt.so was not found, or could not be loaded."""
 
 
 class Answer(ctypes.Structure):
@@ -63,7 +63,7 @@ _FUNCTIONS = {
     "spt_check": ([*_SLICE, c_uint32, c_uint32, *_SLICE, *_SLICE], Answer),
     "spt_gr": ([*_SLICE, *_SLICE], Text),
 }
-# those that a library of version 1.0 lacks, and of 1.1
+# functions that a library of version 1.0 or 1.1 may lack
 _LATER = {
     "spt_graph_pair": ([POINTER(Place), c_uint32, c_uint32, c_uint64], Found),
     "spt_graph_within": ([POINTER(Place), c_uint32, c_uint64, c_uint64, *_SLICE, *_SLICE], Answer),
@@ -93,12 +93,12 @@ def _load() -> ctypes.CDLL:
 library = _load()
 HAS_PAIR = hasattr(library, "spt_graph_pair")
 HAS_NEAR = hasattr(library, "spt_graph_nearest")
-# what the library takes for no limit
+# what the library takes as no limit
 NO_LIMIT = 2**64 - 1
 
 
 def reach(n: int) -> int:
-    """The greatest distance that a tree of n vertices can tell, 0 where there is no such graph.
+    """The greatest distance that a tree of n vertices can hold; 0 if there is no graph of n vertices.
 
     >>> reach(4)
     17592186044414

@@ -1,4 +1,4 @@
-"""Rows that threads find in short calls of the library, which an interrupt ends soon, and which tell how far they are."""
+"""Rows computed by threads in short calls to the library, so that an interrupt ends them soon and progress can be reported."""
 
 from __future__ import annotations
 
@@ -11,32 +11,32 @@ from time import perf_counter
 from typing import Any, Callable, Generic, Iterator, Optional, TypeVar
 
 T = TypeVar("T")
-# what is told how far a call is: how many rows are done, and how many there are
+# called to report progress: how many rows are done, and how many there are
 Progress = Optional[Callable[[int, int], Any]]
 
-# how long, in seconds, a call of the library should take, unless one row takes longer
+# how long, in seconds, a call to the library should take, unless a single row takes longer
 _AIM = 0.05
-# how many times as many rows as a call before it may have
+# by what factor the number of rows may grow from one call to the next
 _GROWTH = 8
 
 
 class Pace:
-    """How many rows a call should have, by how long those before it took; at most so many."""
+    """How many rows a call should have, judging by how long earlier calls took; at most `most`."""
 
     def __init__(self, most: int) -> None:
         self._most, self.rows = max(1, most), 1
 
     def took(self, rows: int, seconds: float) -> None:
-        """Learns how long a call of so many rows took."""
+        """Records how long a call with this many rows took."""
         wanted = int(rows * _AIM / seconds) if seconds > 0 else _GROWTH * rows
         self.rows = max(1, min(wanted, _GROWTH * rows, self._most))
 
 
 class _Crew(Generic[T]):
-    """So many threads, which call a function of the rows that they are given, until they are let go.
+    """Threads that call a function for the rows they are given, until they are let go.
 
-    The process ends without waiting for them, which those of `concurrent.futures` don't let it do: a call for one row of a large
-    graph takes a while, and the library only writes lists that live as long as the call.
+    Unlike with the threads of `concurrent.futures`, the process can end without waiting for them: a call for one row of a large
+    graph takes a while, and the library only writes to lists that live as long as the call.
     """
 
     def __init__(self, threads: int, call: Callable[[int, int], T]) -> None:
@@ -62,17 +62,17 @@ class _Crew(Generic[T]):
         return future
 
     def let_go(self) -> None:
-        """Lets the threads end with the calls that they are at. Nothing waits for these."""
+        """Lets the threads end after their current calls. Nothing waits for them."""
         self._is_over = True
         for _ in range(self._threads):
             self._tasks.put(None)
 
 
 def in_order(total: int, workers: int, pace: Pace, call: Callable[[int, int], T], progress: Progress) -> Iterator[T]:
-    """What a call answers of each block of rows, from one number up to another, in the order of the rows.
+    """The results of a call for each block of rows, in the order of the rows.
 
-    Blocks are worked off by so many threads, which have as many again before them. Where whoever takes the answers stops, as by
-    an interrupt, no other call is begun, and those that are running aren't waited for.
+    Blocks are processed by `workers` threads, with as many again queued. If the consumer stops, for example because of an
+    interrupt, no further call is started, and running calls are not waited for.
     """
 
     def timed(begin: int, end: int) -> T:

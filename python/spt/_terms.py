@@ -1,4 +1,4 @@
-"""How a graph tells its vertices and its distances: by numbers and whole, or by names and in a unit of its own."""
+"""How a graph shows its vertices and distances: by number and whole, or by name and in a unit of its own."""
 
 from __future__ import annotations
 
@@ -13,9 +13,9 @@ from ._library import reach
 
 
 class Terms:
-    """The names of n vertices, that of vertex v at place v - 1, and the unit of lengths; None where there are none.
+    """The names of n vertices, that of vertex v at index v - 1, and the unit of lengths; None if there are none.
 
-    The names are a tuple, or an array of NumPy or of pandas, of which the tuple is made where it is asked for.
+    The names are a tuple, or a NumPy or pandas array that becomes a tuple only when needed.
     """
 
     def __init__(self, n: int, names: Any, unit: Optional[float]) -> None:
@@ -35,14 +35,14 @@ class Terms:
 
     @cached_property
     def _numbers(self) -> dict[Any, int]:
-        """The vertices of the names."""
+        """The number of each name."""
         return dict(zip(self.names or (), range(1, self.n + 1)))
 
     def __hash__(self) -> int:
         return hash((self.n, self.unit))
 
     def number(self, vertex: Any) -> int:
-        """The number of a vertex. NoSuchVertex: there is none of this name, or of this number where there are no names."""
+        """The number of a vertex. NoSuchVertex: there is none with this name, or with this number if there are no names."""
         if self._given is None:
             number = operator.index(vertex)
             if not 1 <= number <= self.n:
@@ -54,13 +54,13 @@ class Terms:
             raise NoSuchVertex(self.n, vertex, True) from None
 
     def name(self, number: int) -> Any:
-        """A vertex as it is told; of 0, which is none, its number, and None where there are names."""
+        """The name of a vertex, or its number if there are no names; for 0, which is not a vertex, None if there are names."""
         if self.names is None:
             return number
         return self.names[number - 1] if number else None
 
     def limit(self, within: Any) -> Optional[int]:
-        """The greatest distance, in the library's numbers, that is no farther than one which is given."""
+        """The greatest distance, in the library's numbers, that is not above the given one."""
         if within is None:
             return None
         most = reach(self.n)
@@ -68,10 +68,10 @@ class Terms:
             try:
                 limit = operator.index(within)
             except TypeError as error:
-                raise TypeError(f"within {within!r}: a whole number is needed, since the graph has no unit") from error
+                raise TypeError(f"within {within!r}: must be a whole number, since the graph has no unit") from error
         else:
             told = float(within)
-            # as they are told, since a quotient may be rounded
+            # compared as distances are shown, since the quotient may be rounded
             near = round(told / self.unit) if 0 <= told / self.unit <= 2 * most else -1
             limit = next((it for it in (near + 1, near, near - 1) if self.told(it) <= told), -1) if near >= 0 else near
         if not 0 <= limit <= most:
@@ -79,20 +79,20 @@ class Terms:
         return limit
 
     def told(self, distances: Any) -> Any:
-        """Distances of the library's in the unit: divided by 1000 in units of 0.001, and not multiplied, which tells fewer digits."""
+        """The library's distances in the unit: for 0.001 they are divided by 1000, not multiplied, which would add stray digits."""
         if self.unit is None:
             return distances
         parts = round(1 / self.unit) if self.unit < 1 and 1 / self.unit < math.inf else 0
         return distances / parts if parts and 1 / parts == self.unit else distances * self.unit
 
     def index(self) -> Any:
-        """The vertices as the rows of a frame of pandas."""
+        """The vertices as the index of a pandas frame."""
         if self._index is None:
             self._index = index_of(range(1, self.n + 1) if self._given is None else self._given)
         return self._index
 
     def column(self, vertices: memoryview) -> Any:
-        """Vertices as a column of a frame of pandas, which has nothing where a vertex is 0."""
+        """Vertices as a column of a pandas frame, with a missing value for a vertex of 0."""
         import numpy
         import pandas
 
@@ -106,7 +106,7 @@ class Terms:
 
 
 def index_of(vertices: Iterable[Any]) -> Any:
-    """Vertices, by their names or numbers, as the rows or columns of a frame."""
+    """Vertices, by name or number, as the rows or columns of a frame."""
     pandas = want_pandas()
     if isinstance(vertices, range):
         return pandas.RangeIndex(vertices.start, vertices.stop, name="vertex")
@@ -117,5 +117,5 @@ def want_pandas() -> Any:
     try:
         import pandas
     except ImportError as error:
-        raise ImportError(f"spt: a frame is one of pandas, which isn't installed: {error}") from error
+        raise ImportError(f"spt: frames need pandas, which isn't installed: {error}") from error
     return pandas

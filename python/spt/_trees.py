@@ -1,4 +1,4 @@
-"""What the library answers: trees, forests, pairs and matrices."""
+"""The library's answers: trees, forests, pairs and matrices."""
 
 from __future__ import annotations
 
@@ -14,21 +14,21 @@ from ._terms import Terms, index_of, want_pandas
 UNREACHED = 2**64 - 1
 """The distance of a vertex that no walk leads to.
 
-It is the greatest number of 64 bits, so in sums of NumPy's uint64 it wraps around: with 1 it is 0. `Tree.masked` and
-`Tree.floats` have no such number.
+It is the greatest 64-bit number, so sums in NumPy's uint64 wrap around: adding 1 gives 0. `Tree.masked` and `Tree.floats` do not
+contain it.
 """
 
 BEYOND = 2**64 - 2
-"""What a matrix has for a target whose distance is above `reach(n)`, or to which no walk leads where some vertex is so far."""
+"""The entry of a matrix for a target whose distance is above `reach(n)`, or that is unreachable while some vertex is that far."""
 
-# places of a tree that its repr tells
+# how many entries of a list the repr of a tree shows
 _SHOWN = 8
 
 
 class Pair(NamedTuple):
-    """What is told of a target: its distance and the vertex before it.
+    """The distance of a target and the vertex before it.
 
-    The distance is a whole number. In a graph with names the vertex is a name, and None where the target is the source.
+    The distance is a whole number. In a graph with names the vertex is a name, or None if the target is the source.
     """
 
     distance: int
@@ -36,26 +36,26 @@ class Pair(NamedTuple):
 
 
 def _masked(distances: Any, least: int) -> Any:
-    """An array of NumPy as a masked one, without what is at least this."""
+    """A NumPy array as a masked array, with everything at or above the least masked."""
     import numpy
 
     return numpy.ma.MaskedArray(distances, distances >= least, fill_value=numpy.uint64(UNREACHED))  # type: ignore[no-untyped-call]
 
 
 def _floats(distances: Any, least: int, terms: Terms) -> Any:
-    """An array of NumPy as one of floats in the unit, with `inf` for what is at least this."""
+    """A NumPy array as floats in the unit, with `inf` for everything at or above the least."""
     import numpy
 
     return numpy.where(distances >= least, numpy.inf, terms.told(distances.astype(float)))
 
 
 class _Reached:
-    """What a tree and a forest tell of each vertex."""
+    """What trees and forests have in common: an entry for each vertex."""
 
     distances: memoryview
     predecessors: memoryview
     terms: Optional[Terms]
-    # what is told, in the order in which it is made of it: the format of each list, nothing for what is none
+    # the fields, in the order of the constructor, with the format of each list; empty if it is not a list
     _formats: ClassVar[dict[str, str]]
 
     def __post_init__(self) -> None:
@@ -71,7 +71,7 @@ class _Reached:
         return self.terms
 
     def _values(self) -> tuple[Any, ...]:
-        """What is told, whose lists are only read."""
+        """The values of the fields; their lists are read-only."""
         return tuple(getattr(self, name) for name in self._formats)
 
     def __reduce_ex__(self, protocol: Any) -> tuple[Any, ...]:
@@ -90,30 +90,30 @@ class _Reached:
         return hash(tuple(it.tobytes() if isinstance(it, memoryview) else it for it in self._values()))
 
     def masked(self) -> Any:
-        """The distances as a masked array of NumPy (uint64), without a copy, masked where no walk leads.
+        """The distances as a NumPy masked array (uint64), without a copy; unreachable vertices are masked.
 
-        Its sums and means pass over these places, and `filled()` puts UNREACHED there. They are whole numbers, in units of the
-        graph's unit where it has one.
+        Sums and means skip them, and `filled()` has UNREACHED for them. The distances are whole numbers, in units of the graph's
+        `unit` if it has one.
         """
         import numpy
 
         return _masked(numpy.asarray(self.distances), UNREACHED)
 
     def floats(self) -> Any:
-        """The distances as a new array of NumPy (float64), `inf` where no walk leads, in the unit of the graph's lengths.
+        """The distances as a new NumPy array (float64), `inf` for unreachable vertices, in the unit of the graph's lengths.
 
-        Where the graph has no `unit`, each that the library tells is exact, since none is above `reach(n)`, which is below 2^44,
-        and a float tells whole numbers up to 2^53. Sums above that are rounded: to even numbers up to 2^54, to multiples of 4 up
-        to 2^55, and so on. In a unit each is the float next to it.
+        If the graph has no `unit`, each distance is exact, since none is above `reach(n)`, which is below 2^44, and floats are
+        exact for whole numbers up to 2^53. Sums above that are rounded: to even numbers up to 2^54, to multiples of 4 up to 2^55,
+        and so on. With a unit each is the nearest float.
         """
         import numpy
 
         return _floats(numpy.asarray(self.distances), UNREACHED, self._terms)
 
     def frame(self) -> Any:
-        """A frame of pandas, with a row for each vertex, by its name or number, in their order.
+        """A pandas frame with a row for each vertex, by name or number, in order.
 
-        Its columns are `distance` (`floats`), `predecessor`, and of a forest `source`; nothing stands where there is none.
+        Its columns are `distance` (`floats`), `predecessor` and, for a forest, `source`, with missing values where there is none.
         ImportError: pandas isn't installed.
         """
         index = self._terms.index()
@@ -121,19 +121,19 @@ class _Reached:
         return want_pandas().DataFrame({"distance": self.floats(), **lists}, index=index)
 
     def pair(self, target: Any) -> Optional[Pair]:
-        """Distance and predecessor of a target, None where no walk leads to it."""
+        """The distance and predecessor of a target; None if no walk leads to it."""
         place = self._terms.number(target) - 1
         distance = self.distances[place]
         return None if distance == UNREACHED else Pair(distance, self._terms.name(self.predecessors[place]))
 
     def walk(self, source: int, target: int) -> Optional[list[Any]]:
-        """The vertices of the walk from the number of one to that of another, None where no walk leads to it."""
+        """The vertices of the walk from a source to a target, both given by number; None if no walk leads to the target."""
         if self.distances[target - 1] == UNREACHED:
             return None
         path = [target]
         while path[-1] != source:
             if len(path) == len(self.distances) or not path[-1]:
-                raise ValueError("the predecessors are no tree's")
+                raise ValueError("the predecessors do not form a tree")
             path.append(self.predecessors[path[-1] - 1])
         return [self._terms.name(it) for it in reversed(path)]
 
@@ -142,14 +142,14 @@ class _Reached:
 class Tree(_Reached):
     """The shortest-path tree from a source, or its part within a distance.
 
-    `distances` and `predecessors` are lists of unsigned numbers of 64 and of 32 bits, vertex v at place v - 1: UNREACHED and 0
-    where no walk leads to it, 0 and 0 for the source. UNREACHED is 2^64 - 1, which wraps around in sums: `masked` and `floats`
-    answer the distances without it. They can only be read, and `numpy.asarray` takes them without a copy. A tree that is made of
-    other lists copies those that can be written. Of a graph with names `source`, `path`, `pair` and `frame` tell these, and
+    `distances` and `predecessors` are lists of unsigned 64-bit and 32-bit numbers, with vertex v at index v - 1: UNREACHED and 0
+    for an unreachable vertex, 0 and 0 for the source. UNREACHED is 2^64 - 1, which wraps around in sums: `masked` and `floats`
+    give the distances without it. The lists are read-only, and `numpy.asarray` takes them without a copy. A tree that is made from
+    other lists copies those that are writable. In a graph with names, `source`, `path`, `pair` and `frame` use the names, and
     vertex v of the lists is `graph.names[v - 1]`.
 
-    Trees are equal where source, distances and predecessors are, and names and unit. They can be keys of a dict, pickled and
-    copied.
+    Trees are equal if their sources, distances, predecessors, names and units are equal. They can be dict keys, and can be pickled
+    and copied.
 
     >>> import spt
     >>> tree = spt.Graph(3, [(1, 2, 7)]).tree(1)
@@ -171,7 +171,7 @@ class Tree(_Reached):
         return f"Tree from {self.source} over {len(self.distances)} vertices: {told}"
 
     def path(self, target: Any) -> Optional[list[Any]]:
-        """The vertices of the tree's walk from the source to a target, None where no walk leads to it.
+        """The vertices of the tree's walk from the source to a target; None if no walk leads to it.
 
         >>> import spt
         >>> spt.Graph(3, [(1, 2, 5), (2, 3, 5)]).tree(1).path(3)
@@ -184,10 +184,10 @@ class Tree(_Reached):
 class Forest(_Reached):
     """The distances from the nearest of several sources, or those within a distance.
 
-    `distances`, `predecessors` and `sources` are lists of unsigned numbers, of 64 bits and twice of 32, vertex v at place v - 1:
-    its least distance from any source, the smallest vertex before it on such a walk, and the source that it is reached from, to
-    which the predecessors lead back. They are UNREACHED, 0 and 0 where no walk leads, and 0, 0 and the vertex for a source. The
-    lists are as those of a `Tree`.
+    `distances`, `predecessors` and `sources` are lists of unsigned numbers, of 64, 32 and 32 bits, with vertex v at index v - 1:
+    its least distance from any source, the smallest vertex before it on such a walk, and the source from which it is reached, to
+    which the predecessors lead back. They are UNREACHED, 0 and 0 for an unreachable vertex, and 0, 0 and the vertex itself for a
+    source. The lists are like those of a `Tree`.
 
     >>> import spt
     >>> forest = spt.Graph(4, [(1, 2, 3), (1, 3, 3), (2, 4, 2), (3, 4, 2)]).nearest([3, 1])
@@ -209,18 +209,18 @@ class Forest(_Reached):
         return f"Forest over {len(self.distances)} vertices: {told}"
 
     def source(self, target: Any) -> Any:
-        """The source that a target is reached from, None where no walk leads to it."""
+        """The source from which a target is reached; None if no walk leads to it."""
         number = self.sources[self._terms.number(target) - 1]
         return self._terms.name(number) if number else None
 
     def path(self, target: Any) -> Optional[list[Any]]:
-        """The vertices of the walk to a target from its source, None where no walk leads to it."""
+        """The vertices of the walk to a target from its source; None if no walk leads to it."""
         place = self._terms.number(target)
         return self.walk(self.sources[place - 1], place)
 
 
 def _of_floats(name: str) -> Callable[..., Any]:
-    """What does with the floats of a matrix what this method does."""
+    """A method that applies this one to the floats of a matrix."""
 
     def call(self: Matrix, *given: Any) -> Any:
         return getattr(self.floats(), name)(*(it.floats() if isinstance(it, Matrix) else it for it in given))
@@ -229,7 +229,7 @@ def _of_floats(name: str) -> Callable[..., Any]:
 
 
 def _of_array(name: str) -> Callable[..., Any]:
-    """What does with the array of a matrix what this method does."""
+    """A method that applies this one to the array of a matrix."""
 
     def call(self: Matrix, *given: Any) -> Any:
         return getattr(self._array, name)(*(it._array if isinstance(it, Matrix) else it for it in given))
@@ -239,12 +239,12 @@ def _of_array(name: str) -> Callable[..., Any]:
 
 @dataclass(frozen=True, eq=False, repr=False)
 class Matrix:
-    """The distances of targets from sources: a row for each of the sources, a column for each of the targets.
+    """The distances of targets from sources: a row for each source, a column for each target.
 
-    `distances` has them in whole numbers, as an array of NumPy (uint64), or as a `memoryview` where NumPy isn't installed:
-    UNREACHED where no walk leads, BEYOND where a target is too far. `floats`, `masked` and `frame` have neither, and sums,
-    products and quotients of a matrix are those of its `floats`. Else it is read as an array is, by NumPy too (`numpy.asarray`),
-    which is `distances`, and of a graph with a unit `floats`.
+    `distances` has them as whole numbers, in a NumPy array (uint64), or in a `memoryview` if NumPy isn't installed: UNREACHED if
+    no walk leads to a target, BEYOND if it is too far. `floats`, `masked` and `frame` have neither, and sums, products and
+    quotients of a matrix are those of its `floats`. Otherwise it acts as an array, also for NumPy (`numpy.asarray`): `distances`,
+    or `floats` in a graph with a unit.
 
     >>> import spt
     >>> matrix = spt.Graph(3, [(1, 2, 7), (2, 3, 1)]).matrix([1, 2], [3, 1])
@@ -263,22 +263,22 @@ class Matrix:
         return f"Matrix of {len(self.sources)} sources and {len(self.targets)} targets"
 
     def masked(self) -> Any:
-        """The distances as a masked array of NumPy (uint64), without a copy, masked where no walk leads and what is too far."""
+        """The distances as a NumPy masked array (uint64), without a copy; unreachable and too far targets are masked."""
         import numpy
 
         return _masked(numpy.asarray(self.distances), BEYOND)
 
     def floats(self) -> Any:
-        """The distances as a new array of NumPy (float64), in the unit of the graph's lengths (`Tree.floats`).
+        """The distances as a new NumPy array (float64), in the unit of the graph's lengths (`Tree.floats`).
 
-        It has `inf` where no walk leads and for what is too far.
+        It has `inf` for unreachable and too far targets.
         """
         import numpy
 
         return _floats(numpy.asarray(self.distances), BEYOND, self.terms)
 
     def frame(self) -> Any:
-        """A frame of pandas of `floats`, its rows the sources and its columns the targets.
+        """`floats` as a pandas frame, with the sources as rows and the targets as columns.
 
         ImportError: pandas isn't installed.
         """
@@ -287,7 +287,7 @@ class Matrix:
 
     @cached_property
     def _array(self) -> Any:
-        """What it is read as."""
+        """The array that it acts as."""
         return self.distances if self.terms.unit is None else self.floats()
 
     def __array__(self, dtype: Any = None, copy: Optional[bool] = None) -> Any:
@@ -325,7 +325,7 @@ class Matrix:
 
 
 def in_rows(distances: memoryview, rows: int, columns: int) -> Any:
-    """The numbers in rows and columns, of NumPy where it is installed."""
+    """The numbers in rows and columns, as a NumPy array if NumPy is installed."""
     try:
         import numpy
     except ImportError:
@@ -339,7 +339,7 @@ def _matrix_again(sources: tuple[Any, ...], targets: tuple[Any, ...], told: Any,
 
 
 def _shown(numbers: memoryview, names: dict[int, str]) -> str:
-    """The numbers, where there are many the first and the last of them."""
+    """The numbers; if there are many, only the first and the last."""
     if len(numbers) > _SHOWN:
         ends = _shown(numbers[: _SHOWN // 2], names), _shown(numbers[-(_SHOWN // 2) :], names)
         return ", ..., ".join(ends)
@@ -347,5 +347,5 @@ def _shown(numbers: memoryview, names: dict[int, str]) -> str:
 
 
 def pickled(numbers: memoryview, protocol: int) -> Any:
-    """A list as pickle takes it: from protocol 5 on where it stands."""
+    """A list in a form that can be pickled: from protocol 5 on without a copy."""
     return pickle.PickleBuffer(numbers) if protocol >= 5 else numbers.tobytes()

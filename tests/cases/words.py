@@ -7,6 +7,8 @@ HELP = "\nFor more information, try '--help'.\n"
 BITS = f"  [possible values: {', '.join(LAYOUTS)}]\n"
 
 LIMIT = "spt: L is a whole number from 0 to 17592186044414\n"
+MEAN = "spt: use --delta mean if you know no better width\n"
+SOURCE = "spt: a source is a number from 1 to N; give each its own --source\n"
 DELTA = "spt: D is a whole number from 1 to 17592186044414, or mean\n"
 
 # name, line, text on standard error, what stands below the line on help
@@ -20,8 +22,21 @@ TOLD = [
         "no delta",
         "tree f.rep f.rep",
         "error: the following required arguments were not provided:\n  --delta <D>\n\nUsage: spt tree --delta <D> <GR> <SS>\n",
-        "",
+        MEAN,
     ),
+    (
+        "no delta of pairs",
+        "pairs f.rep f.rep",
+        "error: the following required arguments were not provided:\n  --delta <D>\n\nUsage: spt pairs --delta <D> <GR> <PAIRS>\n",
+        MEAN,
+    ),
+    (
+        "two sources in one word",
+        "tree f.rep --source 1,5 --delta 3",
+        "error: invalid value '1,5' for '--source <V>': invalid digit found in string\n",
+        SOURCE,
+    ),
+    ("source of none", "nearest f.rep --source 0", "error: invalid value '0' for '--source <V>': 0 is not in 1..=4294967294\n", SOURCE),
     (
         "delta beyond every layout",
         "tree f.rep f.rep --delta 17592186044415 --pred-bits=20",
@@ -93,13 +108,13 @@ TOLD = [
         "no sources of a forest",
         "nearest f.rep",
         "error: the following required arguments were not provided:\n  <SS>\n\nUsage: spt nearest <GR> <SS>\n",
-        "spt: SS, or --source V, says where trees begin\n",
+        "spt: give the sources in a file SS, or each with --source V\n",
     ),
     (
         "no sources",
         "tree f.rep --delta 3",
         "error: the following required arguments were not provided:\n  <SS>\n\nUsage: spt tree --delta <D> <GR> <SS>\n",
-        "spt: SS, or --source V, says where trees begin\n",
+        "spt: give the sources in a file SS, or each with --source V\n",
     ),
     (
         "no pairs",

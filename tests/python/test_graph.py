@@ -45,8 +45,8 @@ if __name__ == "__main__":
             except spt.SptError as told:
                 print(type(told).__name__, told, sorted(vars(told)))
 """
-FROM_POOL = """BadArc arc 0 (row 1): 3 is no vertex of a graph of 2 ['arc', 'index']
-NoSuchVertex 0 is no vertex of a graph of 4201: vertices are numbered from 1 ['vertex']
+FROM_POOL = """BadArc arc 0 (row 1): 3 is not a vertex of a graph with 2 vertices ['arc', 'index']
+NoSuchVertex 0 is not a vertex of a graph with 4201 vertices: vertices are numbered from 1 ['vertex']
 BadDelta delta 18446744073709551616 is out of range: in a graph of 4201 vertices it is from 1 to 17592186044414 ['delta']
 TooFar from 1, vertex 4098 is too far ['source', 'vertex']
 """
@@ -309,8 +309,8 @@ class Refusals(unittest.TestCase):
         return str(told.exception)
 
     def test_arcs(self):
-        zero = "0 is no vertex of a graph of 4: vertices are numbered from 1; where yours begin with 0, add 1 to each"
-        five, length = "5 is no vertex of a graph of 4", "0 is no length: whole numbers from 1 to 4294967295 are"
+        zero = "0 is not a vertex of a graph with 4 vertices: vertices are numbered from 1; if yours start at 0, add 1 to each"
+        five, length = "5 is not a vertex of a graph with 4 vertices", "0 is not a length: lengths are whole numbers from 1 to 4294967295"
         for bad, why in (((0, 2, 1), zero), ((2, 0, 1), zero), ((5, 1, 1), five), ((1, 5, 1), five), ((1, 2, 0), length)):
             for place in range(6):
                 arcs = [*samples.DIAMOND[:place], bad, *samples.DIAMOND[place:]]
@@ -335,7 +335,7 @@ class Refusals(unittest.TestCase):
             for call in (graph.tree, lambda it: graph.pair(1, it), lambda it: graph.path(1, it), lambda it: graph.trees([1, it])):
                 text = self.refused(spt.NoSuchVertex, lambda: call(vertex), vertex=vertex)
                 more = ": vertices are numbered from 1" if vertex == 0 else ""
-                self.assertEqual(text, f"{vertex} is no vertex of a graph of 4{more}")
+                self.assertEqual(text, f"{vertex} is not a vertex of a graph with 4 vertices{more}")
 
     def test_delta(self):
         graph = spt.Graph(4, samples.DIAMOND)

@@ -263,7 +263,7 @@ class Dijkstra(unittest.TestCase):
             for call in (spt.dijkstra, spt.Graph.from_scipy):
                 with self.assertRaises(ValueError) as told:
                     call(matrix)
-                self.assertIn(f"entry {entry}is no length: whole numbers from 1 to 4294967295", str(told.exception))
+                self.assertIn(f"entry {entry}is not a length: lengths are whole numbers from 1 to 4294967295", str(told.exception))
             self.same(matrix, unweighted=True)
         # SciPy's 0 from a vertex to itself changes nothing
         self.same(scipy.sparse.csr_matrix(([0, 3], ([0, 1], [0, 0])), shape=(2, 2)))
@@ -331,7 +331,7 @@ class NetworkX(unittest.TestCase):
             theirs.add_edge("north", "south", metres=wrong)
             with self.assertRaises(ValueError) as told:
                 spt.Graph.from_networkx(theirs, weight="metres")
-            self.assertIn(f"edge ('north', 'south'): {wrong!r} is no length", str(told.exception))
+            self.assertIn(f"edge ('north', 'south'): {wrong!r} is not a length", str(told.exception))
 
     def test_missing_weights(self):
         for kind in (networkx.Graph, networkx.DiGraph, networkx.MultiGraph, networkx.MultiDiGraph):
@@ -371,10 +371,10 @@ class NetworkX(unittest.TestCase):
             for wrong in ("3", "fast", b"3", [3], (3,), {"weight": 3}, 1j, float("nan"), float("inf"), -1, 0, 2**32, 0.5, lambda: 3):
                 with self.assertRaises(ValueError) as told:
                     spt.Graph.from_networkx(theirs, lambda tail, head, data: wrong)
-                self.assertIn(f"edge ('north', 'south'): {wrong!r} is no length", str(told.exception))
+                self.assertIn(f"edge ('north', 'south'): {wrong!r} is not a length", str(told.exception))
             if numpy:
                 for wrong in (numpy.array([3, 3]), numpy.array([[3]]), numpy.float64(0.5)):
-                    with self.assertRaisesRegex(ValueError, r"^edge \('north', 'south'\): .* is no length"):
+                    with self.assertRaisesRegex(ValueError, r"^edge \('north', 'south'\): .* is not a length"):
                         spt.Graph.from_networkx(theirs, lambda tail, head, data: wrong)
                 graph = spt.Graph.from_networkx(theirs, lambda tail, head, data: numpy.float32(3))
                 self.assertEqual(graph.arcs[2], 3)

@@ -102,16 +102,16 @@ class Units(unittest.TestCase):
 
     def test_refused_lengths(self):
         for length in (nan, inf, -inf):
-            self.refused(length, 0.5, f"{length!r} is no length", "leave out")
-        self.refused(-2.5, 0.5, "-2.5 is no length: lengths are above 0")
-        self.refused(0.0, 0.5, "0.0 is no length: lengths are above 0", "0.5")
-        self.refused(0.25, 0.5, "0.25 becomes 0 in the unit 0.5: take a smaller unit, or 0.5 as its length")
-        self.refused(1e-300, 0.5, "becomes 0")
-        self.refused(4294967295.75 * 0.5, 0.5, "is more than 4294967295 times the unit 0.5: take a greater unit")
-        self.refused(1e300, 1e-3, "take a greater unit")
-        self.refused(10**400, 1e-3, "is no length")
+            self.refused(length, 0.5, f"{length!r} is not a length", "leave out")
+        self.refused(-2.5, 0.5, "-2.5 is not a length: lengths are above 0")
+        self.refused(0.0, 0.5, "0.0 is not a length: lengths are above 0", "0.5")
+        self.refused(0.25, 0.5, "0.25 rounds to 0 in the unit 0.5: use a smaller unit, or 0.5 as the length")
+        self.refused(1e-300, 0.5, "rounds to 0")
+        self.refused(4294967295.75 * 0.5, 0.5, "is more than 4294967295 times the unit 0.5: use a larger unit")
+        self.refused(1e300, 1e-3, "use a larger unit")
+        self.refused(10**400, 1e-3, "is not a length")
         for wrong in ("2.5", None, [1], 1j):
-            self.refused(wrong, 0.5, f"{wrong!r} is no length")
+            self.refused(wrong, 0.5, f"{wrong!r} is not a length")
 
     def test_refused_units(self):
         for wrong in (0, -1, nan, inf):
@@ -124,7 +124,7 @@ class Units(unittest.TestCase):
         for arcs in ([(1, 2, 1), (2, 1, 1.5)], [(1, 2, 1), (2, 1, 2.0)], array.array("d", [1, 2, 1])):
             with self.assertRaises(TypeError) as told:
                 spt.Graph(2, arcs)
-            self.assertTrue(str(told.exception).endswith("; for fractions give a unit, as unit=0.001"), told.exception)
+            self.assertTrue(str(told.exception).endswith("; for fractions give a unit, such as unit=0.001"), told.exception)
 
     def test_limits(self):
         graph = spt.Graph(2, [(1, 2, 1)], unit=0.5)
@@ -135,7 +135,7 @@ class Units(unittest.TestCase):
             spt.Graph(2, [(1, 2, 1)]).tree(1, within=0.5)
         n = 4201
         far = spt.Graph(n, [(tail, tail + 1, samples.LONGEST / 2) for tail in range(1, n)], unit=0.5)
-        with self.assertRaisesRegex(spt.TooFar, "take a greater unit than 0.5"):
+        with self.assertRaisesRegex(spt.TooFar, "use a larger unit than 0.5"):
             far.tree(1)
 
     @unittest.skipIf(networkx is None or numpy is None, "NetworkX isn't installed")
@@ -177,9 +177,9 @@ class Units(unittest.TestCase):
                 self.assertTrue((spt.dijkstra(given, unweighted=True, unit=unit) == steps).all())
         back = spt.Graph.from_scipy(dense, unit=0.001).to_scipy()
         self.assertTrue(numpy.allclose(back.toarray(), dense, rtol=0, atol=1e-12))
-        with self.assertRaisesRegex(ValueError, r"^entry \(0, 1\): 0.25 becomes 0 in the unit 0.5"):
+        with self.assertRaisesRegex(ValueError, r"^entry \(0, 1\): 0.25 rounds to 0 in the unit 0.5"):
             spt.Graph.from_scipy([[0, 0.25], [1, 0]], unit=0.5)
-        with self.assertRaisesRegex(ValueError, r"2.5 is no length.*give a unit, as unit=0.001$"):
+        with self.assertRaisesRegex(ValueError, r"2.5 is not a length.*give a unit, such as unit=0.001$"):
             spt.dijkstra([[0, 2.5], [1, 0]])
         with self.assertRaisesRegex(TypeError, "has its own"):
             spt.dijkstra(spt.Graph(1), unit=0.5)
@@ -247,7 +247,7 @@ class Names(unittest.TestCase):
             ):
                 with self.assertRaises(spt.NoSuchVertex) as told:
                     call()
-                self.assertEqual((told.exception.vertex, str(told.exception).split(" of ")[0]), (wrong, f"{wrong!r} is no name"))
+                self.assertEqual((told.exception.vertex, str(told.exception).split(" of ")[0]), (wrong, f"{wrong!r} is not a vertex name in this graph"))
         self.assertEqual(ids.tree(7).path(11), [7, 9, 11])
 
     def test_forms_of_frames(self):
@@ -295,11 +295,11 @@ class Names(unittest.TestCase):
                 spt.Graph.from_frame({**TOWN, "minutes": [1, wrong, 2, 3]}, "from", "to", "minutes", unit=unit)
             self.assertEqual((told.exception.index, told.exception.arc), (1, ("Mill", "Quay", wrong)))
             self.assertTrue(str(told.exception).startswith(f"arc 1 (row 2): from 'Mill' to 'Quay': {wrong!r} "), told.exception)
-        with self.assertRaisesRegex(KeyError, "no column 'lenght': those that there are are 'from', 'to', 'minutes'"):
+        with self.assertRaisesRegex(KeyError, "no column 'lenght': the columns are 'from', 'to', 'minutes'"):
             spt.Graph.from_frame(TOWN, "from", "to", "lenght")
-        with self.assertRaisesRegex(ValueError, r"arc 2 \(row 3\) has no name of its tail"):
+        with self.assertRaisesRegex(ValueError, r"arc 2 \(row 3\) has no name for its tail"):
             town(**{"from": ["Depot", "Mill", None, "Quay"]})
-        with self.assertRaisesRegex(ValueError, r"arc 3 \(row 4\) has no name of its head"):
+        with self.assertRaisesRegex(ValueError, r"arc 3 \(row 4\) has no name for its head"):
             town(to=["Mill", "Quay", "Quay", nan])
         with self.assertRaisesRegex(ValueError, "columns of 4, 2 and 4 rows"):
             town(to=["Mill", "Quay"])
@@ -312,7 +312,7 @@ class Names(unittest.TestCase):
             frame = pandas.DataFrame({"u": [1, 2], "v": [2, 3], "w": [1.5, nan]})
             with self.assertRaisesRegex(TypeError, r"^DataFrame: .*Graph.from_frame"):
                 spt.Graph(3, frame)
-            with self.assertRaisesRegex(spt.BadArc, r"^arc 1 \(row 2\): from 2 to 3: nan is no length"):
+            with self.assertRaisesRegex(spt.BadArc, r"^arc 1 \(row 2\): from 2 to 3: nan is not a length"):
                 spt.Graph.from_frame(frame, "u", "v", "w", unit=0.5)
             for column in ("u", "v"):
                 lacking = frame.convert_dtypes()
@@ -422,19 +422,19 @@ class Matrices(unittest.TestCase):
 class Refusals(unittest.TestCase):
     def test_rows(self):
         graph = lambda *given, **named: spt.Graph(4, *given, **named)  # noqa: E731
-        length = "is no length: whole numbers from 1 to 4294967295 are"
-        for wrong, why in (((2, 3, -3), f"-3 {length}"), ((2, 3, 2**32), f"4294967296 {length}"), ((-2, 3, 1), "-2 is no vertex of a graph of 4")):
+        length = "is not a length: lengths are whole numbers from 1 to 4294967295"
+        for wrong, why in (((2, 3, -3), f"-3 {length}"), ((2, 3, 2**32), f"4294967296 {length}"), ((-2, 3, 1), "-2 is not a vertex of a graph with 4 vertices")):
             arcs = [(1, 2, 3), wrong, (0, 0, 0)]
             given = [arcs, array.array("q", sum(arcs, ()))] + ([numpy.array(arcs), numpy.asfortranarray(numpy.array(arcs))] if numpy else [])
             for it in given:
                 with self.assertRaises(spt.BadArc) as told:
                     graph(it)
                 self.assertEqual((str(told.exception), told.exception.index, told.exception.arc), (f"arc 1 (row 2): {why}", 1, wrong))
-        for wrong, why in (((2, 3, "x"), "'x' is no length"), ((2.5, 3, 1), "2.5 is no vertex: whole numbers from 1 to 4 are")):
+        for wrong, why in (((2, 3, "x"), "'x' is not a length"), ((2.5, 3, 1), "2.5 is not a vertex: vertices are whole numbers from 1 to 4")):
             with self.assertRaises(TypeError) as told:
                 graph([(1, 2, 3), wrong])
             self.assertTrue(str(told.exception).startswith(f"arc 1 (row 2): {why}"), told.exception)
-        with self.assertRaisesRegex(spt.BadArc, r"^arc 0 \(row 1\): 0 is no vertex .* numbered from 1; .* add 1"):
+        with self.assertRaisesRegex(spt.BadArc, r"^arc 0 \(row 1\): 0 is not a vertex .* numbered from 1; .* add 1"):
             graph([(0, 1, 5)])
 
     def test_ranges(self):
