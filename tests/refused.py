@@ -34,7 +34,7 @@ RING_ARCS = 120_000
 OUTSIDE = 9
 
 FAULT = re.compile(r"(line [1-9][0-9]*: 8 Memory\n)?")
-MORE = "M of the line `p sp N M` is the number of `a` lines"
+MORE = "M in the line `p sp N M` must be the number of `a` lines"
 MEMORY = re.compile(r"spt: (memory|(gr|ss|targets|pairs|tree|replay|offers): line [1-9][0-9]*: 8 Memory)\n")
 
 

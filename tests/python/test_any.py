@@ -128,7 +128,7 @@ class Given(unittest.TestCase):
         forms = [[(1, 2, length), (2, 3, unit)], array.array("d", [1, 2, length, 2, 3, unit])]
         for given in forms:
             if not 1 <= whole <= LONGEST:
-                with self.assertRaisesRegex(spt.BadArc, "smaller unit" if whole < 1 else "greater unit"):
+                with self.assertRaisesRegex(spt.BadArc, "smaller unit" if whole < 1 else "larger unit"):
                     spt.Graph(3, given, unit=unit)
                 continue
             graph = spt.Graph(3, given, unit=unit)
