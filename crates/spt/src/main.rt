@@ -1,14 +1,25 @@
 //! The program `spt`: its commands, over the files and the streams of the system.
 #![tactic(auto)]
 
-use sp_cli::run_command;
+ghost use Rattle.std.specs.Prelude.{◌≡◌, ◌≤◌, ℕ, List, IfOk};
+ghost use Rattle.clap.specs.Walk.{texts};
+ghost use Rattle.sp_command.specs.Scene.{scene, unknown_files};
+ghost use Rattle.sp_order.specs.Orders.{obeying};
+ghost use Rattle.spt.specs.Carried.{IsCarriedBy};
+ghost use denote.Param.Send.{IsSync};
+
+use clap::Error;
+use sp_cli::AnyCommand;
+use sp_command::{Commands, RunIn};
 use sp_device::{OfWrite, Write};
-use sp_disk::{Asked, Disk, Notes};
+use sp_disk::{Asked, Disk, Notes, Screen};
+use sp_order::run_line;
+use std::fmt::Display;
 use std::process::ExitCode;
 use std::random::RandomSource;
 use std::rt::{Clock, Env, Files};
 use std::sync::Wait;
-use std::thread::{Threads, join};
+use std::thread::{Threads, join_mut};
 use std::{env, io};
 
 // More of the main thread's stack than any command takes, in bytes.
@@ -23,10 +34,78 @@ fn take_stack(one: usize, other: usize) -> bool {
     room[other % STACK] == 1
 }
 
+// Does some work while another thread tells how far it is.
+fn do_watched<R, G: FnMut() -> u8>(rt: &R, screen: &Screen<'_, R>, work: &mut G) -> u8
+where
+    R: Clock + Eprint + Files + Threads + Wait + Sync,
+    requires { G.pre work.old }
+    ensures { G.step work.old result work.new }
+{
+    let mut watch = || screen.watch();
+    join_mut(rt, &mut watch, work).1
+}
+
+/// Runs the command that the words order, and answers the exit status. Where they ask for it, another thread tells meanwhile how
+/// far the run is.
+fn run_words<'a, C, T, R, W: Write, E: Write>(
+    disk: &mut Disk<'_, R>,
+    words: &'a [&'a str],
+    out: &mut W,
+    err: &mut E,
+) -> u8
+where
+    C: Commands<'a> + RunIn,
+    T: Display + From<Error> + Drop,
+    R: AllocGlobal + Clock + Env + Eprint + Files + RandomSource + Threads + Wait + Sync,
+    ensures range { result ≤ 6 }
+    ensures silent { result ≡ 0 → err.new ≡ err.old }
+    ensures silent_no { result ≡ 3 → err.new ≡ err.old }
+    ensures silent_far { result ≡ 4 → err.new ≡ err.old }
+    ensures unwritten { 1 ≤ result → result ≤ 2 → out.new ≡ out.old }
+    ensures obeyed { IsCarriedBy (obeying C.Commands C.runs T.from_gives T.output) (texts words.now)
+        (scene unknown_files (W.written out.old) (W.written out.new) (W.has_failed out.new))
+        E.Write err.old err.new result }
+{
+    let rt = disk.rt;
+    let alloc = rt.alloc();
+    if !words.contains(&"--progress") {
+        return run_line::<C, T, R, Disk<'_, R>, W, E>(rt, alloc, words, disk, out, err);
+    }
+    let screen = disk.screen();
+    let mut command = || -> u8
+        requires { IsSync R.row }
+        ensures range { result ≤ 6 }
+        ensures silent { result ≡ 0 → err.exit.now ≡ err.entry.now }
+        ensures silent_no { result ≡ 3 → err.exit.now ≡ err.entry.now }
+        ensures silent_far { result ≡ 4 → err.exit.now ≡ err.entry.now }
+        ensures unwritten { 1 ≤ result → result ≤ 2 → out.exit.now ≡ out.entry.now }
+        ensures obeyed { IsCarriedBy (obeying C.Commands C.runs T.from_gives T.output)
+            (texts words.entry.now)
+            (scene unknown_files (W.written out.entry.now)
+            (W.written out.exit.now) (W.has_failed out.exit.now))
+            E.Write err.entry.now err.exit.now result }
+    {
+        let status = run_line::<C, T, R, Disk<'_, R>, W, E>(rt, alloc, words, disk, out, err);
+        screen.end_watch();
+        status
+    };
+    // Where no thread can be had, the watch comes last and is over.
+    do_watched(rt, &screen, &mut command)
+}
+
 /// Runs the command that the program's arguments order, and answers the exit status.
 fn run<R, W: Write, E: Write>(disk: &mut Disk<'_, R>, out: &mut W, err: &mut E) -> io::Result<u8>
 where
     R: AllocGlobal + Clock + Env + Eprint + Files + RandomSource + Threads + Wait + Sync,
+    ensures range { IfOk result (λ status. status ≤ 6) }
+    ensures silent { IfOk result (λ status. status ≡ 0 → err.new ≡ err.old) }
+    ensures unwritten { IfOk result (λ status. 1 ≤ status → status ≤ 2 → out.new ≡ out.old) }
+    ensures obeyed { IfOk result (λ status. (words : List (List ℕ))
+        × IsCarriedBy (obeying ⟦<AnyCommand<'static> as Commands<'static>>⟧
+        ⟦<AnyCommand<'static> as RunIn>⟧.runs
+        ⟦<Error as From<Error>>⟧.from_gives ⟦<Error as Display>⟧.output) words
+        (scene unknown_files (W.written out.old) (W.written out.new) (W.has_failed out.new))
+        E.Write err.old err.new status) }
 {
     let rt = disk.rt;
     let alloc = rt.alloc();
@@ -35,18 +114,7 @@ where
     if !take_stack(arguments.len(), words.len()) {
         return Err(io::ErrorKind::OutOfMemory.into());
     }
-    if !words.contains(&"--progress") {
-        return Ok(run_command(rt, alloc, &words, disk, out, err));
-    }
-    let screen = disk.screen();
-    let command = || {
-        let status = run_command(rt, alloc, &words, disk, out, err);
-        screen.end_watch();
-        status
-    };
-    // Where no thread can be had, the watch comes last and is over.
-    let (_, status) = join(rt, || screen.watch(), command);
-    Ok(status)
+    Ok(run_words::<AnyCommand<'_>, Error, R, W, E>(disk, &words, out, err))
 }
 
 fn main(rt: HostRuntime) -> ExitCode {
