@@ -10,6 +10,7 @@ _spt() {
         --pred-bits) words='20 24 28 32' ;;
         --source) words='' ;;
         --sources) words='' ;;
+        --target) words='' ;;
         --within) words='' ;;
         --workers) words='all' ;;
         *) words=none ;;
@@ -21,7 +22,7 @@ _spt() {
     case ${COMP_WORDS[1]} in
         tree) words='--source --sources --within --delta --workers --far-ok --progress --pred-bits --output --help' ;;
         pairs) words='--delta --workers --far-ok --progress --pred-bits --output --help' ;;
-        matrix) words='--source --sources --delta --workers --far-ok --progress --pred-bits --output --help' ;;
+        matrix) words='--source --target --sources --delta --workers --far-ok --progress --pred-bits --output --help' ;;
         nearest) words='--source --sources --within --delta --workers --far-ok --progress --pred-bits --output --help' ;;
         check) words='--all --within --pred-bits --output --help' ;;
         replay) words='--svg --pred-bits --output --help' ;;

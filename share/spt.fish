@@ -24,6 +24,7 @@ complete -c spt -n '__fish_seen_subcommand_from pairs' -l pred-bits -x -a '20 24
 complete -c spt -n '__fish_seen_subcommand_from pairs' -l output -r -d 'Write the output to the file OUT instead of standard output'
 complete -c spt -n '__fish_seen_subcommand_from pairs' -l help -d 'Print help'
 complete -c spt -n '__fish_seen_subcommand_from matrix' -l source -x -a '' -d 'A source'
+complete -c spt -n '__fish_seen_subcommand_from matrix' -l target -x -a '' -d 'A target'
 complete -c spt -n '__fish_seen_subcommand_from matrix' -l sources -x -a '' -d 'Write only the lines of the sources at places A to B of their file'
 complete -c spt -n '__fish_seen_subcommand_from matrix' -l delta -x -a 'mean' -d 'The width of a bucket of tentative distances'
 complete -c spt -n '__fish_seen_subcommand_from matrix' -l workers -x -a 'all' -d 'The most threads to use'

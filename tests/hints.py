@@ -184,6 +184,10 @@ def vertices(count, program, folder):
     path = put(f"{folder}/targets", targets)
     told = run(program, "matrix", graph, path, "--source", "1")
     count.of(f"a target of a file: {told}", told == (2, "", f"{first}spt: {path}: line 3: target 9; the graph has 4 vertices\n"))
+    told = run(program, "matrix", graph, "--source", "1", "--target", "4", "--target", "9")
+    count.of(f"--target 9: {told}", told == (2, "", f"{first}spt: --target 9: the graph has 4 vertices\n"))
+    told = run(program, "matrix", graph, "--source", "9", "--target", "9")
+    count.of(f"--source 9 and --target 9: {told}", told == (2, "", f"{first}spt: --source 9: the graph has 4 vertices\n"))
     told = run(program, "matrix", graph, path, path)
     count.of(f"a source and a target: {told}", told == (2, "", f"{first}spt: {path}: line 3: source 9; the graph has 4 vertices\n"))
 

@@ -47,8 +47,9 @@ EXCEPTIONS = {
     ("sp_batch", "answer_places"): BETWEEN,
     ("sp_pairs", "run_pairs"): SPECIFIED,
     ("sp_matrix", "answer_rows"): OF_A_TRAIT,
+    ("sp_matrix", "answer_lists"): BETWEEN,
+    ("sp_matrix", "answer_matrix"): BETWEEN,
     ("sp_matrix", "run_matrix_told"): LIKE_MATRIX,
-    ("sp_matrix", "run_matrix_given_told"): LIKE_MATRIX,
     ("sp_nearest", "run_nearest_told"): LIKE_NEAREST,
     ("sp_nearest", "run_nearest_given_told"): LIKE_NEAREST,
 }

@@ -56,6 +56,13 @@ CHOSEN = [
     ("g.gr some.ss all.ss --sources 4-9", ""),
     ("g.gr all.ss --source 1", OF_1),
     ("--source 4 g.gr all.ss --source=1", OF_4 + OF_1),
+    ("g.gr some.ss --target 4", "d 4 4 0 0\nd 1 4 5 2\nd 4 4 0 0\n"),
+    ("g.gr all.ss --target 1 --target 4 --target 1", "n 4 1\nd 4 4 0 0\nn 4 1\nd 1 1 0 0\nd 1 4 5 2\nd 1 1 0 0\n"),
+    ("--target=4 g.gr some.ss --sources 2-3", "d 1 4 5 2\nd 4 4 0 0\n"),
+    ("g.gr some.ss --sources 4-9 --target 1", ""),
+    ("g.gr --source 1 --target 4", "d 1 4 5 2\n"),
+    ("g.gr --target 1 --source 4 --target 4 --source 1", "n 4 1\nd 4 4 0 0\nd 1 1 0 0\nd 1 4 5 2\n"),
+    ("--source 4 --target 1 g.gr --workers 2", "n 4 1\n"),
     ("g.gr some.ss all.ss --delta mean", OF_4 + OF_1 + OF_4),
     ("g.gr some.ss all.ss --delta 3 --workers all", OF_4 + OF_1 + OF_4),
     ("g.gr some.ss all.ss --pred-bits 32 --far-ok", OF_4 + OF_1 + OF_4),
@@ -67,6 +74,9 @@ PIPED = [
     ("g.gr - all.ss", listed(1), OF_1),
     ("g.gr all.ss -", listed(4, 1), OF_4 + OF_1),
     ("g.gr - --source 1", listed(4, 1), OF_1),
+    ("g.gr - --target 4 --target 1", listed(1), OF_1),
+    ("- all.ss --target 4 --target 1", DIAMOND, OF_4 + OF_1),
+    ("- --source 1 --target 4 --target 1", DIAMOND, OF_1),
 ]
 
 # line, status, fault
@@ -75,13 +85,20 @@ FAULTS = [
     ("- all.ss -", 1, "standard input twice"),
     ("g.gr - -", 1, "standard input twice"),
     ("- - --source 1", 1, "standard input twice"),
+    ("- - --target 1", 1, "standard input twice"),
     ("no.gr no.ss no.ss", 6, "gr: cannot open"),
     ("g.gr no.ss no.targets", 6, "ss: cannot open"),
     ("g.gr all.ss no.targets", 6, "targets: cannot open"),
     ("g.gr no.targets --source 1", 6, "targets: cannot open"),
+    ("g.gr no.ss --target 1", 6, "ss: cannot open"),
+    ("no.gr --source 1 --target 1", 6, "gr: cannot open"),
     ("g.gr all.ss all.ss --sources 2-1", 1, "sources are not A-B"),
     ("g.gr all.ss all.ss --delta 68719476735", 1, "delta out of range"),
     ("g.gr all.ss --source 5", 2, "source 5: no such vertex"),
+    ("g.gr all.ss --target 1 --target 5 --target 6", 2, "source 5: no such vertex"),
+    ("g.gr --source 1 --source 7 --target 5", 2, "source 7: no such vertex"),
+    ("g.gr --source 1 --target 4294967294 --pred-bits 20", 2, "source 4294967294: no such vertex"),
+    ("g.gr all.ss --target 1 --sources 0-1", 1, "sources are not A-B"),
 ]
 
 

@@ -7,4 +7,6 @@ mod finding;
 
 pub use batch::{run_batch, run_batch_told, run_given_told};
 pub use crews::TreeCrew;
-pub use sp_job::{BatchError, BucketWidth, Listener, Nobody, Places, Progress, Settings, Summary};
+pub use sp_job::{
+    BatchError, BucketWidth, Listener, Nobody, Places, Progress, Role, Settings, Summary,
+};

@@ -12,7 +12,8 @@ use Rattle.sp_command.specs.declared.faults.Status.{Status}
 use Rattle.sp_command.specs.declared.faults.Status.TheVariants as status
 use Rattle.sp_command.specs.Scene.{Scene}
 use Rattle.sp_options.specs.Ends.{end_of}
-use Rattle.sp_cli.specs.Answers.{Asked, AreTreesWritten, InSome, EndsNear}
+use Rattle.sp_matrix.specs.Listing.{Asked}
+use Rattle.sp_cli.specs.Answers.{AreTreesWritten, InSome, EndsNear}
 
 none_far : (P limit : ℕ) (g : Graph) (sources : List ℕ) (answers : List Answer) → AreAnswers P (Some limit) g sources answers → count_by is_far answers ≡ 0
 none_far P limit g [] [] are = refl

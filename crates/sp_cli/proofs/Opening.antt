@@ -1,11 +1,20 @@
 -- A fault of opening files is borne out by the files, or by their paths.
-use Rattle.std.proofs.Common.{◌≡◌, ◌≢◌, ◌⊎◌, inl, inr, sym, subst, ℕ, Bool, List, Option, Some, Result, Err, IfErr, codes, rules}
+use Rattle.std.proofs.Common.{◌≡◌, ◌≢◌, ◌⊎◌, ◌∙◌, inl, inr, refl, ap, sym, subst, ℕ, Bool, List, Option, Some, None, Result, Err, IfErr, codes, rules}
+use Rattle.std.specs.Borrow.{Bor}
+use Rattle.sp_device.specs.declared.devices.Read.{Ghosts as Reader}
+use Rattle.sp_job.specs.Places.{AreNumbered}
+use Rattle.sp_matrix.specs.declared.listing.Listing.TheVariants as listing
+use Rattle.sp_matrix.specs.Listing.{These}
+use Rattle.sp_options.specs.declared.given.Given.{Given}
+use Rattle.sp_options.specs.declared.sources.Sources.{Sources}
+use Rattle.sp_options.specs.declared.sources.Sources.TheVariants as sources
+use Rattle.sp_cli.specs.MatrixAnswers.{IsOpenedList}
 use Rattle.sp_command.specs.declared.faults.FileKind.{FileKind}
 use Rattle.sp_command.specs.declared.faults.FileKind.TheVariants as file
 use Rattle.sp_command.specs.declared.faults.Fault.{Fault}
 use Rattle.sp_command.specs.declared.faults.Fault.TheVariants as fault
 use Rattle.sp_command.specs.Scene.{Files, scene}
-use Rattle.sp_command.specs.Causes.{Paths, IsBorneOut, StaysClosed, StayClosed, NameInputTwice, NamesInputTwice}
+use Rattle.sp_command.specs.Causes.{Paths, IsBorneOut, StaysClosed, NamesInputTwice}
 
 pub no_sources : file.Graph ≢ file.Sources
 no_sources = search rules
@@ -56,30 +65,42 @@ two_borne_out paths own files before after failed kind graph path why result apa
 
 -- ## A graph and two lists
 
-twice_of_three : (paths : Paths) (graph sources targets : List ℕ)
-    → paths file.Graph ≡ Some graph → paths file.Sources ≡ Some sources → paths file.Targets ≡ Some targets → NameInputTwice graph sources targets → NamesInputTwice paths
-twice_of_three paths graph sources targets graph_is sources_is targets_is (inl twice) = both paths file.Graph file.Sources graph sources no_sources graph_is sources_is twice
-twice_of_three paths graph sources targets graph_is sources_is targets_is (inr (inl twice)) = both paths file.Graph file.Targets graph targets no_targets graph_is targets_is twice
-twice_of_three paths graph sources targets graph_is sources_is targets_is (inr (inr twice)) = both paths file.Sources file.Targets sources targets sources_no_targets sources_is targets_is twice
+-- Two of three files are standard input.
+pub graph_and_list : (paths : Paths) (list : FileKind) (graph : List ℕ)
+    → file.Graph ≢ list → paths file.Graph ≡ Some graph → graph ≡ codes "-" → paths list ≡ Some (codes "-") → NamesInputTwice paths
+graph_and_list paths list graph apart graph_is named list_is = (file.Graph, list, apart, subst (λ x. paths file.Graph ≡ Some x) named graph_is, list_is)
 
-three : (paths : Paths) (own : Fault → Type 0) (files : Files) (before after : Option (List ℕ)) (failed : Bool) (graph sources targets : List ℕ) (why : Fault)
-    → paths file.Graph ≡ Some graph → paths file.Sources ≡ Some sources → paths file.Targets ≡ Some targets
-    → (why ≡ fault.InputTwice → NameInputTwice graph sources targets)
-    → (why ≡ fault.InputTwice) ⊎ StayClosed files graph sources targets why
-    → IsBorneOut paths own (scene files before after failed) why
-three paths own files before after failed graph sources targets why graph_is sources_is targets_is once (inl is) =
-    subst (λ x. IsBorneOut paths own (scene files before after failed) x) (sym is) (twice_of_three paths graph sources targets graph_is sources_is targets_is (once is))
-three paths own files before after failed graph sources targets why graph_is sources_is targets_is once (inr (inl closed)) =
-    closed_borne_out paths own files before after failed file.Graph graph why graph_is closed
-three paths own files before after failed graph sources targets why graph_is sources_is targets_is once (inr (inr (inl closed))) =
-    closed_borne_out paths own files before after failed file.Sources sources why sources_is closed
-three paths own files before after failed graph sources targets why graph_is sources_is targets_is once (inr (inr (inr closed))) =
-    closed_borne_out paths own files before after failed file.Targets targets why targets_is closed
+pub both_lists : (paths : Paths) → paths file.Sources ≡ Some (codes "-") → paths file.Targets ≡ Some (codes "-") → NamesInputTwice paths
+both_lists paths sources_is targets_is = (file.Sources, file.Targets, sources_no_targets, sources_is, targets_is)
 
-pub three_borne_out : {T : Type 0} (paths : Paths) (own : Fault → Type 0) (files : Files) (before after : Option (List ℕ)) (failed : Bool) (graph sources targets : List ℕ) (why : Fault) (result : Result T Fault)
-    → paths file.Graph ≡ Some graph → paths file.Sources ≡ Some sources → paths file.Targets ≡ Some targets → result ≡ Err why
-    → (why ≡ fault.InputTwice → NameInputTwice graph sources targets)
-    → (why ≡ fault.InputTwice) ⊎ StayClosed files graph sources targets why
-    → IfErr result (IsBorneOut paths own (scene files before after failed))
-three_borne_out paths own files before after failed graph sources targets why result graph_is sources_is targets_is is once closed =
-    subst (λ r. IfErr r (IsBorneOut paths own (scene files before after failed))) (sym is) (three paths own files before after failed graph sources targets why graph_is sources_is targets_is once closed)
+-- ## Lists
+
+pub opened_file : {D : Type 0} (device : Reader D) (files : Files) (list : Sources) (path : Bor (List ℕ)) (opened : D)
+    → list ≡ sources.File path → ((bytes : List ℕ) → files.text path.now ≡ Some bytes → device.left opened ≡ Some bytes) → device.failing opened ≡ files.failing path.now
+    → IsOpenedList device files list (listing.InText opened None)
+opened_file device files list path opened is gives fails = subst (λ l. IsOpenedList device files l (listing.InText opened None)) (sym is) (record {
+  asks = λ text. refl;
+  gives = gives;
+  numbered = tt;
+  refusable = λ e may. (path.now, refl, λ read never. may read (fails ∙ never));
+})
+
+pub opened_part : {D : Type 0} (device : Reader D) (files : Files) (list : Sources) (path : Bor (List ℕ)) (places : Option (ℕ × ℕ)) (opened : D)
+    → list ≡ sources.Part path places → ((bytes : List ℕ) → files.text path.now ≡ Some bytes → device.left opened ≡ Some bytes) → device.failing opened ≡ files.failing path.now
+    → IsOpenedList device files list (listing.InText opened places)
+opened_part device files list path places opened is gives fails = subst (λ l. IsOpenedList device files l (listing.InText opened places)) (sym is) (record {
+  asks = λ text. refl;
+  gives = gives;
+  numbered = tt;
+  refusable = λ e may. (path.now, refl, λ read never. may read (fails ∙ never));
+})
+
+pub opened_given : {D : Type 0} (device : Reader D) (files : Files) (list : Sources) (given : Given) (numbers : Bor (List ℕ))
+    → list ≡ sources.Given given → numbers.now ≡ given.list.items → AreNumbered given.list.items
+    → IsOpenedList device files list (listing.These numbers)
+opened_given device files list given numbers is same numbered = subst (λ l. IsOpenedList device files l (listing.These numbers)) (sym is) (record {
+  asks = λ text. ap These same;
+  gives = λ text has. tt;
+  numbered = subst AreNumbered (sym same) numbered;
+  refusable = λ e may. absurd may;
+})

@@ -17,7 +17,8 @@ use Rattle.sp_command.specs.declared.faults.FileKind.TheVariants as file
 use Rattle.sp_command.specs.Causes.{Paths, IsBorneOut}
 use Rattle.sp_command.specs.declared.faults.Status.{Status}
 use Rattle.sp_command.specs.Scene.{Files, scene}
-use Rattle.sp_cli.specs.Answers.{InText, These, TreesTold, InSome, PairsTold, PairsOfSome}
+use Rattle.sp_matrix.specs.Listing.{InText, These}
+use Rattle.sp_cli.specs.Answers.{TreesTold, InSome, PairsTold, PairsOfSome}
 use Rattle.sp_options.specs.Ends.{end_of, fault_of, kind_of}
 
 -- what a command answers whose batch has answered this

@@ -1,23 +1,24 @@
 -- From what the job of a matrix answers to what its command tells.
-use Rattle.std.proofs.Common.{◌≡◌, ℕ, Bool, true, List, [], ◌∙◌, Option, Some, Result, Ok, Err, refl}
+use Rattle.std.proofs.Common.{◌≡◌, ℕ, Bool, true, List, ◌∙◌, Option, Some, Result, Ok, Err, refl, sym, subst}
 use Rattle.std.specs.Prelude.{IfOk, IfErr}
-use Rattle.sp_device.specs.Failing.{Failing, Anytime}
+use Rattle.sp_device.specs.Failing.{Failing}
 use Rattle.sp_device.specs.declared.devices.Read.{Ghosts as Reader}
 use Rattle.sp_device.specs.declared.devices.Write.{Ghosts as Writer}
+use Rattle.sp_text.specs.declared.faults.DimacsError.{DimacsError}
 use Rattle.sp_dimacs.specs.declared.graphs.GrFile.{GrFile}
 use Rattle.sp_job.specs.declared.answers.Summary.{Summary}
 use Rattle.sp_job.specs.declared.answers.BatchError.{BatchError}
 use Rattle.sp_job.specs.declared.answers.BatchError.TheVariants.{Gr, Ss, Targets, Pairs, NoSuchVertex, Memory, Write}
-use Rattle.sp_job.specs.Places.{part_of}
+use Rattle.sp_matrix.specs.Listing.{Asked}
 use Rattle.sp_matrix.specs.Matrix.{IsMatrix}
-use Rattle.sp_matrix.specs.Answered.{Texts, SpellMatrix, MatrixAnswered, MatrixOfSome as OfSomeTexts, SpellGivenMatrix, GivenMatrixAnswered, GivenMatrixOfSome, MayFail}
+use Rattle.sp_matrix.specs.Answered.{SpellMatrix, MatrixAnswered, MatrixOfSome as OfSomeTexts, MayFail}
 use Rattle.sp_command.specs.declared.faults.Fault.{Fault}
 use Rattle.sp_command.specs.declared.faults.Fault.TheVariants as fault
 use Rattle.sp_command.specs.declared.faults.FileKind.{FileKind}
 use Rattle.sp_command.specs.declared.faults.FileKind.TheVariants as file
-use Rattle.sp_command.specs.Causes.{Paths, IsBorneOut}
-use Rattle.sp_command.specs.Scene.{Files, scene}
-use Rattle.sp_cli.specs.Answers.{InText, These}
+use Rattle.sp_command.specs.Causes.{Paths, IsBorneOut, MayBeRefused}
+use Rattle.sp_command.specs.declared.faults.Status.{Status}
+use Rattle.sp_command.specs.Scene.{Files, Scene, scene}
 use Rattle.sp_cli.specs.MatrixAnswers.{HasLists, IsMatrixWritten, IsMatrixBegun, MatrixTold, MatrixInSome}
 use Rattle.sp_cli.proofs.Told.{end_after}
 use Rattle.sp_options.specs.Ends.{end_of, kind_of}
@@ -30,66 +31,51 @@ written : {W : Type 0} (P : ℕ) (far_ok : Bool) (graph : GrFile) (sources targe
 written P far_ok graph sources targets files w old new summary (answers, are, wrote, counts) =
     record { answers = answers; summary = summary; are = are; wrote = wrote; counts = counts; ends = refl }
 
--- These are the lists of three texts.
-abbrev lists : {W : Type 0} (P : ℕ) (places : Option (ℕ × ℕ)) (texts : Texts) (w : Writer W) (old new : W) (answer : Result Summary BatchError)
-    → SpellMatrix P places texts w old new answer → HasLists P texts.gr (InText places texts.ss) texts.targets
-lists P places texts w old new answer read =
-    record { graph = read.file; sources = part_of places read.list.sources.items; targets = read.targets; graph_spelled = read.spells_graph; are_asked = (read.list, read.spells_sources, refl); targets_spelled = read.spells_targets }
-
-abbrev given_lists : {W : Type 0} (P : ℕ) (gr_text sources targets_text : List ℕ) (w : Writer W) (old new : W) (answer : Result Summary BatchError)
-    → SpellGivenMatrix P gr_text sources targets_text w old new answer → HasLists P gr_text (These sources) targets_text
-given_lists P gr_text sources targets_text w old new answer read =
-    record { graph = read.file; sources = sources; targets = read.targets; graph_spelled = read.spells_graph; are_asked = refl; targets_spelled = read.spells_targets }
+abbrev lists : {W : Type 0} (P : ℕ) (gr_text : List ℕ) (starts ends : Asked) (w : Writer W) (old new : W) (answer : Result Summary BatchError)
+    → SpellMatrix P gr_text starts ends w old new answer → HasLists P gr_text starts ends
+lists P gr_text starts ends w old new answer read =
+    record { graph = read.file; sources = read.sources; targets = read.targets; graph_spelled = read.spells_graph; are_sources = read.are_sources; are_targets = read.are_targets }
 
 -- ## From an answer to what is told
 
--- What a matrix answers to three texts is what `matrix` tells of them.
-pub after_matrix : {G S T W : Type 0} (P : ℕ) (far_ok : Bool) (places : Option (ℕ × ℕ)) (texts : Texts) (files : Files) (g : Reader G) (gr : G) (s : Reader S) (ss : S) (t : Reader T) (targets : T) (w : Writer W) (old new : W) (answer : Result Summary BatchError)
-    → MatrixAnswered P places texts g gr s ss t targets w old new answer → MatrixTold P far_ok texts.gr (InText places texts.ss) texts.targets (scene files (w.written old) (w.written new) (w.has_failed new)) (end_after far_ok answer)
-after_matrix P far_ok places texts files g gr s ss t targets w old new (Ok summary) read =
-    (lists P places texts w old new (Ok summary) read, written P far_ok read.file (part_of places read.list.sources.items) read.targets.sources.items files w old new summary read.matrix)
-after_matrix P far_ok places texts files g gr s ss t targets w old new (Err (NoSuchVertex v role)) read =
-    let done = read.matrix in (lists P places texts w old new (Err (NoSuchVertex v role)) read, role, done.0, refl, done.1)
-after_matrix P far_ok places texts files g gr s ss t targets w old new (Err Memory) read =
-    let done = read.matrix in (lists P places texts w old new (Err Memory) read, done.0, done.1)
-after_matrix P far_ok places texts files g gr s ss t targets w old new (Err Write) read =
-    let done = read.matrix in (done.2, (lists P places texts w old new (Err Write) read, done.0, done.1))
-after_matrix P far_ok places texts files g gr s ss t targets w old new (Err (Gr e)) (read, same) = ((g.left gr, g.has_failed gr, read), same)
-after_matrix P far_ok places texts files g gr s ss t targets w old new (Err (Ss e)) (graph, graph_is, read, same) = ((graph, graph_is), (s.left ss, s.has_failed ss, read), same)
-after_matrix P far_ok places texts files g gr s ss t targets w old new (Err (Targets e)) (graph, list, graph_is, list_is, read, same) =
-    (record { graph = graph; sources = part_of places list.sources.items; graph_spelled = graph_is; are_asked = (list, list_is, refl) }, (t.left targets, t.has_failed targets, read), same)
-after_matrix P far_ok places texts files g gr s ss t targets w old new (Err (Pairs e)) read = absurd read.matrix
+-- What a matrix answers to the text of a graph and two lists is what `matrix` tells of them.
+pub after_matrix : {G W : Type 0} (P : ℕ) (far_ok : Bool) (gr_text : List ℕ) (starts ends : Asked) (files : Files) (g : Reader G) (gr : G) (w : Writer W) (old new : W) (answer : Result Summary BatchError)
+    → MatrixAnswered P gr_text starts ends g gr w old new answer → MatrixTold P far_ok gr_text starts ends (scene files (w.written old) (w.written new) (w.has_failed new)) (end_after far_ok answer)
+after_matrix P far_ok gr_text starts ends files g gr w old new (Ok summary) read =
+    (lists P gr_text starts ends w old new (Ok summary) read, written P far_ok read.file read.sources read.targets files w old new summary read.matrix)
+after_matrix P far_ok gr_text starts ends files g gr w old new (Err (NoSuchVertex v role)) read =
+    let done = read.matrix in (lists P gr_text starts ends w old new (Err (NoSuchVertex v role)) read, role, done.0, refl, done.1)
+after_matrix P far_ok gr_text starts ends files g gr w old new (Err Memory) read =
+    let done = read.matrix in (lists P gr_text starts ends w old new (Err Memory) read, done.0, done.1)
+after_matrix P far_ok gr_text starts ends files g gr w old new (Err Write) read =
+    let done = read.matrix in (done.2, (lists P gr_text starts ends w old new (Err Write) read, done.0, done.1))
+after_matrix P far_ok gr_text starts ends files g gr w old new (Err (Gr e)) (read, same) = ((g.left gr, g.has_failed gr, read), same)
+after_matrix P far_ok gr_text starts ends files g gr w old new (Err (Ss e)) (graph, graph_is, refused, same) = ((graph, graph_is), refused, same)
+after_matrix P far_ok gr_text starts ends files g gr w old new (Err (Targets e)) (graph, sources, graph_is, sources_are, refused, same) =
+    (record { graph = graph; sources = sources; graph_spelled = graph_is; are_asked = sources_are }, refused, same)
+after_matrix P far_ok gr_text starts ends files g gr w old new (Err (Pairs e)) read = absurd read.matrix
 
--- What a matrix answers to two texts and to sources is what `matrix` tells of them.
-pub after_given_matrix : {G T W : Type 0} (P : ℕ) (far_ok : Bool) (gr_text sources targets_text : List ℕ) (files : Files) (g : Reader G) (gr : G) (t : Reader T) (targets : T) (w : Writer W) (old new : W) (answer : Result Summary BatchError)
-    → GivenMatrixAnswered P gr_text sources targets_text g gr t targets w old new answer → MatrixTold P far_ok gr_text (These sources) targets_text (scene files (w.written old) (w.written new) (w.has_failed new)) (end_after far_ok answer)
-after_given_matrix P far_ok gr_text sources targets_text files g gr t targets w old new (Ok summary) read =
-    (given_lists P gr_text sources targets_text w old new (Ok summary) read, written P far_ok read.file sources read.targets.sources.items files w old new summary read.matrix)
-after_given_matrix P far_ok gr_text sources targets_text files g gr t targets w old new (Err (NoSuchVertex v role)) read =
-    let done = read.matrix in (given_lists P gr_text sources targets_text w old new (Err (NoSuchVertex v role)) read, role, done.0, refl, done.1)
-after_given_matrix P far_ok gr_text sources targets_text files g gr t targets w old new (Err Memory) read =
-    let done = read.matrix in (given_lists P gr_text sources targets_text w old new (Err Memory) read, done.0, done.1)
-after_given_matrix P far_ok gr_text sources targets_text files g gr t targets w old new (Err Write) read =
-    let done = read.matrix in (done.2, (given_lists P gr_text sources targets_text w old new (Err Write) read, done.0, done.1))
-after_given_matrix P far_ok gr_text sources targets_text files g gr t targets w old new (Err (Gr e)) (read, same) = ((g.left gr, g.has_failed gr, read), same)
-after_given_matrix P far_ok gr_text sources targets_text files g gr t targets w old new (Err (Targets e)) (graph, graph_is, read, same) =
-    (record { graph = graph; sources = sources; graph_spelled = graph_is; are_asked = refl }, (t.left targets, t.has_failed targets, read), same)
-after_given_matrix P far_ok gr_text sources targets_text files g gr t targets w old new (Err (Ss e)) read = absurd read.matrix
-after_given_matrix P far_ok gr_text sources targets_text files g gr t targets w old new (Err (Pairs e)) read = absurd read.matrix
+pub matrix_of_some : {W : Type 0} (P : ℕ) (far_ok : Bool) (starts ends : List ℕ → Asked) (files : Files) (w : Writer W) (old new : W) (answer : Result Summary BatchError)
+    → OfSomeTexts P starts ends w old new answer → IfOk (end_after far_ok answer) (MatrixInSome P far_ok starts ends (scene files (w.written old) (w.written new) (w.has_failed new)))
+matrix_of_some P far_ok starts ends files w old new (Ok summary) (gr_text, starts_text, ends_text, read) =
+    (gr_text, starts_text, ends_text, (lists P gr_text (starts starts_text) (ends ends_text) w old new (Ok summary) read, written P far_ok read.file read.sources read.targets files w old new summary read.matrix))
+matrix_of_some P far_ok starts ends files w old new (Err error) is = tt
 
--- ## Of some texts
+-- Lists that ask for the same are told of alike.
+pub told_of_same : (P : ℕ) (far_ok : Bool) (gr_text : List ℕ) (starts others ends more : Asked) (s : Scene) (result : Result Status Fault) → starts ≡ others → ends ≡ more → MatrixTold P far_ok gr_text starts ends s result → MatrixTold P far_ok gr_text others more s result
+told_of_same P far_ok gr_text starts others ends more s result first second told =
+    subst (λ x. MatrixTold P far_ok gr_text others x s result) second (subst (λ x. MatrixTold P far_ok gr_text x ends s result) first told)
 
-pub matrix_of_some : {W : Type 0} (P : ℕ) (far_ok : Bool) (places : Option (ℕ × ℕ)) (files : Files) (w : Writer W) (old new : W) (answer : Result Summary BatchError)
-    → OfSomeTexts P places w old new answer → IfOk (end_after far_ok answer) (MatrixInSome P far_ok (InText places) (scene files (w.written old) (w.written new) (w.has_failed new)))
-matrix_of_some P far_ok places files w old new (Ok summary) (texts, read) =
-    (texts.gr, texts.ss, texts.targets, (lists P places texts w old new (Ok summary) read, written P far_ok read.file (part_of places read.list.sources.items) read.targets.sources.items files w old new summary read.matrix))
-matrix_of_some P far_ok places files w old new (Err error) is = tt
+some_of_same : (P : ℕ) (far_ok : Bool) (starts others ends more : List ℕ → Asked) (s : Scene) (status : Status) → ((text : List ℕ) → starts text ≡ others text) → ((text : List ℕ) → ends text ≡ more text)
+    → MatrixInSome P far_ok starts ends s status → MatrixInSome P far_ok others more s status
+some_of_same P far_ok starts others ends more s status first second (gr_text, starts_text, ends_text, told) =
+    (gr_text, starts_text, ends_text, told_of_same P far_ok gr_text (starts starts_text) (others starts_text) (ends ends_text) (more ends_text) s (Ok status) (first starts_text) (second ends_text) told)
 
-pub given_matrix_of_some : {W : Type 0} (P : ℕ) (far_ok : Bool) (sources : List ℕ) (files : Files) (w : Writer W) (old new : W) (answer : Result Summary BatchError)
-    → GivenMatrixOfSome P sources w old new answer → IfOk (end_after far_ok answer) (MatrixInSome P far_ok (λ ss. These sources) (scene files (w.written old) (w.written new) (w.has_failed new)))
-given_matrix_of_some P far_ok sources files w old new (Ok summary) (gr_text, targets_text, read) =
-    (gr_text, [], targets_text, (given_lists P gr_text sources targets_text w old new (Ok summary) read, written P far_ok read.file sources read.targets.sources.items files w old new summary read.matrix))
-given_matrix_of_some P far_ok sources files w old new (Err error) is = tt
+-- The same where a command has succeeded, whose sources have no word that spells no places.
+pub all_of_same : (P : ℕ) (far_ok : Bool) (starts others ends more : List ℕ → Asked) (Lacks : Type 0) (s : Scene) (result : Result Status Fault) → ((text : List ℕ) → starts text ≡ others text) → ((text : List ℕ) → ends text ≡ more text)
+    → ¬ Lacks → IfOk result (MatrixInSome P far_ok starts ends s) → IfOk result (λ status. ¬ Lacks × MatrixInSome P far_ok others more s status)
+all_of_same P far_ok starts others ends more Lacks s (Ok status) first second none some = (none, some_of_same P far_ok starts others ends more s status first second some)
+all_of_same P far_ok starts others ends more Lacks s (Err why) first second none some = tt
 
 -- ## What brings a fault about
 
@@ -98,26 +84,16 @@ failed_of : {W : Type 0} (P : ℕ) (graph : GrFile) (sources targets : List ℕ)
     → IsMatrix P graph sources targets w old new (Err Write) → w.has_failed new ≡ true
 failed_of P graph sources targets w old new (within, begun, failed) = failed
 
-pub matrix_borne_out : {W : Type 0} (P : ℕ) (far_ok : Bool) (places : Option (ℕ × ℕ)) (paths : Paths) (own : Fault → Type 0) (files : Files) (graph path targets_path : List ℕ) (gr ss targets : Failing) (w : Writer W) (old new : W) (answer : Result Summary BatchError)
-    → paths file.Graph ≡ Some graph → paths file.Sources ≡ Some path → paths file.Targets ≡ Some targets_path → gr ≡ files.failing graph → ss ≡ files.failing path → targets ≡ files.failing targets_path → ((v : ℕ) (kind : FileKind) → own (fault.NoSuchVertex v kind))
-    → IfErr answer (MayFail gr ss targets) → OfSomeTexts P places w old new answer → IfErr (end_after far_ok answer) (IsBorneOut paths own (scene files (w.written old) (w.written new) (w.has_failed new)))
-matrix_borne_out P far_ok places paths own files graph path targets_path gr ss targets w old new (Ok summary) graph_is path_is targets_is gr_fails ss_fails targets_fail vertex may is = tt
-matrix_borne_out P far_ok places paths own files graph path targets_path gr ss targets w old new (Err (NoSuchVertex v role)) graph_is path_is targets_is gr_fails ss_fails targets_fail vertex may is = vertex v (kind_of role)
-matrix_borne_out P far_ok places paths own files graph path targets_path gr ss targets w old new (Err Memory) graph_is path_is targets_is gr_fails ss_fails targets_fail vertex may is = tt
-matrix_borne_out P far_ok places paths own files graph path targets_path gr ss targets w old new (Err Write) graph_is path_is targets_is gr_fails ss_fails targets_fail vertex may (texts, read) = failed_of P read.file (part_of places read.list.sources.items) read.targets.sources.items w old new read.matrix
-matrix_borne_out P far_ok places paths own files graph path targets_path gr ss targets w old new (Err (Gr e)) graph_is path_is targets_is gr_fails ss_fails targets_fail vertex may is = (graph, graph_is, λ read never. may read (gr_fails ∙ never))
-matrix_borne_out P far_ok places paths own files graph path targets_path gr ss targets w old new (Err (Ss e)) graph_is path_is targets_is gr_fails ss_fails targets_fail vertex may is = (path, path_is, λ read never. may read (ss_fails ∙ never))
-matrix_borne_out P far_ok places paths own files graph path targets_path gr ss targets w old new (Err (Targets e)) graph_is path_is targets_is gr_fails ss_fails targets_fail vertex may is = (targets_path, targets_is, λ read never. may read (targets_fail ∙ never))
-matrix_borne_out P far_ok places paths own files graph path targets_path gr ss targets w old new (Err (Pairs e)) graph_is path_is targets_is gr_fails ss_fails targets_fail vertex may (texts, read) = absurd read.matrix
-
-pub given_matrix_borne_out : {W : Type 0} (P : ℕ) (far_ok : Bool) (sources : List ℕ) (paths : Paths) (own : Fault → Type 0) (files : Files) (graph targets_path : List ℕ) (gr targets : Failing) (w : Writer W) (old new : W) (answer : Result Summary BatchError)
-    → paths file.Graph ≡ Some graph → paths file.Targets ≡ Some targets_path → gr ≡ files.failing graph → targets ≡ files.failing targets_path → ((v : ℕ) (kind : FileKind) → own (fault.NoSuchVertex v kind))
-    → IfErr answer (MayFail gr Anytime targets) → GivenMatrixOfSome P sources w old new answer → IfErr (end_after far_ok answer) (IsBorneOut paths own (scene files (w.written old) (w.written new) (w.has_failed new)))
-given_matrix_borne_out P far_ok sources paths own files graph targets_path gr targets w old new (Ok summary) graph_is targets_is gr_fails targets_fail vertex may is = tt
-given_matrix_borne_out P far_ok sources paths own files graph targets_path gr targets w old new (Err (NoSuchVertex v role)) graph_is targets_is gr_fails targets_fail vertex may is = vertex v (kind_of role)
-given_matrix_borne_out P far_ok sources paths own files graph targets_path gr targets w old new (Err Memory) graph_is targets_is gr_fails targets_fail vertex may is = tt
-given_matrix_borne_out P far_ok sources paths own files graph targets_path gr targets w old new (Err Write) graph_is targets_is gr_fails targets_fail vertex may (gr_text, targets_text, read) = failed_of P read.file sources read.targets.sources.items w old new read.matrix
-given_matrix_borne_out P far_ok sources paths own files graph targets_path gr targets w old new (Err (Gr e)) graph_is targets_is gr_fails targets_fail vertex may is = (graph, graph_is, λ read never. may read (gr_fails ∙ never))
-given_matrix_borne_out P far_ok sources paths own files graph targets_path gr targets w old new (Err (Targets e)) graph_is targets_is gr_fails targets_fail vertex may is = (targets_path, targets_is, λ read never. may read (targets_fail ∙ never))
-given_matrix_borne_out P far_ok sources paths own files graph targets_path gr targets w old new (Err (Ss e)) graph_is targets_is gr_fails targets_fail vertex may (gr_text, targets_text, read) = absurd read.matrix
-given_matrix_borne_out P far_ok sources paths own files graph targets_path gr targets w old new (Err (Pairs e)) graph_is targets_is gr_fails targets_fail vertex may (gr_text, targets_text, read) = absurd read.matrix
+pub matrix_borne_out : {W : Type 0} (P : ℕ) (far_ok : Bool) (starts ends : List ℕ → Asked) (may_sources may_targets : DimacsError → Type 0) (paths : Paths) (own : Fault → Type 0) (files : Files) (graph : List ℕ) (gr : Failing) (w : Writer W) (old new : W) (answer : Result Summary BatchError)
+    → paths file.Graph ≡ Some graph → gr ≡ files.failing graph
+    → ((e : DimacsError) → may_sources e → MayBeRefused paths files file.Sources e) → ((e : DimacsError) → may_targets e → MayBeRefused paths files file.Targets e)
+    → ((v : ℕ) (kind : FileKind) → own (fault.NoSuchVertex v kind))
+    → IfErr answer (MayFail gr may_sources may_targets) → OfSomeTexts P starts ends w old new answer → IfErr (end_after far_ok answer) (IsBorneOut paths own (scene files (w.written old) (w.written new) (w.has_failed new)))
+matrix_borne_out P far_ok starts ends may_sources may_targets paths own files graph gr w old new (Ok summary) graph_is gr_fails of_sources of_targets vertex may is = tt
+matrix_borne_out P far_ok starts ends may_sources may_targets paths own files graph gr w old new (Err (NoSuchVertex v role)) graph_is gr_fails of_sources of_targets vertex may is = vertex v (kind_of role)
+matrix_borne_out P far_ok starts ends may_sources may_targets paths own files graph gr w old new (Err Memory) graph_is gr_fails of_sources of_targets vertex may is = tt
+matrix_borne_out P far_ok starts ends may_sources may_targets paths own files graph gr w old new (Err Write) graph_is gr_fails of_sources of_targets vertex may (_, _, _, read) = failed_of P read.file read.sources read.targets w old new read.matrix
+matrix_borne_out P far_ok starts ends may_sources may_targets paths own files graph gr w old new (Err (Gr e)) graph_is gr_fails of_sources of_targets vertex may is = (graph, graph_is, λ read never. may read (gr_fails ∙ never))
+matrix_borne_out P far_ok starts ends may_sources may_targets paths own files graph gr w old new (Err (Ss e)) graph_is gr_fails of_sources of_targets vertex may is = of_sources e may
+matrix_borne_out P far_ok starts ends may_sources may_targets paths own files graph gr w old new (Err (Targets e)) graph_is gr_fails of_sources of_targets vertex may is = of_targets e may
+matrix_borne_out P far_ok starts ends may_sources may_targets paths own files graph gr w old new (Err (Pairs e)) graph_is gr_fails of_sources of_targets vertex may (_, _, _, read) = absurd read.matrix

@@ -21,7 +21,8 @@ use Rattle.sp_command.specs.Causes.{Paths, IsBorneOut}
 use Rattle.sp_command.specs.declared.faults.Status.{Status}
 use Rattle.sp_command.specs.declared.faults.Status.TheVariants as status
 use Rattle.sp_command.specs.Scene.{Scene, Files, scene}
-use Rattle.sp_cli.specs.Answers.{Asked, InText, These, EndsNear}
+use Rattle.sp_matrix.specs.Listing.{Asked, InText, These}
+use Rattle.sp_cli.specs.Answers.{EndsNear}
 use Rattle.sp_cli.specs.NearestAnswers.{IsForestWritten, ForestTold, ForestInSome}
 use Rattle.sp_cli.proofs.Told.{end_after}
 use Rattle.sp_cli.proofs.Near.{done_where_none, without_limit}

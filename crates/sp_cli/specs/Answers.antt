@@ -5,16 +5,14 @@ use Rattle.std.specs.Io.KnownBytes.{Appends}
 use Rattle.sp_text.specs.declared.faults.DimacsError.{DimacsError}
 use Rattle.sp_paths.specs.Paths.{PairAnswer}
 use Rattle.sp_dimacs.specs.declared.graphs.GrFile.{GrFile}
-use Rattle.sp_dimacs.specs.declared.sources.SsFile.{SsFile}
 use Rattle.sp_dimacs.specs.declared.pairs.PairsFile.{PairsFile}
 use Rattle.sp_dimacs.specs.Graph.{graph_of, SpellsGraph}
-use Rattle.sp_dimacs.specs.Sources.{SpellsSources, SourcesRead}
 use Rattle.sp_dimacs.specs.Pairs.{SpellsPairs, PairsRead}
 use Rattle.sp_job.specs.declared.answers.Summary.{Summary}
 use Rattle.sp_batch.specs.Batch.{Answer, AreAnswers, batch_text, IsSummary, HasBegun}
-use Rattle.sp_job.specs.Places.{part_of}
 use Rattle.sp_job.specs.Vertices.{IsFirstSource}
 use Rattle.sp_pairs.specs.Pairs.{ArePairAnswers, pairs_text, IsPairsSummary, HasBegunPairs, IsPairUpTo, IsFirstPairAbove}
+use Rattle.sp_matrix.specs.Listing.{Asked, InText, These, AreAsked, AreRefused}
 use Rattle.sp_command.specs.declared.faults.FileKind.TheVariants as file
 use Rattle.sp_command.specs.Causes.{Paths}
 use Rattle.sp_command.specs.declared.faults.Fault.{Fault}
@@ -34,11 +32,7 @@ use Rattle.sp_options.specs.Ends.{end_of, kind_of}
 
 -- ## Texts
 
--- what a reader of sources answers to a text, whatever it leaves of it, and whether its device fails or not
-abbrev pub SourcesIn : (P : ℕ) → (text : List ℕ) → Result SsFile DimacsError → Type 0
-SourcesIn P text result = (left : Option (List ℕ)) × (failed : Bool) × SourcesRead P text left failed result
-
--- the same of pairs
+-- what a reader of pairs answers to a text, whatever it leaves of it, and whether its device fails or not
 abbrev pub PairsIn : (P : ℕ) → (text : List ℕ) → Result PairsFile DimacsError → Type 0
 PairsIn P text result = (left : Option (List ℕ)) × (failed : Bool) × PairsRead P text left failed result
 
@@ -54,21 +48,6 @@ pub record HoldGraphAndPairs (P : ℕ) (gr pairs : List ℕ) : Type 0 where
   pub list_spelled : SpellsPairs P pairs list
 
 -- ## Sources
-
--- the sources that a command was given: those at some places of a text, or all of it; or these
-pub data Asked : Type 0 where
-  InText : (places : Option (ℕ × ℕ)) → (ss : List ℕ) → Asked
-  These : (sources : List ℕ) → Asked
-
--- these are they
-abbrev pub AreAsked : (P : ℕ) → Asked → (sources : List ℕ) → Type 0
-AreAsked P (InText places ss) sources = (list : SsFile) × SpellsSources P ss list × (sources ≡ part_of places list.sources.items)
-AreAsked P (These given) sources = sources ≡ given
-
--- a reader refuses their text
-abbrev pub AreRefused : (P : ℕ) → Asked → DimacsError → Type 0
-AreRefused P (InText places ss) e = SourcesIn P ss (Err e)
-AreRefused P (These given) e = ⊥
 
 -- A text spells a graph, and these are the sources.
 pub record HasGraphAndSources (P : ℕ) (gr : List ℕ) (asked : Asked) : Type 0 where

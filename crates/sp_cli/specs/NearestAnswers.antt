@@ -14,7 +14,8 @@ use Rattle.sp_command.specs.declared.faults.Fault.TheVariants as fault
 use Rattle.sp_command.specs.declared.faults.Status.{Status}
 use Rattle.sp_command.specs.Scene.{Scene, Meaning, HasText, IsUnwritten}
 use Rattle.sp_tools.specs.Reading.{GraphIn}
-use Rattle.sp_cli.specs.Answers.{HoldsGraph, Asked, InText, These, AreRefused, HasGraphAndSources, LackPlaces, EndsNear}
+use Rattle.sp_matrix.specs.Listing.{Asked, InText, These, AreRefused}
+use Rattle.sp_cli.specs.Answers.{HoldsGraph, HasGraphAndSources, LackPlaces, EndsNear}
 use Rattle.sp_cli.specs.declared.nearest.NearestCommand.{NearestCommand}
 use Rattle.sp_options.specs.declared.sources.Sources.{Sources}
 use Rattle.sp_options.specs.declared.sources.Sources.TheVariants.{File, Part, Given}

@@ -1,24 +1,25 @@
 //! The command `spt matrix`, which writes the distance from each source of a list to each target of another.
-ghost use Rattle.std.specs.Prelude.{◌≡◌, ℕ, true, List, Option, Some, Ok, Err, IfOk, IfErr, MatchResult, codes};
+ghost use Rattle.std.specs.Prelude.{◌≡◌, ℕ, true, false, List, Option, Some, Ok, Err, IfOk, IfErr, MatchResult, codes};
 ghost use Rattle.sp_word.specs.Word.{is_layout};
 ghost use Rattle.sp_command.specs.Faults.{is_done, is_early};
-ghost use Rattle.sp_command.specs.Causes.{IsBorneOut};
+ghost use Rattle.sp_command.specs.Causes.{IsBorneOut, NamesInputTwice};
+ghost use Rattle.sp_command.specs.declared.faults.Fault.TheVariants.{CannotOpen, NoPlaces};
 ghost use Rattle.sp_command.specs.Scene.{scene};
-ghost use Rattle.sp_cli.specs.Answers.{InText, These};
-ghost use Rattle.sp_cli.specs.MatrixAnswers.{MatrixAnswers, MatrixOf, MatrixOfFile, MatrixOfGiven, MatrixOfSome, MatrixInSome, matrix_paths, matrix_faults};
+ghost use Rattle.sp_cli.specs.Answers.{LackPlaces};
+ghost use Rattle.sp_cli.specs.MatrixAnswers.{IsOpenedList, MatrixAnswers, MatrixOf, MatrixOfSome, matrix_paths, matrix_faults};
 ghost use Rattle.sp_options.specs.Sources.{path_of};
 ghost use Rattle.sp_options.specs.Ends.{end_of, fault_of};
 ghost use Rattle.sp_cli.specs.Words.{IsMatrixOf, LacksMatrix, matrix_rules};
 
-use crate::context::{Context, SourceFile};
+use crate::context::Context;
 use clap::{ArgMatches, Error};
 use sp_command::{
     BuiltCommand, Command, Fault, FileKind, GRAPH_FILE, Inputs, Run, Status, after_help, file,
 };
-use sp_device::Write;
+use sp_device::{Read, Write};
 use sp_job::{BatchError, Listener, Progress, Summary};
-use sp_matrix::{RowCrew, run_matrix_given_told, run_matrix_told};
-use sp_options::{Given, Lists, RunOptions, Sources, Teller, Watched};
+use sp_matrix::{Listing, RowCrew, run_matrix_told};
+use sp_options::{Lists, RunOptions, Sources, Teller, Watched};
 use sp_word::Alone;
 use std::alloc::Global;
 use std::sync::Wait;
@@ -66,12 +67,16 @@ workers.";
         "\
 The graph and the sources are files as described in `spt tree --help`, and the
 targets are in a file like that of the sources. With --source there is no file
-of sources: spt matrix GR TARGETS --source V. The files are read in the order in
-which they are named, and all sources and then all targets are checked, before
-anything is written.
+of sources, and with --target no file of targets:
+  spt matrix GR SOURCES TARGETS
+  spt matrix GR TARGETS --source V ..
+  spt matrix GR SOURCES --target V ..
+  spt matrix GR --source V .. --target V ..
+The files are read in the order in which they are named, and all sources and
+then all targets are checked, before anything is written.
 
-For each source, in the order of its file, and for each target, in the order of
-its file, one line is written, as `spt pairs` writes it for that pair:
+For each source, in the order of its list, and for each target, in the order of
+its list, one line is written, as `spt pairs` writes it for that pair:
   d S T D P     target T has distance D and predecessor P from source S; S
                 itself has 0 and 0
   x S V         T has no distance that fits (see --pred-bits), and V is the
@@ -102,6 +107,9 @@ the output of `spt matrix diamond.gr some.ss all.ss` is
   d 1 4 5 2
   d 4 4 0 0
   n 4 1
+  d 4 4 0 0
+and that of `spt matrix diamond.gr some.ss --target 4` is
+  d 1 4 5 2
   d 4 4 0 0
 
 An error in a file is reported with its line, as in
@@ -165,7 +173,7 @@ Other errors are
         match file {
             FileKind::Graph => Some(self.graph),
             FileKind::Sources => self.lists.sources.path(),
-            FileKind::Targets => Some(self.lists.targets),
+            FileKind::Targets => self.lists.targets.path(),
             _ => None,
         }
     }
@@ -191,141 +199,114 @@ impl MatrixCommand<'_> {
         self.options.end_of(answer)
     }
 
-    // Runs from the sources of a file, or from those at some of its places.
-    fn run_file<const P: u32, R: RowCrew<P>, F: Inputs, W: Write>(
-        &self,
-        rt: &R,
-        alloc: Global,
-        context: &Context<'_, P, F>,
-        list: &SourceFile<'_>,
-        out: &mut W,
-    ) -> Result<Status, Fault>
-        requires run { (is_layout P ≡ true) × R.is_shared }
-        requires path { path_of self.now.lists.sources ≡ Some list.now.path.now }
-        ensures answered { MatrixOfFile P self.now list.now.path.now list.now.places
-            (scene (F.files context.now.files.now)
-            (W.written out.old) (W.written out.new) (W.has_failed out.new)) result }
-        ensures of_some { IfOk result
-            (MatrixInSome P self.now.options.far_ok (InText list.now.places)
-            (scene (F.files context.now.files.now)
-            (W.written out.old) (W.written out.new) (W.has_failed out.new))) }
-        ensures borne_out { IfErr result
-            (IsBorneOut (matrix_paths self.now) (matrix_faults P self.now)
-            (scene (F.files context.now.files.now)
-            (W.written out.old) (W.written out.new) (W.has_failed out.new))) }
-        ensures done { IfOk result (λ status. is_done status ≡ true) }
-        ensures untouched { IfErr result (λ fault. is_early fault ≡ true → out.new ≡ out.old) }
+    // Returns whether standard input is named for two of the files.
+    fn names_input_twice(&self) -> bool
+        ensures { result ≡ true → NamesInputTwice (matrix_paths self.now) }
     {
-        let (files, settings) = (context.files, context.settings);
-        let (gr, ss, targets) = FileKind::open_graph_and_lists(
-            files,
-            self.graph,
-            list.path,
-            self.lists.targets,
-        )?;
-        let mut gr = Watched::new(gr, FileKind::Graph, settings.listener);
-        let mut ss = Watched::new(ss, FileKind::Sources, settings.listener);
-        let mut targets = Watched::new(targets, FileKind::Targets, settings.listener);
-        let places = list.places;
-        let answer = run_matrix_told::<P, R, _, _, _, W, _>(
-            rt,
-            alloc,
-            &mut gr,
-            &mut ss,
-            &mut targets,
-            places,
-            out,
-            settings,
-        );
-        self.end(answer, settings.listener)
-    }
-
-    // Runs from the sources that the command line gives.
-    fn run_given<const P: u32, R: RowCrew<P>, F: Inputs, W: Write>(
-        &self,
-        rt: &R,
-        alloc: Global,
-        context: &Context<'_, P, F>,
-        given: &Given,
-        out: &mut W,
-    ) -> Result<Status, Fault>
-        requires { (is_layout P ≡ true) × R.is_shared }
-        ensures answered { MatrixOfGiven P self.now given.now.list.items
-            (scene (F.files context.now.files.now)
-            (W.written out.old) (W.written out.new) (W.has_failed out.new)) result }
-        ensures of_some { IfOk result
-            (MatrixInSome P self.now.options.far_ok (λ _. These given.now.list.items)
-            (scene (F.files context.now.files.now)
-            (W.written out.old) (W.written out.new) (W.has_failed out.new))) }
-        ensures borne_out { IfErr result
-            (IsBorneOut (matrix_paths self.now) (matrix_faults P self.now)
-            (scene (F.files context.now.files.now)
-            (W.written out.old) (W.written out.new) (W.has_failed out.new))) }
-        ensures done { IfOk result (λ status. is_done status ≡ true) }
-        ensures untouched { IfErr result (λ fault. is_early fault ≡ true → out.new ≡ out.old) }
-    {
-        let (files, settings) = (context.files, context.settings);
-        let (gr, targets) = FileKind::Targets.open_with_graph(
-            files,
-            self.graph,
-            self.lists.targets,
-        )?;
-        let mut gr = Watched::new(gr, FileKind::Graph, settings.listener);
-        let mut targets = Watched::new(targets, FileKind::Targets, settings.listener);
-        let answer = run_matrix_given_told::<P, R, _, _, W, _>(
-            rt,
-            alloc,
-            &mut gr,
-            &given.list,
-            &mut targets,
-            out,
-            settings,
-        );
-        self.end(answer, settings.listener)
-    }
-
-    // Runs from the sources, wherever they stand.
-    fn run_all<const P: u32, R: RowCrew<P>, F: Inputs, W: Write>(
-        &self,
-        rt: &R,
-        alloc: Global,
-        context: &Context<'_, P, F>,
-        out: &mut W,
-    ) -> Result<Status, Fault>
-        requires { (is_layout P ≡ true) × R.is_shared }
-        ensures answered { MatrixOf P self.now self.now.lists.sources
-            (scene (F.files context.now.files.now)
-            (W.written out.old) (W.written out.new) (W.has_failed out.new)) result }
-        ensures of_some { IfOk result
-            (MatrixOfSome P self.now.options.far_ok self.now.lists.sources
-            (scene (F.files context.now.files.now)
-            (W.written out.old) (W.written out.new) (W.has_failed out.new))) }
-        ensures borne_out { IfErr result
-            (IsBorneOut (matrix_paths self.now) (matrix_faults P self.now)
-            (scene (F.files context.now.files.now)
-            (W.written out.old) (W.written out.new) (W.has_failed out.new))) }
-        ensures done { IfOk result (λ status. is_done status ≡ true) }
-        ensures untouched { IfErr result (λ fault. is_early fault ≡ true → out.new ≡ out.old) }
-    {
-        match &self.lists.sources {
-            Sources::File(path) => {
-                let list = SourceFile { path, places: None };
-                self.run_file::<P, R, F, W>(rt, alloc, context, &list, out)
-            }
-            Sources::Part(path, places) => {
-                if places.is_none() {
-                    return Err(Fault::NoPlaces);
-                }
-                let list = SourceFile {
-                    path,
-                    places: *places,
-                };
-                self.run_file::<P, R, F, W>(rt, alloc, context, &list, out)
-            }
-            Sources::Given(given) => {
-                self.run_given::<P, R, F, W>(rt, alloc, context, given, out)
-            }
+        let sources = is_input(&self.lists.sources);
+        let targets = is_input(&self.lists.targets);
+        if self.graph == "-" {
+            return sources || targets;
         }
+        sources && targets
+    }
+
+    // Runs from the sources to the targets, each in a file or on the command line.
+    fn run_lists<const P: u32, R: RowCrew<P>, F: Inputs, W: Write>(
+        &self,
+        rt: &R,
+        alloc: Global,
+        context: &Context<'_, P, F>,
+        out: &mut W,
+    ) -> Result<Status, Fault>
+        requires { (is_layout P ≡ true) × R.is_shared }
+        ensures no_places { LackPlaces self.now.lists.sources
+            → (result ≡ Err NoPlaces) × (W.written out.new ≡ W.written out.old) }
+        ensures answered { ¬ (LackPlaces self.now.lists.sources) → MatrixOf P self.now
+            (scene (F.files context.now.files.now)
+            (W.written out.old) (W.written out.new) (W.has_failed out.new)) result }
+        ensures of_some { IfOk result
+            (MatrixOfSome P self.now.options.far_ok self.now.lists
+            (scene (F.files context.now.files.now)
+            (W.written out.old) (W.written out.new) (W.has_failed out.new))) }
+        ensures borne_out { IfErr result
+            (IsBorneOut (matrix_paths self.now) (matrix_faults P self.now)
+            (scene (F.files context.now.files.now)
+            (W.written out.old) (W.written out.new) (W.has_failed out.new))) }
+        ensures done { IfOk result (λ status. is_done status ≡ true) }
+        ensures untouched { IfErr result (λ fault. is_early fault ≡ true → out.new ≡ out.old) }
+    {
+        if lacks_places(&self.lists.sources) {
+            return Err(Fault::NoPlaces);
+        }
+        if self.names_input_twice() {
+            return Err(Fault::InputTwice);
+        }
+        let (files, settings) = (context.files, context.settings);
+        let gr = FileKind::Graph.open(files, self.graph)?;
+        let sources = open_list(
+            files,
+            settings.listener,
+            &self.lists.sources,
+            FileKind::Sources,
+        )?;
+        let targets = open_list(
+            files,
+            settings.listener,
+            &self.lists.targets,
+            FileKind::Targets,
+        )?;
+        let mut gr = Watched::new(gr, FileKind::Graph, settings.listener);
+        let answer = run_matrix_told::<P, R, _, _, _, W, _>(
+            rt, alloc, &mut gr, sources, targets, out, settings,
+        );
+        self.end(answer, settings.listener)
+    }
+}
+
+// Returns whether the word for the places of a list spells none.
+fn lacks_places(list: &Sources<'_>) -> bool
+    ensures lacking { result ≡ true → LackPlaces list.now }
+    ensures none { result ≡ false → ¬ (LackPlaces list.now) }
+{
+    match list {
+        Sources::Part(_, places) => places.is_none(),
+        Sources::File(_) | Sources::Given(_) => false,
+    }
+}
+
+// Returns whether a list is to be read from standard input.
+fn is_input(list: &Sources<'_>) -> bool
+    ensures { result ≡ true → path_of list.now ≡ Some (codes "-") }
+{
+    match list {
+        Sources::File(path) | Sources::Part(path, _) => *path == "-",
+        Sources::Given(_) => false,
+    }
+}
+
+// Opens a list at its start, if it stands in a file.
+fn open_list<'l, F: Inputs>(
+    files: &'l F,
+    teller: &'l Teller<'l, F>,
+    list: &'l Sources<'_>,
+    kind: FileKind,
+) -> Result<Listing<'l, Watched<'l, 'l, F::File, F>>, Fault>
+    ensures opened { IfOk result (IsOpenedList ⟦<Watched<'static, 'static, F::File, F> as Read>⟧
+        (F.files files.now) list.now) }
+    ensures closed { IfErr result (λ fault. (fault ≡ CannotOpen kind) × ((path : List ℕ)
+        × (path_of list.now ≡ Some path) × ((F.files files.now).opens path ≡ false))) }
+{
+    match list {
+        Sources::File(path) => {
+            let file = kind.open(files, path)?;
+            Ok(Listing::InText(Watched::new(file, kind, teller), None))
+        }
+        Sources::Part(path, places) => {
+            let file = kind.open(files, path)?;
+            Ok(Listing::InText(Watched::new(file, kind, teller), *places))
+        }
+        Sources::Given(given) => Ok(Listing::These(&given.list)),
     }
 }
 
@@ -352,8 +333,8 @@ impl<const P: u32> Run<P> for MatrixCommand<'_> {
             limit: None,
         };
         if settings.workers.get() == 1 {
-            return self.run_all::<P, _, F, W>(&Alone::new(rt), alloc, &context, out);
+            return self.run_lists::<P, _, F, W>(&Alone::new(rt), alloc, &context, out);
         }
-        self.run_all::<P, _, F, W>(&rt, alloc, &context, out)
+        self.run_lists::<P, _, F, W>(&rt, alloc, &context, out)
     }
 }

@@ -41,11 +41,3 @@ IsBorneOut paths own s other = own other
 -- A file of this kind, with this path, wasn't opened, and nothing says that it is.
 abbrev pub StaysClosed : Files → FileKind → (path : List ℕ) → Fault → Type 0
 StaysClosed files file path why = (why ≡ fault.CannotOpen file) × (files.opens path ≡ false)
-
--- The same of a graph, or a list of sources or of targets.
-abbrev pub StayClosed : Files → (graph sources targets : List ℕ) → Fault → Type 0
-StayClosed files graph sources targets why = StaysClosed files role.Graph graph why ⊎ (StaysClosed files role.Sources sources why ⊎ StaysClosed files role.Targets targets why)
-
--- Two of three paths name standard input.
-abbrev pub NameInputTwice : (one other third : List ℕ) → Type 0
-NameInputTwice one other third = ((one ≡ codes "-") × (other ≡ codes "-")) ⊎ (((one ≡ codes "-") × (third ≡ codes "-")) ⊎ ((other ≡ codes "-") × (third ≡ codes "-")))

@@ -1,7 +1,7 @@
 //! The faults that keep a command from being carried out, and the exit statuses.
 ghost use Rattle.std.specs.Prelude.{◌≡◌, ◌≤◌, ◌⊎◌, false, IfOk, IfErr, codes};
 ghost use Rattle.sp_command.specs.Faults.{code_of, is_done, status_of};
-ghost use Rattle.sp_command.specs.Causes.{StaysClosed, StayClosed, NameInputTwice};
+ghost use Rattle.sp_command.specs.Causes.{StaysClosed};
 ghost use Rattle.sp_command.specs.Lines.{place_of, word_of};
 ghost use Rattle.sp_command.specs.Scene.{IsOpened};
 ghost use Rattle.sp_command.specs.declared.faults.Fault.TheVariants.{CannotOpen, Input, InputTwice, Memory, WriteFailed};
@@ -88,33 +88,6 @@ impl FileKind {
         }
         let gr = FileKind::Graph.open(files, graph)?;
         Ok((gr, self.open(files, path)?))
-    }
-
-    /// Opens a graph and then a list of sources and one of targets, each at its start. Standard input can be one of them.
-    pub fn open_graph_and_lists<F: Inputs>(
-        files: &F,
-        graph: &str,
-        sources: &str,
-        targets: &str,
-    ) -> Result<(F::File, F::File, F::File), Fault>
-        ensures graph { IfOk result
-            (λ all. IsOpened F.File.Read (F.files files.now) graph.now all.0) }
-        ensures sources { IfOk result
-            (λ all. IsOpened F.File.Read (F.files files.now) sources.now all.1) }
-        ensures targets { IfOk result
-            (λ all. IsOpened F.File.Read (F.files files.now) targets.now all.2) }
-        ensures twice { NameInputTwice graph.now sources.now targets.now
-            → result ≡ Err InputTwice }
-        ensures once { IfErr result (λ fault. fault ≡ InputTwice
-            → NameInputTwice graph.now sources.now targets.now) }
-        ensures closed { IfErr result (λ fault. (fault ≡ InputTwice)
-            ⊎ StayClosed (F.files files.now) graph.now sources.now targets.now fault) }
-    {
-        if targets == "-" && (graph == "-" || sources == "-") {
-            return Err(Fault::InputTwice);
-        }
-        let (gr, ss) = FileKind::Sources.open_with_graph(files, graph, sources)?;
-        Ok((gr, ss, FileKind::Targets.open(files, targets)?))
     }
 
     /// Returns the word for such a file.

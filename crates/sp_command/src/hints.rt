@@ -88,8 +88,8 @@ impl fmt::Display for PlacesFault {
 /// Where a number is given that is no vertex of its graph.
 #[derive(Clone, Copy, Debug)]
 pub enum Naming<'a> {
-    /// In the option `--source`.
-    Option,
+    /// In an option, as `--source`.
+    Option(&'a str),
     /// On a line of a file, as a source.
     Source { path: &'a str, line: u64 },
     /// On a line of a file, as a target.
@@ -149,11 +149,15 @@ pub enum Hint<'a> {
     NoSources,
     /// A width that serves where nothing else is known.
     NoDelta,
-    /// How sources are given by their numbers.
-    NoSource,
-    /// A number in the place of a file, which the system can't open.
+    /// How sources, or targets, are given by their numbers: what such a number is, and its option.
+    NoVertex {
+        what: &'a str,
+        option: &'a str,
+    },
+    /// A number in the place of a file, which the system can't open, and the option that takes such a number.
     NumberAsFile {
         number: &'a str,
+        option: &'a str,
         reason: io::Error,
     },
 }
@@ -211,15 +215,20 @@ impl fmt::Display for Hint<'_> {
                 "give the sources in a file SS, or each with --source V",
             )?,
             Hint::NoDelta => f.write_str("use --delta mean if you know no better width")?,
-            Hint::NoSource => {
-                f.write_str("a source is a number from 1 to N; give each its own --source")?;
-            }
-            Hint::NumberAsFile { number, reason } => {
+            Hint::NoVertex { what, option } => {
                 write!(
                     f,
-                    "{number}: {reason}; for vertex {number} use --source {number}"
+                    "a {what} is a number from 1 to N; give each its own {option}"
                 )?;
             }
+            Hint::NumberAsFile {
+                number,
+                option,
+                reason,
+            } => write!(
+                f,
+                "{number}: {reason}; for vertex {number} use {option} {number}"
+            )?,
         }
         f.write_str("\n")
     }
@@ -251,7 +260,7 @@ fn write_vertex<W: fmt::Write>(
     vertices: Option<u64>,
 ) -> fmt::Result {
     match naming {
-        Naming::Option => write!(f, "--source {vertex}: ")?,
+        Naming::Option(option) => write!(f, "{option} {vertex}: ")?,
         Naming::Source { path, line } => {
             write!(f, "{}: line {line}: source {vertex}; ", Shown(path))?;
         }
@@ -312,16 +321,26 @@ fn input_hint<'a, C: Commands<'a>, F: Inputs>(
     }
 }
 
-// Returns the system's reason for not opening a file, and what a number in the place of a file of sources was meant for.
+// Returns the system's reason for not opening a file, and what a number in the place of a list was meant for.
 fn opening_hint<'a, F: Inputs>(file: FileKind, path: &'a str, files: &F) -> Option<Hint<'a>> {
     let reason = files.reason()?;
-    if file == FileKind::Sources && path.parse::<u32>().is_ok() {
-        return Some(Hint::NumberAsFile {
+    match option_for(file) {
+        Some(option) if path.parse::<u32>().is_ok() => Some(Hint::NumberAsFile {
             number: path,
+            option,
             reason,
-        });
+        }),
+        _ => Some(Hint::Reason { name: path, reason }),
     }
-    Some(Hint::Reason { name: path, reason })
+}
+
+/// Returns the option that gives a number of a list on the command line, if a list of this kind can stand there.
+pub fn option_for<'a>(list: FileKind) -> Option<&'a str> {
+    match list {
+        FileKind::Sources => Some("--source"),
+        FileKind::Targets => Some("--target"),
+        _ => None,
+    }
 }
 
 // Returns where standard input appears in the words of a command if it is its file of this kind.

@@ -26,7 +26,7 @@ pub use arguments::{PLACES, file, flag, valued};
 pub use commands::{BuiltCommand, Command, Commands, OneOf};
 pub use faults::{Fault, FileKind, Status};
 pub use help::GRAPH_FILE;
-pub use hints::{Encoding, Hint, Naming, PlacesFault, hint_of, output_hint};
+pub use hints::{Encoding, Hint, Naming, PlacesFault, hint_of, option_for, output_hint};
 pub use inputs::Inputs;
 pub use layout::{NoPredBits, PredBits, RunIn};
 pub use outputs::{OUTPUT, Outputs};

@@ -1,3 +1,4 @@
 pub mod Matrix
+pub mod Listing
 pub mod Answered
 pub mod Row

@@ -3,10 +3,14 @@
 #![tactic(auto)]
 
 mod crews;
+mod listing;
 mod matrix;
 mod row;
 mod row_lines;
 
 pub use crews::RowCrew;
-pub use matrix::{run_matrix_given_told, run_matrix_told};
-pub use sp_job::{BatchError, BucketWidth, Listener, Nobody, Places, Progress, Settings, Summary};
+pub use listing::Listing;
+pub use matrix::run_matrix_told;
+pub use sp_job::{
+    BatchError, BucketWidth, Listener, Nobody, Places, Progress, Role, Settings, Summary,
+};

@@ -5,4 +5,6 @@ mod answer;
 mod nearest;
 
 pub use nearest::{run_nearest_given_told, run_nearest_told};
-pub use sp_job::{BatchError, BucketWidth, Listener, Nobody, Places, Progress, Settings, Summary};
+pub use sp_job::{
+    BatchError, BucketWidth, Listener, Nobody, Places, Progress, Role, Settings, Summary,
+};

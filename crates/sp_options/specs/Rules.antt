@@ -4,7 +4,7 @@ use Rattle.clap.specs.Simple.{new_rule}
 use Rattle.clap.specs.Walk.{Rule}
 use Rattle.clap.specs.declared.builder.action.ArgAction.TheVariants.{Append}
 use Rattle.clap.specs.declared.builder.value_parser.ValueParser.TheVariants as parser
-use Rattle.sp_command.specs.Rules.{file_rule, flag_rule, valued_rule}
+use Rattle.sp_command.specs.Rules.{flag_rule, valued_rule}
 
 -- ## How runs are made
 
@@ -25,23 +25,23 @@ running_rules = workers_rule ∷ flag_rule (codes "far-ok") ∷ flag_rule (codes
 abbrev pub within_rule : Rule
 within_rule = valued_rule (codes "within")
 
--- ## Sources
+-- ## Lists
 
--- A source, from 1 to the greatest predecessor of any word, as often as wanted.
-abbrev pub source_rule : Rule
-source_rule = record (valued_rule (codes "source")) { action = Some Append; parser = Some (parser.Signed (pos 1) (pos 4294967294)) }
+-- The option of this name that gives a source or a target, from 1 to the greatest predecessor of any word, as often as wanted.
+abbrev pub given_rule : (name : List ℕ) → Rule
+given_rule name = record (valued_rule name) { action = Some Append; parser = Some (parser.Signed (pos 1) (pos 4294967294)) }
 
 -- The places of a file, which stand with no source.
 abbrev pub places_rule : Rule
 places_rule = record (valued_rule (codes "sources")) { is_free = false }
 
--- A file that is needed where no source is given, and stands with none.
-abbrev pub file_unless_sources : List ℕ → Rule
-file_unless_sources name = record (new_rule name) { is_free = false }
+-- A file of a list that is needed where no numbers are given in its place.
+abbrev pub file_unless_given : List ℕ → Rule
+file_unless_given name = record (new_rule name) { is_free = false }
 
 abbrev pub sources_rules : List Rule
-sources_rules = file_unless_sources (codes "SS") ∷ source_rule ∷ places_rule ∷ []
+sources_rules = file_unless_given (codes "SS") ∷ given_rule (codes "source") ∷ places_rule ∷ []
 
 -- The lists of a matrix.
 abbrev pub lists_rules : List Rule
-lists_rules = record (file_rule (codes "SS")) { value_names = 1 } ∷ file_unless_sources (codes "TARGETS") ∷ source_rule ∷ places_rule ∷ []
+lists_rules = record (file_unless_given (codes "SS")) { value_names = 1 } ∷ file_unless_given (codes "TARGETS") ∷ given_rule (codes "source") ∷ given_rule (codes "target") ∷ places_rule ∷ []

@@ -12,13 +12,13 @@ use Rattle.sp_options.specs.Places.{ArePlacesIn}
 abbrev pub AreNamed : Found → Sources → Type 0
 AreNamed found (File path) = (first_value found (codes "SS") ≡ Some path.now) × (first_value found (codes "sources") ≡ None)
 AreNamed found (Part path places) = (first_value found (codes "SS") ≡ Some path.now) × ((word : List ℕ) × (first_value found (codes "sources") ≡ Some word) × ArePlacesIn word places)
-AreNamed found (Given given) = (first_value found (codes "SS") ≡ None) × AreGiven found given.list.items
+AreNamed found (Given given) = (first_value found (codes "SS") ≡ None) × AreGiven found (codes "source") given.list.items
 
 -- A command line names no sources.
 abbrev pub NamesNone : Found → Type 0
-NamesNone found = (first_value found (codes "SS") ≡ None) × LacksGiven found
+NamesNone found = (first_value found (codes "SS") ≡ None) × LacksGiven found (codes "source")
 
--- This is the path of the file.
+-- This is the path of the file of a list.
 abbrev pub path_of : Sources → Option (List ℕ)
 path_of (File path) = Some path.now
 path_of (Part path places) = Some path.now

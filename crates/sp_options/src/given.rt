@@ -1,8 +1,8 @@
-//! Sources that the command line gives, in place of a file of sources.
+//! Numbers that the command line gives, in place of a file of sources or of targets.
 ghost use Rattle.std.specs.Prelude.{◌≡◌, ◌<◌, ◌^◌, ℕ, List, All, IfOk, MatchOption};
 ghost use Rattle.clap.specs.Matches.{found_of, values_left};
 ghost use Rattle.clap.specs.Walk.{rule_of};
-ghost use Rattle.sp_options.specs.Rules.{source_rule};
+ghost use Rattle.sp_options.specs.Rules.{given_rule};
 ghost use Rattle.sp_job.specs.Places.{AreNumbered};
 ghost use Rattle.sp_options.specs.Numbers.{SpellNumbers};
 ghost use Rattle.sp_options.specs.Given.{AreGiven, LacksGiven};
@@ -14,13 +14,16 @@ use std::alloc::{AllocError, Global};
 // The greatest predecessor in any layout of a word.
 const MAX_VERTEX: i64 = 4_294_967_294;
 
-// The greatest number of sources, which is that of a file.
-const MOST_SOURCES: usize = 1_048_576;
+// The greatest count of the numbers, which is that of a file.
+const MOST_NUMBERS: usize = 1_048_576;
 
-// The identifier of the option for `clap`.
-const ID: &str = "source";
+/// The name of the option that gives a source.
+pub(crate) const SOURCE: &str = "source";
 
-/// Sources that the command line gives. Each is at least 1, and there are no more of them than a file may have.
+/// The name of the option that gives a target.
+pub(crate) const TARGET: &str = "target";
+
+/// Numbers that an option of the command line gives. Each is at least 1, and there are no more of them than a file may have.
 #[derive(Drop)]
 pub struct Given {
     pub list: Vec<u32>,
@@ -28,25 +31,30 @@ pub struct Given {
 }
 
 impl Given {
-    /// Returns the option that gives a source.
-    pub fn option<'a>(alloc: Global) -> Arg<'a>
-        ensures { rule_of result ≡ source_rule }
+    /// Returns the option of this name that gives a number, with the text that its help says of it.
+    pub fn option<'a>(alloc: Global, name: &'a str, about: &'a str) -> Arg<'a>
+        ensures { rule_of result ≡ given_rule name.entry.now }
     {
-        Arg::new(alloc, ID)
-            .long(ID)
+        Arg::new(alloc, name)
+            .long(name)
             .value_name("V")
             .value_parser(value_parser!(u32).range(1..=MAX_VERTEX))
             .action(ArgAction::Append)
-            .help("A source, instead of a file of them; can be repeated")
+            .help(about)
     }
 
-    /// Reads the sources from what `clap` has found, or returns `None` if none are given, if one of them is no source, or if
-    /// there are too many.
-    pub fn read(alloc: Global, given: &ArgMatches<'_>) -> Result<Option<Given>, AllocError>
-        ensures { IfOk result (λ found. MatchOption found (LacksGiven (found_of given.now))
-            (λ sources. AreGiven (found_of given.now) sources.list.items)) }
+    /// Reads the numbers that the option of this name gives from what `clap` has found, or returns `None` if there are none, if
+    /// one of them is no number of a vertex, or if there are too many.
+    pub fn read(
+        alloc: Global,
+        given: &ArgMatches<'_>,
+        name: &str,
+    ) -> Result<Option<Given>, AllocError>
+        ensures { IfOk result (λ found. MatchOption found
+            (LacksGiven (found_of given.now) name.now)
+            (λ numbers. AreGiven (found_of given.now) name.now numbers.list.items)) }
     {
-        let Some(values) = given.get_many(ID) else {
+        let Some(values) = given.get_many(name) else {
             return Ok(None);
         };
         match numbers_of(alloc, values)? {
@@ -55,16 +63,16 @@ impl Given {
         }
     }
 
-    // Returns these sources, or `None` if one of them is 0 or if there are too many.
+    // Returns these numbers, or `None` if one of them is 0 or if there are too many.
     fn new(list: Vec<u32>) -> Option<Given>
         ensures { MatchOption result (¬ (AreNumbered list.items))
             (λ given. given.list.items ≡ list.items) }
     {
-        if list.len() > MOST_SOURCES {
+        if list.len() > MOST_NUMBERS {
             return None;
         }
-        for source in &list {
-            if *source == 0 {
+        for number in &list {
+            if *number == 0 {
                 return None;
             }
         }

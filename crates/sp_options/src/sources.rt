@@ -1,9 +1,9 @@
-//! The sources of a command, which stand in a file or on the command line.
+//! The sources of a command, or the targets of a matrix, which stand in a file or on the command line.
 ghost use Rattle.std.specs.Prelude.{◌≡◌, IfOk};
 ghost use Rattle.clap.specs.Walk.{rule_of};
 ghost use Rattle.sp_options.specs.Rules.{places_rule};
 
-use crate::given::Given;
+use crate::given::{Given, SOURCE};
 use crate::places::places_of;
 use clap::{Arg, ArgMatches, Command};
 use sp_command::{BuiltCommand, PLACES};
@@ -22,7 +22,10 @@ const TAKEN_LONG: &str = "\
 Use only the sources at places A to B of the file, counted from 1.
 Places beyond its end are ignored";
 
-/// The sources of a command that runs from them.
+/// What the help of a command says of the option that gives a source.
+pub(crate) const A_SOURCE: &str = "A source, instead of a file of them; can be repeated";
+
+/// The sources of a command that runs from them, or the targets of a matrix.
 #[derive(Drop)]
 pub enum Sources<'a> {
     /// All sources of the file with this path.
@@ -39,7 +42,7 @@ impl<'a> Sources<'a> {
     ghost use Rattle.clap.specs.Matches.{found_of};
     ghost use Rattle.clap.specs.Walk.{rule_of};
     ghost use Rattle.sp_command.specs.Rules.{AddsRules};
-    ghost use Rattle.sp_options.specs.Rules.{file_unless_sources, sources_rules};
+    ghost use Rattle.sp_options.specs.Rules.{file_unless_given, sources_rules};
     ghost use Rattle.sp_options.specs.Sources.{AreNamed, NamesNone, path_of};
 
     /// Adds the argument for the file to a command, and the options for a part of it or for sources in its place.
@@ -67,17 +70,17 @@ impl<'a> Sources<'a> {
     {
         command
             .arg(Self::file(alloc)?)?
-            .arg(Given::option(alloc))?
+            .arg(Given::option(alloc, SOURCE, A_SOURCE))?
             .arg(places_option(alloc, about, long)?)
     }
 
     fn file(alloc: Global) -> Result<Arg<'a>, AllocError>
-        ensures { IfOk result (λ arg. rule_of arg ≡ file_unless_sources (codes "SS")) }
+        ensures { IfOk result (λ arg. rule_of arg ≡ file_unless_given (codes "SS")) }
     {
         Arg::new(alloc, "SS")
             .help("The sources, a .ss file")
-            .required_unless_present("source")?
-            .conflicts_with("source")
+            .required_unless_present(SOURCE)?
+            .conflicts_with(SOURCE)
     }
 
     /// Reads the sources from what `clap` has found, or returns `None` if there are none.
@@ -86,7 +89,7 @@ impl<'a> Sources<'a> {
             (NamesNone (found_of given.now)) (AreNamed (found_of given.now))) }
     {
         let Some(path) = given.get_str("SS") else {
-            return Ok(match Given::read(alloc, given)? {
+            return Ok(match Given::read(alloc, given, SOURCE)? {
                 Some(sources) => Some(Sources::Given(sources)),
                 None => None,
             });
@@ -121,5 +124,5 @@ pub fn places_option<'a>(
         .value_name("A-B")
         .help(about)
         .long_help(long)
-        .conflicts_with("source")
+        .conflicts_with(SOURCE)
 }

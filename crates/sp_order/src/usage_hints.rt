@@ -10,7 +10,14 @@ pub fn usage_hint<'a>(error: &Error) -> Option<Hint<'a>> {
     match error.kind() {
         ErrorKind::ValueValidation if tells(error, "for '--delta <D>'") => Some(Hint::AnyDelta),
         ErrorKind::ValueValidation if tells(error, "for '--within <L>'") => Some(Hint::AnyLimit),
-        ErrorKind::ValueValidation if tells(error, "for '--source <V>'") => Some(Hint::NoSource),
+        ErrorKind::ValueValidation if tells(error, "for '--source <V>'") => Some(Hint::NoVertex {
+            what: "source",
+            option: "--source",
+        }),
+        ErrorKind::ValueValidation if tells(error, "for '--target <V>'") => Some(Hint::NoVertex {
+            what: "target",
+            option: "--target",
+        }),
         ErrorKind::MissingRequiredArgument if tells(error, "\n  <SS>\n") => Some(Hint::NoSources),
         ErrorKind::MissingRequiredArgument if tells(error, "\n  --delta <D>\n") => {
             Some(Hint::NoDelta)

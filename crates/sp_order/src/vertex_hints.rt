@@ -1,6 +1,6 @@
 //! Finds where a number is given that is no vertex of its graph.
 use crate::fields::Fields;
-use sp_command::{Commands, FileKind, Hint, Inputs, Naming};
+use sp_command::{Commands, FileKind, Hint, Inputs, Naming, option_for};
 use sp_device::Read;
 use sp_dimacs::Lines;
 
@@ -50,7 +50,7 @@ fn naming_of<'a, C: Commands<'a>, F: Inputs>(
         _ => 1,
     };
     let Some(path) = command.path(list) else {
-        return Naming::Option;
+        return option_for(list).map_or(unseen(list), Naming::Option);
     };
     match (line_of(vertex, path, first, files), list) {
         (Some(line), FileKind::Sources) => Naming::Source { path, line },

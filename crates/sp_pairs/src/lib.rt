@@ -9,7 +9,7 @@ mod pairs;
 
 pub use pair_lines::send_pair;
 pub use pairs::{run_pairs, run_pairs_told};
-pub use sp_job::{BatchError, BucketWidth, Listener, Nobody, Progress, Settings, Summary};
+pub use sp_job::{BatchError, BucketWidth, Listener, Nobody, Progress, Role, Settings, Summary};
 
 #[cfg(test)]
 mod tests;

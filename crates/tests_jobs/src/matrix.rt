@@ -1,10 +1,13 @@
 //! Matrices over memory.
+ghost use Rattle.std.specs.Prelude.{◌≡◌, IfOk};
+ghost use Rattle.sp_matrix.specs.Listing.{IsNumbered};
 
 use crate::batches::{crew, summary, width_of};
 use crate::graphs::{DIAMOND, TWO, WIDE};
 use sp_device::{OfRead, UpToWriter};
-use sp_job::Role;
-use sp_matrix::{BatchError, Nobody, Settings, Summary, run_matrix_given_told, run_matrix_told};
+use sp_matrix::{BatchError, Listing, Nobody, Role, Settings, Summary, run_matrix_told};
+use std::alloc::{AllocError, Global};
+use std::collections::VecDeque;
 use std::process::Abort;
 use std::sync::Wait;
 use std::test::Fail;
@@ -24,6 +27,17 @@ fn settings(rt: &impl Abort, workers: u32) -> Settings<'static, 28, Nobody> {
     }
 }
 
+// A list of numbers, or of a text that is owned.
+type List = Listing<'static, OfRead<VecDeque<u8>>>;
+
+// The list of this text.
+fn listed(alloc: Global, text: &str) -> Result<List, AllocError>
+    ensures { IfOk result IsNumbered }
+{
+    let bytes = text.as_bytes().to_vec(alloc)?;
+    Ok(Listing::InText(OfRead::new(VecDeque::from(bytes)), None))
+}
+
 // Whether so many workers give this answer for the sources 1 and 4, and this text to a writer that takes so many bytes.
 fn is_written(
     rt: &(impl Abort + AllocGlobal + Threads + Wait + Sync),
@@ -32,14 +46,16 @@ fn is_written(
     answer: Result<Summary, BatchError>,
     text: &str,
 ) -> bool {
+    let (Ok(sources), Ok(targets)) = (listed(rt.alloc(), TWO), listed(rt.alloc(), TARGETS)) else {
+        return false;
+    };
     let mut out = UpToWriter::new(rt.alloc(), room as usize, 1000);
     let told = run_matrix_told(
         &rt,
         rt.alloc(),
         &mut OfRead::new(gr.as_bytes()),
-        &mut OfRead::new(TWO.as_bytes()),
-        &mut OfRead::new(TARGETS.as_bytes()),
-        None,
+        sources,
+        targets,
         &mut out,
         &settings(rt, workers),
     );
@@ -64,32 +80,44 @@ fn matrix_by_groups_of_sources(rt: HostRuntime) -> Result<(), Fail> {
     Ok(())
 }
 
-// Whether this is the answer, and the text, for the source 4 of the diamond, which is given in place of a list.
+// Whether this is the answer, and the text, for the source 4 of the diamond, which is given in place of a text.
 fn is_written_of_4(
     rt: &(impl Abort + AllocGlobal + Threads + Wait + Sync),
-    targets: &str,
+    targets: List,
     answer: Result<Summary, BatchError>,
     text: &str,
-) -> bool {
+) -> bool
+    requires { IsNumbered targets }
+{
     let mut out = UpToWriter::new(rt.alloc(), 1000, 1000);
-    let told = run_matrix_given_told(
+    let sources: List = Listing::These(&[4]);
+    let told = run_matrix_told(
         &rt,
         rt.alloc(),
         &mut OfRead::new(DIAMOND.as_bytes()),
-        &[4],
-        &mut OfRead::new(targets.as_bytes()),
+        sources,
+        targets,
         &mut out,
         &settings(rt, 1),
     );
     told == answer && out.taken() == text.as_bytes()
 }
 
-// The second list has a target that is no vertex.
+// Two of the lists have a target that is no vertex.
 #[test]
-fn matrix_of_a_given_source(rt: HostRuntime) -> Result<(), Fail> {
+fn matrix_of_given_numbers(rt: HostRuntime) -> Result<(), Fail> {
     let lines = "d 4 4 0 0\nn 4 1\nd 4 4 0 0\n";
     let none = Err(BatchError::NoSuchVertex(5, Role::Target));
-    assert!(rt; is_written_of_4(&rt, TARGETS, summary(3, 0, 26), lines));
-    assert!(rt; is_written_of_4(&rt, "p aux sp ss 2\ns 1\ns 5\n", none, ""));
+    assert!(rt; is_written_of_4(&rt, listed(rt.alloc(), TARGETS)?, summary(3, 0, 26), lines));
+    assert!(rt;
+        is_written_of_4(
+            &rt,
+            listed(rt.alloc(), "p aux sp ss 2\ns 1\ns 5\n")?,
+            none,
+            ""
+        )
+    );
+    assert!(rt; is_written_of_4(&rt, Listing::These(&[4, 1, 4]), summary(3, 0, 26), lines));
+    assert!(rt; is_written_of_4(&rt, Listing::These(&[1, 5]), none, ""));
     Ok(())
 }

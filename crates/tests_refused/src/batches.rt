@@ -1,13 +1,18 @@
 //! From bytes to bytes: texts in memory, and standard output.
+ghost use Rattle.std.specs.Prelude.{◌≡◌, IfOk};
+ghost use Rattle.sp_matrix.specs.Listing.{IsNumbered};
+
 use crate::report::Ending;
 use crate::sample::Sample;
 use sp_batch::{BatchError, BucketWidth, Summary, run_batch};
 use sp_dimacs::{OfRead, Write};
-use sp_matrix::{Nobody, Settings, run_matrix_told};
+use sp_matrix::{Listing, Nobody, Settings, run_matrix_told};
 use sp_nearest::run_nearest_told;
 use sp_pairs::run_pairs;
 use sp_text::Kind;
 use sp_word::Workers;
+use std::alloc::{AllocError, Global};
+use std::collections::VecDeque;
 use std::io;
 use std::sync::Wait;
 use std::thread::Threads;
@@ -78,6 +83,17 @@ pub fn call_run_pairs<R: AllocGlobal + Print + Threads + Wait + Sync, W: Write>(
     tell_batch(rt, answer)
 }
 
+// A list of a text that is owned.
+type List = Listing<'static, OfRead<VecDeque<u8>>>;
+
+// The list of this text.
+fn listed(alloc: Global, text: &str) -> Result<List, AllocError>
+    ensures { IfOk result IsNumbered }
+{
+    let bytes = text.as_bytes().to_vec(alloc)?;
+    Ok(Listing::InText(OfRead::new(VecDeque::from(bytes)), None))
+}
+
 /// A matrix of one row, from vertex 1.
 pub fn call_run_matrix<R: AllocGlobal + Print + Threads + Wait + Sync, W: Write>(
     rt: &R,
@@ -90,13 +106,18 @@ pub fn call_run_matrix<R: AllocGlobal + Print + Threads + Wait + Sync, W: Write>
         workers,
         listener: &Nobody,
     };
+    let (Ok(sources), Ok(targets)) = (
+        listed(rt.alloc(), FROM_ONE),
+        listed(rt.alloc(), sample.targets()),
+    ) else {
+        return Ok(Ending::Memory);
+    };
     let answer = run_matrix_told::<28, &R, _, _, _, _, _>(
         &rt,
         rt.alloc(),
         &mut OfRead::new(sample.gr().as_bytes()),
-        &mut OfRead::new(FROM_ONE.as_bytes()),
-        &mut OfRead::new(sample.targets().as_bytes()),
-        None,
+        sources,
+        targets,
         out,
         &settings,
     );

@@ -6,20 +6,17 @@ use Rattle.sp_matrix.proofs.matrix.answer_matrix.Goals as goal
 pub returns-in_err-graph-clause-matrix : goal.returns-in_err-graph-clause-matrix
 returns-in_err-graph-clause-matrix g c =
     let p = err_from_is_err_and c.from_residual.result c.from_residual.ensures.1 in
-    let file = c.args.asking.file in
-    let sources = c.args.starts.now.sources.now in
-    let targets = c.args.asking.targets.items in
-    let second = rw c.deref.ensures.value at c.in_default-first_above.ensures.none in
-    let ok : AreLists g.row.P file sources targets = record { layout = c.requires.layout; network = c.requires.network; numbered_sources = c.requires.sources; numbered_targets = c.requires.targets; within = record { each_source = c.in_default.ensures.none; each_target = second } } in
+    let file = c.args.file in
+    let sources = c.args.sources.now in
+    let targets = c.args.targets.now in
+    let ok : AreLists g.row.P file sources targets = record { layout = c.requires.layout; network = c.requires.network; numbered_sources = c.requires.sources; numbered_targets = c.requires.targets; within = record { each_source = c.in_default.ensures.none; each_target = c.in_default-first_above.ensures.none } } in
     rw (p.1, p.2) (refused_early g.row.P file sources targets g.W.Write c.args.out.now ok)
 
 pub returns-clause-matrix : goal.returns-clause-matrix
 returns-clause-matrix g c =
-    let file = c.args.asking.file in
-    let sources = c.args.starts.now.sources.now in
-    let targets = c.args.asking.targets.items in
-    let second = rw c.deref.ensures.value at c.in_default-first_above.ensures.none in
-    let ok : AreLists g.row.P file sources targets = record { layout = c.requires.layout; network = c.requires.network; numbered_sources = c.requires.sources; numbered_targets = c.requires.targets; within = record { each_source = c.in_default.ensures.none; each_target = second } } in
-    let answers = rw c.deref-2.ensures.value at c.answer_rows.ensures in
+    let file = c.args.file in
+    let sources = c.args.sources.now in
+    let targets = c.args.targets.now in
+    let ok : AreLists g.row.P file sources targets = record { layout = c.requires.layout; network = c.requires.network; numbered_sources = c.requires.sources; numbered_targets = c.requires.targets; within = record { each_source = c.in_default.ensures.none; each_target = c.in_default-first_above.ensures.none } } in
     of_file g.row.P file sources targets g.W.Write c.in_ok-graph.graph c.args.out.now c.answer_rows.new.out c.answer_rows.result
-    (same_graph file c.in_ok-graph.graph c.in_ok-graph.ensures.n c.in_ok-graph.ensures.arcs) ok answers
+    (same_graph file c.in_ok-graph.graph c.in_ok-graph.ensures.n c.in_ok-graph.ensures.arcs) ok c.answer_rows.ensures

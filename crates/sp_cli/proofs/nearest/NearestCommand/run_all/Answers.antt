@@ -7,7 +7,7 @@ use Rattle.sp_command.specs.declared.faults.Fault.{Fault}
 use Rattle.sp_command.specs.Scene.{Scene, scene}
 use Rattle.sp_options.specs.declared.sources.Sources.{Sources}
 use Rattle.sp_options.specs.declared.sources.Sources.TheVariants.{Part}
-use Rattle.sp_cli.specs.Answers.{InText}
+use Rattle.sp_matrix.specs.Listing.{InText}
 use Rattle.sp_cli.specs.NearestAnswers.{ForestInSome, ForestOfFile, ForestOfPart, ForestOf, ForestOfSome}
 use Rattle.sp_cli.proofs.nearest.NearestCommand.run_all.Goals as goal
 

@@ -2,7 +2,7 @@ use Rattle.std.proofs.Common.{◌≡◌, ◌∙◌, refl, Err, IfOk, IfErr, rule
 use Rattle.sp_command.specs.Causes.{IsBorneOut}
 use Rattle.sp_command.specs.declared.faults.FileKind.TheVariants as file
 use Rattle.sp_command.specs.Scene.{scene}
-use Rattle.sp_cli.specs.Answers.{InText}
+use Rattle.sp_matrix.specs.Listing.{InText}
 use Rattle.sp_cli.specs.NearestAnswers.{ForestTold, ForestInSome, nearest_paths, nearest_faults}
 use Rattle.sp_cli.proofs.Opening.{no_sources, two_borne_out}
 use Rattle.sp_cli.proofs.Told.{after_end}

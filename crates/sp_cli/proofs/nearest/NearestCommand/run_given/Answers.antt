@@ -1,7 +1,7 @@
 use Rattle.std.proofs.Common.{◌∙◌, refl, IfOk, IfErr}
 use Rattle.sp_command.specs.Causes.{IsBorneOut}
 use Rattle.sp_command.specs.Scene.{scene}
-use Rattle.sp_cli.specs.Answers.{These}
+use Rattle.sp_matrix.specs.Listing.{These}
 use Rattle.sp_cli.specs.NearestAnswers.{ForestTold, ForestInSome, nearest_paths, nearest_faults}
 use Rattle.sp_cli.proofs.Told.{after_end}
 use Rattle.sp_cli.proofs.ToldOfNearest.{forest_ends_near, after_given_nearest, given_nearest_of_some, given_nearest_borne_out}

@@ -7,7 +7,8 @@ use Rattle.sp_command.specs.declared.faults.Fault.{Fault}
 use Rattle.sp_command.specs.Scene.{Scene, scene}
 use Rattle.sp_options.specs.declared.sources.Sources.{Sources}
 use Rattle.sp_options.specs.declared.sources.Sources.TheVariants.{Part}
-use Rattle.sp_cli.specs.Answers.{InText, InSome, TreesOfFile, TreesOfPart, TreesOf, TreesOfSome}
+use Rattle.sp_matrix.specs.Listing.{InText}
+use Rattle.sp_cli.specs.Answers.{InSome, TreesOfFile, TreesOfPart, TreesOf, TreesOfSome}
 use Rattle.sp_cli.proofs.tree.TreeCommand.run_all.Goals as goal
 
 -- What is told of a file's sources at these places is told where the word for the places spells some.

@@ -2,7 +2,8 @@ use Rattle.std.proofs.Common.{◌≡◌, ◌∙◌, refl, Err, IfOk, IfErr, rule
 use Rattle.sp_command.specs.Causes.{IsBorneOut}
 use Rattle.sp_command.specs.declared.faults.FileKind.TheVariants as file
 use Rattle.sp_command.specs.Scene.{scene}
-use Rattle.sp_cli.specs.Answers.{InText, TreesTold, InSome, tree_paths, tree_faults}
+use Rattle.sp_matrix.specs.Listing.{InText}
+use Rattle.sp_cli.specs.Answers.{TreesTold, InSome, tree_paths, tree_faults}
 use Rattle.sp_cli.proofs.Opening.{no_sources, two_borne_out}
 use Rattle.sp_cli.proofs.Near.{ends_near}
 use Rattle.sp_cli.proofs.Told.{after_batch, after_end, batch_of_some, batch_borne_out}

@@ -1,7 +1,8 @@
 use Rattle.std.proofs.Common.{◌∙◌, refl, IfOk, IfErr}
 use Rattle.sp_command.specs.Causes.{IsBorneOut}
 use Rattle.sp_command.specs.Scene.{scene}
-use Rattle.sp_cli.specs.Answers.{These, TreesTold, InSome, tree_paths, tree_faults}
+use Rattle.sp_matrix.specs.Listing.{These}
+use Rattle.sp_cli.specs.Answers.{TreesTold, InSome, tree_paths, tree_faults}
 use Rattle.sp_cli.proofs.Near.{ends_near}
 use Rattle.sp_cli.proofs.Told.{after_given, after_end, given_of_some, given_borne_out}
 use Rattle.sp_cli.proofs.tree.TreeCommand.run_given.Goals as goal

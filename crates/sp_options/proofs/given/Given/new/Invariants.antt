@@ -2,5 +2,5 @@ use Rattle.std.proofs.Common.{ℕ, ◌≡◌, ◌<◌, ◌≤◌, Some}
 use Rattle.std.specs.Prelude.{slice_get}
 use Rattle.sp_options.proofs.given.Given.new.Given as goal
 
-abbrev pub invariant-loop-source : goal.invariant-loop-source
-invariant-loop-source l = (k v : ℕ) → k < l.source-index → slice_get l.source-items k ≡ Some v → 1 ≤ v
+abbrev pub invariant-loop-number : goal.invariant-loop-number
+invariant-loop-number l = (k v : ℕ) → k < l.number-index → slice_get l.number-items k ≡ Some v → 1 ≤ v
