@@ -25,7 +25,7 @@ crates_of() {
 find_sources() {
     crates=$1
     shift
-    find HANDLES $(printf 'crates/%s ' $crates) \( -name out -o -path '*/src/tests*' -o -path '*/proofs/tests*' \) -prune -o "$@" -type f \( -name '*.rt' -o -name '*.antt' -o -name '*.txt' -o -name HANDLES \) -print0
+    find HANDLES $(printf 'crates/%s ' $crates) \( -name out -o -name edits.txt -o -path '*/src/tests*' -o -path '*/proofs/tests*' \) -prune -o "$@" -type f \( -name '*.rt' -o -name '*.antt' -o -name '*.txt' -o -name HANDLES \) -print0
 }
 
 # digest_of CRATES: of the sources of the crates, as one line
@@ -100,7 +100,7 @@ list_code() {
     {
         printf '%s\0' .git/index build/program.sh crates.txt crates
         for crate in $(crates_of spt); do printf 'crates/%s\0' "$crate"; done
-        find_sources "$(crates_of spt)" \( -name proofs -o -name specs -o -name edits -o -name must-fail \) -prune -o -type d -print0 -o
+        find_sources "$(crates_of spt)" \( -name proofs -o -name specs -o -name must-fail \) -prune -o -type d -print0 -o
     } | tr '\n\0' '?\n' | LC_ALL=C awk '
         !/^[A-Za-z0-9._\/-]+$/ { is_strange = 1 }
         { print "look_at " $0 }

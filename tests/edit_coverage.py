@@ -1,5 +1,5 @@
 #!/usr/bin/env python3
-"""Whether each public function whose contract ensures something has an edit of crates/CRATE/edits or crates/CRATE/must-fail, and
+"""Whether each public function whose contract ensures something has an edit of crates/CRATE/edits.txt or crates/CRATE/must-fail, and
 whether each edit and its twin fit the sources: what they change stands there once.
 
 An edit is a function's where it changes its body, or that of the one function that its body passes on to: a body that is a call and
@@ -147,24 +147,25 @@ def passed_on(one, of_all):
 
 
 def edits_of(crate):
-    """The files of a crate's edits, of either folder."""
-    return sorted(glob.glob(f"{crate.folder}/edits/*.edit") + glob.glob(f"{crate.folder}/must-fail/*.edit"))
+    """The texts of a crate's edits by their names, of its table and of must-fail/."""
+    alone = {os.path.basename(path).removesuffix(".edit"): read(path) for path in glob.glob(f"{crate.folder}/must-fail/*.edit")}
+    return {**tried.table_of(crate.folder), **alone}
 
 
 def edited(crate):
     """The functions of a crate that an edit changes."""
     found = set()
-    for path in edits_of(crate):
-        found |= tried.functions_of(tried.OF_TWIN.sub("", read(path)), crate.folder)
+    for text in edits_of(crate).values():
+        found |= tried.functions_of(tried.OF_TWIN.sub("", text), crate.folder)
     return {(crate.name, it) for it in found}
 
 
 def fit(count, crate):
     """Whether each edit of a crate fits the sources, and its twin."""
-    for path in edits_of(crate):
-        for kind, lines in (("edit", tried.OF_TWIN.sub("", read(path))), ("twin", tried.lines_of_twin(path))):
+    for name, text in edits_of(crate).items():
+        for kind, lines in (("edit", tried.OF_TWIN.sub("", text)), ("twin", tried.lines_of_twin(text))):
             why = tried.rt.edited(lines, crate.folder)[1]
-            count.of(f"{os.path.relpath(path, HOME)}: the {kind} doesn't fit: {why}", not why)
+            count.of(f"{crate.name}/{name}: the {kind} doesn't fit: {why}", not why)
 
 
 def has_edit(one, of_all, of_edits):

@@ -1,5 +1,5 @@
 #!/usr/bin/env python3
-"""Tries the edits of crates/CRATE/edits, many at a time: the prover must refuse each for what its contract says.
+"""Tries the edits of crates/CRATE/edits.txt, many at a time: the prover must refuse each for what its contract says.
 
 A function's proof stands on its own body and on the contracts of others. So edits in the bodies of several functions don't touch
 each other, and one check of these functions tells of all: each edit is refused where a function that it changes is not proved, for
@@ -11,16 +11,18 @@ A refusal shows something where a clause of a contract is left open, or an invar
 answer merely no longer fits, or a bound: then the edit's twin, a harmless change in the same place, must be proved, and the edit shows
 nothing where it isn't.
 
-An edit has a line `file: FILE`, and for each place in the file `old: TEXT`, which stands there once, and `new: TEXT`. What its twin has
-in a place stands behind, as `twin: TEXT`; the kit passes it over, and tests/twins.py tries all of them.
+An edit begins with a line `edit: NAME`. Then come `file: FILE`, and for each place in the file `old: TEXT`, which stands there once, and
+`new: TEXT`. What its twin has in a place stands behind, as `twin: TEXT`; the prover must accept the twins, which tests/twins.py tries.
 
-Usage: python3 tests/edits.py [--over-gate] [--changed] [--list] [CRATE..]
+Usage: python3 tests/edits.py [--over-gate] [--changed] [--minutes N] [--list] [CRATE..]
 
 --over-gate takes the libraries that `rt ci` has just proved in this folder; else what the crates below state is taken as build/check.py
 has it, and built first where it isn't at hand.
 --changed leaves out the crates of which dist/edits says that all their edits were refused: with these edits, of these sources of the
-crate, over what the crates below it state (build/stated.py), by a kit of this logic. A run writes that list to .spt/edits, where a sum of a crate that it doesn't try
-stays, and build/release puts it into dist/.
+crate, over what the crates below it state (build/stated.py), by a kit of this logic. A run writes that list to .spt/edits, where a sum of a
+crate that it doesn't try stays, and build/release puts it into dist/.
+--minutes begins no check once so many minutes have passed. The edits for which there was no time are told by their number, and the next
+run tries their crates first.
 --list tries nothing, and tells the crates whose edits would be tried, with the number of each one's edits.
 The last line is 'N passed, M failed'.
 """
@@ -33,6 +35,7 @@ import re
 import subprocess
 import sys
 import tempfile
+import time
 
 HOME = os.path.dirname(os.path.dirname(os.path.realpath(__file__)))
 sys.dont_write_bytecode = True
@@ -48,6 +51,8 @@ WRONG = r"^fn {}::(\S+): (?:not proved|no proof)(?!: it calls)"
 OPEN = re.compile(r"^note: (?:\./)?(src/\S+?):(\d+):\d+: it is not proved .*?\(`([^`]+)`\)", re.M)
 # one of a clause of a contract, or of an invariant: of a loop, or of a type; others are bounds, and what a function that is called requires
 OF_A_CLAUSE = re.compile(r"(?:returns|loop|invariant_of)\b")
+# a line of an edit behind its name
+LINE = re.compile(r"(?:file|old|new|twin):(?: |$)")
 # the lines of an edit's twin, with a place that the twin alone changes
 OF_TWIN = re.compile(r"^(?:old: .*\n)?twin: .*\n", re.M)
 OWNER = re.compile(r"(?:pub )?(?:unsafe )?(?:impl|trait)\b")
@@ -56,6 +61,10 @@ INHERENT = re.compile(r"(?:impl(?:<.*?>)?|(?:pub )?trait) (\w+)")
 JOBS = ["--jobs", "1"]
 KEPT = f"{HOME}/dist/edits"
 MADE = f"{HOME}/.spt/edits"
+# in place of the sum of a crate for some of whose edits there was no time
+LEFT = "left"
+# more than any crate has edits
+LATEST = 1_000_000
 
 
 @dataclasses.dataclass(frozen=True)
@@ -85,10 +94,10 @@ class Function:
 
 @dataclasses.dataclass(frozen=True)
 class Edit:
-    """An edit: its name, its file, its lines but for its twin's, and the functions that it changes, none where some line of it is in none."""
+    """An edit: its name, its text, its lines but for its twin's, and the functions that it changes, none where some line of it is in none."""
 
     name: str
-    path: str
+    text: str
     lines: str
     functions: frozenset
 
@@ -140,12 +149,26 @@ def functions_of(lines, folder):
     return frozenset() if None in found else frozenset(found)
 
 
+def table_of(folder):
+    """The texts of a crate's edits by their names; none where it has no edits."""
+    path, found, name = f"{folder}/edits.txt", {}, None
+    for number, line in enumerate(rt.rtlib.text_of(path).split("\n") if os.path.isfile(path) else [], 1):
+        if line.startswith("edit: "):
+            name = line.removeprefix("edit: ")
+            if name in found or not re.fullmatch(r"\w+", name):
+                sys.exit(f"{path}:{number}: an edit before has this name, or it is none")
+            found[name] = ""
+        elif line and (name is None or not LINE.match(line)):
+            sys.exit(f"{path}:{number}: this is no line of an edit")
+        elif line:
+            found[name] += f"{line}\n"
+    return found
+
+
 def edits_of(crate):
-    folder = f"{crate.folder}/edits"
-    for name in sorted(os.listdir(folder)) if os.path.isdir(folder) else []:
-        path = f"{folder}/{name}"
-        lines = OF_TWIN.sub("", rt.rtlib.text_of(path))
-        yield Edit(name.removesuffix(".edit"), path, lines, functions_of(lines, crate.folder))
+    for name, text in sorted(table_of(crate.folder).items()):
+        lines = OF_TWIN.sub("", text)
+        yield Edit(name, text, lines, functions_of(lines, crate.folder))
 
 
 def looks_into(one, other):
@@ -238,25 +261,29 @@ def is_refusal(outcome):
 
 def alone(crate, edit, kept):
     """Whether an edit that is tried alone is refused, whether the refusal shows something by itself, and what is said of it."""
-    outcome, said = rt.must_fail(crate, edit.path, JOBS, kept)
+    with tempfile.TemporaryDirectory() as folder:
+        path = f"{folder}/{edit.name}.edit"
+        with open(path, "w") as file:
+            file.write(edit.lines)
+        outcome, said = rt.must_fail(crate, path, JOBS, kept)
     shows = is_refusal(outcome) and bool(left_open(crate, HEARD.get(crate.name, "")))
     return is_refusal(outcome), shows, said.replace("must-fail ", "alone: ").replace(".edit", "")
 
 
-def lines_of_twin(path):
-    """The lines of an edit's twin, as those of an edit."""
-    lines = [line for line in rt.rtlib.text_of(path).split("\n") if not line.startswith("new:")]
+def lines_of_twin(text):
+    """The lines of the twin of an edit with this text, as those of an edit."""
+    lines = [line for line in text.split("\n") if not line.startswith("new:")]
     return "\n".join(f"new: {line[len('twin: '):]}" if line.startswith("twin: ") else line for line in lines)
 
 
 def twin_of(crate, edit):
     """The twin of an edit, as an edit; None where it has none."""
-    lines = lines_of_twin(edit.path)
+    lines = lines_of_twin(edit.text)
     if not changes(lines, crate.folder):
         return None
     changed = functions_of(lines, crate.folder)
     # where one of the two changes more than functions, the whole crate tells
-    return Edit(edit.name, edit.path, lines, edit.functions | changed if edit.functions and changed else frozenset())
+    return Edit(edit.name, edit.text, lines, edit.functions | changed if edit.functions and changed else frozenset())
 
 
 def proved(crate, part, kept):
@@ -276,27 +303,47 @@ def proved_twins(crate, edits, kept, kept_whole):
     return {name for names in [*apart, *whole] for name in names}
 
 
-def tried(crate):
-    """Whether each edit of the crate is refused, and shows something; what is said of it is printed."""
-    edits, shown, said = list(edits_of(crate)), {}, {}
+def tried(crate, is_over):
+    """For each edit of the crate whether it is refused, and shows something; None where the time was over before. What is said of it is
+    printed."""
+    edits, said = list(edits_of(crate)), {}
     with tempfile.TemporaryDirectory() as kept, tempfile.TemporaryDirectory() as kept_whole:
-        for part in parts_of([it for it in edits if it.functions]):
-            shown.update(refusals(crate, part, kept))
+        shown, late = tried_together(crate, [it for it in edits if it.functions], kept, is_over)
         # the whole crate tells of the others, and of their twins
-        edits = [it if it.name in shown else dataclasses.replace(it, functions=frozenset()) for it in edits]
+        edits = [it if it.name in shown else dataclasses.replace(it, functions=frozenset()) for it in edits if it.name not in late]
         for edit in edits:
             said[edit.name] = f"{crate.name}/{edit.name}: refused"
-            if edit.name not in shown:
+            if edit.name not in shown and is_over():
+                late.add(edit.name)
+            elif edit.name not in shown:
                 is_refused, shows, said[edit.name] = alone(crate, edit, kept_whole)
                 if is_refused:
                     shown[edit.name] = shows
         doubted = [it for it in edits if shown.get(it.name) is False]
-        twins = proved_twins(crate, doubted, kept, kept_whole)
+        if is_over():
+            late.update(it.name for it in doubted)
+        else:
+            tell_doubted(doubted, proved_twins(crate, doubted, kept, kept_whole), shown, said)
+    print("\n".join(said[name] for name in said if name not in late), flush=True)
+    return [None if name in late else shown.get(name, False) for name in table_of(crate.folder)]
+
+
+def tried_together(crate, edits, kept, is_over):
+    """Of edits of functions, whether the refusal of each that is refused shows something, by their names, and those for which there was no time."""
+    shown, late = {}, set()
+    for part in parts_of(edits):
+        if is_over():
+            late.update(it.name for it in part)
+        else:
+            shown.update(refusals(crate, part, kept))
+    return shown, late
+
+
+def tell_doubted(doubted, twins, shown, said):
+    """Says of each edit that no open clause refuses whether it shows something: it does where its twin is among those that are proved."""
     for name in (it.name for it in doubted):
         shown[name] = name in twins
         said[name] += ", by no clause that is left open; its twin is proved" if shown[name] else ", but SHOWS NOTHING: no clause is left open, and no twin is proved"
-    print("\n".join(said.values()), flush=True)
-    return [shown.get(it.name, False) for it in edits]
 
 
 def sum_of(crate):
@@ -308,7 +355,7 @@ def sum_of(crate):
     script = 'home=$1; . "$home/build/program.sh"; digest_alone "$2"; rt version | grep -o "logic .*"'
     said = subprocess.run(["sh", "-c", script, "sh", HOME, crate.name], capture_output=True, check=True).stdout + stated.encode()
     for edit in edits_of(crate):
-        said += f"{edit.name}\n{rt.rtlib.text_of(edit.path)}".encode()
+        said += f"{edit.name}\n{edit.text}".encode()
     return hashlib.sha256(said).hexdigest()
 
 
@@ -327,13 +374,18 @@ def keep(sums):
         file.writelines(f"{name} {sums[name]}\n" for name in sorted(sums))
 
 
-def lanes(crates):
-    """A lane of the kit for each crate: its work in edits, its memory, and the call."""
+def lanes(crates, left, is_over):
+    """A lane of the kit for each crate: its work, its memory, and the call."""
 
     def task(crate):
-        return [], len(os.listdir(f"{crate.folder}/edits")), rt.need(crate), lambda given, jobs: tried(crate)
+        return [], work_of(crate, left), rt.need(crate), lambda given, jobs: tried(crate, is_over)
 
     return {(it.name, "edits"): task(it) for it in crates}
+
+
+def work_of(crate, left):
+    """The work of a crate, of which the kit begins with the most: its edits, and more where some of them were left."""
+    return len(table_of(crate.folder)) + (LATEST if crate.name in left else 0)
 
 
 def is_provided(crates):
@@ -347,15 +399,17 @@ def main():
     options = argparse.ArgumentParser(description=__doc__, formatter_class=argparse.RawDescriptionHelpFormatter)
     options.add_argument("--over-gate", action="store_true")
     options.add_argument("--changed", action="store_true")
+    options.add_argument("--minutes", type=int)
     options.add_argument("--list", action="store_true")
     options.add_argument("crates", nargs="*")
     chosen = options.parse_args()
+    end = None if chosen.minutes is None else time.monotonic() + 60 * chosen.minutes
     os.chdir(HOME)
     rt.rtlib.guarded()
     if chosen.over_gate:
         rt.rtlib.Crate = rt.Crate
         rt.Crate.cuts_libraries = True
-    crates = [it for it in rt.rtlib.crates_below(HOME) if os.path.isdir(f"{it.folder}/edits")]
+    crates = [it for it in rt.rtlib.crates_below(HOME) if os.path.isfile(f"{it.folder}/edits.txt")]
     names = {it.name for it in crates}
     crates = [it for it in crates if not chosen.crates or it.name in chosen.crates]
     if not chosen.over_gate and not is_provided(crates):
@@ -368,13 +422,30 @@ def main():
     if chosen.list:
         print("\n".join(f"{it.name}: {len(list(edits_of(it)))}" for it in crates))
         return 0
-    found = rt.in_lanes(lanes(crates)) if crates else {}
-    wrong = {name for (name, _), outcomes in found.items() if not all(outcomes)}
-    others = {name: its for name, its in kept_sums(MADE, KEPT).items() if name in names and name not in sums}
-    keep({**others, **{name: its for name, its in sums.items() if its and name not in wrong}})
-    outcomes = [it for outcomes in found.values() for it in outcomes]
-    print(f"{sum(outcomes)} passed, {len(outcomes) - sum(outcomes)} failed")
-    return 0 if all(outcomes) else 1
+    known = kept_sums(MADE, KEPT)
+    left = {name for name, its in known.items() if its == LEFT}
+    found = rt.in_lanes(lanes(crates, left, lambda: end is not None and time.monotonic() >= end)) if crates else {}
+    outcomes = {name: its for (name, _), its in found.items()}
+    others = {name: its for name, its in known.items() if name in names and name not in sums}
+    keep({**others, **told(sums, outcomes)})
+    return ended(outcomes)
+
+
+def told(sums, outcomes):
+    """What is kept of the crates: the sum where all edits were refused, and that some are left where none was wrong and the time was over."""
+    of_all = {name: its for name, its in sums.items() if its and all(outcomes.get(name, []))}
+    return {**of_all, **{name: LEFT for name, its in outcomes.items() if None in its and False not in its}}
+
+
+def ended(outcomes):
+    """Prints how many edits were left, and the last line; the status."""
+    late = {name: its.count(None) for name, its in outcomes.items() if None in its}
+    if late:
+        each = ", ".join(f"{name} {late[name]}" for name in sorted(late))
+        print(f"no time was left for {sum(late.values())} edits, which the next run tries first: {each}")
+    passed, failed = (sum(its.count(it) for its in outcomes.values()) for it in (True, False))
+    print(f"{passed} passed, {failed} failed")
+    return 1 if failed else 0
 
 
 if __name__ == "__main__":

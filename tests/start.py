@@ -29,7 +29,7 @@ FILES = {
     "crates/sp_one/src/lib.rt": "pub fn one() -> u64 { 1 }\n",
     "crates/sp_one/proofs/lib/one/Answers.antt": "one\n",
     PROOF: "two\n",
-    "crates/sp_one/edits/two.edit": "file: src/lib.rt\nold: 1 }\nnew: 2 }\n",
+    "crates/sp_one/edits.txt": "edit: two\nfile: src/lib.rt\nold: 1 }\nnew: 2 }\n",
     "crates/sp_one/src/tests/more.rt": "fn more() {}\n",
     "crates/sp_other/src/lib.rt": "pub fn other() {}\n",
 }
@@ -146,7 +146,7 @@ STAMPS = {
 ELSEWHERE = {
     "nothing changed": lambda its: None,
     "the time of a source set back": lambda its: os.utime(its.path(SOURCE), (1, 1)),
-    "an edit of a contract edited": lambda its: edit(its.path("crates/sp_one/edits/two.edit")),
+    "an edit of a contract edited": lambda its: edit(its.path("crates/sp_one/edits.txt")),
     "a test edited": lambda its: edit(its.path("crates/sp_one/src/tests/more.rt")),
     "a crate edited that the program doesn't use": lambda its: edit(its.path("crates/sp_other/src/lib.rt")),
 }

@@ -2,7 +2,7 @@
 """Tries that the innocent twins of edits are proved.
 
 An edit that the prover must refuse shows something only if a harmless change at the same place is accepted. Such a change stands in the
-edit, crates/CRATE/edits/NAME.edit or crates/CRATE/must-fail/NAME.edit: behind an `old: TEXT`, and its `new: TEXT`, a line `twin: TEXT` has
+edit, in crates/CRATE/edits.txt or as crates/CRATE/must-fail/NAME.edit: behind an `old: TEXT`, and its `new: TEXT`, a line `twin: TEXT` has
 what the twin puts there. A place without such a line stays as it is; one with such a line alone is changed by the twin and not by the edit.
 All twins of a crate that don't change the same line are put into a copy of the repository at once, and `rt check` must prove the
 crate there; where it doesn't, halves are tried, down to one alone. The gate leaves it out: run it when edits or twins change.
@@ -23,37 +23,41 @@ import sys
 import tempfile
 
 HOME = os.path.dirname(os.path.dirname(os.path.realpath(__file__)))
-sys.path.insert(0, f"{HOME}/build")
+sys.path[:0] = [f"{HOME}/build", f"{HOME}/tests"]
 sys.dont_write_bytecode = True
 import kit  # noqa: E402
+from edits import table_of  # noqa: E402
 
 
 def edits():
-    """The crate, the name and the file of each edit."""
-    for kind in ("edits", "must-fail"):
-        for path in sorted(glob.glob(f"{HOME}/crates/*/{kind}/*.edit")):
-            yield path.split("/")[-3], os.path.basename(path).removesuffix(".edit"), path
+    """The crate, the name and the text of each edit."""
+    for path in sorted(glob.glob(f"{HOME}/crates/*/edits.txt")):
+        folder = os.path.dirname(path)
+        for name, text in sorted(table_of(folder).items()):
+            yield os.path.basename(folder), name, text
+    for path in sorted(glob.glob(f"{HOME}/crates/*/must-fail/*.edit")):
+        with open(path) as it:
+            yield path.split("/")[-3], os.path.basename(path).removesuffix(".edit"), it.read()
 
 
 def twins(chosen):
     """The crate, the name and the changes of each twin that is asked for."""
-    for crate, name, path in edits():
-        made = changes(path)
+    for crate, name, text in edits():
+        made = changes(text)
         if made and (not chosen or crate in chosen or f"{crate}/{name}" in chosen):
             yield crate, name, made
 
 
-def changes(path):
+def changes(text):
     """The file, the old and the new text of each change that the twin of an edit makes, in order."""
     file, old, made = None, None, []
-    with open(path) as it:
-        for line in it.read().splitlines():
-            if line.startswith("file: "):
-                file = line[len("file: ") :].strip()
-            elif line.startswith("old: "):
-                old = line[len("old: ") :]
-            elif line.startswith("twin: "):
-                made.append((file, old, line[len("twin: ") :]))
+    for line in text.splitlines():
+        if line.startswith("file: "):
+            file = line[len("file: ") :].strip()
+        elif line.startswith("old: "):
+            old = line[len("old: ") :]
+        elif line.startswith("twin: "):
+            made.append((file, old, line[len("twin: ") :]))
     return made
 
 
