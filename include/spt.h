@@ -110,7 +110,8 @@ uint64_t spt_reach(uint32_t n);
  * arcs and loops are allowed. dist[v - 1] becomes the least length of a walk from source to v, and pred[v - 1] the vertex before
  * v on such a walk, the smallest-numbered one if there are several; both are 0 for source.
  *
- * delta is the width of a bucket: it affects the time of the call, and never the tree. 0 stands for the mean length of an arc.
+ * delta is ignored, except that one above spt_reach(n) is refused (SPT_BAD_DELTA): pass 0. The call finds the width of its buckets
+ * itself.
  *
  * dist and pred each need at least n places. If the status isn't SPT_OK they are unchanged, and with SPT_NO_SUCH_VERTEX index is
  * 0. If several things are wrong, the first of size, delta, source and arcs is reported. */

@@ -249,9 +249,9 @@ class Graph:
     def tree(self, source: Any, *, within: Optional[float] = None, delta: Optional[int] = None) -> Tree:
         """The tree from a source, or its part within a distance.
 
-        If `within` is given, vertices farther than this count as unreachable, and the search goes no farther. `delta`, the width of
-        a bucket, affects only how long it takes, never the tree; None means the mean length of an arc. The distance of an
-        unreachable vertex is UNREACHED, 2^64 - 1, which wraps around in sums (`Tree.masked`, `Tree.floats`).
+        If `within` is given, vertices farther than this count as unreachable, and the search goes no farther. `delta` is ignored,
+        except that one out of range is refused. The distance of an unreachable vertex is UNREACHED, 2^64 - 1, which wraps around in
+        sums (`Tree.masked`, `Tree.floats`).
         NoSuchVertex, BadDelta, BadLimit: an argument is invalid. TooFar: a distance is above `reach(n)`, and `within` isn't given.
         MemoryError: there is not enough memory.
 

@@ -8,6 +8,7 @@ use crate::finding::TreeQuestion;
 use sp_device::Write;
 use sp_graph::Graph;
 use sp_job::{BatchError, Listener, Summary};
+use sp_serial::Rooms;
 use sp_sources::{Asked, answer_alone, answer_sources};
 use sp_word::{Alone, Crew, Meter, Team};
 use std::alloc::Global;
@@ -61,6 +62,7 @@ impl<const P: u32, R: Threads + Wait + Sync> TreeCrew<P> for &R {
             graph,
             team,
             limit,
+            rooms: Rooms::new(alloc, team.workers.get() as usize),
             meter,
         };
         answer_sources::<TreeQuestion<P>, R, W, L>(*self, alloc, &question, asked, out)
@@ -90,6 +92,7 @@ impl<const P: u32, R: Threads + Sync> TreeCrew<P> for Alone<R> {
             graph,
             team,
             limit,
+            rooms: Rooms::new(alloc, 1),
             meter,
         };
         answer_alone::<TreeQuestion<P>, Alone<R>, W, L>(self, alloc, &question, asked, out)

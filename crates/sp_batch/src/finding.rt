@@ -1,6 +1,9 @@
 //! The question of a batch: what is the tree of a source.
-ghost use Rattle.std.specs.Prelude.{◌≡◌, [], ◌∷◌, IfOk, IfErr};
+ghost use Rattle.std.specs.Prelude.{◌≡◌, ◌≤◌, true, [], ◌∷◌, IfOk, IfErr};
 ghost use denote.Param.Send.{IsSync};
+ghost use Rattle.sp_word.specs.Word.{is_layout, max_dist, max_pred};
+ghost use Rattle.sp_paths.specs.Paths.{IsVertex};
+ghost use Rattle.sp_answer.specs.Within.{IsTreeWithin, IsRefusalWithin};
 ghost use Rattle.sp_sources.specs.Told.{IsDue, AreWritten};
 ghost use Rattle.sp_batch.specs.Found.{told_by, IsTold, CanFind, IsRefusalUpTo};
 
@@ -8,6 +11,7 @@ use sp_answer::{Tree, WordTree};
 use sp_device::{Write, write_all};
 use sp_graph::Graph;
 use sp_job::{BatchError, Progress, Summary};
+use sp_serial::Rooms;
 use sp_solve::{Part, RunError, run_within_metered, useful_team, words_by_team};
 use sp_sources::Question;
 use sp_tree::{text_of, text_of_words, write_far, write_tree_in_pages, write_words_in_pages};
@@ -41,11 +45,35 @@ pub struct TreeQuestion<'a, const P: u32> {
     pub(crate) team: Team<P>,
     /// The greatest distance that is told, if there is a limit.
     pub(crate) limit: Option<u64>,
+    /// Rooms in which a small part is found, one for each thread that may look for one.
+    pub(crate) rooms: Rooms<P>,
     /// The meter on which the workers count the vertices that they relax.
     pub(crate) meter: &'a Meter,
 }
 
 impl<const P: u32> TreeQuestion<'_, P> {
+    // Returns the part of a source's tree within a limit: as a room has found it, which costs what the part touches, or else as the
+    // team does.
+    fn part_of<R: Crew>(
+        &self,
+        rt: &R,
+        alloc: Global,
+        team: Team<P>,
+        part: Part,
+    ) -> Result<Tree<P>, RunError>
+        requires layout { is_layout P ≡ true }
+        requires n { self.now.graph.now.n ≤ max_pred P }
+        requires source { IsVertex self.now.graph.now.n part.source }
+        requires limit { part.limit ≤ max_dist P }
+        ensures tree { IfOk result (IsTreeWithin self.now.graph.now part.source part.limit) }
+        ensures refused { IfErr result (IsRefusalWithin self.now.graph.now part.source) }
+    {
+        match self.rooms.part(alloc, self.graph, part.source, part.limit) {
+            Some(tree) => Ok(tree),
+            None => run_within_metered(rt, alloc, self.graph, team, self.meter, part),
+        }
+    }
+
     // Returns the tree of a source, or its part within the limit if there is one.
     fn run<R: Crew>(
         &self,
@@ -66,9 +94,7 @@ impl<const P: u32> TreeQuestion<'_, P> {
             }
             Some(limit) => {
                 let part = Part { source, limit };
-                let tree = run_within_metered::<P, R>(
-                    rt, alloc, self.graph, team, self.meter, part,
-                )?;
+                let tree = self.part_of::<R>(rt, alloc, team, part)?;
                 Ok(SourceAnswer::Part(tree))
             }
         }

@@ -7,8 +7,8 @@ use Rattle.sp_lists.specs.declared.answers.Told.TheVariants.{BadSize, BadDelta, 
 use Rattle.sp_lists.specs.declared.queries.Query.{Query as Asking}
 use Rattle.sp_lists.specs.Limits.{IsCount, IsFirstWithout, reach}
 
--- A call names sources and perhaps targets, the width of its buckets, and a limit if it has one. It writes so many rows of so
--- many places.
+-- A call names sources and perhaps targets, a delta, which is tested alone, and a limit if it has one. It writes so many rows of
+-- so many places.
 pub record Query : Type 0 where
   pub sources : List ℕ
   pub targets : List ℕ

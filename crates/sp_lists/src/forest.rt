@@ -3,7 +3,7 @@ ghost use Rattle.std.specs.Prelude.{◌≡◌, ◌≤◌, length, true, All, IfS
 ghost use Rattle.sp_word.specs.Word.{is_layout, max_dist, max_pred};
 ghost use Rattle.sp_paths.specs.Paths.{IsVertex};
 ghost use Rattle.sp_forest.specs.ForestTable.{table_of};
-ghost use Rattle.sp_lists.specs.Limits.{IsCount, pred_bits, reach};
+ghost use Rattle.sp_lists.specs.Limits.{IsCount, pred_bits};
 ghost use Rattle.sp_lists.specs.Query.{IsLimit};
 ghost use Rattle.sp_lists.specs.Blocks.{slices, AreCells};
 ghost use Rattle.sp_lists.specs.Near.{lists, KeepsListsFrom, IsRootPut, ArePutRoots, IsForestIn, IsForestOf};
@@ -11,15 +11,14 @@ ghost use Rattle.sp_lists.specs.Near.{lists, KeepsListsFrom, IsRootPut, ArePutRo
 use crate::answers::Told;
 use crate::cells::cell_of;
 use crate::queries::Query;
-use crate::solving::width_for;
 use sp_forest::Forest;
 use sp_graph::Graph;
 use sp_serial::{RunError, run_nearest_alone};
 use sp_word::Word;
 use std::alloc::Global;
 
-/// What is asked for: the forest of the sources, within the limit if there is one, with buckets of width delta. A delta of 0
-/// stands for the mean length of an arc.
+/// What is asked for: the forest of the sources, within the limit if there is one. Delta is tested, and has no
+/// other bearing.
 #[derive(Clone, Copy)]
 pub struct Near<'a> {
     pub sources: &'a [u32],
@@ -78,15 +77,13 @@ fn forest_by<const P: u32>(
     requires n { graph.now.n ≤ max_pred P }
     requires vertices { All (IsVertex graph.now.n) near.sources.now }
     requires limit { IfSome near.limit (λ limit. limit ≤ max_dist P) }
-    requires delta { near.delta ≤ max_dist P }
     requires dist { graph.now.n ≤ length dist.old }
     requires pred { graph.now.n ≤ length pred.old }
     requires root { graph.now.n ≤ length root.old }
     ensures { IsForestIn P graph.now near.entry.sources.now near.entry.limit
         (lists dist.old pred.old root.old) (lists dist.new pred.new root.new) result }
 {
-    let width = width_for(graph, near.delta);
-    match run_nearest_alone::<P>(alloc, graph, width, near.sources, near.limit) {
+    match run_nearest_alone::<P>(alloc, graph, near.sources, near.limit) {
         Ok(forest) => {
             put_forest(&forest, dist, pred, root);
             Told::Tree
@@ -109,7 +106,6 @@ fn forest_in(
     requires n { IsCount graph.now.n }
     requires vertices { All (IsVertex graph.now.n) near.sources.now }
     requires limit { IsLimit graph.now.n near.limit }
-    requires delta { near.delta ≤ reach graph.now.n }
     requires dist { graph.now.n ≤ length dist.old }
     requires pred { graph.now.n ≤ length pred.old }
     requires root { graph.now.n ≤ length root.old }

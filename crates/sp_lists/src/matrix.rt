@@ -8,11 +8,9 @@ ghost use Rattle.sp_lists.specs.Matrix.{IsDistance, ArePutAt, KeepsBut, IsRowIn,
 
 use crate::answers::{Batch, Told};
 use crate::queries::Query;
-use crate::solving::width_for;
 use sp_answer::PairAnswer;
 use sp_graph::Graph;
 use sp_serial::{RunError, run_targets_alone};
-use sp_word::Delta;
 use std::alloc::Global;
 
 // A source, and the index from which its row is written.
@@ -48,7 +46,6 @@ fn put_row(answers: &[PairAnswer], low: usize, dist: &mut [u64])
 fn row_at<const P: u32>(
     alloc: Global,
     graph: &Graph,
-    width: Delta<P>,
     row: Row,
     targets: &[u32],
     dist: &mut [u64],
@@ -64,7 +61,7 @@ fn row_at<const P: u32>(
     if targets.is_empty() {
         return Told::Tree;
     }
-    match run_targets_alone(alloc, graph, width, row.source, targets) {
+    match run_targets_alone::<P>(alloc, graph, row.source, targets) {
         Ok(answers) => {
             put_row(answers.as_slice(), row.low, dist);
             Told::Tree
@@ -78,7 +75,6 @@ fn row_at<const P: u32>(
 fn rows_by<const P: u32>(
     alloc: Global,
     graph: &Graph,
-    width: Delta<P>,
     sources: &[u32],
     targets: &[u32],
     dist: &mut [u64],
@@ -96,7 +92,7 @@ fn rows_by<const P: u32>(
             source: sources[place],
             low,
         };
-        match row_at(alloc, graph, width, row, targets, dist) {
+        match row_at::<P>(alloc, graph, row, targets, dist) {
             Told::Tree => {}
             told => return Batch { done: place, told },
         }
@@ -114,54 +110,24 @@ fn rows_in(
     graph: &Graph,
     sources: &[u32],
     targets: &[u32],
-    delta: u64,
     dist: &mut [u64],
 ) -> Batch
     requires n { IsCount graph.now.n }
     requires sources { All (IsVertex graph.now.n) sources.now }
     requires targets { All (IsVertex graph.now.n) targets.now }
-    requires delta { delta ≤ reach graph.now.n }
     requires room { length sources.now * length targets.now ≤ length dist.old }
     ensures { IsBlockIn (reach graph.now.n) graph.now sources.now targets.now
         dist.old dist.new result }
 {
     let n = graph.n();
     if n <= 1_048_574 {
-        rows_by::<20>(
-            alloc,
-            graph,
-            width_for(graph, delta),
-            sources,
-            targets,
-            dist,
-        )
+        rows_by::<20>(alloc, graph, sources, targets, dist)
     } else if n <= 16_777_214 {
-        rows_by::<24>(
-            alloc,
-            graph,
-            width_for(graph, delta),
-            sources,
-            targets,
-            dist,
-        )
+        rows_by::<24>(alloc, graph, sources, targets, dist)
     } else if n <= 268_435_454 {
-        rows_by::<28>(
-            alloc,
-            graph,
-            width_for(graph, delta),
-            sources,
-            targets,
-            dist,
-        )
+        rows_by::<28>(alloc, graph, sources, targets, dist)
     } else {
-        rows_by::<32>(
-            alloc,
-            graph,
-            width_for(graph, delta),
-            sources,
-            targets,
-            dist,
-        )
+        rows_by::<32>(alloc, graph, sources, targets, dist)
     }
 }
 
@@ -188,5 +154,5 @@ pub fn write_matrix(
     if let Some(told) = query.refusal(graph.n(), dist.len()) {
         return Batch { done: 0, told };
     }
-    rows_in(alloc, graph, sources, targets, delta, dist)
+    rows_in(alloc, graph, sources, targets, dist)
 }

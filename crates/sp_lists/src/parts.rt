@@ -9,14 +9,12 @@ ghost use Rattle.sp_lists.specs.Part.{IsPartIn, IsPartOf};
 use crate::answers::Told;
 use crate::cells::put_cells;
 use crate::queries::Query;
-use crate::solving::width_for;
 use sp_graph::Graph;
 use sp_serial::{RunError, run_within_alone};
-use sp_word::Delta;
 use std::alloc::Global;
 
-/// What is asked for: the part of the tree from a source within the limit, with buckets of width delta. A delta of 0 stands
-/// for the mean length of an arc.
+/// What is asked for: the part of the tree from a source within the limit. A delta above the greatest distance is refused, and any
+/// other passed over.
 #[derive(Clone, Copy)]
 pub struct Part {
     pub source: u32,
@@ -28,7 +26,6 @@ pub struct Part {
 fn part_by<const P: u32>(
     alloc: Global,
     graph: &Graph,
-    width: Delta<P>,
     part: Part,
     dist: &mut [u64],
     pred: &mut [u32],
@@ -42,7 +39,7 @@ fn part_by<const P: u32>(
     ensures { IsPartIn graph.now part.source part.limit
         (slices dist.old pred.old) (slices dist.new pred.new) result }
 {
-    match run_within_alone(alloc, graph, width, part.source, part.limit) {
+    match run_within_alone::<P>(alloc, graph, part.source, part.limit) {
         Ok(tree) => {
             put_cells(&tree, 0, dist, pred);
             Told::Tree
@@ -56,7 +53,6 @@ fn part_by<const P: u32>(
 fn part_in(alloc: Global, graph: &Graph, part: Part, dist: &mut [u64], pred: &mut [u32]) -> Told
     requires n { IsCount graph.now.n }
     requires vertex { IsVertex graph.now.n part.source }
-    requires delta { part.delta ≤ reach graph.now.n }
     requires limit { part.limit ≤ reach graph.now.n }
     requires dist { graph.now.n ≤ length dist.old }
     requires pred { graph.now.n ≤ length pred.old }
@@ -65,13 +61,13 @@ fn part_in(alloc: Global, graph: &Graph, part: Part, dist: &mut [u64], pred: &mu
 {
     let n = graph.n();
     if n <= 1_048_574 {
-        part_by::<20>(alloc, graph, width_for(graph, part.delta), part, dist, pred)
+        part_by::<20>(alloc, graph, part, dist, pred)
     } else if n <= 16_777_214 {
-        part_by::<24>(alloc, graph, width_for(graph, part.delta), part, dist, pred)
+        part_by::<24>(alloc, graph, part, dist, pred)
     } else if n <= 268_435_454 {
-        part_by::<28>(alloc, graph, width_for(graph, part.delta), part, dist, pred)
+        part_by::<28>(alloc, graph, part, dist, pred)
     } else {
-        part_by::<32>(alloc, graph, width_for(graph, part.delta), part, dist, pred)
+        part_by::<32>(alloc, graph, part, dist, pred)
     }
 }
 

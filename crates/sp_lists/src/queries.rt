@@ -7,8 +7,8 @@ ghost use Rattle.sp_lists.specs.Query.{query_of, IsLimit, IsGoodQuery, IsRefused
 use crate::answers::Told;
 use crate::limits::{first_non_vertex, fits, is_count, reach};
 
-/// What is asked: the sources and targets, the width of the buckets, the limit if there is one, and how many rows of how many
-/// places are written.
+/// What is asked: the sources and targets, the delta, which is tested alone, the limit if there is one, and how many rows of how
+/// many places are written.
 #[derive(Clone, Copy)]
 pub(crate) struct Query<'a> {
     pub sources: &'a [u32],

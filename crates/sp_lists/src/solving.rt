@@ -9,24 +9,7 @@ use crate::answers::{Batch, Told};
 use crate::cells::put_cells;
 use sp_graph::Graph;
 use sp_serial::{RunError, run_source_alone};
-use sp_word::{Delta, Word};
 use std::alloc::Global;
-
-/// Returns the width that was asked for; 0 stands for the mean length of an arc, but at most the greatest distance.
-pub(crate) fn width_for<const P: u32>(graph: &Graph, delta: u64) -> Delta<P>
-    requires layout { is_layout P ≡ true }
-    requires most { delta ≤ max_dist P }
-{
-    let width = if delta == 0 {
-        graph.mean_length().min(Word::<P>::max_dist())
-    } else {
-        delta
-    };
-    let Some(width) = Delta::new(width) else {
-        unreachable!()
-    };
-    width
-}
 
 // A source, and the index from which its tree is written.
 #[derive(Clone, Copy)]
@@ -39,7 +22,6 @@ struct Block {
 fn solve_at<const P: u32>(
     alloc: Global,
     graph: &Graph,
-    width: Delta<P>,
     block: Block,
     dist: &mut [u64],
     pred: &mut [u32],
@@ -53,7 +35,7 @@ fn solve_at<const P: u32>(
         (slices dist.old pred.old) (slices dist.new pred.new) result }
 {
     let Block { source, low } = block;
-    match run_source_alone(alloc, graph, width, source) {
+    match run_source_alone::<P>(alloc, graph, source) {
         Ok(tree) => {
             put_cells(&tree, low, dist, pred);
             Told::Tree
@@ -69,7 +51,6 @@ fn solve_each<const P: u32>(
     alloc: Global,
     graph: &Graph,
     sources: &[u32],
-    width: Delta<P>,
     dist: &mut [u64],
     pred: &mut [u32],
 ) -> Batch
@@ -88,7 +69,7 @@ fn solve_each<const P: u32>(
             source: sources[place],
             low,
         };
-        match solve_at(alloc, graph, width, block, dist, pred) {
+        match solve_at::<P>(alloc, graph, block, dist, pred) {
             Told::Tree => {}
             told => return Batch { done: place, told },
         }
@@ -105,13 +86,11 @@ pub fn write_trees(
     alloc: Global,
     graph: &Graph,
     sources: &[u32],
-    delta: u64,
     dist: &mut [u64],
     pred: &mut [u32],
 ) -> Batch
     requires n { IsCount graph.now.n }
     requires vertices { All (IsVertex graph.now.n) sources.now }
-    requires delta { delta ≤ reach graph.now.n }
     requires dist { length sources.now * graph.now.n ≤ length dist.old }
     requires pred { length sources.now * graph.now.n ≤ length pred.old }
     ensures { AreSolved (reach graph.now.n) graph.now sources.now
@@ -119,12 +98,12 @@ pub fn write_trees(
 {
     let n = graph.n();
     if n <= 1_048_574 {
-        solve_each::<20>(alloc, graph, sources, width_for(graph, delta), dist, pred)
+        solve_each::<20>(alloc, graph, sources, dist, pred)
     } else if n <= 16_777_214 {
-        solve_each::<24>(alloc, graph, sources, width_for(graph, delta), dist, pred)
+        solve_each::<24>(alloc, graph, sources, dist, pred)
     } else if n <= 268_435_454 {
-        solve_each::<28>(alloc, graph, sources, width_for(graph, delta), dist, pred)
+        solve_each::<28>(alloc, graph, sources, dist, pred)
     } else {
-        solve_each::<32>(alloc, graph, sources, width_for(graph, delta), dist, pred)
+        solve_each::<32>(alloc, graph, sources, dist, pred)
     }
 }

@@ -8,11 +8,9 @@ ghost use Rattle.sp_lists.specs.Target.{IsFoundIn};
 
 use crate::answers::Told;
 use crate::cells::Cell;
-use crate::solving::width_for;
 use sp_answer::PairAnswer;
 use sp_graph::Graph;
 use sp_serial::run_target_alone;
-use sp_word::Delta;
 use std::alloc::Global;
 
 // Converts an answer: no distance is equal to the greatest number, which stands for no walk.
@@ -33,7 +31,6 @@ fn find_by<const P: u32>(
     graph: &Graph,
     source: u32,
     target: u32,
-    width: Delta<P>,
 ) -> Result<Cell, Told>
     requires layout { is_layout P ≡ true }
     requires n { graph.now.n ≤ max_pred P }
@@ -41,7 +38,7 @@ fn find_by<const P: u32>(
     requires target { IsVertex graph.now.n target }
     ensures { IsFoundIn (max_dist P) graph.now source target result }
 {
-    match run_target_alone(alloc, graph, width, source, target) {
+    match run_target_alone::<P>(alloc, graph, source, target) {
         Ok(answer) => of_answer(answer),
         Err(_) => Err(Told::Memory),
     }
@@ -49,27 +46,20 @@ fn find_by<const P: u32>(
 
 /// Returns the distance and the predecessor of a target in the tree of a source, or why there are none, by the layout with the
 /// greatest distances that can name the vertices. The run ends as soon as they are known.
-pub fn find_target(
-    alloc: Global,
-    graph: &Graph,
-    source: u32,
-    target: u32,
-    delta: u64,
-) -> Result<Cell, Told>
+pub fn find_target(alloc: Global, graph: &Graph, source: u32, target: u32) -> Result<Cell, Told>
     requires n { IsCount graph.now.n }
     requires source { IsVertex graph.now.n source }
     requires target { IsVertex graph.now.n target }
-    requires delta { delta ≤ reach graph.now.n }
     ensures { IsFoundIn (reach graph.now.n) graph.now source target result }
 {
     let n = graph.n();
     if n <= 1_048_574 {
-        find_by::<20>(alloc, graph, source, target, width_for(graph, delta))
+        find_by::<20>(alloc, graph, source, target)
     } else if n <= 16_777_214 {
-        find_by::<24>(alloc, graph, source, target, width_for(graph, delta))
+        find_by::<24>(alloc, graph, source, target)
     } else if n <= 268_435_454 {
-        find_by::<28>(alloc, graph, source, target, width_for(graph, delta))
+        find_by::<28>(alloc, graph, source, target)
     } else {
-        find_by::<32>(alloc, graph, source, target, width_for(graph, delta))
+        find_by::<32>(alloc, graph, source, target)
     }
 }

@@ -8,6 +8,7 @@ use crate::row::RowQuestion;
 use sp_device::Write;
 use sp_graph::Graph;
 use sp_job::{BatchError, Listener, Summary};
+use sp_serial::Rooms;
 use sp_sources::{Asked, answer_alone, answer_sources};
 use sp_word::{Alone, Crew, Delta, Meter};
 use std::alloc::Global;
@@ -62,6 +63,7 @@ impl<const P: u32, R: Threads + Wait + Sync> RowCrew<P> for &R {
             delta,
             meter,
             targets,
+            rooms: Rooms::new(alloc, asked.workers.get() as usize),
         };
         answer_sources::<RowQuestion<P>, R, W, L>(*self, alloc, &question, asked, out)
     }
@@ -91,6 +93,7 @@ impl<const P: u32, R: Threads + Sync> RowCrew<P> for Alone<R> {
             delta,
             meter,
             targets,
+            rooms: Rooms::new(alloc, 1),
         };
         answer_alone::<RowQuestion<P>, Alone<R>, W, L>(self, alloc, &question, asked, out)
     }

@@ -93,10 +93,10 @@ fn answer_lists<const P: u32, R: RowCrew<P>, W: Write, L: Listener>(
 /// all targets, before anything is written. What is written is the same for all widths of buckets and numbers of workers. Where
 /// memory is refused or the writer fails, a beginning of the text stands.
 ///
-/// It makes one run from each source, no further than to the farthest of the targets. Several sources are answered at once,
-/// as `run_batch` does; a source's lines are written as soon as they and those before them are known. The listener hears
-/// when the graph stands, and before each source, or each group of sources that are answered at once. The crew is as in
-/// `run_batch_told`.
+/// From each source it looks for near targets, and where they aren't near it makes one run, no further than to the farthest of
+/// the targets. Several sources are answered at once, as `run_batch` does; a source's lines are written as soon as they and those
+/// before them are known. The listener hears when the graph stands, and before each source, or each group of sources that are
+/// answered at once. The crew is as in `run_batch_told`.
 pub fn run_matrix_told<
     const P: u32,
     R: RowCrew<P>,

@@ -2,14 +2,16 @@
 ghost use Rattle.std.specs.Prelude.{[], ◌∷◌, IfOk};
 ghost use denote.Param.Send.{IsSync};
 ghost use Rattle.sp_sources.specs.Told.{IsDue, AreWritten};
+ghost use Rattle.sp_pairs.specs.Known.{asked_of};
 ghost use Rattle.sp_matrix.specs.Row.{IsRow, IsTold, CanFind, told_of};
 
 use crate::row_lines::write_row;
 use sp_answer::PairAnswer;
 use sp_device::Write;
 use sp_graph::Graph;
-use sp_job::{BatchError, Progress, Summary};
-use sp_solve::{Query, Reach, run_targets, useful_team};
+use sp_job::{BatchError, Job, Nobody, Progress, Summary};
+use sp_pairs::{Known, find_targets};
+use sp_serial::Rooms;
 use sp_sources::Question;
 use sp_word::{Alone, Crew, Delta, Meter, Team, Workers};
 use std::alloc::{AllocError, Global};
@@ -32,24 +34,27 @@ pub struct RowQuestion<'a, const P: u32> {
     /// The meter on which the workers count the vertices that they relax.
     pub(crate) meter: &'a Meter,
     pub(crate) targets: &'a [u32],
+    /// The rooms in which near targets are looked for.
+    pub(crate) rooms: Rooms<P>,
 }
 
-// Returns the row of a source for which a run was made.
-fn row_of<const P: u32>(alloc: Global, reach: &Reach<P>) -> Result<Row, AllocError>
-    ensures { IfOk result
-        (IsRow P reach.now.graph reach.now.source reach.now.targets) }
+// Returns the row of a source, of what is known of its targets.
+fn row_of<const P: u32>(alloc: Global, known: &Known<P>) -> Result<Row, AllocError>
+    ensures { let asked = asked_of known.now in
+        IfOk result (IsRow P asked.graph asked.source asked.targets) }
 {
     let mut lines = Vec::new(alloc);
-    for place in 0..reach.targets().len() {
-        lines.push((reach.targets()[place], reach.answer(place)))?;
+    for place in 0..known.targets().len() {
+        lines.push((known.targets()[place], known.answer(place)))?;
     }
     Ok(Row {
-        source: reach.source(),
+        source: known.source(),
         lines,
     })
 }
 
-// Returns the row of a source, by a run that goes no further than the targets ask for; without targets by none.
+// Returns the row of a source: near targets are looked for in a room, others by a run that goes no further than they ask for.
+// Without targets there is no search.
 fn find_row<const P: u32, R: Crew>(
     rt: &R,
     alloc: Global,
@@ -66,17 +71,18 @@ fn find_row<const P: u32, R: Crew>(
             lines: Vec::new(alloc),
         });
     }
-    let query = Query {
-        source,
-        targets: question.targets.to_vec(alloc)?,
+    let job = Job {
+        graph: question.graph,
+        team: Team {
+            delta: question.delta,
+            workers,
+        },
+        meter: question.meter,
+        listener: &Nobody,
     };
-    let asked = Team {
-        delta: question.delta,
-        workers,
-    };
-    let team = useful_team(rt, question.graph.n(), &asked);
-    let reach = run_targets::<P, R>(rt, alloc, question.graph, team, question.meter, query)?;
-    row_of::<P>(alloc, &reach)
+    let targets = question.targets.to_vec(alloc)?;
+    let known = find_targets(rt, alloc, &question.rooms, &job, source, targets)?;
+    row_of(alloc, &known)
 }
 
 impl<'a, const P: u32> Question for RowQuestion<'a, P> {

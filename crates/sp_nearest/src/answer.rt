@@ -1,7 +1,8 @@
 //! The answer for several sources: how it is found and written.
-ghost use Rattle.std.specs.Prelude.{◌≤◌, All, IfOk, IfSome};
+ghost use Rattle.std.specs.Prelude.{◌≤◌, All, IfOk, IfErr, IfSome};
 ghost use Rattle.sp_word.specs.Word.{max_dist};
 ghost use Rattle.sp_paths.specs.Paths.{IsVertex};
+ghost use Rattle.sp_forest.specs.Nearest.{IsForestAnswer, IsRefusal};
 ghost use Rattle.sp_job.specs.Ready.{IsReady};
 ghost use Rattle.sp_nearest.specs.Nearest.{IsAnswerTo};
 ghost use Rattle.sp_nearest.specs.Found.{answer_of, IsWritten};
@@ -11,6 +12,7 @@ use sp_forest_file::{Forest, write_forest, write_no_forest};
 use sp_graph::Graph;
 use sp_job::{BatchError, Listener, Settings, Summary};
 use sp_near::{Nearest, RunError, run_nearest_metered};
+use sp_serial::Rooms;
 use sp_solve::useful_team;
 use sp_word::{Crew, Meter};
 use std::alloc::{AllocError, Global};
@@ -24,7 +26,48 @@ pub(crate) enum NearestAnswer<const P: u32> {
     TooFar(u32),
 }
 
-/// Finds the answer, by one run.
+// Looks for the forest up to the limit in a room, at the cost of what it touches. Without a limit, or where the forest isn't
+// small, there is none.
+fn find_small<const P: u32>(alloc: Global, graph: &Graph, asked: Nearest) -> Option<Forest<P>>
+    requires ready { IsReady P graph.now }
+    requires vertices { All (IsVertex graph.now.n) asked.sources.now }
+    requires limit { IfSome asked.limit (λ limit. limit ≤ max_dist P) }
+    ensures { IfSome result (IsForestAnswer P graph.now
+        asked.entry.sources.now asked.entry.limit) }
+{
+    let Some(limit) = asked.limit else {
+        return None;
+    };
+    Rooms::new(alloc, 1).forest(alloc, graph, asked.sources, limit)
+}
+
+// Finds the forest: a small one as a room does, any other by a run of a team, which counts on the listener's meter the vertices
+// that it relaxes.
+fn find_forest<const P: u32, R: Crew, L: Listener>(
+    rt: &R,
+    alloc: Global,
+    graph: &Graph,
+    asked: Nearest,
+    settings: &Settings<P, L>,
+) -> Result<Forest<P>, RunError>
+    requires ready { IsReady P graph.now }
+    requires vertices { All (IsVertex graph.now.n) asked.sources.now }
+    requires limit { IfSome asked.limit (λ limit. limit ≤ max_dist P) }
+    ensures forest { IfOk result (IsForestAnswer P graph.now
+        asked.entry.sources.now asked.entry.limit) }
+    ensures refused { IfErr result (IsRefusal P graph.now
+        asked.entry.sources.now asked.entry.limit) }
+{
+    if let Some(forest) = find_small::<P>(alloc, graph, asked) {
+        return Ok(forest);
+    }
+    let uncounted = Meter::new();
+    let meter = settings.listener.meter().unwrap_or(&uncounted);
+    let team = useful_team(rt, graph.n(), &settings.team_for(graph));
+    run_nearest_metered::<P, R>(rt, alloc, graph, team, meter, asked)
+}
+
+/// Finds the answer.
 pub(crate) fn find_answer<const P: u32, R: Crew, L: Listener>(
     rt: &R,
     alloc: Global,
@@ -38,10 +81,7 @@ pub(crate) fn find_answer<const P: u32, R: Crew, L: Listener>(
     ensures { IfOk result (λ found. IsAnswerTo P graph.now
         asked.entry.sources.now asked.entry.limit (answer_of found)) }
 {
-    let uncounted = Meter::new();
-    let meter = settings.listener.meter().unwrap_or(&uncounted);
-    let team = useful_team(rt, graph.n(), &settings.team_for(graph));
-    match run_nearest_metered::<P, R>(rt, alloc, graph, team, meter, asked) {
+    match find_forest::<P, R, L>(rt, alloc, graph, asked, settings) {
         Ok(forest) => Ok(NearestAnswer::Forest(forest)),
         Err(RunError::TooFar(vertex)) => Ok(NearestAnswer::TooFar(vertex)),
         Err(RunError::NoSuchVertex) => unreachable!(),

@@ -66,7 +66,9 @@ fn answer_file<const P: u32, R: Crew, W: Write, L: Listener>(
 /// the forest is that of the sources at these places of their list. What is written is the same for all widths of buckets and
 /// numbers of workers. Where memory is refused, nothing is written; where the writer fails, a beginning of the text stands.
 ///
-/// It makes one run, with all workers. The listener hears when the graph stands, and before the run. The summary counts one
+/// With a limit the calling thread first looks for a small forest, at the cost of what it touches. Where it finds none, and
+/// without a limit, one run is made, with all workers. The listener hears when the graph stands, and before the forest is found;
+/// its meter counts the vertices that the run relaxes, and none that the calling thread's look does. The summary counts one
 /// answer.
 pub fn run_nearest_told<const P: u32, R: Crew, G: Read, S: Read, W: Write, L: Listener>(
     rt: &R,

@@ -1,15 +1,15 @@
 //! The answers for pairs, found by one search or run from each source.
 ghost use Rattle.std.specs.Prelude.{◌≡◌, ◌+◌, ◌<◌, false, length, All, IfOk, IfSome};
-ghost use Rattle.sp_paths.specs.Paths.{IsVertex};
 ghost use Rattle.sp_job.specs.Ready.{IsReady};
 ghost use Rattle.sp_pairs.specs.Known.{asked_of};
 ghost use Rattle.sp_pairs.specs.Slots.{IsClosed, slot_of, IsPairOf, AreAllOpen, pair_at, AreHeld, AreFirstClosed, StayClosed, IsPlaceBehind, AreTargetsOf, IsFor, IsClosedAt};
 
-use crate::known::{Known, NearAnswers};
-use crate::near::NearSearch;
+use crate::known::Known;
+use crate::targets::find_targets;
 use sp_graph::Graph;
 use sp_job::{Job, Listener, Progress};
-use sp_solve::{PairAnswer, Query, run_targets, useful_team};
+use sp_serial::Rooms;
+use sp_solve::PairAnswer;
 use sp_word::Crew;
 use std::alloc::{AllocError, Global};
 
@@ -154,60 +154,6 @@ fn keep_answers<const P: u32>(
     }
 }
 
-// Returns the answers for targets of a source: they are looked for near the source first, and by a team if that gives up.
-fn answer_targets<'g, const P: u32, R: Crew, L>(
-    rt: &R,
-    alloc: Global,
-    near: &mut NearSearch<'g, P>,
-    job: &Job<'g, P, L>,
-    source: u32,
-    targets: Vec<u32>,
-) -> Result<Known<'g, P>, AllocError>
-    requires ready { IsReady P job.now.graph.now }
-    requires near { near.old ≡ job.now.graph.now }
-    requires source { IsVertex job.now.graph.now.n source }
-    requires targets { All (IsVertex job.now.graph.now.n) targets.items }
-    ensures near { near.new ≡ near.old }
-    ensures graph { IfOk result (λ known. (asked_of known).graph ≡ job.now.graph.now) }
-    ensures source { IfOk result (λ known. (asked_of known).source ≡ source) }
-    ensures targets { IfOk result (λ known. (asked_of known).targets ≡ targets.items) }
-{
-    let graph = job.graph;
-    if let Some(answers) = near.find(source, &targets) {
-        return Ok(Known::Near(NearAnswers::new(graph, source, targets, answers)));
-    }
-    let query = Query { source, targets };
-    let team = useful_team(rt, graph.n(), &job.team);
-    let reach = run_targets::<P, R>(rt, alloc, graph, team, job.meter, query)?;
-    Ok(Known::Run(reach))
-}
-
-// Finds the answer for the pair at a place, and for those of the same source behind it.
-fn ask<'g, const P: u32, R: Crew, L>(
-    rt: &R,
-    near: &mut NearSearch<'g, P>,
-    job: &Job<'g, P, L>,
-    pairs: &[(u32, u32)],
-    slots: &mut Vec<Slot>,
-    place: usize,
-) -> Result<(), AllocError>
-    requires ready { IsReady P job.now.graph.now }
-    requires near { near.old ≡ job.now.graph.now }
-    requires pairs { All (IsPairOf job.now.graph.now.n) pairs.now }
-    requires here { place < length pairs.now }
-    requires held { AreHeld P job.now.graph.now pairs.now slots.old.items }
-    requires first { AreFirstClosed place slots.old.items }
-    ensures near { near.new ≡ near.old }
-    ensures held { IfOk result (λ _. AreHeld P job.now.graph.now pairs.now slots.new.items) }
-    ensures first { IfOk result (λ _. AreFirstClosed (place + 1) slots.new.items) }
-{
-    let alloc = near.alloc();
-    let targets = targets_from(alloc, job.graph, pairs, slots, place)?;
-    let known = answer_targets(rt, alloc, near, job, pairs[place].0, targets)?;
-    keep_answers(&known, pairs, slots, place);
-    Ok(())
-}
-
 /// Finds the answers for pairs, in their order.
 pub(crate) fn find_answers<const P: u32, R: Crew, L: Listener>(
     rt: &R,
@@ -221,15 +167,18 @@ pub(crate) fn find_answers<const P: u32, R: Crew, L: Listener>(
     ensures closed { IfOk result (λ slots. All IsClosed slots.items) }
 {
     let mut slots = open_slots(alloc, job.graph.n(), pairs)?;
-    let mut near = NearSearch::new(alloc, job.graph);
+    let rooms = Rooms::new(alloc, 1);
     for place in 0..pairs.len() {
-        if is_open(&slots[place]) {
-            job.listener.hear(Progress::Pairs {
-                found: place,
-                count: pairs.len(),
-            });
-            ask::<P, R, L>(rt, &mut near, job, pairs, &mut slots, place)?;
+        if !is_open(&slots[place]) {
+            continue;
         }
+        job.listener.hear(Progress::Pairs {
+            found: place,
+            count: pairs.len(),
+        });
+        let targets = targets_from(alloc, job.graph, pairs, &slots, place)?;
+        let known = find_targets(rt, alloc, &rooms, job, pairs[place].0, targets)?;
+        keep_answers(&known, pairs, &mut slots, place);
     }
     Ok(slots)
 }

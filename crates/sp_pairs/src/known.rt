@@ -14,7 +14,7 @@ use std::marker::Model;
 ///
 /// Contracts see the graph, the source and the targets.
 #[derive(Drop)]
-pub(crate) struct NearAnswers<'g, const P: u32> {
+pub struct NearAnswers<'g, const P: u32> {
     graph: &'g Graph,
     source: u32,
     targets: Vec<u32>,
@@ -89,7 +89,7 @@ impl<'g, const P: u32> NearAnswers<'g, P> {
 
 /// The answers for targets of a source, by what has found them.
 #[derive(Drop)]
-pub(crate) enum Known<'g, const P: u32> {
+pub enum Known<'g, const P: u32> {
     /// A search near the source.
     Near(NearAnswers<'g, P>),
     /// A run by a team.
@@ -98,7 +98,7 @@ pub(crate) enum Known<'g, const P: u32> {
 
 impl<'g, const P: u32> Known<'g, P> {
     /// Returns the source.
-    pub(crate) fn source(&self) -> u32
+    pub fn source(&self) -> u32
         ensures { result ≡ (asked_of self.now).source }
     {
         match self {
@@ -108,7 +108,7 @@ impl<'g, const P: u32> Known<'g, P> {
     }
 
     /// Returns the targets, in the order in which they were given.
-    pub(crate) fn targets(&self) -> &[u32]
+    pub fn targets(&self) -> &[u32]
         ensures { result.now ≡ (asked_of self.now).targets }
     {
         match self {
@@ -118,7 +118,7 @@ impl<'g, const P: u32> Known<'g, P> {
     }
 
     /// Returns the answer for the target at a place, counted from 0.
-    pub(crate) fn answer(&self, place: usize) -> PairAnswer
+    pub fn answer(&self, place: usize) -> PairAnswer
         requires { place < length (asked_of self.now).targets }
         ensures { let asked = asked_of self.now in
             IsAnswerFor P asked.graph asked.source (slice_index asked.targets place) result }

@@ -5,3 +5,5 @@ pub mod Targets
 pub mod TargetAnswers
 pub mod WordsOfTree
 pub mod Touching
+pub mod PartRows
+pub mod RootedRows

@@ -105,7 +105,7 @@ opened_table g sources max count words all opened = record {
 
 -- ## The forest within a limit
 
-cut_word : (limit : ℕ) (words : List Word) (v : ℕ) → word_at (map (up_to limit) words) v ≡ up_to limit (word_at words v)
+pub cut_word : (limit : ℕ) (words : List Word) (v : ℕ) → word_at (map (up_to limit) words) v ≡ up_to limit (word_at words v)
 cut_word limit words v = get_or-map (up_to limit) words (v - 1) Unreached
 
 kept : (limit d p : ℕ) → d ≤ limit → up_to limit (Pair d p) ≡ Pair d p
@@ -114,7 +114,7 @@ kept limit d p low = cond-true (nat_le d limit) (Pair d p) Unreached (le-leb d l
 dropped : (limit d p : ℕ) → limit < d → up_to limit (Pair d p) ≡ Unreached
 dropped limit d p high = cond-false (nat_le d limit) (Pair d p) Unreached (lt-leb d limit high)
 
-small_cut : (n max limit : ℕ) (w : Word) → IsSmall n max w → IsSmall n max (up_to limit w)
+pub small_cut : (n max limit : ℕ) (w : Word) → IsSmall n max w → IsSmall n max (up_to limit w)
 small_cut n max limit Unreached h = h
 small_cut n max limit (Pair d p) h = go (cases_lt limit d)
   where

@@ -2,6 +2,9 @@
 use Rattle.std.proofs.Common.{◌≡◌, ℕ, zero, suc, ◌+◌, ◌-◌, ◌<◌, ◌≤◌, ◌⊎◌, inl, inr, List, [], ◌∷◌, length, get_or, set, replicate, refl, sym, ap, ◌∙◌, subst, arith, length-set}
 use Rattle.std.specs.Prelude.{All, Contains}
 use Rattle.std.proofs.lemmas.Bool.{cases_eq}
+use Rattle.std.proofs.lemmas.List.{length-replicate, get_or-replicate, get_or_default}
+use Rattle.std.proofs.lemmas.List.Sorted.{All-permutation, Contains-permutation}
+use Rattle.std.specs.List.Sorted.{IsPermutation}
 use Rattle.sp_word.specs.Word.{Word, Unreached, Pair}
 use Rattle.sp_paths.specs.declared.arc.Arc.{Arc}
 use Rattle.sp_paths.specs.Paths.{Graph, IsArc, IsVertex, word_at}
@@ -85,3 +88,37 @@ touched_none i reached words past t = all_unreached words (λ k low. unreached k
     unreached k low (Pair d p) is =
         let (j, from, less, same) = t.covers (suc k) d p (omega arith, omega (arith, low)) (subst (λ (i : ℕ). get_or words i Unreached ≡ Pair d p) (omega arith) is) in
         absurd (omega (arith, past, from, less))
+
+-- a vertex of the list gets a word
+pub touched_set : (reached : List ℕ) (words : List Word) (s : ℕ) (w : Word) → IsVertex (length words) s → AreTouched 0 reached words → IsAmong 0 reached s → AreTouched 0 reached (set words (s - 1) w)
+touched_set reached words s w in' t among = record {
+  vertices = subst (λ (n : ℕ). All (IsVertex n) reached) (sym size) t.vertices;
+  covers = λ v d p at is. covers v d p (subst (λ (n : ℕ). IsVertex n v) size at) is (cases_eq v s);
+}
+  where
+    size : length (set words (s - 1) w) ≡ length words
+    size = length-set words (s - 1) w
+
+    covers : (v d p : ℕ) → IsVertex (length words) v → word_at (set words (s - 1) w) v ≡ Pair d p → (v ≡ s) ⊎ (v ≡ s → ⊥) → IsAmong 0 reached v
+    covers v d p at is (inl same) = subst (IsAmong 0 reached) (sym same) among
+    covers v d p at is (inr other) = t.covers v d p at (sym (word_other words s v w in'.0 at.0 other) ∙ is)
+
+-- where all words are unreached, no vertex need be listed
+pub touched_empty : (n : ℕ) (words : List Word) → words ≡ replicate n Unreached → AreTouched 0 [] words
+touched_empty n words is = record {
+  vertices = λ k d low. absurd (omega (arith, low));
+  covers = λ v d p at here. absurd (unlike (sym (ap (λ (ws : List Word). word_at ws v) is ∙ get_or-replicate n (v - 1) Unreached Unreached (let low = at.0 in let high = at.1 in let size = ap (λ (ws : List Word). length ws) is ∙ length-replicate n Unreached in omega arith)) ∙ here));
+}
+  where
+    unlike : {d p : ℕ} → Unreached ≡ Pair d p → ⊥
+    unlike e = cc
+
+-- the order of the list has no bearing
+pub touched_sorted : (reached sorted : List ℕ) (words : List Word) → IsPermutation reached sorted → AreTouched 0 reached words → AreTouched 0 sorted words
+touched_sorted reached sorted words same t = record {
+  vertices = All-permutation (IsVertex (length words)) reached sorted same t.vertices;
+  covers = λ v d p at is.
+      let (k, from, less, here) = t.covers v d p at is in
+      let (j, low, there) = Contains-permutation reached sorted v same (k, less, get_or_default reached k v 0 less ∙ here) in
+      (j, omega arith, low, get_or_default sorted j 0 v low ∙ there);
+}

@@ -4,3 +4,5 @@ pub mod Asked
 pub mod Several
 pub mod Told
 pub mod Touched
+pub mod Part
+pub mod Rooted

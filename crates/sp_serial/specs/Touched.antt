@@ -17,3 +17,8 @@ pub record IsClear (P : ℕ) (g : Graph) (words : List Word) : Type 0 where
   pub layout : is_layout P ≡ true
   pub room : g.n ≤ max_pred P
   pub unreached : words ≡ replicate g.n Unreached
+
+-- All of the words are unreached, in this layout.
+pub record AreSpare (P : ℕ) (words : List Word) : Type 0 where
+  pub layout : is_layout P ≡ true
+  pub unreached : words ≡ replicate (length words) Unreached

@@ -9,7 +9,7 @@ use crate::run::solve_alone;
 use sp_answer::{RunError, Tree};
 use sp_graph::Graph;
 use sp_plain::Answer;
-use sp_word::{Delta, Word};
+use sp_word::Word;
 use std::alloc::Global;
 
 // Returns the tree of the words that the plain program answered.
@@ -37,7 +37,6 @@ fn tree_of_words<const P: u32>(
 pub fn run_source_alone<const P: u32>(
     alloc: Global,
     graph: &Graph,
-    delta: Delta<P>,
     source: u32,
 ) -> Result<Tree<P>, RunError>
     requires layout { is_layout P ≡ true }
@@ -48,7 +47,7 @@ pub fn run_source_alone<const P: u32>(
     if !graph.has_vertex(source) {
         return Err(RunError::NoSuchVertex);
     }
-    match solve_alone(alloc, graph, delta, source) {
+    match solve_alone::<P>(alloc, graph, source) {
         Ok(Answer::Tree(words)) => tree_of_words(alloc, graph, source, &words),
         Ok(Answer::TooFar(vertex)) => Err(RunError::TooFar(vertex)),
         Err(_) => Err(RunError::Memory),

@@ -7,7 +7,6 @@ ghost use Rattle.sp_serial.specs.Asked.{AreEnds, IsTargetRefusal};
 use crate::target::solve_target;
 use sp_answer::{PairAnswer, RunError};
 use sp_graph::Graph;
-use sp_word::Delta;
 use std::alloc::Global;
 
 /// Returns the answer for a target of the source, as `run_targets` does. It starts no thread and never waits. It ends as
@@ -15,7 +14,6 @@ use std::alloc::Global;
 pub fn run_target_alone<const P: u32>(
     alloc: Global,
     graph: &Graph,
-    delta: Delta<P>,
     source: u32,
     target: u32,
 ) -> Result<PairAnswer, RunError>
@@ -28,7 +26,7 @@ pub fn run_target_alone<const P: u32>(
     if !graph.has_vertex(source) || !graph.has_vertex(target) {
         return Err(RunError::NoSuchVertex);
     }
-    match solve_target(alloc, graph, delta, source, target) {
+    match solve_target::<P>(alloc, graph, source, target) {
         Ok(answer) => Ok(answer),
         Err(_) => Err(RunError::Memory),
     }

@@ -8,7 +8,6 @@ use crate::vertices::are_vertices;
 use sp_answer::RunError;
 use sp_forest::{Forest, roots};
 use sp_graph::Graph;
-use sp_word::Delta;
 use std::alloc::Global;
 
 /// Returns the forest of shortest paths from the sources, up to the limit if there is one, as `run_nearest` does. It starts no
@@ -19,7 +18,6 @@ use std::alloc::Global;
 pub fn run_nearest_alone<const P: u32>(
     alloc: Global,
     graph: &Graph,
-    _delta: Delta<P>,
     sources: &[u32],
     limit: Option<u64>,
 ) -> Result<Forest<P>, RunError>

@@ -1,18 +1,21 @@
 //! Searches that cost what they touch.
-ghost use Rattle.std.specs.Prelude.{◌≡◌, ◌≤◌, true, vec_len, All, IfOk, IfErr, IfSome};
+ghost use Rattle.std.specs.Prelude.{◌≡◌, ◌≤◌, true, vec_len, All, Some, IfOk, IfErr, IfSome};
 ghost use Rattle.sp_word.specs.Word.{is_layout, max_dist, max_pred};
 ghost use Rattle.sp_paths.specs.Paths.{IsVertex};
 ghost use Rattle.sp_plain.specs.Passing.{IsTableOfWalks};
 ghost use Rattle.sp_plain.specs.Lowering.{IsLowered};
+ghost use Rattle.sp_answer.specs.Within.{IsTreeWithin};
+ghost use Rattle.sp_forest.specs.Nearest.{IsForestAnswer};
 ghost use Rattle.sp_serial.specs.Asked.{AreAnswersFor};
 ghost use Rattle.sp_serial.specs.Touched.{AreTouched, IsClear};
 
-use crate::batch::{Batch, relax_rows};
+use crate::part::{forest_shown, part_shown};
+use crate::reach::{Until, reach, search};
 use crate::row::{answers_of, farthest};
-use crate::search::first_open;
+use crate::search::open_bins;
 use crate::touched::{Touched, are_relaxed_up_to, clear};
-use sp_answer::PairAnswer;
-use sp_bins::{Bins, Entry};
+use sp_answer::{PairAnswer, Tree};
+use sp_forest::Forest;
 use sp_graph::Graph;
 use sp_word::Word;
 use std::alloc::{AllocError, Global};
@@ -24,11 +27,11 @@ use std::marker::Model;
 /// Contracts see the graph.
 #[derive(Drop)]
 pub struct Room<'g, const P: u32> {
-    alloc: Global,
-    graph: &'g Graph,
-    touched: Touched<P>,
+    pub(crate) alloc: Global,
+    pub(crate) graph: &'g Graph,
+    pub(crate) touched: Touched<P>,
     // the width that the buckets of the last search have found, as a power of 2
-    shift: u32,
+    pub(crate) shift: u32,
 }
 
 impl<'g, const P: u32> Model for Room<'g, P> {
@@ -40,16 +43,6 @@ impl<'g, const P: u32> Model for Room<'g, P> {
     ghost view = { λ r. r.graph.now };
 
     ghost invariant = { λ r. IsClear P r.graph.now r.touched.words.items };
-}
-
-// Returns buckets of this width in which the source waits.
-fn bins_from(alloc: Global, shift: u32, source: u32) -> Result<Bins, AllocError> {
-    let mut bins = Bins::new(alloc, shift)?;
-    bins.put(Entry {
-        vertex: source,
-        dist: 0,
-    })?;
-    Ok(bins)
 }
 
 // Gives the source its word, where all vertices are unreached.
@@ -70,52 +63,6 @@ fn begin<const P: u32>(
     touched.reached.push(source)?;
     touched.words[(source - 1) as usize] = Word::pack(0, 0);
     Ok(())
-}
-
-// Lowers words until no entry waits in the bucket of a target or before it, or more than `most` entries would be worked off.
-// Returns whether none waits.
-fn search<const P: u32>(
-    alloc: Global,
-    graph: &Graph,
-    targets: &[u32],
-    most: usize,
-    touched: &mut Touched<P>,
-    bins: &mut Bins,
-) -> Result<bool, AllocError>
-    requires layout { is_layout P ≡ true }
-    requires targets { All (IsVertex graph.now.n) targets.now }
-    requires room { graph.now.n ≤ max_pred P }
-    requires size { vec_len touched.old.words ≡ graph.now.n }
-    requires touched { AreTouched 0 touched.old.reached.items touched.old.words.items }
-    ensures size { vec_len touched.new.words ≡ graph.now.n }
-    ensures lowered { IsLowered (max_dist P) graph.now.arcs
-        touched.old.words.items touched.new.words.items }
-    ensures touched { AreTouched 0 touched.new.reached.items touched.new.words.items }
-{
-    let mut batch = Batch::new(alloc);
-    let mut entries = Vec::new(alloc);
-    let mut left = most;
-    let mut open = 0;
-    for _ in 0..u64::MAX {
-        bins.adjust()?;
-        bins.refill(&mut entries)?;
-        if entries.len() > left {
-            return Ok(false);
-        }
-        if !entries.is_empty() {
-            left -= entries.len();
-            relax_rows(graph, &entries, &mut batch, touched, bins)?;
-            continue;
-        }
-        let Some(bucket) = bins.advance()? else {
-            break;
-        };
-        open = first_open(&touched.words, targets, open, bins, bucket);
-        if open == targets.len() {
-            break;
-        }
-    }
-    Ok(true)
 }
 
 // Returns the answers of a search that came to its end, if the words show them: each target has a distance, and all arcs within
@@ -189,13 +136,81 @@ impl<'g, const P: u32> Room<'g, P> {
     {
         let graph = self.graph;
         let _ = graph.n();
-        let mut bins = bins_from(self.alloc, self.shift, source)?;
+        if targets.is_empty() {
+            return Ok(Some(Vec::new(self.alloc)));
+        }
+        let until = Until {
+            targets,
+            limit: u64::MAX,
+            most,
+        };
+        let mut bins = open_bins(self.alloc, self.shift, &[source])?;
         let touched = &mut self.touched;
         begin(graph, source, touched)?;
-        let ended = search(self.alloc, graph, targets, most, touched, &mut bins);
+        let ended = search(self.alloc, graph, &until, touched, &mut bins);
         let answers = answers_shown(self.alloc, graph, source, targets, touched, ended);
         clear(touched);
         self.shift = bins.shift();
         answers
+    }
+
+    /// Looks for the part of the tree within a distance of its source, by rising distance. It gives up once it would relax more
+    /// than about `most` vertices: then there is no part, and another run is to find it.
+    ///
+    /// It takes time and memory for the vertices that it touches alone. Whatever comes, the room serves the next search.
+    pub fn part(
+        &mut self,
+        source: u32,
+        limit: u64,
+        most: usize,
+    ) -> Result<Option<Tree<P>>, AllocError>
+        requires source { IsVertex self.old.n source }
+        requires limit { limit ≤ max_dist P }
+        ensures graph { self.new ≡ self.old }
+        ensures part { IfOk result (λ found. IfSome found (IsTreeWithin self.old source limit)) }
+    {
+        let graph = self.graph;
+        let _ = graph.n();
+        let until = Until {
+            targets: &[],
+            limit,
+            most,
+        };
+        let mut bins = open_bins(self.alloc, self.shift, &[source])?;
+        let touched = &mut self.touched;
+        let ended = reach(self.alloc, graph, &[source], &until, touched, &mut bins);
+        let part = part_shown(self.alloc, graph, source, limit, touched, ended);
+        clear(touched);
+        self.shift = bins.shift();
+        part
+    }
+    /// Looks for the part of the forest of the sources within a distance, as `part` does for one source. Without sources it finds
+    /// none.
+    pub fn forest(
+        &mut self,
+        sources: &[u32],
+        limit: u64,
+        most: usize,
+    ) -> Result<Option<Forest<P>>, AllocError>
+        requires sources { All (IsVertex self.old.n) sources.now }
+        requires limit { limit ≤ max_dist P }
+        ensures graph { self.new ≡ self.old }
+        ensures forest { IfOk result (λ found.
+            IfSome found (IsForestAnswer P self.old sources.now (Some limit))) }
+    {
+        let graph = self.graph;
+        let _ = graph.n();
+        let until = Until {
+            targets: &[],
+            limit,
+            most,
+        };
+        let mut bins = open_bins(self.alloc, self.shift, sources)?;
+        let touched = &mut self.touched;
+        let ended = reach(self.alloc, graph, sources, &until, touched, &mut bins);
+        let forest = forest_shown(self.alloc, graph, sources, limit, touched, ended);
+        clear(touched);
+        self.shift = bins.shift();
+        forest
     }
 }

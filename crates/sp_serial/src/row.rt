@@ -13,7 +13,7 @@ use sp_answer::{PairAnswer, RunError};
 use sp_graph::{Graph, left_out, look_up};
 use sp_plain::{close_table, open_table};
 use sp_scan::is_relaxed_up_to;
-use sp_word::{Delta, Word};
+use sp_word::Word;
 use std::alloc::{AllocError, Global};
 
 /// Returns the distance of the farthest target, if each of them has one.
@@ -93,7 +93,6 @@ fn solve_targets<const P: u32>(
 pub fn run_targets_alone<const P: u32>(
     alloc: Global,
     graph: &Graph,
-    _delta: Delta<P>,
     source: u32,
     targets: &[u32],
 ) -> Result<Vec<PairAnswer>, RunError>

@@ -7,18 +7,15 @@ ghost use Rattle.sp_plain.specs.Answer.{IsAnswer, ArePredsWithin};
 use crate::search::search_from;
 use sp_graph::Graph;
 use sp_plain::{Answer, finish_table, open_table};
-use sp_word::Delta;
 use std::alloc::{AllocError, Global};
 
 /// Returns the shortest-path tree from `source`, or the smallest vertex that is too far.
 ///
-/// The answer is the same for every `delta`, and so is the way to it: the buckets find their width as they are worked
-/// off, whatever was asked for. The run takes 8 bytes for the word of each vertex, and 16
-/// for each entry that waits. It fails only if there is no memory for them.
+/// The buckets find their width as they are worked off. The run takes 8 bytes for the word of each vertex, and 16 for each entry
+/// that waits. It fails only if there is no memory for them.
 pub fn solve_alone<const P: u32>(
     alloc: Global,
     graph: &Graph,
-    _delta: Delta<P>,
     source: u32,
 ) -> Result<Answer<P>, AllocError>
     requires layout { is_layout P ≡ true }

@@ -39,10 +39,10 @@ pub(crate) fn first_open<const P: u32>(
     targets.len()
 }
 
-// Returns buckets in which the sources wait.
-fn open_bins(alloc: Global, sources: &[u32]) -> Result<Bins, AllocError> {
-    // The buckets find their width as they are worked off.
-    let mut bins = Bins::new(alloc, 0)?;
+/// Returns buckets in which the sources wait. They begin with a width of this power of 2, and find a better one as they are
+/// worked off.
+pub(crate) fn open_bins(alloc: Global, shift: u32, sources: &[u32]) -> Result<Bins, AllocError> {
+    let mut bins = Bins::new(alloc, shift)?;
     for source in sources {
         bins.put(Entry {
             vertex: *source,
@@ -69,7 +69,7 @@ pub(crate) fn search<const P: u32>(
     ensures size { vec_len words.new ≡ graph.now.n }
     ensures lowered { IsLowered (max_dist P) graph.now.arcs words.old.items words.new.items }
 {
-    let mut bins = open_bins(alloc, sources)?;
+    let mut bins = open_bins(alloc, 0, sources)?;
     let mut batch = Batch::new(alloc);
     let mut entries = Vec::new(alloc);
     let mut open = 0;

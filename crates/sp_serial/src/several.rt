@@ -79,8 +79,8 @@ fn lowered_words<const P: u32>(
     Ok(words)
 }
 
-// Returns the word if its distance is at most the limit, and an unreached one otherwise.
-fn up_to<const P: u32>(word: Word<P>, limit: u64) -> Word<P>
+/// Returns the word if its distance is at most the limit, and an unreached one otherwise.
+pub(crate) fn up_to<const P: u32>(word: Word<P>, limit: u64) -> Word<P>
     ensures { result ≡ up_to limit word.entry }
 {
     match word.dist() {

@@ -10,7 +10,7 @@ use sp_answer::PairAnswer;
 use sp_graph::{Graph, left_out, look_up};
 use sp_plain::{close_table, open_table};
 use sp_scan::is_relaxed_up_to;
-use sp_word::{Delta, Word};
+use sp_word::Word;
 use std::alloc::{AllocError, Global};
 
 // Returns the target's answer if the words show it: the target has a distance, and all arcs within it are relaxed.
@@ -54,11 +54,10 @@ fn whole_answer<const P: u32>(
 /// Returns the answer for a target of `source`. It ends as soon as the target's word is final, so a near target takes
 /// little time.
 ///
-/// It takes the same memory as `solve_alone`, and `delta` means the same.
+/// It takes the same memory as `solve_alone`.
 pub fn solve_target<const P: u32>(
     alloc: Global,
     graph: &Graph,
-    _delta: Delta<P>,
     source: u32,
     target: u32,
 ) -> Result<PairAnswer, AllocError>

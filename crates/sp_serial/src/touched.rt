@@ -21,8 +21,8 @@ pub(crate) struct Touched<const P: u32> {
     pub(crate) reached: Vec<u32>,
 }
 
-// Puts an unreached vertex into the list, since it may get a word.
-fn note<const P: u32>(touched: &mut Touched<P>, vertex: u32) -> Result<(), AllocError>
+/// Puts an unreached vertex into the list, since it may get a word.
+pub(crate) fn note<const P: u32>(touched: &mut Touched<P>, vertex: u32) -> Result<(), AllocError>
     requires vertex { IsVertex (vec_len touched.old.words) vertex }
     requires touched { AreTouched 0 touched.old.reached.items touched.old.words.items }
     ensures words { touched.new.words ≡ touched.old.words }
@@ -49,6 +49,15 @@ impl<const P: u32> Table<P> for Touched<P> {
         note(self, arc.head)?;
         Ok(relax(&mut self.words, arc))
     }
+}
+
+/// Puts the list in order, by rising vertex.
+pub(crate) fn sort<const P: u32>(touched: &mut Touched<P>)
+    requires { AreTouched 0 touched.old.reached.items touched.old.words.items }
+    ensures words { touched.new.words ≡ touched.old.words }
+    ensures touched { AreTouched 0 touched.new.reached.items touched.new.words.items }
+{
+    touched.reached.sort_unstable();
 }
 
 /// Whether an arc is relaxed, where its tail has this word.

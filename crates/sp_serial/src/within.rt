@@ -8,7 +8,6 @@ use crate::several::words_within;
 use sp_answer::{RunError, Tree};
 use sp_forest::meanings;
 use sp_graph::Graph;
-use sp_word::Delta;
 use std::alloc::{AllocError, Global};
 
 // Returns the part of the tree: the part of the forest of this source alone.
@@ -38,7 +37,6 @@ fn tree_within<const P: u32>(
 pub fn run_within_alone<const P: u32>(
     alloc: Global,
     graph: &Graph,
-    _delta: Delta<P>,
     source: u32,
     limit: u64,
 ) -> Result<Tree<P>, RunError>

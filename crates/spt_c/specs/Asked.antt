@@ -7,7 +7,7 @@ use Rattle.sp_lists.specs.Limits.{IsCount, IsFirstWithout, reach}
 use Rattle.spt_c.specs.declared.arcs.SptArc.{SptArc}
 use Rattle.spt_c.specs.Arcs.{arc_of}
 
--- This asks for the trees from these sources in the graph of n vertices with these arcs, with buckets of width delta.
+-- This asks for the trees from these sources in the graph of n vertices with these arcs; delta is tested alone.
 pub record Asked : Type 0 where
   pub arcs : List SptArc
   pub n : ℕ

@@ -8,8 +8,8 @@ use crate::refusals::refusal;
 use sp_lists::{Batch, Told, write_trees};
 use std::alloc::Global;
 
-/// What a call asks for: the trees from these sources in the graph of n vertices with these arcs, with buckets of width
-/// delta. A delta of 0 stands for the mean length of an arc.
+/// What a call asks for: the trees from these sources in the graph of n vertices with these arcs. Delta is tested, and
+/// has no other bearing.
 #[derive(Clone, Copy)]
 pub(crate) struct Question<'a> {
     pub arcs: &'a [SptArc],
@@ -34,7 +34,7 @@ pub(crate) fn solve(alloc: Global, question: &Question, dist: &mut [u64], pred: 
         return Batch { done: 0, told };
     }
     match graph_of(alloc, n, arcs) {
-        Ok(graph) => write_trees(alloc, &graph, sources, delta, dist, pred),
+        Ok(graph) => write_trees(alloc, &graph, sources, dist, pred),
         Err(_) => Batch {
             done: 0,
             told: Told::Memory,

@@ -51,7 +51,7 @@ pub(crate) fn check(
     if let Some(told) = refusal(arcs, n, &sources, 0, places) {
         return told;
     }
-    match own_tree(alloc, arcs, n, source, 0) {
+    match own_tree(alloc, arcs, n, source) {
         Ok(own) => match first_other(n, own.dist.as_slice(), own.pred.as_slice(), dist, pred) {
             Some(vertex) => Told::Wrong(vertex),
             None => Told::Tree,

@@ -52,7 +52,7 @@ pub extern "C" fn spt_reach(n: u32) -> u64
 }
 
 /// Writes the shortest-path tree from a source, or tells why there is none, and then writes nothing. Each slice needs a
-/// place for each vertex. A delta of 0 stands for the mean length of an arc.
+/// place for each vertex. Delta is tested, and has no other bearing.
 #[unsafe(no_mangle)]
 pub extern "C" fn spt_tree(
     alloc: Global,
@@ -118,7 +118,7 @@ pub extern "C" fn spt_gr(alloc: Global, text: &[u8], arcs: &mut [SptArc]) -> Spt
 }
 
 /// Returns the distance and the predecessor of a target in the shortest-path tree from a source, or why there are none.
-/// The run ends as soon as they are known. A delta of 0 stands for the mean length of an arc.
+/// The run ends as soon as they are known. Delta is tested, and has no other bearing.
 #[unsafe(no_mangle)]
 pub extern "C" fn spt_pair(
     alloc: Global,
@@ -194,8 +194,8 @@ pub extern "C" fn spt_graph_free(alloc: Global, graph: &mut KeptGraph)
 }
 
 /// Writes the shortest-path trees from several sources in the graph that is kept, up to the first source that has none.
-/// Each slice needs for each source a block of as many places as there are vertices. A delta of 0 stands for the mean
-/// length of an arc.
+/// Each slice needs for each source a block of as many places as there are vertices. Delta is tested, and has no other
+/// bearing.
 #[unsafe(no_mangle)]
 pub extern "C" fn spt_graph_trees(
     alloc: Global,
@@ -215,8 +215,7 @@ pub extern "C" fn spt_graph_trees(
 }
 
 /// Returns the distance and the predecessor of a target in the shortest-path tree from a source in the graph that is
-/// kept, or why there are none. The run ends as soon as they are known. A delta of 0 stands for the mean length of an
-/// arc.
+/// kept, or why there are none. The run ends as soon as they are known. Delta is tested, and has no other bearing.
 #[unsafe(no_mangle)]
 pub extern "C" fn spt_graph_pair(
     alloc: Global,
@@ -244,7 +243,7 @@ pub extern "C" fn spt_graph_counts(alloc: Global, graph: &mut KeptGraph) -> SptC
 
 /// Writes the part of the shortest-path tree from a source that lies within the limit, in the graph that is kept: each vertex
 /// whose least length is at most the limit has its distance and its predecessor in the tree, and every other vertex is
-/// unreached. Each slice needs a place for each vertex. A delta of 0 stands for the mean length of an arc.
+/// unreached. Each slice needs a place for each vertex. Delta is tested, and has no other bearing.
 #[unsafe(no_mangle)]
 pub extern "C" fn spt_graph_within(
     alloc: Global,
@@ -271,8 +270,8 @@ pub extern "C" fn spt_graph_within(
 
 /// Writes the forest of shortest paths from the sources in the graph that is kept: of each vertex its least distance from any of
 /// them, the smallest vertex before it on such a walk, and its root, the source at which its chain of predecessors begins.
-/// A limit leaves out what is farther; the greatest number is none. Each slice needs a place for each vertex. A delta of 0
-/// stands for the mean length of an arc.
+/// A limit leaves out what is farther; the greatest number is none. Each slice needs a place for each vertex. Delta is tested, and
+/// has no other bearing.
 #[unsafe(no_mangle)]
 pub extern "C" fn spt_graph_nearest(
     alloc: Global,
@@ -300,7 +299,7 @@ pub extern "C" fn spt_graph_nearest(
 
 /// Writes the distances of the targets from each of the sources in the graph that is kept, row after row: the greatest number if
 /// no walk leads to the target, and the one before it if the target has no distance up to the greatest and some vertex is too
-/// far. The slice needs a place for each source and target. A delta of 0 stands for the mean length of an arc.
+/// far. The slice needs a place for each source and target. Delta is tested, and has no other bearing.
 #[unsafe(no_mangle)]
 pub extern "C" fn spt_graph_matrix(
     alloc: Global,

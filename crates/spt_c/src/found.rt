@@ -65,7 +65,7 @@ pub(crate) fn find(
         return Err(told);
     }
     match graph_of(alloc, n, arcs) {
-        Ok(graph) => find_target(alloc, &graph, source, target, delta),
+        Ok(graph) => find_target(alloc, &graph, source, target),
         Err(_) => Err(Told::Memory),
     }
 }
@@ -85,7 +85,7 @@ fn find_known(
     if let Some(told) = refusal(&[], graph.n(), &ends, delta, usize::MAX) {
         return Err(told);
     }
-    find_target(alloc, graph, source, target, delta)
+    find_target(alloc, graph, source, target)
 }
 
 /// Finds the target in the graph that a place keeps. The place still keeps it.

@@ -26,7 +26,7 @@ fn solve_known(
     if let Some(told) = refusal(&[], graph.n(), sources, delta, places) {
         return Batch { done: 0, told };
     }
-    write_trees(alloc, graph, sources, delta, dist, pred)
+    write_trees(alloc, graph, sources, dist, pred)
 }
 
 /// Writes the trees of the graph that a place keeps. The place still keeps it.

@@ -27,17 +27,10 @@ fn bare(alloc: Global, n: u32) -> Result<OwnTree, AllocError>
     Ok(OwnTree { dist, pred })
 }
 
-/// Returns the tree of a source, or why it has none. A delta of 0 stands for the mean length of an arc.
-pub(crate) fn own_tree(
-    alloc: Global,
-    arcs: &[SptArc],
-    n: u32,
-    source: u32,
-    delta: u64,
-) -> Result<OwnTree, Told>
+/// Returns the tree of a source, or why it has none.
+pub(crate) fn own_tree(alloc: Global, arcs: &[SptArc], n: u32, source: u32) -> Result<OwnTree, Told>
     requires n { IsCount n }
     requires source { IsVertex n source }
-    requires delta { delta ≤ reach n }
     requires arcs { All (IsArcOf n) arcs.now }
     ensures dist { IfOk result (λ own. length own.dist.items ≡ n) }
     ensures pred { IfOk result (λ own. length own.pred.items ≡ n) }
@@ -54,7 +47,7 @@ pub(crate) fn own_tree(
     let sources = [source];
     let dist = own.dist.as_mut_slice();
     let pred = own.pred.as_mut_slice();
-    match write_trees(alloc, &graph, &sources, delta, dist, pred).told {
+    match write_trees(alloc, &graph, &sources, dist, pred).told {
         Told::Tree => Ok(own),
         told => Err(told),
     }

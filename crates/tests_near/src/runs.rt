@@ -114,8 +114,7 @@ pub(crate) fn compare_nearest<const P: u32>(
 {
     assert!(rt; graph.n() <= Word::<P>::max_pred());
     let limit = limit_of::<P>(rt, limit);
-    let delta = Delta::<P>::new(1).expect(rt, "a width in range");
-    let told = run_nearest_alone(rt.alloc(), graph, delta, sources, limit);
+    let told = run_nearest_alone::<P>(rt.alloc(), graph, sources, limit);
     assert!(rt; tells(&told, want), "alone");
     for workers in WORKERS {
         for delta in DELTAS {
@@ -154,8 +153,7 @@ pub(crate) fn compare_within<const P: u32>(
 {
     assert!(rt; graph.n() <= Word::<P>::max_pred());
     assert!(rt; limit <= Word::<P>::max_dist());
-    let delta = Delta::<P>::new(1).expect(rt, "a width in range");
-    match run_within_alone(rt.alloc(), graph, delta, source, limit) {
+    match run_within_alone::<P>(rt.alloc(), graph, source, limit) {
         Ok(tree) => assert!(rt; has_tree_rows(&tree, want), "alone"),
         Err(_) => assert!(rt; false),
     }

@@ -5,7 +5,7 @@ use crate::runs::graph_of;
 use sp_answer::{PairAnswer, RunError};
 use sp_graph::Graph;
 use sp_serial::{Room, run_targets_alone};
-use sp_word::{Delta, Word};
+use sp_word::Word;
 use std::process::Abort;
 use std::test::Fail;
 use tests_samples::{DIAMOND, long_path};
@@ -19,8 +19,7 @@ fn compare(
     want: Result<&[PairAnswer], RunError>,
 ) {
     assert!(rt; graph.n() <= Word::<28>::max_pred());
-    let delta = Delta::<28>::new(9).expect(rt, "a width in range");
-    let told = run_targets_alone(rt.alloc(), graph, delta, source, targets);
+    let told = run_targets_alone::<28>(rt.alloc(), graph, source, targets);
     match (told, want) {
         (Ok(answers), Ok(want)) => assert!(rt; answers.as_slice() == want),
         (Err(error), Err(want)) => assert!(rt; error == want),

@@ -47,7 +47,7 @@ fn source_is_no_vertex(rt: HostRuntime) -> Result<(), Fail> {
         };
         let told = run_within(&rt, rt.alloc(), &graph, team, source, 3);
         assert!(rt; matches!(&told, Err(RunError::NoSuchVertex)));
-        let told = run_within_alone(rt.alloc(), &graph, team.delta, source, 3);
+        let told = run_within_alone::<28>(rt.alloc(), &graph, source, 3);
         assert!(rt; matches!(&told, Err(RunError::NoSuchVertex)));
     }
     Ok(())

@@ -1,6 +1,6 @@
 use Rattle.sp_word.specs.Word.{max_dist}
 use Rattle.sp_plain.proofs.LoweringSteps.{lowered_then}
-use Rattle.sp_serial.proofs.room.search.Goals as goal
+use Rattle.sp_serial.proofs.reach.search.Goals as goal
 
 pub returns-in_err-relax_rows-clause-lowered : goal.returns-in_err-relax_rows-clause-lowered
 returns-in_err-relax_rows-clause-lowered g c =

@@ -2,7 +2,7 @@ use Rattle.std.proofs.Common.{◌≡◌, length}
 use Rattle.sp_word.specs.Word.{max_dist}
 use Rattle.sp_plain.specs.Lowering.{IsLowered}
 use Rattle.sp_serial.specs.Touched.{AreTouched}
-use Rattle.sp_serial.proofs.room.search.Given as goal
+use Rattle.sp_serial.proofs.reach.search.Given as goal
 
 abbrev pub invariant-loop : goal.invariant-loop
 invariant-loop g l =

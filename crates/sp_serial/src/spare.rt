@@ -1,0 +1,58 @@
+//! Words that wait to serve another room.
+ghost use Rattle.std.specs.Prelude.{◌≡◌, ◌≤◌, IfSome};
+ghost use Rattle.sp_word.specs.Word.{max_pred};
+
+use crate::room::Room;
+use crate::touched::Touched;
+use sp_graph::Graph;
+use std::alloc::Global;
+use std::marker::Model;
+
+/// The words of a room that was given back, all of them unreached. They know of no graph, so that threads can hand them to one
+/// another: a room is made of them again where a graph has as many vertices, and takes no time for that.
+///
+/// Contracts see how many they are.
+#[derive(Drop)]
+pub(crate) struct Spare<const P: u32> {
+    touched: Touched<P>,
+    shift: u32,
+}
+
+impl<const P: u32> Model for Spare<P> {
+    ghost use Rattle.std.specs.Prelude.{ℕ, vec_len};
+    ghost use Rattle.sp_serial.specs.Touched.{AreSpare};
+
+    ghost Value = { ℕ };
+
+    ghost view = { λ s. vec_len s.touched.words };
+
+    ghost invariant = { λ s. AreSpare P s.touched.words.items };
+}
+
+impl<const P: u32> Spare<P> {
+    /// Gives back the words of a room.
+    pub(crate) fn of_room(room: Room<P>) -> Spare<P>
+        ensures { result ≡ room.entry.n }
+    {
+        let Room { touched, shift, .. } = room;
+        Spare { touched, shift }
+    }
+
+    /// Makes a room of the words, if the graph has as many vertices.
+    pub(crate) fn to_room<'g>(self, alloc: Global, graph: &'g Graph) -> Option<Room<'g, P>>
+        requires { graph.now.n ≤ max_pred P }
+        ensures graph { IfSome result (λ room. room ≡ graph.entry.now) }
+        ensures size { IfSome result (λ _. graph.entry.now.n ≡ self.entry) }
+    {
+        let Spare { touched, shift } = self;
+        if touched.words.len() != graph.n() as usize {
+            return None;
+        }
+        Some(Room {
+            alloc,
+            graph,
+            touched,
+            shift,
+        })
+    }
+}
