@@ -94,7 +94,7 @@ def build_plain(folder, name):
         return None
     program = os.path.join(folder, name)
     source = os.path.join(HOME, "bench", name + ".cpp")
-    subprocess.run([compiler, "-O3", "-std=c++17", "-pthread", "-o", program, source], check=True)
+    subprocess.run([compiler, "-O3", "-march=x86-64-v2", "-std=c++17", "-pthread", "-o", program, source], check=True)
     return program
 
 

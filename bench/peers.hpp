@@ -10,9 +10,8 @@ constexpr uint64_t unreached = UINT64_MAX;
 template <class Solver> int answer(int argc, char **argv) {
     if (argc < 4) refuse("usage: PROGRAM GR OUT SOURCE..");
     uint32_t n = 0;
-    uint64_t m = 0;
     std::vector<Arc> arcs;
-    each_line(argv[1], [&](const char *at, const char *end) { take_arc(at, end, n, m, arcs); });
+    read_arcs(argv[1], n, arcs);
     Solver solver(n, arcs);
     FILE *out = fopen(argv[2], "wb");
     if (!out) refuse("cannot open");
