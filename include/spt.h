@@ -14,7 +14,8 @@
  * read.
  *
  * A call that takes a `const spt_graph *` leaves the place as it was, and doesn't write a place that keeps no graph. If the place
- * keeps a graph, the call takes it out and puts it back, so even then only one call at a time may use the place.
+ * keeps a graph, the call takes it out and puts it back, so even then only one call at a time may use the place. Behind the place
+ * a call may keep memory for the next one (spt_graph_pair).
  *
  * A program or a language that calls the functions by their symbols, without this header, must pass no null pointer, not even
  * with 0 places. */
@@ -26,9 +27,9 @@
 #include <stdint.h>
 
 /* The version of this header. SPT_VERSION_NUMBER grows with it; spt_version() returns the version of the library. */
-#define SPT_VERSION "1.2.0"
+#define SPT_VERSION "1.3.0"
 #define SPT_VERSION_MAJOR 1
-#define SPT_VERSION_MINOR 2
+#define SPT_VERSION_MINOR 3
 #define SPT_VERSION_PATCH 0
 #define SPT_VERSION_NUMBER (SPT_VERSION_MAJOR * 10000 + SPT_VERSION_MINOR * 100 + SPT_VERSION_PATCH)
 
@@ -159,7 +160,8 @@ typedef struct spt_graph {
 spt_answer spt_graph_new(const spt_arc *arcs, size_t m, uint32_t n, spt_graph *graph);
 
 /* Keeps the graph of `from` in `to` as well, in place of what that kept; if `from` keeps none, `to` keeps none either. The call
- * allocates a few bytes, and copies no arc. After SPT_MEMORY both places keep what they kept. */
+ * allocates a few bytes, and copies no arc. After SPT_MEMORY both places keep what they kept. Each place has memory of its own for
+ * near targets and small parts (spt_graph_pair), so keep a place for each thread rather than one for each call. */
 spt_answer spt_graph_share(const spt_graph *from, spt_graph *to);
 
 /* Lets the place keep no graph any more. The graph's memory is freed with the last place that keeps it. A place that keeps none
@@ -174,8 +176,12 @@ void spt_graph_free(spt_graph *graph);
 spt_batch spt_graph_trees(const spt_graph *graph, const uint32_t *sources, size_t k, uint64_t delta,
                           uint64_t *dist, size_t dist_places, uint32_t *pred, size_t pred_places);
 
-/* Works like spt_pair on the graph that is kept, with 8 bytes for each vertex, and in little time if the target is near. The
- * status is SPT_NO_GRAPH if the place keeps none. Since 1.1. */
+/* Works like spt_pair on the graph that is kept. The status is SPT_NO_GRAPH if the place keeps none.
+ *
+ * If the target is near, the call costs what it touches, however large the graph is: behind the place it keeps 8 bytes for each
+ * vertex, which the first such call allocates and later ones use again, until spt_graph_free. spt_graph_within, spt_graph_part,
+ * spt_graph_nearest with a limit and spt_graph_matrix use them as well. If there is no memory for them the calls do without.
+ * Since 1.1; it keeps this memory since 1.3. */
 spt_found spt_graph_pair(const spt_graph *graph, uint32_t source, uint32_t target, uint64_t delta);
 
 /* Finds the part of the tree from source that lies within limit, in the graph that is kept: dist and pred as spt_tree writes them
@@ -187,6 +193,24 @@ spt_found spt_graph_pair(const spt_graph *graph, uint32_t source, uint32_t targe
  * unchanged. Since 1.2. */
 spt_answer spt_graph_within(const spt_graph *graph, uint32_t source, uint64_t limit, uint64_t delta,
                             uint64_t *dist, size_t dist_places, uint32_t *pred, size_t pred_places);
+
+/* How many vertices a part has: with SPT_OK they are listed, and with SPT_BAD_SIZE so many places are needed. With any other status
+ * count is 0. Since 1.3. */
+typedef struct spt_part {
+    uint32_t status;
+    uint64_t count;
+} spt_part;
+
+/* Lists the part of the tree from source that lies within limit, in the graph that is kept: vertex[0] to vertex[count - 1] become the
+ * vertices whose least length is at most limit, source among them, by rising number, and dist[i] and pred[i] what spt_tree writes for
+ * vertex[i]. So a small part takes little time, however large the graph is, where spt_graph_within writes n places.
+ *
+ * If a list has fewer than count places, the status is SPT_BAD_SIZE and count says how many are needed, so a call with 0 places finds
+ * the number. The refusals are SPT_NO_GRAPH, SPT_BAD_LIMIT (limit is above spt_reach(n)), SPT_NO_SUCH_VERTEX (source is none),
+ * SPT_MEMORY and SPT_BAD_SIZE, tested in this order. If the status isn't SPT_OK the lists are unchanged, and places after the part
+ * are in any case. Since 1.3. */
+spt_part spt_graph_part(const spt_graph *graph, uint32_t source, uint64_t limit, uint32_t *vertex, size_t vertex_places,
+                        uint64_t *dist, size_t dist_places, uint32_t *pred, size_t pred_places);
 
 /* Finds the nearest of k sources for each vertex v of the graph that is kept: dist[v - 1] becomes the least length of a walk to v
  * from any source, pred[v - 1] the vertex before v on such a walk, the smallest-numbered one if there are several, and root[v - 1]
@@ -296,6 +320,15 @@ static inline spt_answer spt_graph_within_or_null(const spt_graph *graph, uint32
                             dist_places ? dist : &no_dist, dist_places, pred_places ? pred : &no_pred, pred_places);
 }
 
+static inline spt_part spt_graph_part_or_null(const spt_graph *graph, uint32_t source, uint64_t limit, uint32_t *vertex,
+                                              size_t vertex_places, uint64_t *dist, size_t dist_places, uint32_t *pred,
+                                              size_t pred_places) {
+    uint64_t no_dist = 0;
+    uint32_t no_vertex = 0, no_pred = 0;
+    return spt_graph_part(graph, source, limit, vertex_places ? vertex : &no_vertex, vertex_places,
+                          dist_places ? dist : &no_dist, dist_places, pred_places ? pred : &no_pred, pred_places);
+}
+
 static inline spt_answer spt_graph_nearest_or_null(const spt_graph *graph, const uint32_t *sources, size_t k, uint64_t limit,
                                                    uint64_t delta, uint64_t *dist, size_t dist_places, uint32_t *pred,
                                                    size_t pred_places, uint32_t *root, size_t root_places) {
@@ -327,6 +360,7 @@ static inline spt_text spt_gr_or_null(const uint8_t *text, size_t bytes, spt_arc
 #define spt_graph_new spt_graph_new_or_null
 #define spt_graph_trees spt_graph_trees_or_null
 #define spt_graph_within spt_graph_within_or_null
+#define spt_graph_part spt_graph_part_or_null
 #define spt_graph_nearest spt_graph_nearest_or_null
 #define spt_graph_matrix spt_graph_matrix_or_null
 #define spt_gr spt_gr_or_null

@@ -33,12 +33,11 @@ OF_TESTS = "it makes what tests run on, which tell whether it is right"
 # by the path of a function, with its crate
 EXCEPTIONS = {
     "sp_disk::output::Disk::create": OF_THE_SYSTEM,
-    "sp_kept::shared::HeldGraph::graph": OF_A_FIELD,
-    "sp_store::store::Store::graph": OF_A_FIELD,
-    "sp_store::store::Store::table": OF_A_FIELD,
-    "tests_round_samples::any_tasks": OF_TESTS,
+    "sp_phase::store::Store::graph": OF_A_FIELD,
+    "sp_phase::store::Store::table": OF_A_FIELD,
     "tests_samples::arcs_of": OF_TESTS,
     "tests_samples::graph_of": OF_TESTS,
+    "tests_samples::rounds::any_tasks": OF_TESTS,
 }
 ENSURES = re.compile(r"^\s*ensures\*? ", re.M)
 # what says in the impl of a trait what the trait's clauses mean there

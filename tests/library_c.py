@@ -35,7 +35,8 @@ TAKEN = {"malloc", "realloc", "free", "memcpy", "memmove", "memset"}
 BROUGHT = {"SPT_1.0": {"spt_check", "spt_gr", "spt_graph_free", "spt_graph_new", "spt_graph_share", "spt_graph_trees", "spt_pair",
                        "spt_reach", "spt_tree", "spt_trees"},
            "SPT_1.1": {"spt_graph_counts", "spt_graph_pair", "spt_version"},
-           "SPT_1.2": {"spt_graph_matrix", "spt_graph_nearest", "spt_graph_within"}}
+           "SPT_1.2": {"spt_graph_matrix", "spt_graph_nearest", "spt_graph_within"},
+           "SPT_1.3": {"spt_graph_part"}}
 # a program that is linked with a library whose symbols have no versions, as that of 1.0.0 was
 OLD = """#include <spt.h>
 int main(void) {

@@ -23,11 +23,11 @@ OF_C = "a C program calls it"
 # what is specified with these parameters, before which the runtime's handle and the allocator stand
 SPECIFIED = "its parameters are specified, and the runtime's handle and the allocator stand before them"
 # what does the same for a listener
-LIKE_SPECIFIED = "it takes what run_batch takes, whose parameters are specified, and the places of the list and a limit"
+LIKE_SPECIFIED = "it takes what run_batch takes, whose parameters are specified, and a limit"
 # what does the same for two lists
 LIKE_MATRIX = "it takes what run_batch_told takes, and the targets"
 # what does the same for one forest
-LIKE_NEAREST = "it takes what run_batch_told or run_given_told takes, and the limit"
+LIKE_NEAREST = "it takes what run_batch_told takes"
 # what a struct can't hold: the kit can't fit a method to its trait's where it takes a struct with a lifetime and a layout
 OF_A_TRAIT = "a method of a trait takes no struct with a lifetime and a layout"
 # what stands between a function whose parameters are specified and what it calls
@@ -36,22 +36,20 @@ EXCEPTIONS = {
     ("spt_c", "spt_tree"): OF_C,
     ("spt_c", "spt_trees"): OF_C,
     ("spt_c", "spt_graph_within"): OF_C,
+    ("spt_c", "spt_graph_part"): OF_C,
     ("spt_c", "spt_graph_nearest"): OF_C,
     ("sp_phase", "run_source_with"): SPECIFIED,
     ("sp_phase", "run_pair"): SPECIFIED,
     ("sp_phase", "run_pair_with"): SPECIFIED,
-    ("sp_batch", "run_batch"): SPECIFIED,
-    ("sp_batch", "run_batch_told"): LIKE_SPECIFIED,
-    ("sp_batch", "run_given_told"): LIKE_SPECIFIED,
-    ("sp_batch", "answer_trees"): OF_A_TRAIT,
-    ("sp_batch", "answer_places"): BETWEEN,
+    ("sp_jobs", "run_batch"): SPECIFIED,
+    ("sp_jobs", "run_batch_told"): LIKE_SPECIFIED,
+    ("sp_jobs", "answer_trees"): OF_A_TRAIT,
+    ("sp_jobs", "answer_batch"): BETWEEN,
     ("sp_pairs", "run_pairs"): SPECIFIED,
-    ("sp_matrix", "answer_rows"): OF_A_TRAIT,
-    ("sp_matrix", "answer_lists"): BETWEEN,
-    ("sp_matrix", "answer_matrix"): BETWEEN,
-    ("sp_matrix", "run_matrix_told"): LIKE_MATRIX,
-    ("sp_nearest", "run_nearest_told"): LIKE_NEAREST,
-    ("sp_nearest", "run_nearest_given_told"): LIKE_NEAREST,
+    ("sp_jobs", "answer_rows"): OF_A_TRAIT,
+    ("sp_jobs", "answer_matrix"): BETWEEN,
+    ("sp_jobs", "run_matrix_told"): LIKE_MATRIX,
+    ("sp_jobs", "run_nearest_told"): LIKE_NEAREST,
 }
 # a comment, a string or a character, any of which may hold brackets; a lifetime has no closing quote
 PASSED_OVER = re.compile(r"//[^\n]*|/\*.*?\*/|\"(?:\\.|[^\"\\])*\"|b?'(?:\\[^\n]*?|[^'\\\n])'", re.S)

@@ -22,7 +22,7 @@ from ._faults import BadArc, BadDelta, BadLimit, Fault, NoSuchVertex, SptError, 
 from ._graph import BEYOND, UNREACHED, Forest, Graph, Matrix, Pair, Tree
 from ._library import LibraryNotFound, reach
 
-__version__ = "1.2.0"
+__version__ = "1.3.0"
 __all__ = [
     "BEYOND",
     "UNREACHED",

@@ -45,9 +45,14 @@ def address(view: memoryview) -> int:
     return at or ctypes.addressof(_NOTHING)
 
 
+def filled(format: str, places: int, number: int) -> memoryview:
+    """A new list of this format ('I' or 'Q') in which each number is this one."""
+    return memoryview(array.array(format, [number]) * places)
+
+
 def zeros(format: str, places: int) -> memoryview:
     """A new list of this format ('I' or 'Q') that C may write to."""
-    return memoryview(array.array(format, [0]) * places)
+    return filled(format, places, 0)
 
 
 def is_buffer(given: Any) -> bool:

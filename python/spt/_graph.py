@@ -18,8 +18,8 @@ from ._hints import second_line
 from ._kept import Kept
 from ._lengths import arc_fault, numbers_of, refuse_frame, unit_of
 from ._library import (
-    BAD_ARC, BAD_TEXT, HAS_NEAR, HAS_PAIR, MEMORY, MOST_VERTICES, NO_LIMIT, OK, TOO_FAR, WRONG, Batch, Found, library,
-    reach,
+    BAD_ARC, BAD_TEXT, HAS_NEAR, HAS_PAIR, HAS_PART, MEMORY, MOST_VERTICES, NO_LIMIT, OK, TOO_FAR, WRONG, Batch, Found, Part,
+    library, reach,
 )
 from ._share import Pace, Progress, in_order
 from ._terms import Terms
@@ -249,8 +249,9 @@ class Graph:
     def tree(self, source: Any, *, within: Optional[float] = None, delta: Optional[int] = None) -> Tree:
         """The tree from a source, or its part within a distance.
 
-        If `within` is given, vertices farther than this count as unreachable, and the search goes no farther. `delta` is ignored,
-        except that one out of range is refused. The distance of an unreachable vertex is UNREACHED, 2^64 - 1, which wraps around in
+        If `within` is given, vertices farther than this count as unreachable, and the search goes no farther: a small part takes
+        little time, however large the graph is, as long as none of the lists is asked for. `delta` is ignored, except that one out of
+        range is refused. The distance of an unreachable vertex is UNREACHED, 2^64 - 1, which wraps around in
         sums (`Tree.masked`, `Tree.floats`).
         NoSuchVertex, BadDelta, BadLimit: an argument is invalid. TooFar: a distance is above `reach(n)`, and `within` isn't given.
         MemoryError: there is not enough memory.
@@ -428,11 +429,10 @@ class Graph:
     def _solve(self, sources: list[int], limit: Optional[int], delta: Optional[int]) -> _Solved:
         """The trees of sources, or their parts within a limit, up to the first source that has none, and why it has none."""
         n, k, width = self.n, len(sources), self._width(delta)
+        if limit is not None:
+            return self._parts(sources, limit, width)
         distances, predecessors = zeros("Q", k * n), zeros("I", k * n)
-        if limit is None:
-            done, refused = self._call(sources, width, distances, predecessors)
-        else:
-            done, refused = self._parts(sources, limit, width, distances, predecessors)
+        done, refused = self._call(sources, width, distances, predecessors)
         distances, predecessors = distances.toreadonly(), predecessors.toreadonly()
         found = zip(sources, range(0, done * n, n))
         told = self._terms
@@ -450,18 +450,30 @@ class Graph:
         source = asked[told.done] if told.done < len(asked) else 0
         return told.done, self._refused(told.status, told.vertex, told.index, source)
 
-    def _parts(
-        self, sources: list[int], limit: int, delta: int, distances: memoryview, predecessors: memoryview
-    ) -> tuple[int, Optional[Exception]]:
-        """How many sources have their parts, and why the next one has none."""
-        n = self.n
+    def _parts(self, sources: list[int], limit: int, delta: int) -> _Solved:
+        """The parts of the trees of sources, up to the first source that has none, and why it has none."""
         _want_near()
-        for done, source in enumerate(sources):
-            low, end = done * n, (done + 1) * n
-            told = self._kept.within(source, limit, delta, distances[low:end], predecessors[low:end])
-            if told.status != OK:
-                return done, self._refused(told.status, told.vertex, told.index, source)
-        return len(sources), None
+        trees: list[Tree] = []
+        for source in sources:
+            try:
+                trees.append(self._part(source, limit, delta))
+            except (MemoryError, SptError) as refused:
+                return trees, refused
+        return trees, None
+
+    def _part(self, source: int, limit: int, delta: int) -> Tree:
+        """The part of the tree of a source: the vertices in it if these are few, or a list of all."""
+        name = self._terms.name(source)
+        told, listed = self._kept.part(source, limit) if HAS_PART else (Part(OK), None)
+        if told.status != OK:
+            raise self._refused(told.status, 0, 0, source)
+        if listed is not None:
+            return Tree.listed(name, listed, self._terms)
+        distances, predecessors = zeros("Q", self.n), zeros("I", self.n)
+        whole = self._kept.within(source, limit, delta, distances, predecessors)
+        if whole.status != OK:
+            raise self._refused(whole.status, whole.vertex, whole.index, source)
+        return Tree(name, distances.toreadonly(), predecessors.toreadonly(), self._terms)
 
     def _refused(self, status: int, vertex: int, index: int, source: Optional[int]) -> Exception:
         """The exception for a status. Sources, delta and limit were checked before the call."""

@@ -34,6 +34,12 @@ class Found(ctypes.Structure):
     _fields_ = [("status", c_uint32), ("pred", c_uint32), ("dist", c_uint64), ("index", c_uint64)]
 
 
+class Part(ctypes.Structure):
+    """spt_part"""
+
+    _fields_ = [("status", c_uint32), ("count", c_uint64)]
+
+
 class Place(ctypes.Structure):
     """spt_graph"""
 
@@ -63,10 +69,11 @@ _FUNCTIONS = {
     "spt_check": ([*_SLICE, c_uint32, c_uint32, *_SLICE, *_SLICE], Answer),
     "spt_gr": ([*_SLICE, *_SLICE], Text),
 }
-# functions that a library of version 1.0 or 1.1 may lack
+# functions that a library of a version before 1.3 may lack
 _LATER = {
     "spt_graph_pair": ([POINTER(Place), c_uint32, c_uint32, c_uint64], Found),
     "spt_graph_within": ([POINTER(Place), c_uint32, c_uint64, c_uint64, *_SLICE, *_SLICE], Answer),
+    "spt_graph_part": ([POINTER(Place), c_uint32, c_uint64, *_SLICE, *_SLICE, *_SLICE], Part),
     "spt_graph_nearest": ([POINTER(Place), *_SLICE, c_uint64, c_uint64, *_SLICE, *_SLICE, *_SLICE], Answer),
     "spt_graph_matrix": ([POINTER(Place), *_SLICE, *_SLICE, c_uint64, *_SLICE], Batch),
 }
@@ -93,6 +100,7 @@ def _load() -> ctypes.CDLL:
 library = _load()
 HAS_PAIR = hasattr(library, "spt_graph_pair")
 HAS_NEAR = hasattr(library, "spt_graph_nearest")
+HAS_PART = hasattr(library, "spt_graph_part")
 # what the library takes as no limit
 NO_LIMIT = 2**64 - 1
 

@@ -4,11 +4,12 @@ from __future__ import annotations
 
 import pickle
 
+from bisect import bisect_left
 from dataclasses import dataclass, field
 from functools import cached_property
-from typing import Any, Callable, ClassVar, Iterator, NamedTuple, Optional
+from typing import Any, Callable, ClassVar, Iterator, NamedTuple, Optional, Tuple
 
-from ._buffers import column, in_bytes
+from ._buffers import column, filled, in_bytes
 from ._terms import Terms, index_of, want_pandas
 
 UNREACHED = 2**64 - 1
@@ -120,21 +121,24 @@ class _Reached:
         lists = {name[:-1]: self._terms.column(getattr(self, name)) for name in ("predecessors", "sources") if name in self._formats}
         return want_pandas().DataFrame({"distance": self.floats(), **lists}, index=index)
 
+    def _entry(self, number: int) -> Tuple[int, int]:
+        """The distance and predecessor of a vertex, by number."""
+        return self.distances[number - 1], self.predecessors[number - 1]
+
     def pair(self, target: Any) -> Optional[Pair]:
         """The distance and predecessor of a target; None if no walk leads to it."""
-        place = self._terms.number(target) - 1
-        distance = self.distances[place]
-        return None if distance == UNREACHED else Pair(distance, self._terms.name(self.predecessors[place]))
+        distance, predecessor = self._entry(self._terms.number(target))
+        return None if distance == UNREACHED else Pair(distance, self._terms.name(predecessor))
 
     def walk(self, source: int, target: int) -> Optional[list[Any]]:
         """The vertices of the walk from a source to a target, both given by number; None if no walk leads to the target."""
-        if self.distances[target - 1] == UNREACHED:
+        if self._entry(target)[0] == UNREACHED:
             return None
         path = [target]
         while path[-1] != source:
-            if len(path) == len(self.distances) or not path[-1]:
+            if len(path) == self._terms.n or not path[-1]:
                 raise ValueError("the predecessors do not form a tree")
-            path.append(self.predecessors[path[-1] - 1])
+            path.append(self._entry(path[-1])[1])
         return [self._terms.name(it) for it in reversed(path)]
 
 
@@ -164,6 +168,35 @@ class Tree(_Reached):
     predecessors: memoryview
     terms: Optional[Terms] = field(default=None, repr=False)
     _formats = {"source": "", "distances": "Q", "predecessors": "I", "terms": ""}
+
+    @classmethod
+    def listed(cls, source: Any, part: Tuple[memoryview, memoryview, memoryview], terms: Terms) -> Tree:
+        """The part of a tree that has these vertices, by rising number, with their distances and predecessors.
+
+        The lists with an entry for each vertex are made when they are first asked for.
+        """
+        tree = cls.__new__(cls)
+        tree.__dict__.update(source=source, terms=terms, _part=part)
+        return tree
+
+    def __getattr__(self, name: str) -> Any:
+        if name not in ("distances", "predecessors") or "_part" not in self.__dict__:
+            raise AttributeError(f"{type(self).__name__!r} object has no attribute {name!r}")
+        vertices, *lists = self._part
+        for each, numbers, other in zip(("distances", "predecessors"), lists, (UNREACHED, 0)):
+            whole = filled(numbers.format, self._terms.n, other)
+            for vertex, number in zip(vertices, numbers):
+                whole[vertex - 1] = number
+            self.__dict__[each] = whole.toreadonly()
+        return self.__dict__[name]
+
+    def _entry(self, number: int) -> Tuple[int, int]:
+        part = self.__dict__.get("_part")
+        if part is None:
+            return super()._entry(number)
+        place = bisect_left(part[0], number)
+        is_there = place < len(part[0]) and part[0][place] == number
+        return (part[1][place], part[2][place]) if is_there else (UNREACHED, 0)
 
     def __repr__(self) -> str:
         distances = _shown(self.distances, {UNREACHED: "unreached"})

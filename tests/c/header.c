@@ -10,9 +10,9 @@ static void versions(void) {
     snprintf(wanted, sizeof wanted, "%d.%d.%d", SPT_VERSION_MAJOR, SPT_VERSION_MINOR, SPT_VERSION_PATCH);
     count("the parts of the version", !strcmp(wanted, SPT_VERSION));
     int parts = SPT_VERSION_MAJOR * 10000 + SPT_VERSION_MINOR * 100 + SPT_VERSION_PATCH;
-    count("the number of the version", SPT_VERSION_NUMBER == parts && SPT_VERSION_NUMBER >= 10200);
+    count("the number of the version", SPT_VERSION_NUMBER == parts && SPT_VERSION_NUMBER >= 10300);
     count("the library is of this header", spt_version() == SPT_VERSION_NUMBER);
-#if SPT_VERSION_NUMBER < 10200
+#if SPT_VERSION_NUMBER < 10300
     count("the preprocessor reads it", 0);
 #endif
 }
@@ -55,6 +55,8 @@ static void nulls(void) {
     count("no sources of a graph", trees.status == SPT_OK && trees.done == 0);
     count("a part of no graph's arcs", spt_graph_within(&graph, 1, 0, 0, dist, 2, pred, 2).status == SPT_OK && dist[1] == SPT_UNREACHED);
     count("no places for a part", spt_graph_within(&graph, 1, 0, 0, NULL, 0, NULL, 0).status == SPT_BAD_SIZE);
+    spt_part part = spt_graph_part(&graph, 1, 0, NULL, 0, NULL, 0, NULL, 0);
+    count("no places for a list", part.status == SPT_BAD_SIZE && part.count == 1);
     uint32_t root[2] = {9, 9};
     spt_answer nearest = spt_graph_nearest(&graph, NULL, 0, SPT_NO_LIMIT, 0, dist, 2, pred, 2, root, 2);
     count("the nearest of no sources", nearest.status == SPT_OK && dist[0] == SPT_UNREACHED && pred[0] == 0 && root[0] == 0);

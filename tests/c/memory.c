@@ -126,6 +126,19 @@ static spt_graph kept;
 static uint64_t near_dist[N], right_near[N], block[K * K], right_block[K * K];
 static uint32_t near_pred[N], right_near_pred[N], near_root[N], right_near_root[N];
 
+/* A place of its own for a call, since what a call keeps behind its place is freed with it. */
+static spt_graph own(void) {
+    spt_graph place = {0};
+    spt_graph_share(&kept, &place);
+    return place;
+}
+
+/* Frees it, and returns the status: without a graph there was no memory for the place. */
+static uint32_t freed(spt_graph *place, uint32_t status) {
+    spt_graph_free(place);
+    return status == SPT_NO_GRAPH ? SPT_MEMORY : status;
+}
+
 static int same_block(size_t rows) {
     size_t held = rows * K * sizeof *block;
     return !memcmp(block, right_block, held) && !memcmp((char *)block + held, (char *)no_dist + held, sizeof block - held);
@@ -134,7 +147,9 @@ static int same_block(size_t rows) {
 static uint32_t a_part(int *right) {
     memcpy(near_dist, no_dist, sizeof near_dist);
     memcpy(near_pred, no_pred, sizeof near_pred);
-    spt_answer told = spt_graph_within(&kept, sources[0], 900, 50, near_dist, N, near_pred, N);
+    spt_graph place = own();
+    spt_answer told = spt_graph_within(&place, sources[0], 900, 50, near_dist, N, near_pred, N);
+    told.status = freed(&place, told.status);
     int all = told.status != SPT_OK;
     for (size_t v = 0; v < N; v++) {
         int near = right_dist[v] <= 900;
@@ -146,11 +161,33 @@ static uint32_t a_part(int *right) {
     return told.status;
 }
 
+static uint32_t a_list(int *right) {
+    memcpy(near_dist, no_dist, sizeof near_dist);
+    memcpy(near_pred, no_pred, sizeof near_pred);
+    memcpy(near_root, no_pred, sizeof near_root);
+    spt_graph place = own();
+    spt_part told = spt_graph_part(&place, sources[0], 900, near_root, N, near_dist, N, near_pred, N);
+    told.status = freed(&place, told.status);
+    size_t at = 0;
+    int all = 1;
+    for (size_t v = 0; v < N && told.status == SPT_OK; v++) {
+        if (right_dist[v] > 900) continue;
+        all = all && near_root[at] == v + 1 && near_dist[at] == right_dist[v] && near_pred[at] == right_pred[v];
+        at++;
+    }
+    size_t left = N - at;
+    *right = all && told.count == at && !memcmp(near_dist + at, no_dist + at, left * sizeof *near_dist)
+        && !memcmp(near_pred + at, no_pred + at, left * sizeof *near_pred) && !memcmp(near_root + at, no_pred + at, left * sizeof *near_root);
+    return told.status;
+}
+
 static uint32_t a_forest(int *right) {
     memcpy(near_dist, no_dist, sizeof near_dist);
     memcpy(near_pred, no_pred, sizeof near_pred);
     memcpy(near_root, no_pred, sizeof near_root);
-    spt_answer told = spt_graph_nearest(&kept, sources, K, SPT_NO_LIMIT, 50, near_dist, N, near_pred, N, near_root, N);
+    spt_graph place = own();
+    spt_answer told = spt_graph_nearest(&place, sources, K, SPT_NO_LIMIT, 50, near_dist, N, near_pred, N, near_root, N);
+    told.status = freed(&place, told.status);
     int is_done = told.status == SPT_OK;
     *right = !memcmp(near_dist, is_done ? right_near : no_dist, sizeof near_dist)
         && !memcmp(near_pred, is_done ? right_near_pred : no_pred, sizeof near_pred)
@@ -160,7 +197,9 @@ static uint32_t a_forest(int *right) {
 
 static uint32_t a_matrix(int *right) {
     memcpy(block, no_dist, sizeof block);
-    spt_batch told = spt_graph_matrix(&kept, sources, K, sources, K, 50, block, K * K);
+    spt_graph place = own();
+    spt_batch told = spt_graph_matrix(&place, sources, K, sources, K, 50, block, K * K);
+    told.status = freed(&place, told.status);
     *right = same_block(told.done) && (told.status == SPT_OK) == (told.done == K);
     return told.status;
 }
@@ -237,6 +276,7 @@ int main(void) {
     near_targets();
     near_calls();
     refuse_each("spt_graph_within", a_part);
+    refuse_each("spt_graph_part", a_list);
     refuse_each("spt_graph_nearest", a_forest);
     refuse_each("spt_graph_matrix", a_matrix);
     spt_graph_free(&kept);

@@ -1,4 +1,4 @@
-/* What lies within a distance, the nearest of several sources, and a matrix, of a graph that is kept: the worked examples, ties,
+/* What lies within a distance, whole and listed, the nearest of several sources, and a matrix, of a graph that is kept: the worked examples, ties,
  * limits, what is too far, each refusal in its order, and a plain Dijkstra beside it on graphs drawn by lot. */
 #include "count.h"
 #include "spt.h"
@@ -32,10 +32,35 @@ static int is(spt_answer told, uint32_t status, uint32_t vertex, uint64_t index)
     return told.status == status && told.vertex == vertex && told.index == index;
 }
 
+/* Whether the list of the part within a limit is this one, in lists that are as long as it and longer, and in none that is shorter. */
+static int has_list(const spt_graph *graph, uint32_t n, uint32_t source, uint64_t limit, const uint64_t *wanted, const uint32_t *before) {
+    uint64_t many = 0;
+    for (uint32_t i = 0; i < n; i++) many += wanted[i] != NONE;
+    fill();
+    spt_part less[] = {spt_graph_part(graph, source, limit, root, many - 1, dist, MOST, pred, MOST),
+                       spt_graph_part(graph, source, limit, root, MOST, dist, many - 1, pred, MOST),
+                       spt_graph_part(graph, source, limit, root, MOST, dist, MOST, pred, many - 1)};
+    int right = untouched(0);
+    for (size_t i = 0; i < 3; i++) right = right && less[i].status == SPT_BAD_SIZE && less[i].count == many;
+    for (size_t places = many; places <= MOST; places += MOST - many ? MOST - many : 1) {
+        fill();
+        spt_part told = spt_graph_part(graph, source, limit, root, places, dist, places, pred, places);
+        right = right && told.status == SPT_OK && told.count == many;
+        size_t at = 0;
+        for (uint32_t i = 0; i < n; i++) {
+            if (wanted[i] == NONE) continue;
+            right = right && root[at] == i + 1 && dist[at] == wanted[i] && pred[at] == before[i];
+            at++;
+        }
+        right = right && untouched(many);
+    }
+    return right;
+}
+
 /* Whether the part within a limit is this one. */
 static int has_part(const spt_graph *graph, uint32_t n, uint32_t source, uint64_t limit, const uint64_t *wanted, const uint32_t *before) {
     const uint64_t deltas[] = {0, 1, 5, spt_reach(n)};
-    int right = 1;
+    int right = has_list(graph, n, source, limit, wanted, before);
     for (size_t d = 0; d < 4; d++) {
         fill();
         right = right && is(spt_graph_within(graph, source, limit, deltas[d], dist, n, pred, MOST), SPT_OK, 0, 0);
@@ -171,6 +196,14 @@ static void refusals(const spt_graph *graph) {
     count("no limit is none here", is(spt_graph_within(graph, 1, SPT_NO_LIMIT, 0, dist, 4, pred, 4), SPT_BAD_LIMIT, 0, 0));
     count("source 0", is(spt_graph_within(graph, 0, 1, 0, dist, 4, pred, 4), SPT_NO_SUCH_VERTEX, 0, 0));
     count("source 5", is(spt_graph_within(graph, 5, 1, 0, dist, 4, pred, 4), SPT_NO_SUCH_VERTEX, 0, 0));
+    spt_part list = spt_graph_part(&none, 0, above, root, 0, dist, 0, pred, 0);
+    count("no graph", list.status == SPT_NO_GRAPH && list.count == 0);
+    list = spt_graph_part(graph, 0, above, root, 0, dist, 0, pred, 0);
+    count("limit before source", list.status == SPT_BAD_LIMIT && list.count == 0);
+    list = spt_graph_part(graph, 0, 1, root, 0, dist, 0, pred, 0);
+    count("source 0 before the places", list.status == SPT_NO_SUCH_VERTEX && list.count == 0);
+    list = spt_graph_part(graph, 5, 1, root, 4, dist, 4, pred, 4);
+    count("source 5", list.status == SPT_NO_SUCH_VERTEX && list.count == 0);
     count("no graph", is(spt_graph_nearest(&none, &zero, 1, 1, 0, dist, 4, pred, 4, root, 4), SPT_NO_GRAPH, 0, 0));
     count("few distances", is(spt_graph_nearest(graph, &zero, 1, above, above, dist, 3, pred, 4, root, 4), SPT_BAD_SIZE, 0, 0));
     count("few predecessors", is(spt_graph_nearest(graph, &zero, 1, above, above, dist, 4, pred, 3, root, 4), SPT_BAD_SIZE, 0, 0));

@@ -1,5 +1,6 @@
 """What lies within a distance, the nearest of several sources, and matrices, with nothing else installed."""
 
+import array
 import copy
 import pickle
 import sys
@@ -67,6 +68,24 @@ class Near(unittest.TestCase):
                 self.assertEqual(lists(self.graph.tree(1, within=limit, delta=delta)), wanted)
         self.assertIsNone(self.graph.tree(1, within=4).path(4))
         self.assertEqual(self.graph.tree(1, within=5), self.graph.tree(1))
+
+    def test_listed_parts(self):
+        # a small part is told like a tree that is given by its lists, whichever of its faces is asked for first
+        graph = spt.Graph(300, samples.by_lot(300, 900, 1))
+        for source, limit in ((1, 0), (7, 100), (7, 400), (300, 900), (300, spt.reach(300))):
+            columns = zip("QI", part(graph.tree(source), limit))
+            wanted = spt.Tree(source, *(array.array(format, column) for format, column in columns), graph.tree(1).terms)
+            told = lambda: graph.tree(source, within=limit)  # noqa: E731
+            for target in (source, *range(1, 301, 17)):
+                self.assertEqual((told().pair(target), told().path(target)), (wanted.pair(target), wanted.path(target)))
+            self.assertEqual(lists(told()), lists(wanted))
+            self.assertEqual((repr(told()), hash(told())), (repr(wanted), hash(wanted)))
+            for twin in (told(), copy.copy(told()), copy.deepcopy(told()), *(pickle.loads(pickle.dumps(told(), it)) for it in range(2, 6))):
+                self.assertEqual(twin, wanted)
+            self.assertEqual(graph.check(told()) is None, told() == graph.tree(source))
+            self.assertEqual(list(graph.trees([source] * 3, within=limit, workers=2)), [wanted] * 3)
+            with self.assertRaises(AttributeError):
+                told().nothing
 
     def test_forests(self):
         wanted = [[0, 3, 0, 2], [0, 1, 0, 3], [1, 1, 3, 3]]
@@ -182,6 +201,7 @@ class Near(unittest.TestCase):
         calls = {"spt_graph_share": library.library.spt_graph_share, "spt_graph_free": library.library.spt_graph_free}
         told = {
             "spt_graph_within": lambda *given: library.Answer(library.MEMORY),
+            "spt_graph_part": lambda *given: library.Part(library.MEMORY),
             "spt_graph_nearest": lambda *given: library.Answer(library.MEMORY),
             "spt_graph_matrix": lambda *given: library.Batch(library.MEMORY),
         }
@@ -199,6 +219,8 @@ class Near(unittest.TestCase):
                 with self.assertRaisesRegex(spt.SptError, "older than 1.2"):
                     call()
             self.assertEqual(self.graph.tree(1).distances[3], 5)
+        with mock.patch.object(spt._graph, "HAS_PART", False):
+            self.assertEqual(lists(self.graph.tree(1, within=3)), [[0, 3, 3, FAR], [0, 1, 1, 0]])
 
 
 if __name__ == "__main__":

@@ -3,8 +3,8 @@ ghost use Rattle.sp_dimacs.specs.Graph.{IsNetwork};
 
 use crate::report::print_each;
 use sp_dimacs::{GrFile, OfRead, OfWrite, read_gr};
+use sp_files::{Tree, read_tree, write_tree};
 use sp_graph::{Graph, Rows};
-use sp_tree::{Tree, read_tree, write_tree};
 use std::fs::{self, OpenOptions};
 use std::io;
 use std::rt::Files;

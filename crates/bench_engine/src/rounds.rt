@@ -4,15 +4,14 @@ ghost use Rattle.std.specs.Prelude.{◌≤◌};
 use crate::offers::{next_random, vertex_of};
 use crate::report::print_each;
 use sp_offer::AnyWord;
-use sp_task::{OpenGate, Round, Task, TaskKind, run_round};
+use sp_rounds::{OpenGate, Round, Task, TaskKind, run_round};
 use sp_word::Workers;
 use std::alloc::{AllocError, Global};
 use std::io;
 use std::sync::Wait;
 use std::thread::Threads;
 use std::time::{Clock, Duration, Instant};
-use tests_round_samples::{Bench, any_tasks, set_up};
-use tests_samples::Triple;
+use tests_samples::{Bench, Triple, any_tasks, set_up};
 
 const MOST_TASKS: u32 = 1_000_000;
 

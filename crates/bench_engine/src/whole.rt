@@ -5,9 +5,9 @@ ghost use Rattle.sp_dimacs.specs.Graph.{IsNetwork};
 
 use crate::report::{print_each, print_share};
 use sp_dimacs::{GrFile, OfRead, OfWrite, SsFile, Write, read_gr_by, read_ss};
+use sp_files::{Tree, write_tree_in_pages};
 use sp_graph::Graph;
-use sp_solve::{run_by_team, useful_team};
-use sp_tree::{Tree, write_tree_in_pages};
+use sp_run::{run_by_team, useful_team};
 use sp_word::{Delta, Meter, Team, Workers};
 use std::rt::Files;
 use std::sync::Wait;

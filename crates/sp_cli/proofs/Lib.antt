@@ -1,6 +1,6 @@
 pub mod Opening
 pub mod Near
+pub mod Jobs
+pub mod PairJob
 pub mod Told
-pub mod ToldOfMatrix
-pub mod ToldOfNearest
 pub mod Simple

@@ -1,79 +1,48 @@
--- A fault of opening files is borne out by the files, or by their paths.
-use Rattle.std.proofs.Common.{◌≡◌, ◌≢◌, ◌⊎◌, ◌∙◌, inl, inr, refl, ap, sym, subst, ℕ, Bool, List, Option, Some, None, Result, Err, IfErr, codes, rules}
+-- Lists that are opened, and standard input that is named twice.
+use Rattle.std.proofs.Common.{◌≡◌, ◌≢◌, ◌∙◌, refl, ap, sym, subst, ℕ, List, Option, Some, None, codes, rules}
 use Rattle.std.specs.Borrow.{Bor}
 use Rattle.sp_device.specs.declared.devices.Read.{Ghosts as Reader}
-use Rattle.sp_job.specs.Places.{AreNumbered}
-use Rattle.sp_matrix.specs.declared.listing.Listing.TheVariants as listing
-use Rattle.sp_matrix.specs.Listing.{These}
+use Rattle.sp_jobs.specs.Places.{AreNumbered}
+use Rattle.sp_jobs.specs.declared.listing.Listing.TheVariants as listing
+use Rattle.sp_jobs.specs.Listing.{These}
 use Rattle.sp_options.specs.declared.given.Given.{Given}
 use Rattle.sp_options.specs.declared.sources.Sources.{Sources}
 use Rattle.sp_options.specs.declared.sources.Sources.TheVariants as sources
-use Rattle.sp_cli.specs.MatrixAnswers.{IsOpenedList}
 use Rattle.sp_command.specs.declared.faults.FileKind.{FileKind}
 use Rattle.sp_command.specs.declared.faults.FileKind.TheVariants as file
-use Rattle.sp_command.specs.declared.faults.Fault.{Fault}
-use Rattle.sp_command.specs.declared.faults.Fault.TheVariants as fault
-use Rattle.sp_command.specs.Scene.{Files, scene}
-use Rattle.sp_command.specs.Causes.{Paths, IsBorneOut, StaysClosed, NamesInputTwice}
+use Rattle.sp_command.specs.Scene.{Files}
+use Rattle.sp_command.specs.Causes.{Paths, NamesInputTwice}
+use Rattle.sp_cli.specs.Told.{IsOpenedList}
+use Rattle.sp_cli.specs.Commands.{paths_in}
 
-pub no_sources : file.Graph ≢ file.Sources
+no_sources : file.Graph ≢ file.Sources
 no_sources = search rules
 
-pub no_pairs : file.Graph ≢ file.Pairs
-no_pairs = search rules
-
-pub no_targets : file.Graph ≢ file.Targets
+no_targets : file.Graph ≢ file.Targets
 no_targets = search rules
 
-sources_no_targets : file.Sources ≢ file.Targets
-sources_no_targets = search rules
+no_pairs : file.Graph ≢ file.Pairs
+no_pairs = search rules
 
--- Files of two kinds are standard input.
-both : (paths : Paths) (one other : FileKind) (first second : List ℕ)
-    → one ≢ other → paths one ≡ Some first → paths other ≡ Some second → (first ≡ codes "-") × (second ≡ codes "-") → NamesInputTwice paths
-both paths one other first second apart first_is second_is twice =
-    (one, other, apart, subst (λ x. paths one ≡ Some x) twice.0 first_is, subst (λ x. paths other ≡ Some x) twice.1 second_is)
+no_sources_are_targets : file.Sources ≢ file.Targets
+no_sources_are_targets = search rules
 
--- A file stays closed.
-closed_borne_out : (paths : Paths) (own : Fault → Type 0) (files : Files) (before after : Option (List ℕ)) (failed : Bool) (kind : FileKind) (path : List ℕ) (why : Fault)
-    → paths kind ≡ Some path → StaysClosed files kind path why → IsBorneOut paths own (scene files before after failed) why
-closed_borne_out paths own files before after failed kind path why path_is (is, closed) =
-    subst (λ x. IsBorneOut paths own (scene files before after failed) x) (sym is) (path, path_is, closed)
+module _ (graph : List ℕ) (paths : Paths) where
+  -- The graph is standard input, and so is another file.
+  with_graph : (kind : FileKind) → file.Graph ≢ kind → graph ≡ codes "-" → paths_in graph paths kind ≡ Some (codes "-") → NamesInputTwice (paths_in graph paths)
+  with_graph kind apart named is = (file.Graph, kind, apart, ap Some named, is)
 
--- ## Two files
+  pub with_sources : graph ≡ codes "-" → paths file.Sources ≡ Some (codes "-") → NamesInputTwice (paths_in graph paths)
+  with_sources named is = with_graph file.Sources no_sources named is
 
-two : (paths : Paths) (own : Fault → Type 0) (files : Files) (before after : Option (List ℕ)) (failed : Bool) (kind : FileKind) (graph path : List ℕ) (why : Fault)
-    → file.Graph ≢ kind → paths file.Graph ≡ Some graph → paths kind ≡ Some path
-    → (why ≡ fault.InputTwice → (graph ≡ codes "-") × (path ≡ codes "-"))
-    → (why ≡ fault.InputTwice) ⊎ (StaysClosed files file.Graph graph why ⊎ StaysClosed files kind path why)
-    → IsBorneOut paths own (scene files before after failed) why
-two paths own files before after failed kind graph path why apart graph_is path_is once (inl is) =
-    subst (λ x. IsBorneOut paths own (scene files before after failed) x) (sym is) (both paths file.Graph kind graph path apart graph_is path_is (once is))
-two paths own files before after failed kind graph path why apart graph_is path_is once (inr (inl closed)) =
-    closed_borne_out paths own files before after failed file.Graph graph why graph_is closed
-two paths own files before after failed kind graph path why apart graph_is path_is once (inr (inr closed)) =
-    closed_borne_out paths own files before after failed kind path why path_is closed
+  pub with_targets : graph ≡ codes "-" → paths file.Targets ≡ Some (codes "-") → NamesInputTwice (paths_in graph paths)
+  with_targets named is = with_graph file.Targets no_targets named is
 
--- The same of an answer that tells the fault.
-pub two_borne_out : {T : Type 0} (paths : Paths) (own : Fault → Type 0) (files : Files) (before after : Option (List ℕ)) (failed : Bool) (kind : FileKind) (graph path : List ℕ) (why : Fault) (result : Result T Fault)
-    → file.Graph ≢ kind → paths file.Graph ≡ Some graph → paths kind ≡ Some path → result ≡ Err why
-    → (why ≡ fault.InputTwice → (graph ≡ codes "-") × (path ≡ codes "-"))
-    → (why ≡ fault.InputTwice) ⊎ (StaysClosed files file.Graph graph why ⊎ StaysClosed files kind path why)
-    → IfErr result (IsBorneOut paths own (scene files before after failed))
-two_borne_out paths own files before after failed kind graph path why result apart graph_is path_is is once closed =
-    subst (λ r. IfErr r (IsBorneOut paths own (scene files before after failed))) (sym is) (two paths own files before after failed kind graph path why apart graph_is path_is once closed)
+  pub with_pairs : graph ≡ codes "-" → paths file.Pairs ≡ Some (codes "-") → NamesInputTwice (paths_in graph paths)
+  with_pairs named is = with_graph file.Pairs no_pairs named is
 
--- ## A graph and two lists
-
--- Two of three files are standard input.
-pub graph_and_list : (paths : Paths) (list : FileKind) (graph : List ℕ)
-    → file.Graph ≢ list → paths file.Graph ≡ Some graph → graph ≡ codes "-" → paths list ≡ Some (codes "-") → NamesInputTwice paths
-graph_and_list paths list graph apart graph_is named list_is = (file.Graph, list, apart, subst (λ x. paths file.Graph ≡ Some x) named graph_is, list_is)
-
-pub both_lists : (paths : Paths) → paths file.Sources ≡ Some (codes "-") → paths file.Targets ≡ Some (codes "-") → NamesInputTwice paths
-both_lists paths sources_is targets_is = (file.Sources, file.Targets, sources_no_targets, sources_is, targets_is)
-
--- ## Lists
+  pub both_lists : paths file.Sources ≡ Some (codes "-") → paths file.Targets ≡ Some (codes "-") → NamesInputTwice (paths_in graph paths)
+  both_lists sources_is targets_is = (file.Sources, file.Targets, no_sources_are_targets, sources_is, targets_is)
 
 pub opened_file : {D : Type 0} (device : Reader D) (files : Files) (list : Sources) (path : Bor (List ℕ)) (opened : D)
     → list ≡ sources.File path → ((bytes : List ℕ) → files.text path.now ≡ Some bytes → device.left opened ≡ Some bytes) → device.failing opened ≡ files.failing path.now

@@ -1,4 +1,5 @@
-pub mod Answers
-pub mod MatrixAnswers
-pub mod NearestAnswers
 pub mod Words
+pub mod Told
+pub mod Commands
+pub mod Answers
+pub mod PairsAnswers

@@ -1,7 +1,8 @@
 //! The commands of the program.
 //!
 //! Each command is a type in a file of its own, in this crate or in one below, with its arguments, its help and what it does. To add a
-//! command, write such a file, and put its type into `AnyCommand`.
+//! command, write such a file, and put its type into `AnyCommand`: one that runs a job in a graph as its own part of `InGraph`.
+use crate::command::InGraph;
 use crate::matrix::MatrixCommand;
 use crate::nearest::NearestCommand;
 use crate::pairs::PairsCommand;
@@ -11,13 +12,13 @@ use sp_tools::{CheckCommand, OffersCommand, ReplayCommand};
 
 /// A command of the program, with its options and the paths of its files. The commands stand in the order of the help.
 pub type AnyCommand<'a> = OneOf<
-    TreeCommand<'a>,
+    InGraph<'a, TreeCommand<'a>>,
     OneOf<
-        PairsCommand<'a>,
+        InGraph<'a, PairsCommand<'a>>,
         OneOf<
-            MatrixCommand<'a>,
+            InGraph<'a, MatrixCommand<'a>>,
             OneOf<
-                NearestCommand<'a>,
+                InGraph<'a, NearestCommand<'a>>,
                 OneOf<CheckCommand<'a>, OneOf<ReplayCommand<'a>, OffersCommand<'a>>>,
             >,
         >,

@@ -4,12 +4,14 @@
 //! names, by `sp_order`, which does so for any type of commands.
 #![tactic(auto)]
 
+mod answer;
+mod command;
 mod commands;
-mod context;
 mod laws;
 mod matrix;
 mod nearest;
 mod pairs;
+mod place;
 mod run;
 mod tree;
 

@@ -1,26 +1,21 @@
 //! The command `spt matrix`, which writes the distance from each source of a list to each target of another.
-ghost use Rattle.std.specs.Prelude.{◌≡◌, ℕ, true, false, List, Option, Some, Ok, Err, IfOk, IfErr, MatchResult, codes};
+ghost use denote.Param.Send.{IsSync};
+ghost use Rattle.std.specs.Prelude.{◌≡◌, true, None, codes};
 ghost use Rattle.sp_word.specs.Word.{is_layout};
-ghost use Rattle.sp_command.specs.Faults.{is_done, is_early};
-ghost use Rattle.sp_command.specs.Causes.{IsBorneOut, NamesInputTwice};
-ghost use Rattle.sp_command.specs.declared.faults.Fault.TheVariants.{CannotOpen, NoPlaces};
-ghost use Rattle.sp_command.specs.Scene.{scene};
-ghost use Rattle.sp_cli.specs.Answers.{LackPlaces};
-ghost use Rattle.sp_cli.specs.MatrixAnswers.{IsOpenedList, MatrixAnswers, MatrixOf, MatrixOfSome, matrix_paths, matrix_faults};
-ghost use Rattle.sp_options.specs.Sources.{path_of};
-ghost use Rattle.sp_options.specs.Ends.{end_of, fault_of};
-ghost use Rattle.sp_cli.specs.Words.{IsMatrixOf, LacksMatrix, matrix_rules};
+ghost use Rattle.sp_cli.specs.Told.{LackPlaces};
+ghost use Rattle.sp_cli.specs.Answers.{MatrixAnswers, list_paths};
+ghost use Rattle.sp_options.specs.Lists.{AreListed, ListsNone};
+ghost use Rattle.sp_cli.specs.Commands.{EndsAt, IsPlaced, IsUntouched};
+ghost use Rattle.sp_cli.specs.Words.{matrix_rules};
 
-use crate::context::Context;
+use crate::answer::Answer;
+use crate::by_crew;
+use crate::place::{Place, is_input, lacks_places};
 use clap::{ArgMatches, Error};
-use sp_command::{
-    BuiltCommand, Command, Fault, FileKind, GRAPH_FILE, Inputs, Run, Status, after_help, file,
-};
-use sp_device::{Read, Write};
-use sp_job::{BatchError, Listener, Progress, Summary};
-use sp_matrix::{Listing, RowCrew, run_matrix_told};
-use sp_options::{Lists, RunOptions, Sources, Teller, Watched};
-use sp_word::Alone;
+use sp_command::{BuiltCommand, Command, Fault, FileKind, GRAPH_FILE, Inputs, after_help, file};
+use sp_device::Write;
+use sp_jobs::{BatchError, BucketWidth, Progress, Summary, run_matrix_told};
+use sp_options::{Lists, RunOptions};
 use std::alloc::Global;
 use std::sync::Wait;
 use std::thread::Threads;
@@ -32,15 +27,11 @@ free. Each finds the lines of a different source. No more threads are
 started than there are processors, and none for a small graph. The
 output is the same for any number";
 
-/// The command `matrix`, with its options and the paths of its files.
+/// What the command `matrix` asks for.
 #[derive(Drop)]
 pub struct MatrixCommand<'a> {
-    /// The path of the graph.
-    pub graph: &'a str,
     /// The sources and the targets.
     pub lists: Lists<'a>,
-    /// The options that say how runs are made.
-    pub options: RunOptions,
 }
 
 impl<'a> Command<'a> for MatrixCommand<'a> {
@@ -48,9 +39,9 @@ impl<'a> Command<'a> for MatrixCommand<'a> {
 
     ghost rules = { matrix_rules };
 
-    ghost reads = { IsMatrixOf };
+    ghost reads = { λ found given. AreListed found given.lists };
 
-    ghost lacks = { LacksMatrix };
+    ghost lacks = { ListsNone };
 
     const ABOUT: &'static str = "Write the distance from each source to each target";
 
@@ -153,25 +144,14 @@ Other errors are
     }
 
     fn read(alloc: Global, given: &ArgMatches<'a>) -> Result<Option<Self>, Error> {
-        let Some(graph) = given.get_str("GR") else {
-            return Ok(None);
-        };
-        let Some(options) = RunOptions::read(alloc, given)? else {
-            return Ok(None);
-        };
         let Some(lists) = Lists::read(alloc, given)? else {
             return Ok(None);
         };
-        Ok(Some(MatrixCommand {
-            graph,
-            lists,
-            options,
-        }))
+        Ok(Some(MatrixCommand { lists }))
     }
 
     fn path_of(&self, file: FileKind) -> Option<&'a str> {
         match file {
-            FileKind::Graph => Some(self.graph),
             FileKind::Sources => self.lists.sources.path(),
             FileKind::Targets => self.lists.targets.path(),
             _ => None,
@@ -179,162 +159,56 @@ Other errors are
     }
 }
 
-impl MatrixCommand<'_> {
-    // Reports that everything is written, if it is, and returns how the command ends.
-    fn end<F: Inputs>(
-        &self,
-        answer: Result<Summary, BatchError>,
-        teller: &Teller<'_, F>,
-    ) -> Result<Status, Fault>
-        ensures { MatchResult answer
-            (λ summary. result ≡ Ok (end_of self.now.options.far_ok summary))
-            (λ error. result ≡ Err (fault_of error)) }
-    {
-        if let Ok(written) = answer {
-            teller.hear(Progress::Lines {
-                written,
-                count: written.sources as usize,
-            });
-        }
-        self.options.end_of(answer)
+impl<const P: u32> Answer<P> for MatrixCommand<'_> {
+    ghost paths = { λ given. list_paths given.lists };
+
+    ghost within = { λ _. None };
+
+    ghost placeless = { λ given. LackPlaces given.lists.sources };
+
+    ghost answers = { λ given. MatrixAnswers P given.lists };
+
+    fn limit(&self) -> Result<Option<u64>, Fault> {
+        Ok(None)
     }
 
-    // Returns whether standard input is named for two of the files.
-    fn names_input_twice(&self) -> bool
-        ensures { result ≡ true → NamesInputTwice (matrix_paths self.now) }
-    {
-        let sources = is_input(&self.lists.sources);
-        let targets = is_input(&self.lists.targets);
-        if self.graph == "-" {
-            return sources || targets;
-        }
-        sources && targets
+    fn lacks_places(&self) -> bool {
+        lacks_places(&self.lists.sources)
     }
 
-    // Runs from the sources to the targets, each in a file or on the command line.
-    fn run_lists<const P: u32, R: RowCrew<P>, F: Inputs, W: Write>(
+    fn is_input(&self, file: FileKind) -> bool {
+        match file {
+            FileKind::Sources => is_input(&self.lists.sources),
+            FileKind::Targets => is_input(&self.lists.targets),
+            _ => false,
+        }
+    }
+
+    fn answer<R: Threads + Wait + Sync, F: Inputs, W: Write>(
         &self,
         rt: &R,
         alloc: Global,
-        context: &Context<'_, P, F>,
+        place: &Place<'_, F>,
+        width: BucketWidth<P>,
         out: &mut W,
-    ) -> Result<Status, Fault>
-        requires { (is_layout P ≡ true) × R.is_shared }
-        ensures no_places { LackPlaces self.now.lists.sources
-            → (result ≡ Err NoPlaces) × (W.written out.new ≡ W.written out.old) }
-        ensures answered { ¬ (LackPlaces self.now.lists.sources) → MatrixOf P self.now
-            (scene (F.files context.now.files.now)
-            (W.written out.old) (W.written out.new) (W.has_failed out.new)) result }
-        ensures of_some { IfOk result
-            (MatrixOfSome P self.now.options.far_ok self.now.lists
-            (scene (F.files context.now.files.now)
-            (W.written out.old) (W.written out.new) (W.has_failed out.new))) }
-        ensures borne_out { IfErr result
-            (IsBorneOut (matrix_paths self.now) (matrix_faults P self.now)
-            (scene (F.files context.now.files.now)
-            (W.written out.old) (W.written out.new) (W.has_failed out.new))) }
-        ensures done { IfOk result (λ status. is_done status ≡ true) }
-        ensures untouched { IfErr result (λ fault. is_early fault ≡ true → out.new ≡ out.old) }
+    ) -> Result<Result<Summary, BatchError>, Fault>
+        requires run { (is_layout P ≡ true) × IsSync R.row }
+        requires limit { IsPlaced P None place.now }
+        ensures answered { EndsAt F.files (list_paths self.now.lists) None
+            (MatrixAnswers P self.now.lists)
+            place.now W.Write out.old out.new result }
+        ensures untouched { IsUntouched out.old out.new result }
     {
-        if lacks_places(&self.lists.sources) {
-            return Err(Fault::NoPlaces);
-        }
-        if self.names_input_twice() {
-            return Err(Fault::InputTwice);
-        }
-        let (files, settings) = (context.files, context.settings);
-        let gr = FileKind::Graph.open(files, self.graph)?;
-        let sources = open_list(
-            files,
-            settings.listener,
-            &self.lists.sources,
-            FileKind::Sources,
-        )?;
-        let targets = open_list(
-            files,
-            settings.listener,
-            &self.lists.targets,
-            FileKind::Targets,
-        )?;
-        let mut gr = Watched::new(gr, FileKind::Graph, settings.listener);
-        let answer = run_matrix_told::<P, R, _, _, _, W, _>(
-            rt, alloc, &mut gr, sources, targets, out, settings,
-        );
-        self.end(answer, settings.listener)
+        let mut gr = place.open(FileKind::Graph, place.graph)?;
+        let sources = place.open_list(FileKind::Sources, &self.lists.sources)?;
+        let targets = place.open_list(FileKind::Targets, &self.lists.targets)?;
+        let settings = place.settings::<P>(width);
+        by_crew!(rt, settings, crew => Ok(run_matrix_told(
+            crew, alloc, &mut gr, sources, targets, out, &settings,
+        )))
     }
-}
 
-// Returns whether the word for the places of a list spells none.
-fn lacks_places(list: &Sources<'_>) -> bool
-    ensures lacking { result ≡ true → LackPlaces list.now }
-    ensures none { result ≡ false → ¬ (LackPlaces list.now) }
-{
-    match list {
-        Sources::Part(_, places) => places.is_none(),
-        Sources::File(_) | Sources::Given(_) => false,
-    }
-}
-
-// Returns whether a list is to be read from standard input.
-fn is_input(list: &Sources<'_>) -> bool
-    ensures { result ≡ true → path_of list.now ≡ Some (codes "-") }
-{
-    match list {
-        Sources::File(path) | Sources::Part(path, _) => *path == "-",
-        Sources::Given(_) => false,
-    }
-}
-
-// Opens a list at its start, if it stands in a file.
-fn open_list<'l, F: Inputs>(
-    files: &'l F,
-    teller: &'l Teller<'l, F>,
-    list: &'l Sources<'_>,
-    kind: FileKind,
-) -> Result<Listing<'l, Watched<'l, 'l, F::File, F>>, Fault>
-    ensures opened { IfOk result (IsOpenedList ⟦<Watched<'static, 'static, F::File, F> as Read>⟧
-        (F.files files.now) list.now) }
-    ensures closed { IfErr result (λ fault. (fault ≡ CannotOpen kind) × ((path : List ℕ)
-        × (path_of list.now ≡ Some path) × ((F.files files.now).opens path ≡ false))) }
-{
-    match list {
-        Sources::File(path) => {
-            let file = kind.open(files, path)?;
-            Ok(Listing::InText(Watched::new(file, kind, teller), None))
-        }
-        Sources::Part(path, places) => {
-            let file = kind.open(files, path)?;
-            Ok(Listing::InText(Watched::new(file, kind, teller), *places))
-        }
-        Sources::Given(given) => Ok(Listing::These(&given.list)),
-    }
-}
-
-// Writes the line of each source and each target.
-impl<const P: u32> Run<P> for MatrixCommand<'_> {
-    ghost answers = { MatrixAnswers P };
-
-    ghost paths = { matrix_paths };
-
-    ghost own_faults = { matrix_faults P };
-
-    fn run<R: Threads + Wait + Sync, F: Inputs, W: Write>(
-        &self,
-        rt: &R,
-        alloc: Global,
-        files: &F,
-        out: &mut W,
-    ) -> Result<Status, Fault> {
-        let teller = self.options.teller(files);
-        let settings = self.options.settings::<P, _>(&teller)?;
-        let context = Context {
-            files,
-            settings: &settings,
-            limit: None,
-        };
-        if settings.workers.get() == 1 {
-            return self.run_lists::<P, _, F, W>(&Alone::new(rt), alloc, &context, out);
-        }
-        self.run_lists::<P, _, F, W>(&rt, alloc, &context, out)
+    fn progress(written: Summary, count: usize) -> Progress {
+        Progress::Lines { written, count }
     }
 }

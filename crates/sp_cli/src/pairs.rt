@@ -1,23 +1,21 @@
 //! The command `spt pairs`, which writes the distance from source to target for each pair of a list.
 ghost use denote.Param.Send.{IsSync};
-ghost use Rattle.std.specs.Prelude.{◌≡◌, ℕ, true, List, Option, Some, Ok, Err, IfOk, IfErr, MatchResult, codes};
+ghost use Rattle.std.specs.Prelude.{◌≡◌, true, None, Some, codes};
 ghost use Rattle.sp_word.specs.Word.{is_layout};
-ghost use Rattle.sp_command.specs.Faults.{is_done, is_early};
-ghost use Rattle.sp_command.specs.Causes.{IsBorneOut};
-ghost use Rattle.sp_command.specs.Scene.{scene};
-ghost use Rattle.sp_cli.specs.Answers.{PairsAnswers, PairsTold, PairsOf, PairsOfSome, pairs_paths, pairs_faults};
-ghost use Rattle.sp_options.specs.Ends.{end_of, fault_of};
-ghost use Rattle.sp_cli.specs.Words.{IsPairsOf, LacksPairs, pairs_rules};
+ghost use Rattle.sp_cli.specs.PairsAnswers.{PairsAnswers, pairs_paths};
+ghost use Rattle.clap.specs.Matches.{first_value};
+ghost use Rattle.sp_cli.specs.Commands.{EndsAt, IsPlaced, IsUntouched};
+ghost use Rattle.sp_cli.specs.Words.{pairs_rules};
 
+use crate::answer::Answer;
+use crate::by_crew;
+use crate::place::Place;
 use clap::{ArgMatches, Error};
-use sp_command::{
-    BuiltCommand, Command, Fault, FileKind, GRAPH_FILE, Inputs, Run, Status, after_help, file,
-};
+use sp_command::{BuiltCommand, Command, Fault, FileKind, GRAPH_FILE, Inputs, after_help, file};
 use sp_device::Write;
-use sp_job::{BatchError, Listener, Progress, Settings, Summary};
-use sp_options::{RunOptions, Teller, Watched};
+use sp_jobs::{BatchError, BucketWidth, Progress, Summary};
+use sp_options::RunOptions;
 use sp_pairs::run_pairs_told;
-use sp_word::{Alone, Crew};
 use std::alloc::Global;
 use std::sync::Wait;
 use std::thread::Threads;
@@ -28,15 +26,11 @@ The most threads to use, from 1 to 64 including the main thread, or
 free. No more threads are started than there are processors, and none
 for a small graph. The output is the same for any number";
 
-/// The command `pairs`, with its options and the paths of its files.
+/// What the command `pairs` asks for.
 #[derive(Drop)]
 pub struct PairsCommand<'a> {
-    /// The path of the graph.
-    pub graph: &'a str,
     /// The path of the pairs.
     pub pairs: &'a str,
-    /// The options that say how runs are made.
-    pub options: RunOptions,
 }
 
 impl<'a> Command<'a> for PairsCommand<'a> {
@@ -44,9 +38,9 @@ impl<'a> Command<'a> for PairsCommand<'a> {
 
     ghost rules = { pairs_rules };
 
-    ghost reads = { IsPairsOf };
+    ghost reads = { λ found given. first_value found (codes "PAIRS") ≡ Some given.pairs.now };
 
-    ghost lacks = { LacksPairs };
+    ghost lacks = { λ found. first_value found (codes "PAIRS") ≡ None };
 
     const ABOUT: &'static str = "Write the distance for each pair of source and target";
 
@@ -132,105 +126,68 @@ source: the first number above N, S before T; nothing is written.
         RunOptions::add_to(command, alloc, WORKERS_LONG)
     }
 
-    fn read(alloc: Global, given: &ArgMatches<'a>) -> Result<Option<Self>, Error> {
-        let Some(graph) = given.get_str("GR") else {
-            return Ok(None);
-        };
+    fn read(_alloc: Global, given: &ArgMatches<'a>) -> Result<Option<Self>, Error> {
         let Some(pairs) = given.get_str("PAIRS") else {
             return Ok(None);
         };
-        let Some(options) = RunOptions::read(alloc, given)? else {
-            return Ok(None);
-        };
-        Ok(Some(PairsCommand {
-            graph,
-            pairs,
-            options,
-        }))
+        Ok(Some(PairsCommand { pairs }))
     }
 
     fn path_of(&self, file: FileKind) -> Option<&'a str> {
         match file {
-            FileKind::Graph => Some(self.graph),
             FileKind::Pairs => Some(self.pairs),
             _ => None,
         }
     }
 }
 
-impl PairsCommand<'_> {
-    // Reports that everything is written, if it is, and returns how the command ends.
-    fn end<F: Inputs>(
-        &self,
-        answer: Result<Summary, BatchError>,
-        teller: &Teller<'_, F>,
-    ) -> Result<Status, Fault>
-        ensures { MatchResult answer
-            (λ summary. result ≡ Ok (end_of self.now.options.far_ok summary))
-            (λ error. result ≡ Err (fault_of error)) }
-    {
-        if let Ok(written) = answer {
-            let count = written.sources as usize;
-            teller.hear(Progress::Pairs {
-                found: count,
-                count,
-            });
-        }
-        self.options.end_of(answer)
-    }
-
-    // Finds and writes the answers for the pairs of the file.
-    fn run_file<const P: u32, R: Crew, F: Inputs, W: Write>(
-        &self,
-        rt: &R,
-        alloc: Global,
-        files: &F,
-        settings: &Settings<P, Teller<'_, F>>,
-        out: &mut W,
-    ) -> Result<Status, Fault>
-        requires { (is_layout P ≡ true) × IsSync R.row }
-        ensures answered { PairsOf P self.now
-            (scene (F.files files.now)
-            (W.written out.old) (W.written out.new) (W.has_failed out.new)) result }
-        ensures of_some { IfOk result (PairsOfSome P self.now.options.far_ok
-            (scene (F.files files.now)
-            (W.written out.old) (W.written out.new) (W.has_failed out.new))) }
-        ensures borne_out { IfErr result (IsBorneOut
-            (pairs_paths self.now) (pairs_faults P self.now) (scene (F.files files.now)
-            (W.written out.old) (W.written out.new) (W.has_failed out.new))) }
-        ensures done { IfOk result (λ status. is_done status ≡ true) }
-        ensures untouched { IfErr result (λ fault. is_early fault ≡ true → out.new ≡ out.old) }
-    {
-        let (gr, pairs) = FileKind::Pairs.open_with_graph(files, self.graph, self.pairs)?;
-        let mut gr = Watched::new(gr, FileKind::Graph, settings.listener);
-        let mut pairs = Watched::new(pairs, FileKind::Pairs, settings.listener);
-        let answer = run_pairs_told::<P, R, _, _, W, _>(
-            rt, alloc, &mut gr, &mut pairs, out, settings,
-        );
-        self.end(answer, settings.listener)
-    }
-}
-
-// Writes the line of each pair of the list.
-impl<const P: u32> Run<P> for PairsCommand<'_> {
-    ghost answers = { PairsAnswers P };
-
+impl<const P: u32> Answer<P> for PairsCommand<'_> {
     ghost paths = { pairs_paths };
 
-    ghost own_faults = { pairs_faults P };
+    ghost within = { λ _. None };
 
-    fn run<R: Threads + Wait + Sync, F: Inputs, W: Write>(
+    ghost placeless = { λ _. ⊥ };
+
+    ghost answers = { PairsAnswers P };
+
+    fn limit(&self) -> Result<Option<u64>, Fault> {
+        Ok(None)
+    }
+
+    fn lacks_places(&self) -> bool {
+        false
+    }
+
+    fn is_input(&self, file: FileKind) -> bool {
+        matches!(file, FileKind::Pairs) && self.pairs == "-"
+    }
+
+    fn answer<R: Threads + Wait + Sync, F: Inputs, W: Write>(
         &self,
         rt: &R,
         alloc: Global,
-        files: &F,
+        place: &Place<'_, F>,
+        width: BucketWidth<P>,
         out: &mut W,
-    ) -> Result<Status, Fault> {
-        let teller = self.options.teller(files);
-        let settings = self.options.settings::<P, _>(&teller)?;
-        if settings.workers.get() == 1 {
-            return self.run_file::<P, _, F, W>(&Alone::new(rt), alloc, files, &settings, out);
+    ) -> Result<Result<Summary, BatchError>, Fault>
+        requires run { (is_layout P ≡ true) × IsSync R.row }
+        requires limit { IsPlaced P None place.now }
+        ensures answered { EndsAt F.files (pairs_paths self.now) None (PairsAnswers P self.now)
+            place.now W.Write out.old out.new result }
+        ensures untouched { IsUntouched out.old out.new result }
+    {
+        let mut gr = place.open(FileKind::Graph, place.graph)?;
+        let mut pairs = place.open(FileKind::Pairs, self.pairs)?;
+        let settings = place.settings::<P>(width);
+        by_crew!(rt, settings, crew => Ok(run_pairs_told(
+            crew, alloc, &mut gr, &mut pairs, out, &settings,
+        )))
+    }
+
+    fn progress(_written: Summary, count: usize) -> Progress {
+        Progress::Pairs {
+            found: count,
+            count,
         }
-        self.run_file::<P, R, F, W>(rt, alloc, files, &settings, out)
     }
 }

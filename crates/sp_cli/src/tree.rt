@@ -1,26 +1,20 @@
 //! The command `spt tree`, which writes the shortest-path tree of each source of a list.
-ghost use Rattle.std.specs.Prelude.{◌≡◌, ℕ, true, List, Option, Some, Ok, Err, IfOk, IfErr, MatchResult, codes};
+ghost use denote.Param.Send.{IsSync};
+ghost use Rattle.std.specs.Prelude.{◌≡◌, true, codes};
 ghost use Rattle.sp_word.specs.Word.{is_layout};
-ghost use Rattle.sp_command.specs.Faults.{is_done, is_early};
-ghost use Rattle.sp_command.specs.Causes.{IsBorneOut};
-ghost use Rattle.sp_command.specs.Scene.{scene};
-ghost use Rattle.sp_matrix.specs.Listing.{InText, These};
-ghost use Rattle.sp_cli.specs.Answers.{TreeAnswers, TreesTold, TreesOf, TreesOfFile, TreesOfGiven, TreesOfSome, InSome, tree_paths, tree_faults, EndsNear};
-ghost use Rattle.sp_options.specs.Sources.{path_of};
-ghost use Rattle.sp_options.specs.Within.{IsLimit};
-ghost use Rattle.sp_options.specs.Ends.{end_of, fault_of};
-ghost use Rattle.sp_cli.specs.Words.{IsTreeOf, LacksTree, tree_rules};
+ghost use Rattle.sp_cli.specs.Told.{LackPlaces};
+ghost use Rattle.sp_cli.specs.Answers.{TreeAnswers, source_paths};
+ghost use Rattle.sp_cli.specs.Commands.{EndsAt, IsPlaced, IsUntouched};
+ghost use Rattle.sp_cli.specs.Words.{AreNamedWithin, LacksSources, tree_rules};
 
-use crate::context::{Context, SourceFile};
+use crate::answer::Answer;
+use crate::by_crew;
+use crate::place::{Place, is_input, lacks_places};
 use clap::{ArgMatches, Error};
-use sp_batch::{TreeCrew, run_batch_told, run_given_told};
-use sp_command::{
-    BuiltCommand, Command, Fault, FileKind, GRAPH_FILE, Inputs, Run, Status, after_help, file,
-};
+use sp_command::{BuiltCommand, Command, Fault, FileKind, GRAPH_FILE, Inputs, after_help, file};
 use sp_device::Write;
-use sp_job::{BatchError, Listener, Progress, Summary};
-use sp_options::{Given, RunOptions, Sources, Teller, Watched, Within};
-use sp_word::Alone;
+use sp_jobs::{BatchError, BucketWidth, Progress, Summary, run_batch_told};
+use sp_options::{RunOptions, Sources, Within};
 use std::alloc::Global;
 use std::sync::Wait;
 use std::thread::Threads;
@@ -33,15 +27,11 @@ several sources. No more threads are started than there are
 processors, and none for a small graph. The output is the same for any
 number";
 
-/// The command `tree`, with its options and the paths of its files.
+/// What the command `tree` asks for.
 #[derive(Drop)]
 pub struct TreeCommand<'a> {
-    /// The path of the graph.
-    pub graph: &'a str,
     /// The sources whose trees are written.
     pub sources: Sources<'a>,
-    /// The options that say how runs are made.
-    pub options: RunOptions,
     /// The greatest distance that is told.
     pub within: Within,
 }
@@ -51,9 +41,9 @@ impl<'a> Command<'a> for TreeCommand<'a> {
 
     ghost rules = { tree_rules };
 
-    ghost reads = { IsTreeOf };
+    ghost reads = { λ found tree. AreNamedWithin found tree.sources tree.within.limit };
 
-    ghost lacks = { LacksTree };
+    ghost lacks = { LacksSources };
 
     const ABOUT: &'static str = "Write the shortest-path tree of each source";
 
@@ -168,205 +158,68 @@ Other errors are
     }
 
     fn read(alloc: Global, given: &ArgMatches<'a>) -> Result<Option<Self>, Error> {
-        let Some(graph) = given.get_str("GR") else {
-            return Ok(None);
-        };
-        let Some(options) = RunOptions::read(alloc, given)? else {
-            return Ok(None);
-        };
         let Some(sources) = Sources::read(alloc, given)? else {
             return Ok(None);
         };
         let Some(within) = Within::read(alloc, given)? else {
             return Ok(None);
         };
-        Ok(Some(TreeCommand {
-            graph,
-            sources,
-            options,
-            within,
-        }))
+        Ok(Some(TreeCommand { sources, within }))
     }
 
     fn path_of(&self, file: FileKind) -> Option<&'a str> {
         match file {
-            FileKind::Graph => Some(self.graph),
             FileKind::Sources => self.sources.path(),
             _ => None,
         }
     }
 }
 
-impl TreeCommand<'_> {
-    // Reports that everything is written, if it is, and returns how the command ends.
-    fn end<F: Inputs>(
-        &self,
-        answer: Result<Summary, BatchError>,
-        teller: &Teller<'_, F>,
-    ) -> Result<Status, Fault>
-        ensures { MatchResult answer
-            (λ summary. result ≡ Ok (end_of self.now.options.far_ok summary))
-            (λ error. result ≡ Err (fault_of error)) }
-    {
-        if let Ok(written) = answer {
-            teller.hear(Progress::Sources {
-                written,
-                count: written.sources as usize,
-            });
-        }
-        self.options.end_of(answer)
-    }
+impl<const P: u32> Answer<P> for TreeCommand<'_> {
+    ghost paths = { λ tree. source_paths tree.sources };
 
-    // Runs from the sources of a file, or from those at some of its places.
-    fn run_file<const P: u32, R: TreeCrew<P>, F: Inputs, W: Write>(
-        &self,
-        rt: &R,
-        alloc: Global,
-        context: &Context<'_, P, F>,
-        list: &SourceFile<'_>,
-        out: &mut W,
-    ) -> Result<Status, Fault>
-        requires run { (is_layout P ≡ true) × R.is_shared }
-        requires limit { IsLimit P context.now.limit }
-        requires path { path_of self.now.sources ≡ Some list.now.path.now }
-        ensures answered { TreesOfFile P self.now.options.far_ok context.now.limit
-            self.now.graph.now list.now.path.now list.now.places
-            (scene (F.files context.now.files.now)
-            (W.written out.old) (W.written out.new) (W.has_failed out.new)) result }
-        ensures of_some { IfOk result
-            (InSome P self.now.options.far_ok context.now.limit (InText list.now.places)
-            (scene (F.files context.now.files.now)
-            (W.written out.old) (W.written out.new) (W.has_failed out.new))) }
-        ensures borne_out { IfErr result (IsBorneOut (tree_paths self.now) (tree_faults P self.now)
-            (scene (F.files context.now.files.now)
-            (W.written out.old) (W.written out.new) (W.has_failed out.new))) }
-        ensures near { EndsNear result context.now.limit }
-        ensures done { IfOk result (λ status. is_done status ≡ true) }
-        ensures untouched { IfErr result (λ fault. is_early fault ≡ true → out.new ≡ out.old) }
-    {
-        let (files, settings) = (context.files, context.settings);
-        let (gr, ss) = FileKind::Sources.open_with_graph(files, self.graph, list.path)?;
-        let mut gr = Watched::new(gr, FileKind::Graph, settings.listener);
-        let mut ss = Watched::new(ss, FileKind::Sources, settings.listener);
-        let (places, limit) = (list.places, context.limit);
-        let answer = run_batch_told::<P, R, _, _, W, _>(
-            rt, alloc, &mut gr, &mut ss, places, limit, out, settings,
-        );
-        self.end(answer, settings.listener)
-    }
+    ghost within = { λ tree. tree.within.limit };
 
-    // Runs from the sources that the command line gives.
-    fn run_given<const P: u32, R: TreeCrew<P>, F: Inputs, W: Write>(
-        &self,
-        rt: &R,
-        alloc: Global,
-        context: &Context<'_, P, F>,
-        given: &Given,
-        out: &mut W,
-    ) -> Result<Status, Fault>
-        requires run { (is_layout P ≡ true) × R.is_shared }
-        requires limit { IsLimit P context.now.limit }
-        ensures answered { TreesOfGiven P self.now.options.far_ok context.now.limit
-            self.now.graph.now given.now.list.items (scene (F.files context.now.files.now)
-            (W.written out.old) (W.written out.new) (W.has_failed out.new)) result }
-        ensures of_some { IfOk result
-            (InSome P self.now.options.far_ok context.now.limit (λ _. These given.now.list.items)
-            (scene (F.files context.now.files.now)
-            (W.written out.old) (W.written out.new) (W.has_failed out.new))) }
-        ensures borne_out { IfErr result (IsBorneOut (tree_paths self.now) (tree_faults P self.now)
-            (scene (F.files context.now.files.now)
-            (W.written out.old) (W.written out.new) (W.has_failed out.new))) }
-        ensures near { EndsNear result context.now.limit }
-        ensures done { IfOk result (λ status. is_done status ≡ true) }
-        ensures untouched { IfErr result (λ fault. is_early fault ≡ true → out.new ≡ out.old) }
-    {
-        let (files, settings) = (context.files, context.settings);
-        let gr = FileKind::Graph.open(files, self.graph)?;
-        let mut gr = Watched::new(gr, FileKind::Graph, settings.listener);
-        let answer = run_given_told::<P, R, _, W, _>(
-            rt,
-            alloc,
-            &mut gr,
-            &given.list,
-            context.limit,
-            out,
-            settings,
-        );
-        self.end(answer, settings.listener)
-    }
+    ghost placeless = { λ tree. LackPlaces tree.sources };
 
-    // Runs from the sources, wherever they stand.
-    fn run_all<const P: u32, R: TreeCrew<P>, F: Inputs, W: Write>(
-        &self,
-        rt: &R,
-        alloc: Global,
-        context: &Context<'_, P, F>,
-        out: &mut W,
-    ) -> Result<Status, Fault>
-        requires run { (is_layout P ≡ true) × R.is_shared }
-        requires limit { IsLimit P context.now.limit }
-        ensures answered { TreesOf P self.now.options.far_ok context.now.limit
-            self.now.graph.now self.now.sources
-            (scene (F.files context.now.files.now)
-            (W.written out.old) (W.written out.new) (W.has_failed out.new)) result }
-        ensures of_some { IfOk result
-            (TreesOfSome P self.now.options.far_ok context.now.limit self.now.sources
-            (scene (F.files context.now.files.now)
-            (W.written out.old) (W.written out.new) (W.has_failed out.new))) }
-        ensures borne_out { IfErr result (IsBorneOut (tree_paths self.now) (tree_faults P self.now)
-            (scene (F.files context.now.files.now)
-            (W.written out.old) (W.written out.new) (W.has_failed out.new))) }
-        ensures near { EndsNear result context.now.limit }
-        ensures done { IfOk result (λ status. is_done status ≡ true) }
-        ensures untouched { IfErr result (λ fault. is_early fault ≡ true → out.new ≡ out.old) }
-    {
-        match &self.sources {
-            Sources::File(path) => {
-                let list = SourceFile { path, places: None };
-                self.run_file::<P, R, F, W>(rt, alloc, context, &list, out)
-            }
-            Sources::Part(path, places) => {
-                if places.is_none() {
-                    return Err(Fault::NoPlaces);
-                }
-                let list = SourceFile {
-                    path,
-                    places: *places,
-                };
-                self.run_file::<P, R, F, W>(rt, alloc, context, &list, out)
-            }
-            Sources::Given(given) => {
-                self.run_given::<P, R, F, W>(rt, alloc, context, given, out)
-            }
-        }
-    }
-}
-
-// Writes the tree of each source of the list, or the line of the vertex that is too far.
-impl<const P: u32> Run<P> for TreeCommand<'_> {
     ghost answers = { TreeAnswers P };
 
-    ghost paths = { tree_paths };
+    fn limit(&self) -> Result<Option<u64>, Fault> {
+        self.within.limit_for::<P>()
+    }
 
-    ghost own_faults = { tree_faults P };
+    fn lacks_places(&self) -> bool {
+        lacks_places(&self.sources)
+    }
 
-    fn run<R: Threads + Wait + Sync, F: Inputs, W: Write>(
+    fn is_input(&self, file: FileKind) -> bool {
+        matches!(file, FileKind::Sources) && is_input(&self.sources)
+    }
+
+    fn answer<R: Threads + Wait + Sync, F: Inputs, W: Write>(
         &self,
         rt: &R,
         alloc: Global,
-        files: &F,
+        place: &Place<'_, F>,
+        width: BucketWidth<P>,
         out: &mut W,
-    ) -> Result<Status, Fault> {
-        let teller = self.options.teller(files);
-        let settings = self.options.settings::<P, _>(&teller)?;
-        let context = Context {
-            files,
-            settings: &settings,
-            limit: self.within.limit_for::<P>()?,
-        };
-        if settings.workers.get() == 1 {
-            return self.run_all::<P, _, F, W>(&Alone::new(rt), alloc, &context, out);
-        }
-        self.run_all::<P, _, F, W>(&rt, alloc, &context, out)
+    ) -> Result<Result<Summary, BatchError>, Fault>
+        requires run { (is_layout P ≡ true) × IsSync R.row }
+        requires limit { IsPlaced P self.now.within.limit place.now }
+        ensures answered { EndsAt F.files (source_paths self.now.sources)
+            self.now.within.limit (TreeAnswers P self.now)
+            place.now W.Write out.old out.new result }
+        ensures untouched { IsUntouched out.old out.new result }
+    {
+        let mut gr = place.open(FileKind::Graph, place.graph)?;
+        let sources = place.open_list(FileKind::Sources, &self.sources)?;
+        let settings = place.settings::<P>(width);
+        by_crew!(rt, settings, crew => Ok(run_batch_told(
+            crew, alloc, &mut gr, sources, place.limit, out, &settings,
+        )))
+    }
+
+    fn progress(written: Summary, count: usize) -> Progress {
+        Progress::Sources { written, count }
     }
 }

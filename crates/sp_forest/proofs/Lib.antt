@@ -7,3 +7,8 @@ pub mod SameSources
 pub mod Chains
 pub mod RootSteps
 pub mod RisingRows
+pub mod ForestAnswers
+pub mod ForestWords
+pub mod OneSource
+pub mod TargetAnswers
+pub mod RunAnswers

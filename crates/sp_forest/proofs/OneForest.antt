@@ -3,9 +3,9 @@ use Rattle.std.proofs.Common.{◌≡◌, ℕ, ◌≤◌, ◌⊎◌, inl, inr, Li
 use Rattle.std.specs.Prelude.{Contains}
 use Rattle.sp_word.specs.History.{Table}
 use Rattle.sp_word.specs.Word.{Word, Pair, Unreached}
-use Rattle.sp_paths.specs.Paths.{Graph, HasWalk, IsLeast, IsTreeWord, EndsInTree, IsNear as IsNearOne, IsPredecessor as IsPredecessorFromOne}
+use Rattle.sp_paths.specs.Paths.{Graph, HasWalk, IsLeast, IsTreeWord, EndsInTree, IsNear as IsNearOne, IsPredecessor as IsPredecessorFromOne, IsBeyond as IsBeyondOne, IsFar as IsFarFromOne}
 use Rattle.sp_paths.proofs.Least.{least_exists}
-use Rattle.sp_forest.specs.Forests.{HasWalkFromAny, IsNearest, IsPredecessor, IsForestWord, IsNear, IsForestWithin, IsFar}
+use Rattle.sp_forest.specs.Forests.{HasWalkFromAny, IsNearest, IsPredecessor, IsForestWord, IsNear, IsForestWithin, IsBeyond, IsFar}
 use Rattle.sp_forest.specs.Laws.{IsLeastOfAll, NearestIsLeastOfAll, ForestsAreOne, OneSource, ForestOfOneIsTree}
 use Rattle.sp_forest.proofs.Walks.{contains_front, contains_first, nearest_same, source_nearest}
 
@@ -118,11 +118,27 @@ module _ (g : Graph) (s : ℕ) where
   within_of : (max : ℕ) (words : Table) → EndsInTree g s max words → IsForestWithin g (s ∷ []) max words
   within_of max words h = record { near = λ v n. word_of v (words v) (h.near v (near_to max v n)); others = λ v at far. h.others v at (λ n. far (near_of max v n)) }
 
+  beyond_to : (max v : ℕ) → IsBeyond g (s ∷ []) max v → IsBeyondOne g s max v
+  beyond_to max v b = record { dist = b.dist; least = least_to v b.dist b.least; above = b.above; tail = b.tail; tail_dist = b.tail_dist; tail_least = least_to b.tail b.tail_dist b.tail_least; tail_within = b.tail_within; len = b.len; arc = b.arc }
+
+  beyond_of : (max v : ℕ) → IsBeyondOne g s max v → IsBeyond g (s ∷ []) max v
+  beyond_of max v b = record { dist = b.dist; least = least_of v b.dist b.least; above = b.above; tail = b.tail; tail_dist = b.tail_dist; tail_least = least_of b.tail b.tail_dist b.tail_least; tail_within = b.tail_within; len = b.len; arc = b.arc }
+
+  far_to : (max : ℕ) (v : Option ℕ) → IsFar g (s ∷ []) max v → IsFarFromOne g s max v
+  far_to max None h = λ v b. h v (beyond_of max v b)
+  far_to max (Some v) h = (beyond_to max v h.0, λ w b. h.1 w (beyond_of max w b))
+
+  far_of : (max : ℕ) (v : Option ℕ) → IsFarFromOne g s max v → IsFar g (s ∷ []) max v
+  far_of max None h = λ v b. h v (beyond_to max v b)
+  far_of max (Some v) h = (beyond_of max v h.0, λ w b. h.1 w (beyond_to max w b))
+
   one_source : OneSource g s
   one_source = record {
     nearest = λ v d. (least_to v d, least_of v d);
+    word = λ v w. (word_to v w, word_of v w);
     forest = λ words. (λ f v h. word_to v (words v) (f v h), λ f v h. word_of v (words v) (f v h));
     within = λ max words. (within_to max words, within_of max words);
+    far = λ max v. (far_to max v, far_of max v);
   }
 
 pub forest_of_one_is_tree : ForestOfOneIsTree

@@ -1,8 +1,8 @@
 -- What the definitions of forests make true. Each statement is the contract of a function of the crate.
 use Rattle.std.specs.Prelude.{◌≡◌, ℕ, ◌≤◌, ◌⊎◌, ◌↔◌, List, [], ◌∷◌, All, Contains, Option, Some, None}
-use Rattle.sp_word.specs.Word.{Pair}
+use Rattle.sp_word.specs.Word.{Word, Pair}
 use Rattle.sp_word.specs.History.{Table}
-use Rattle.sp_paths.specs.Paths.{Graph, IsGraph, IsVertex, IsLeast, IsLeftOut, IsTree, EndsInTree}
+use Rattle.sp_paths.specs.Paths.{Graph, IsGraph, IsVertex, IsLeast, IsLeftOut, IsTree, IsTreeWord, EndsInTree, IsFar as IsFarFromOne}
 use Rattle.sp_forest.specs.Forests.{IsNearest, IsForestWord, IsForest, IsNear, IsForestWithin, IsFar, IsClosedTable, IsFinished}
 use Rattle.sp_forest.specs.Roots.{IsRoot, FallsBack}
 
@@ -41,8 +41,10 @@ pub record ForestsAreOne : Type 0 where
 -- the forest of one source is its tree
 pub record OneSource (g : Graph) (s : ℕ) : Type 0 where
   pub nearest : (v d : ℕ) → IsNearest g (s ∷ []) v d ↔ IsLeast g s v d
+  pub word : (v : ℕ) (w : Word) → IsForestWord g (s ∷ []) v w ↔ IsTreeWord g s v w
   pub forest : (words : Table) → IsForest g (s ∷ []) words ↔ IsTree g s words
   pub within : (max : ℕ) (words : Table) → IsForestWithin g (s ∷ []) max words ↔ EndsInTree g s max words
+  pub far : (max : ℕ) (v : Option ℕ) → IsFar g (s ∷ []) max v ↔ IsFarFromOne g s max v
 
 abbrev pub ForestOfOneIsTree : Type 0
 ForestOfOneIsTree = (g : Graph) (s : ℕ) → OneSource g s

@@ -4,3 +4,4 @@ pub mod Laws
 pub mod ForestTable
 pub mod Rooted
 pub mod Nearest
+pub mod Run

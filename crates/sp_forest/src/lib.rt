@@ -1,12 +1,17 @@
 //! Forests of shortest paths: the least distance of each vertex from any of several sources, the forest as a table of rows with
-//! the root of each vertex, and the theorems about tables of words that a run from several sources stands on.
+//! the root of each vertex, and the theorems about tables of words that a run from several sources stands on. What a run is asked
+//! (`Run`), and what its words answer (`RunWords`), stand here for whichever engine finds them.
 #![tactic(auto)]
 
+mod asked;
 mod forest;
 mod laws;
 mod rooting;
 mod rows;
+mod words;
 
+pub use asked::{Run, Until, are_vertices};
 pub use forest::Forest;
 pub use laws::{closed_table, finished_table, meanings, roots};
 pub use rooting::roots_of;
+pub use words::{RunWords, farthest};

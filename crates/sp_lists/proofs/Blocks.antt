@@ -5,7 +5,7 @@ use Rattle.std.proofs.Math.Nat.{suc-mul, mul-le-mul_right}
 use Rattle.std.proofs.lemmas.Option.{get_or_from_slice_get, slice_get-get_or}
 use Rattle.sp_paths.specs.Paths.{Graph, IsVertex}
 use Rattle.sp_lists.specs.declared.answers.Told.{Told}
-use Rattle.sp_lists.specs.declared.answers.Told.TheVariants.{Tree, BadSize, BadDelta, BadArc, NoSuchVertex, TooFar, Memory, Wrong, NoGraph, BadLimit}
+use Rattle.sp_lists.specs.declared.answers.Told.TheVariants.{Tree, TooFar, Memory}
 use Rattle.sp_lists.specs.Blocks.{Slices, IsCell, HasSameAt, HasTreeAt, KeepsOthers, IsSolvedAt, AreDone, AreSolved}
 
 pub next_block : (i n : ℕ) → (i + 1) * n ≡ i * n + n
@@ -38,19 +38,19 @@ stays max g s low at old new behind same is = record {
       subst D (sym both.0) (subst E (sym both.1) (is.cells v vertex));
 }
 
--- One tree more.
-next_tree : (max : ℕ) (g : Graph) (sources : List ℕ) (place low : ℕ) (old mid new : Slices) → low ≡ place * g.n → AreDone max g sources place old mid
-    → HasTreeAt max g (slice_index sources place) low new → KeepsOthers low g.n mid new → (i s : ℕ) → i < place + 1 → slice_get sources i ≡ Some s → HasTreeAt max g s (i * g.n) new
-next_tree max g sources place low old mid new at done tree same i s h there =
+-- What blocks of n places hold, one after the other, with one block more.
+pub next_holds : {S : Type 0} (Holds : (s low : ℕ) → S → Type 0) (sources : List ℕ) (n place : ℕ) (mid new : S) → ((i s : ℕ) → i * n + n ≤ place * n → Holds s (i * n) mid → Holds s (i * n) new)
+    → ((i s : ℕ) → i < place → slice_get sources i ≡ Some s → Holds s (i * n) mid) → Holds (slice_index sources place) (place * n) new → (i s : ℕ) → i < place + 1 → slice_get sources i ≡ Some s → Holds s (i * n) new
+next_holds Holds sources n place mid new stay before last i s h there =
     let which : (i < place) ⊎ (i ≡ place) = grind arith in
     elim which [
-      | inl below ↦ stays max g s (i * g.n) low mid new (subst (λ k. i * g.n + g.n ≤ k) (sym at) (earlier i place g.n below)) same (done.trees i s below there)
+      | inl below ↦ stay i s (earlier i place n below) (before i s below there)
       | inr e ↦
           let here : slice_get sources place ≡ Some s = subst (λ k. slice_get sources k ≡ Some s) e there in
           let source : slice_index sources place ≡ s = get_or_from_slice_get sources place s 0 here in
-          let T : ℕ → Type 0 = λ x. HasTreeAt max g x low new in
-          let L : ℕ → Type 0 = λ x. HasTreeAt max g s x new in
-          subst L (at ∙ ap (λ k. k * g.n) (sym e)) (subst T source tree)
+          let T : ℕ → Type 0 = λ x. Holds x (place * n) new in
+          let L : ℕ → Type 0 = λ x. Holds s (x * n) new in
+          subst L (sym e) (subst T source last)
     ]
 
 kept_twice : (old mid new : Slices) (k : ℕ) → HasSameAt old mid k → HasSameAt mid new k → HasSameAt old new k
@@ -59,14 +59,15 @@ kept_twice old mid new k first then = (then.0 ∙ first.0, then.1 ∙ first.1)
 -- One source more is done.
 pub one_more : (max : ℕ) (g : Graph) (sources : List ℕ) (place low : ℕ) (old mid new : Slices) → low ≡ place * g.n → AreDone max g sources place old mid
     → IsSolvedAt max g (slice_index sources place) low mid new Tree → AreDone max g sources (place + 1) old new
-one_more max g sources place low old mid new at done solved = record {
-  trees = next_tree max g sources place low old mid new at done solved.0 solved.1;
-  rest = λ k h.
-      let next : (place + 1) * g.n ≡ low + g.n = next_block place g.n ∙ ap (λ x. x + g.n) (sym at) in
-      let beyond : low + g.n ≤ k = subst (λ x. x ≤ k) next h in
-      let above : low ≤ k = omega arith in
-      kept_twice old mid new k (done.rest k (subst (λ x. x ≤ k) at above)) (solved.1.beyond k beyond);
-}
+one_more max g sources place low old mid new at done solved =
+    let R : ℕ → Type 0 = λ x. IsSolvedAt max g (slice_index sources place) x mid new Tree in
+    let block : R (place * g.n) = subst R at solved in record {
+      trees = next_holds (HasTreeAt max g) sources g.n place mid new (λ i s behind is. stays max g s (i * g.n) (place * g.n) mid new behind block.1 is) done.trees block.0;
+      rest = λ k h.
+          let beyond : place * g.n + g.n ≤ k = subst (λ x. x ≤ k) (next_block place g.n) h in
+          let above : place * g.n ≤ k = omega arith in
+          kept_twice old mid new k (done.rest k above) (block.1.beyond k beyond);
+    }
 
 -- Why a source has no tree is why there are no more.
 pub stopped : (max : ℕ) (g : Graph) (sources : List ℕ) (place low : ℕ) (old mid new : Slices) (told : Told) → place < length sources → (told ≡ Tree → ⊥) → AreDone max g sources place old mid
@@ -80,10 +81,4 @@ stopped max g sources place low old mid new Memory within not done is = (
   subst (λ x. AreDone max g sources place old x) (sym is) done,
   inl within,
 )
-stopped max g sources place low old mid new BadSize within not done is = absurd is
-stopped max g sources place low old mid new BadDelta within not done is = absurd is
-stopped max g sources place low old mid new (BadArc p) within not done is = absurd is
-stopped max g sources place low old mid new (NoSuchVertex p) within not done is = absurd is
-stopped max g sources place low old mid new (Wrong v) within not done is = absurd is
-stopped max g sources place low old mid new NoGraph within not done is = absurd is
-stopped max g sources place low old mid new BadLimit within not done is = absurd is
+stopped max g sources place low old mid new told within not done is = absurd is

@@ -1,3 +1,5 @@
 mod Blocks
 pub mod Forests
 mod Rows
+mod Layouts
+mod RowCells

@@ -4,9 +4,10 @@ use Rattle.std.specs.declared.option.Option.{Option}
 use Rattle.std.specs.declared.option.Option.TheVariants.{None, Some}
 use Rattle.sp_word.specs.Word.{Word, Unreached, Pair, max_dist}
 use Rattle.sp_word.specs.History.{Table}
-use Rattle.sp_paths.specs.Paths.{Graph, IsVertex}
+use Rattle.sp_paths.specs.Paths.{Graph, IsVertex, word_at}
 use Rattle.sp_forest.specs.Forests.{IsFar}
 use Rattle.sp_forest.specs.ForestTable.{ForestTable, table_of, root_of}
+use Rattle.sp_forest.specs.Rooted.{root_at}
 use Rattle.sp_forest.specs.Nearest.{IsForestUpTo, IsRootAt}
 use Rattle.sp_lists.specs.declared.answers.Told.{Told}
 use Rattle.sp_lists.specs.declared.answers.Told.TheVariants.{Tree, TooFar, Memory}
@@ -47,9 +48,24 @@ IsRootPut (Pair d p) root r = (s : ℕ) → root ≡ Some s → r ≡ s
 abbrev pub ArePutRoots : (n : ℕ) → ForestTable → (root : List ℕ) → Type 0
 ArePutRoots n f root = (v : ℕ) → IsVertex n v → IsRootPut (table_of f v) (root_of f v) (slice_index root (v - 1))
 
+-- The first n vertices have no root in the slice.
+abbrev pub AreNoRoots : (n : ℕ) → (root : List ℕ) → Type 0
+AreNoRoots n root = (v : ℕ) → IsVertex n v → slice_index root (v - 1) ≡ 0
+
 -- The slice holds the roots of n vertices.
 abbrev pub AreRootCells : Graph → (sources : List ℕ) → (n : ℕ) → Table → (root : List ℕ) → Type 0
 AreRootCells g sources n words root = (v : ℕ) → IsVertex n v → IsRootCell g sources words v (words v) (slice_index root (v - 1))
+
+-- The slice holds these roots, that of vertex v at the index v - 1.
+abbrev pub HoldsRoots : (roots root : List ℕ) → Type 0
+HoldsRoots roots root = (v : ℕ) → IsVertex (length roots) v → slice_index root (v - 1) ≡ root_at roots v
+
+-- The words and the roots of n vertices: those of the forest of the sources, up to the limit if there is one.
+pub record AreRooted (P : ℕ) (g : Graph) (sources : List ℕ) (limit : Option ℕ) (words : List Word) (roots : List ℕ) : Type 0 where
+  pub size : length words ≡ g.n
+  pub as_many : length roots ≡ g.n
+  pub forest : IsForestUpTo P g sources limit (word_at words)
+  pub cells : AreRootCells g sources g.n (word_at words) roots
 
 -- The slices hold the forest of the sources, in which no vertex is too far for a word with P bits of predecessor; with a limit,
 -- they hold the part of it within the limit.

@@ -1,4 +1,5 @@
 //! What is told of a question about a graph.
+ghost use Rattle.std.specs.Prelude.{◌≡◌};
 
 /// Why a call ends. `BadArc`, `Wrong` and `NoGraph` are for those who take arcs, check a tree or keep a graph.
 #[derive(Clone, Copy, Debug, PartialEq, Eq)]
@@ -30,4 +31,30 @@ pub enum Told {
 pub struct Batch {
     pub done: usize,
     pub told: Told,
+}
+
+impl Batch {
+    /// Returns why no source is done.
+    pub fn none(told: Told) -> Batch
+        ensures { result ≡ record { told = told; done = 0 } }
+    {
+        Batch { done: 0, told }
+    }
+}
+
+/// How many vertices a part has that is listed, and why it isn't, if it isn't: then the number is 0, unless it is that of the places
+/// which are needed.
+#[derive(Clone, Copy, Debug, PartialEq, Eq)]
+pub struct Listed {
+    pub told: Told,
+    pub count: usize,
+}
+
+impl Listed {
+    /// Returns why no part is listed.
+    pub fn none(told: Told) -> Listed
+        ensures { result ≡ record { told = told; count = 0 } }
+    {
+        Listed { told, count: 0 }
+    }
 }

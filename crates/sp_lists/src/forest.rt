@@ -1,19 +1,23 @@
 //! The forest of several sources.
-ghost use Rattle.std.specs.Prelude.{◌≡◌, ◌≤◌, length, true, All, IfSome};
+ghost use Rattle.std.specs.Prelude.{◌≡◌, ◌≤◌, Some, length, true, All, IfOk, IfErr, IfSome};
 ghost use Rattle.sp_word.specs.Word.{is_layout, max_dist, max_pred};
-ghost use Rattle.sp_paths.specs.Paths.{IsVertex};
+ghost use Rattle.sp_paths.specs.Paths.{IsVertex, word_at};
 ghost use Rattle.sp_forest.specs.ForestTable.{table_of};
+ghost use Rattle.sp_forest.specs.Nearest.{IsForestAnswer, IsRefusal};
 ghost use Rattle.sp_lists.specs.Limits.{IsCount, pred_bits};
 ghost use Rattle.sp_lists.specs.Query.{IsLimit};
 ghost use Rattle.sp_lists.specs.Blocks.{slices, AreCells};
-ghost use Rattle.sp_lists.specs.Near.{lists, KeepsListsFrom, IsRootPut, ArePutRoots, IsForestIn, IsForestOf};
+ghost use Rattle.sp_lists.specs.Matrix.{KeepsListFrom};
+ghost use Rattle.sp_lists.specs.Near.{lists, KeepsListsFrom, IsRootPut, AreNoRoots, ArePutRoots, HoldsRoots, AreRooted, IsForestIn, IsForestOf};
 
 use crate::answers::Told;
-use crate::cells::cell_of;
+use crate::cells::{cell_of, put_unreached};
+use crate::prepared::{At, Prepared, by_layout, fitting};
 use crate::queries::Query;
-use sp_forest::Forest;
+use crate::words::find_words;
+use sp_forest::{Forest, roots_of};
 use sp_graph::Graph;
-use sp_serial::{RunError, run_nearest_alone};
+use sp_serial::RunError;
 use sp_word::Word;
 use std::alloc::Global;
 
@@ -26,16 +30,28 @@ pub struct Near<'a> {
     pub delta: u64,
 }
 
+// The words of the vertices of a forest, and their roots.
+#[derive(Drop)]
+struct Rooted<const P: u32> {
+    words: Vec<Word<P>>,
+    roots: Vec<u32>,
+}
+
 // Returns what represents the root of a word.
-fn root_cell<const P: u32>(word: Word<P>, root: Option<u32>) -> u32
-    ensures { IsRootPut word.entry root result }
+fn root_cell<const P: u32>(word: Word<P>, root: u32) -> u32
+    ensures { IsRootPut word.entry (Some root) result }
 {
-    if word.is_unreached() {
-        return 0;
-    }
-    match root {
-        Some(root) => root,
-        None => 0,
+    if word.is_unreached() { 0 } else { root }
+}
+
+// Writes of `n` vertices that they have no root.
+fn put_no_roots(n: u32, root: &mut [u32])
+    requires { n ≤ length root.old }
+    ensures cells { AreNoRoots n root.new }
+    ensures others { KeepsListFrom n root.old root.new }
+{
+    for place in 0..n as usize {
+        root[place] = 0;
     }
 }
 
@@ -55,37 +71,110 @@ fn put_forest<const P: u32>(
         (lists dist.old pred.old root.old) (lists dist.new pred.new root.new) }
 {
     let n = forest.n();
-    for place in 0..n {
-        let word = forest.word(place + 1);
-        let cell = cell_of(word);
-        dist[place as usize] = cell.dist;
-        pred[place as usize] = cell.pred;
-        root[place as usize] = root_cell(word, forest.root(place + 1));
+    put_unreached(n, dist, pred);
+    put_no_roots(n, root);
+    let rows = forest.rows();
+    let mut left = rows.len();
+    'rows: while left > 0 {
+        left -= 1;
+        let row = rows[left];
+        let cell = cell_of(row.1);
+        let place = (row.0 - 1) as usize;
+        dist[place] = cell.dist;
+        pred[place] = cell.pred;
+        root[place] = root_cell(row.1, row.2);
+    }
+}
+
+// Writes the words and the roots of the vertices, those of vertex `v` at `v - 1`.
+fn put_rooted<const P: u32>(
+    words: &[Word<P>],
+    roots: &[u32],
+    dist: &mut [u64],
+    pred: &mut [u32],
+    root: &mut [u32],
+)
+    requires size { length roots.now ≡ length words.now }
+    requires dist { length words.now ≤ length dist.old }
+    requires pred { length words.now ≤ length pred.old }
+    requires root { length words.now ≤ length root.old }
+    ensures cells { AreCells 0 (length words.now) (word_at words.now) (slices dist.new pred.new) }
+    ensures roots { HoldsRoots roots.now root.new }
+    ensures others { KeepsListsFrom (length words.now)
+        (lists dist.old pred.old root.old) (lists dist.new pred.new root.new) }
+{
+    for place in 0..words.len() {
+        let cell = cell_of(words[place]);
+        dist[place] = cell.dist;
+        pred[place] = cell.pred;
+        root[place] = roots[place];
+    }
+}
+
+// Returns the part of the forest by a search near the sources, if there is a limit and the room answers.
+fn near_forest<const P: u32>(alloc: Global, at: At<P>, near: Near) -> Option<Forest<P>>
+    requires bits { P ≡ pred_bits at.graph.now.n }
+    requires n { IsCount at.graph.now.n }
+    requires vertices { All (IsVertex at.graph.now.n) near.sources.now }
+    requires limit { IsLimit at.graph.now.n near.limit }
+    ensures { IfSome result
+        (IsForestAnswer P at.entry.graph.now near.entry.sources.now near.entry.limit) }
+{
+    let At { graph, room } = at;
+    fitting::<P>(graph);
+    match near.limit {
+        Some(limit) => room.forest(alloc, graph, near.sources, limit),
+        None => None,
+    }
+}
+
+// Returns the forest by a run.
+fn run_forest<const P: u32>(alloc: Global, graph: &Graph, near: Near) -> Result<Rooted<P>, RunError>
+    requires layout { is_layout P ≡ true }
+    requires n { graph.now.n ≤ max_pred P }
+    requires vertices { All (IsVertex graph.now.n) near.sources.now }
+    requires limit { IfSome near.limit (λ limit. limit ≤ max_dist P) }
+    ensures forest { IfOk result (λ made. AreRooted P graph.now
+        near.entry.sources.now near.entry.limit made.words.items made.roots.items) }
+    ensures refused { IfErr result
+        (IsRefusal P graph.now near.entry.sources.now near.entry.limit) }
+{
+    let _ = graph.n();
+    let words = find_words::<P>(alloc, graph, near.sources, near.limit)?;
+    match roots_of(alloc, words.as_slice()) {
+        Ok(roots) => Ok(Rooted { words, roots }),
+        Err(_) => Err(RunError::Memory),
     }
 }
 
 // Writes the forest.
 fn forest_by<const P: u32>(
     alloc: Global,
-    graph: &Graph,
+    at: At<P>,
     near: Near,
     dist: &mut [u64],
     pred: &mut [u32],
     root: &mut [u32],
 ) -> Told
-    requires layout { is_layout P ≡ true }
-    requires n { graph.now.n ≤ max_pred P }
-    requires vertices { All (IsVertex graph.now.n) near.sources.now }
-    requires limit { IfSome near.limit (λ limit. limit ≤ max_dist P) }
-    requires dist { graph.now.n ≤ length dist.old }
-    requires pred { graph.now.n ≤ length pred.old }
-    requires root { graph.now.n ≤ length root.old }
-    ensures { IsForestIn P graph.now near.entry.sources.now near.entry.limit
+    requires bits { P ≡ pred_bits at.graph.now.n }
+    requires n { IsCount at.graph.now.n }
+    requires vertices { All (IsVertex at.graph.now.n) near.sources.now }
+    requires limit { IsLimit at.graph.now.n near.limit }
+    requires dist { at.graph.now.n ≤ length dist.old }
+    requires pred { at.graph.now.n ≤ length pred.old }
+    requires root { at.graph.now.n ≤ length root.old }
+    ensures { IsForestIn (pred_bits at.entry.graph.now.n) at.entry.graph.now
+        near.entry.sources.now near.entry.limit
         (lists dist.old pred.old root.old) (lists dist.new pred.new root.new) result }
 {
-    match run_nearest_alone::<P>(alloc, graph, near.sources, near.limit) {
-        Ok(forest) => {
-            put_forest(&forest, dist, pred, root);
+    if let Some(forest) = near_forest(alloc, at, near) {
+        put_forest(&forest, dist, pred, root);
+        return Told::Tree;
+    }
+    fitting::<P>(at.graph);
+    match run_forest::<P>(alloc, at.graph, near) {
+        Ok(made) => {
+            put_rooted(&made.words, &made.roots, dist, pred, root);
             Told::Tree
         }
         Err(RunError::TooFar(vertex)) => Told::TooFar(vertex),
@@ -94,47 +183,17 @@ fn forest_by<const P: u32>(
     }
 }
 
-// Writes the forest by the layout with the greatest distances that can name the vertices.
-fn forest_in(
-    alloc: Global,
-    graph: &Graph,
-    near: Near,
-    dist: &mut [u64],
-    pred: &mut [u32],
-    root: &mut [u32],
-) -> Told
-    requires n { IsCount graph.now.n }
-    requires vertices { All (IsVertex graph.now.n) near.sources.now }
-    requires limit { IsLimit graph.now.n near.limit }
-    requires dist { graph.now.n ≤ length dist.old }
-    requires pred { graph.now.n ≤ length pred.old }
-    requires root { graph.now.n ≤ length root.old }
-    ensures { IsForestIn (pred_bits graph.now.n) graph.now
-        near.entry.sources.now near.entry.limit
-        (lists dist.old pred.old root.old) (lists dist.new pred.new root.new) result }
-{
-    let n = graph.n();
-    if n <= 1_048_574 {
-        forest_by::<20>(alloc, graph, near, dist, pred, root)
-    } else if n <= 16_777_214 {
-        forest_by::<24>(alloc, graph, near, dist, pred, root)
-    } else if n <= 268_435_454 {
-        forest_by::<28>(alloc, graph, near, dist, pred, root)
-    } else {
-        forest_by::<32>(alloc, graph, near, dist, pred, root)
-    }
-}
-
 /// Tests what is asked, and writes the forest from the front of the lists on; or tells why not, and writes nothing.
 pub fn write_forest(
     alloc: Global,
-    graph: &Graph,
+    prepared: Prepared,
     near: Near,
     dist: &mut [u64],
     pred: &mut [u32],
     root: &mut [u32],
 ) -> Told
-    ensures { IsForestOf graph.now near.entry.sources.now near.entry.limit near.entry.delta
+    ensures { IsForestOf prepared.entry.graph.now
+        near.entry.sources.now near.entry.limit near.entry.delta
         (lists dist.old pred.old root.old) (lists dist.new pred.new root.new) result }
 {
     let query = Query {
@@ -143,11 +202,11 @@ pub fn write_forest(
         delta: near.delta,
         limit: near.limit,
         rows: 1,
-        columns: graph.n() as usize,
+        columns: prepared.n() as usize,
     };
     let places = dist.len().min(pred.len()).min(root.len());
-    if let Some(told) = query.refusal(graph.n(), places) {
+    if let Some(told) = query.refusal(prepared.n(), places) {
         return told;
     }
-    forest_in(alloc, graph, near, dist, pred, root)
+    by_layout!(prepared, at => forest_by(alloc, at, near, dist, pred, root))
 }

@@ -1,5 +1,6 @@
 //! Questions about a graph, answered by the calling thread into lists that the caller lends: the trees of several sources, the
-//! part of a tree within a distance, the forest of several sources and a matrix of distances; and the answer for one target.
+//! part of a tree within a distance, whole or as a list of the vertices in it, the forest of several sources and a matrix of
+//! distances; and the answer for one target.
 //! Each answer is by the layout with the greatest distances that can name the vertices.
 #![tactic(auto)]
 
@@ -9,15 +10,20 @@ mod forest;
 mod limits;
 mod matrix;
 mod parts;
+mod prepared;
 mod queries;
+mod rooms;
 mod solving;
 mod targets;
+mod words;
 
-pub use answers::{Batch, Told};
+pub use answers::{Batch, Listed, Told};
 pub use cells::Cell;
 pub use forest::{Near, write_forest};
 pub use limits::{first_non_vertex, fits, is_count, is_vertex, reach};
 pub use matrix::write_matrix;
-pub use parts::{Part, write_part};
+pub use parts::{Part, list_part, write_part};
+pub use prepared::Prepared;
+pub use rooms::AnyRoom;
 pub use solving::write_trees;
 pub use targets::find_target;

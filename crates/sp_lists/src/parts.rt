@@ -1,17 +1,20 @@
-//! The part of a tree within a distance.
-ghost use Rattle.std.specs.Prelude.{◌≡◌, ◌≤◌, length, true};
-ghost use Rattle.sp_word.specs.Word.{is_layout, max_dist, max_pred};
+//! The part of a tree within a distance: a place for each vertex, or a list of the vertices that lie in it and no others.
+ghost use Rattle.std.specs.Prelude.{◌≡◌, ◌≤◌, length, IfOk};
 ghost use Rattle.sp_paths.specs.Paths.{IsVertex};
-ghost use Rattle.sp_lists.specs.Limits.{IsCount, reach};
+ghost use Rattle.sp_answer.specs.Within.{IsTreeWithin};
+ghost use Rattle.sp_lists.specs.Limits.{IsCount, pred_bits, reach};
 ghost use Rattle.sp_lists.specs.Blocks.{slices};
 ghost use Rattle.sp_lists.specs.Part.{IsPartIn, IsPartOf};
+ghost use Rattle.sp_lists.specs.Listed.{listing, HasRows, KeepsListingFrom, IsListIn, IsListOf};
 
-use crate::answers::Told;
-use crate::cells::put_cells;
+use crate::answers::{Listed, Told};
+use crate::cells::{cell_of, put_cells};
+use crate::prepared::{At, Prepared, by_layout, fitting};
 use crate::queries::Query;
-use sp_graph::Graph;
-use sp_serial::{RunError, run_within_alone};
-use std::alloc::Global;
+use sp_answer::Tree;
+use sp_serial::run_within_alone;
+use sp_word::Word;
+use std::alloc::{AllocError, Global};
 
 /// What is asked for: the part of the tree from a source within the limit. A delta above the greatest distance is refused, and any
 /// other passed over.
@@ -22,64 +25,60 @@ pub struct Part {
     pub delta: u64,
 }
 
+// Returns the part of a tree: that of a search near the source, or of a run.
+fn find_part<const P: u32>(alloc: Global, at: At<P>, part: Part) -> Result<Tree<P>, AllocError>
+    requires bits { P ≡ pred_bits at.graph.now.n }
+    requires n { IsCount at.graph.now.n }
+    requires vertex { IsVertex at.graph.now.n part.source }
+    requires limit { part.limit ≤ reach at.graph.now.n }
+    ensures { IfOk result (IsTreeWithin at.entry.graph.now part.source part.limit) }
+{
+    let At { graph, room } = at;
+    fitting::<P>(graph);
+    if let Some(tree) = room.part(alloc, graph, part.source, part.limit) {
+        return Ok(tree);
+    }
+    match run_within_alone::<P>(alloc, graph, part.source, part.limit) {
+        Ok(tree) => Ok(tree),
+        Err(_) => Err(AllocError),
+    }
+}
+
 // Writes the part of a tree.
 fn part_by<const P: u32>(
     alloc: Global,
-    graph: &Graph,
+    at: At<P>,
     part: Part,
     dist: &mut [u64],
     pred: &mut [u32],
 ) -> Told
-    requires layout { is_layout P ≡ true }
-    requires n { graph.now.n ≤ max_pred P }
-    requires vertex { IsVertex graph.now.n part.source }
-    requires limit { part.limit ≤ max_dist P }
-    requires dist { graph.now.n ≤ length dist.old }
-    requires pred { graph.now.n ≤ length pred.old }
-    ensures { IsPartIn graph.now part.source part.limit
+    requires bits { P ≡ pred_bits at.graph.now.n }
+    requires n { IsCount at.graph.now.n }
+    requires vertex { IsVertex at.graph.now.n part.source }
+    requires limit { part.limit ≤ reach at.graph.now.n }
+    requires dist { at.graph.now.n ≤ length dist.old }
+    requires pred { at.graph.now.n ≤ length pred.old }
+    ensures { IsPartIn at.entry.graph.now part.source part.limit
         (slices dist.old pred.old) (slices dist.new pred.new) result }
 {
-    match run_within_alone::<P>(alloc, graph, part.source, part.limit) {
+    match find_part(alloc, at, part) {
         Ok(tree) => {
-            put_cells(&tree, 0, dist, pred);
+            put_cells(&tree, dist, pred);
             Told::Tree
         }
-        Err(RunError::Memory) => Told::Memory,
-        Err(_) => unreachable!(),
-    }
-}
-
-// Writes the part by the layout with the greatest distances that can name the vertices.
-fn part_in(alloc: Global, graph: &Graph, part: Part, dist: &mut [u64], pred: &mut [u32]) -> Told
-    requires n { IsCount graph.now.n }
-    requires vertex { IsVertex graph.now.n part.source }
-    requires limit { part.limit ≤ reach graph.now.n }
-    requires dist { graph.now.n ≤ length dist.old }
-    requires pred { graph.now.n ≤ length pred.old }
-    ensures { IsPartIn graph.now part.source part.limit
-        (slices dist.old pred.old) (slices dist.new pred.new) result }
-{
-    let n = graph.n();
-    if n <= 1_048_574 {
-        part_by::<20>(alloc, graph, part, dist, pred)
-    } else if n <= 16_777_214 {
-        part_by::<24>(alloc, graph, part, dist, pred)
-    } else if n <= 268_435_454 {
-        part_by::<28>(alloc, graph, part, dist, pred)
-    } else {
-        part_by::<32>(alloc, graph, part, dist, pred)
+        Err(_) => Told::Memory,
     }
 }
 
 /// Tests what is asked, and writes the part from the front of the lists on; or tells why not, and writes nothing.
 pub fn write_part(
     alloc: Global,
-    graph: &Graph,
+    prepared: Prepared,
     part: Part,
     dist: &mut [u64],
     pred: &mut [u32],
 ) -> Told
-    ensures { IsPartOf graph.now part.source part.limit part.delta
+    ensures { IsPartOf prepared.entry.graph.now part.source part.limit part.delta
         (slices dist.old pred.old) (slices dist.new pred.new) result }
 {
     let sources = [part.source];
@@ -89,10 +88,95 @@ pub fn write_part(
         delta: part.delta,
         limit: Some(part.limit),
         rows: 1,
-        columns: graph.n() as usize,
+        columns: prepared.n() as usize,
     };
-    if let Some(told) = query.refusal(graph.n(), dist.len().min(pred.len())) {
+    if let Some(told) = query.refusal(prepared.n(), dist.len().min(pred.len())) {
         return told;
     }
-    part_in(alloc, graph, part, dist, pred)
+    by_layout!(prepared, at => part_by(alloc, at, part, dist, pred))
+}
+
+// Writes the rows, each with its vertex, its distance and its predecessor.
+fn put_rows<const P: u32>(
+    rows: &[(u32, Word<P>)],
+    vertex: &mut [u32],
+    dist: &mut [u64],
+    pred: &mut [u32],
+)
+    requires vertex { length rows.now ≤ length vertex.old }
+    requires dist { length rows.now ≤ length dist.old }
+    requires pred { length rows.now ≤ length pred.old }
+    ensures rows { HasRows rows.now (listing vertex.new dist.new pred.new) }
+    ensures others { KeepsListingFrom (length rows.now)
+        (listing vertex.old dist.old pred.old) (listing vertex.new dist.new pred.new) }
+{
+    for place in 0..rows.len() {
+        let row = rows[place];
+        let cell = cell_of(row.1);
+        vertex[place] = row.0;
+        dist[place] = cell.dist;
+        pred[place] = cell.pred;
+    }
+}
+
+// Writes the list of a part, if there are places for it.
+fn list_by<const P: u32>(
+    alloc: Global,
+    at: At<P>,
+    part: Part,
+    vertex: &mut [u32],
+    dist: &mut [u64],
+    pred: &mut [u32],
+) -> Listed
+    requires bits { P ≡ pred_bits at.graph.now.n }
+    requires n { IsCount at.graph.now.n }
+    requires source { IsVertex at.graph.now.n part.source }
+    requires limit { part.limit ≤ reach at.graph.now.n }
+    ensures { IsListIn at.entry.graph.now part.source part.limit
+        (listing vertex.old dist.old pred.old) (listing vertex.new dist.new pred.new) result }
+{
+    let Ok(tree) = find_part(alloc, at, part) else {
+        return Listed::none(Told::Memory);
+    };
+    let rows = tree.rows();
+    let count = rows.len();
+    if count > vertex.len().min(dist.len()).min(pred.len()) {
+        return Listed {
+            told: Told::BadSize,
+            count,
+        };
+    }
+    put_rows(rows, vertex, dist, pred);
+    Listed {
+        told: Told::Tree,
+        count,
+    }
+}
+
+/// Tests what is asked, and writes the vertices of the part from the front of the lists on, by rising number; or tells why not, and
+/// writes nothing. Where the lists have fewer places than the part has vertices, it tells how many these are.
+pub fn list_part(
+    alloc: Global,
+    prepared: Prepared,
+    part: Part,
+    vertex: &mut [u32],
+    dist: &mut [u64],
+    pred: &mut [u32],
+) -> Listed
+    ensures { IsListOf prepared.entry.graph.now part.source part.limit part.delta
+        (listing vertex.old dist.old pred.old) (listing vertex.new dist.new pred.new) result }
+{
+    let sources = [part.source];
+    let query = Query {
+        sources: &sources,
+        targets: &[],
+        delta: part.delta,
+        limit: Some(part.limit),
+        rows: 0,
+        columns: 0,
+    };
+    if let Some(told) = query.refusal(prepared.n(), 0) {
+        return Listed::none(told);
+    }
+    by_layout!(prepared, at => list_by(alloc, at, part, vertex, dist, pred))
 }

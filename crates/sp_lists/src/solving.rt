@@ -1,14 +1,14 @@
 //! The trees of several sources of a graph.
-ghost use Rattle.std.specs.Prelude.{◌≡◌, ◌≤◌, ◌+◌, ◌*◌, true, length, All};
-ghost use Rattle.sp_word.specs.Word.{is_layout, max_dist, max_pred};
+ghost use Rattle.std.specs.Prelude.{◌≡◌, ◌≤◌, ◌+◌, ◌*◌, length, All};
 ghost use Rattle.sp_paths.specs.Paths.{IsVertex};
-ghost use Rattle.sp_lists.specs.Limits.{IsCount, reach};
+ghost use Rattle.sp_lists.specs.Limits.{IsCount, pred_bits, reach};
 ghost use Rattle.sp_lists.specs.Blocks.{slices, IsSolvedAt, AreSolved};
 
 use crate::answers::{Batch, Told};
-use crate::cells::put_cells;
-use sp_graph::Graph;
-use sp_serial::{RunError, run_source_alone};
+use crate::cells::put_words;
+use crate::prepared::{At, Prepared, by_layout, fitting};
+use crate::words::find_words;
+use sp_serial::RunError;
 use std::alloc::Global;
 
 // A source, and the index from which its tree is written.
@@ -19,25 +19,26 @@ struct Block {
 }
 
 // Writes the tree of a source.
-fn solve_at<const P: u32>(
+fn tree_by<const P: u32>(
     alloc: Global,
-    graph: &Graph,
+    at: At<P>,
     block: Block,
     dist: &mut [u64],
     pred: &mut [u32],
 ) -> Told
-    requires layout { is_layout P ≡ true }
-    requires n { graph.now.n ≤ max_pred P }
-    requires vertex { IsVertex graph.now.n block.source }
-    requires dist { block.low + graph.now.n ≤ length dist.old }
-    requires pred { block.low + graph.now.n ≤ length pred.old }
-    ensures { IsSolvedAt (max_dist P) graph.now block.source block.low
+    requires bits { P ≡ pred_bits at.graph.now.n }
+    requires n { IsCount at.graph.now.n }
+    requires vertex { IsVertex at.graph.now.n block.source }
+    requires dist { block.low + at.graph.now.n ≤ length dist.old }
+    requires pred { block.low + at.graph.now.n ≤ length pred.old }
+    ensures { IsSolvedAt (reach at.entry.graph.now.n) at.entry.graph.now block.source block.low
         (slices dist.old pred.old) (slices dist.new pred.new) result }
 {
     let Block { source, low } = block;
-    match run_source_alone::<P>(alloc, graph, source) {
-        Ok(tree) => {
-            put_cells(&tree, low, dist, pred);
+    fitting::<P>(at.graph);
+    match find_words::<P>(alloc, at.graph, &[source], None) {
+        Ok(words) => {
+            put_words(words.as_slice(), low, dist, pred);
             Told::Tree
         }
         Err(RunError::TooFar(vertex)) => Told::TooFar(vertex),
@@ -46,30 +47,48 @@ fn solve_at<const P: u32>(
     }
 }
 
-// Writes one tree after another, up to the first source that has none.
-fn solve_each<const P: u32>(
+// Writes the tree of a source by the layout with the greatest distances that can name the vertices.
+fn solve_at(
     alloc: Global,
-    graph: &Graph,
+    prepared: Prepared,
+    block: Block,
+    dist: &mut [u64],
+    pred: &mut [u32],
+) -> Told
+    requires n { IsCount prepared.graph.now.n }
+    requires vertex { IsVertex prepared.graph.now.n block.source }
+    requires dist { block.low + prepared.graph.now.n ≤ length dist.old }
+    requires pred { block.low + prepared.graph.now.n ≤ length pred.old }
+    ensures { IsSolvedAt (reach prepared.entry.graph.now.n) prepared.entry.graph.now
+        block.source block.low
+        (slices dist.old pred.old) (slices dist.new pred.new) result }
+{
+    by_layout!(prepared, at => tree_by(alloc, at, block, dist, pred))
+}
+
+/// Writes one tree after another, up to the first source that has none.
+pub fn write_trees(
+    alloc: Global,
+    prepared: Prepared,
     sources: &[u32],
     dist: &mut [u64],
     pred: &mut [u32],
 ) -> Batch
-    requires layout { is_layout P ≡ true }
-    requires n { graph.now.n ≤ max_pred P }
-    requires vertices { All (IsVertex graph.now.n) sources.now }
-    requires dist { length sources.now * graph.now.n ≤ length dist.old }
-    requires pred { length sources.now * graph.now.n ≤ length pred.old }
-    ensures { AreSolved (max_dist P) graph.now sources.now
+    requires n { IsCount prepared.graph.now.n }
+    requires vertices { All (IsVertex prepared.graph.now.n) sources.now }
+    requires dist { length sources.now * prepared.graph.now.n ≤ length dist.old }
+    requires pred { length sources.now * prepared.graph.now.n ≤ length pred.old }
+    ensures { AreSolved (reach prepared.entry.graph.now.n) prepared.entry.graph.now sources.now
         (slices dist.old pred.old) (slices dist.new pred.new) result }
 {
-    let n = graph.n() as usize;
+    let n = prepared.n() as usize;
     let mut low: usize = 0;
     for place in 0..sources.len() {
         let block = Block {
             source: sources[place],
             low,
         };
-        match solve_at::<P>(alloc, graph, block, dist, pred) {
+        match solve_at(alloc, prepared, block, dist, pred) {
             Told::Tree => {}
             told => return Batch { done: place, told },
         }
@@ -78,32 +97,5 @@ fn solve_each<const P: u32>(
     Batch {
         done: sources.len(),
         told: Told::Tree,
-    }
-}
-
-/// Writes the trees of the sources, by the layout with the greatest distances that can name the vertices.
-pub fn write_trees(
-    alloc: Global,
-    graph: &Graph,
-    sources: &[u32],
-    dist: &mut [u64],
-    pred: &mut [u32],
-) -> Batch
-    requires n { IsCount graph.now.n }
-    requires vertices { All (IsVertex graph.now.n) sources.now }
-    requires dist { length sources.now * graph.now.n ≤ length dist.old }
-    requires pred { length sources.now * graph.now.n ≤ length pred.old }
-    ensures { AreSolved (reach graph.now.n) graph.now sources.now
-        (slices dist.old pred.old) (slices dist.new pred.new) result }
-{
-    let n = graph.n();
-    if n <= 1_048_574 {
-        solve_each::<20>(alloc, graph, sources, dist, pred)
-    } else if n <= 16_777_214 {
-        solve_each::<24>(alloc, graph, sources, dist, pred)
-    } else if n <= 268_435_454 {
-        solve_each::<28>(alloc, graph, sources, dist, pred)
-    } else {
-        solve_each::<32>(alloc, graph, sources, dist, pred)
     }
 }

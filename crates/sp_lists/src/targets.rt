@@ -1,17 +1,16 @@
-//! One target of a source.
-ghost use Rattle.std.specs.Prelude.{◌≡◌, ◌≤◌, ℕ, true};
-ghost use Rattle.sp_word.specs.Word.{is_layout, max_dist, max_pred};
+//! The answers for targets of a source.
+ghost use Rattle.std.specs.Prelude.{◌≡◌, ℕ, All, IfOk};
 ghost use Rattle.sp_paths.specs.Paths.{Graph as Network, IsVertex};
-ghost use Rattle.sp_serial.specs.Target.{IsAnswerFor};
-ghost use Rattle.sp_lists.specs.Limits.{IsCount, reach};
+ghost use Rattle.sp_forest.specs.Run.{IsAnswerFor, AreAnswersFor};
+ghost use Rattle.sp_lists.specs.Limits.{IsCount, pred_bits, reach};
 ghost use Rattle.sp_lists.specs.Target.{IsFoundIn};
 
 use crate::answers::Told;
 use crate::cells::Cell;
+use crate::prepared::{At, Prepared, by_layout, fitting};
 use sp_answer::PairAnswer;
-use sp_graph::Graph;
-use sp_serial::run_target_alone;
-use std::alloc::Global;
+use sp_serial::run_targets_alone;
+use std::alloc::{AllocError, Global};
 
 // Converts an answer: no distance is equal to the greatest number, which stands for no walk.
 fn of_answer(answer: PairAnswer) -> Result<Cell, Told>
@@ -25,41 +24,64 @@ fn of_answer(answer: PairAnswer) -> Result<Cell, Told>
     }
 }
 
-// Returns the answer for a target in a graph.
-fn find_by<const P: u32>(
+// Returns the answers for targets: those of a search near the source, or of a run.
+fn answers_by<const P: u32>(
     alloc: Global,
-    graph: &Graph,
+    at: At<P>,
     source: u32,
-    target: u32,
-) -> Result<Cell, Told>
-    requires layout { is_layout P ≡ true }
-    requires n { graph.now.n ≤ max_pred P }
-    requires source { IsVertex graph.now.n source }
-    requires target { IsVertex graph.now.n target }
-    ensures { IsFoundIn (max_dist P) graph.now source target result }
+    targets: &[u32],
+) -> Result<Vec<PairAnswer>, AllocError>
+    requires bits { P ≡ pred_bits at.graph.now.n }
+    requires n { IsCount at.graph.now.n }
+    requires source { IsVertex at.graph.now.n source }
+    requires targets { All (IsVertex at.graph.now.n) targets.now }
+    ensures { IfOk result (λ answers. AreAnswersFor at.entry.graph.now source
+        (reach at.entry.graph.now.n) targets.now answers.items) }
 {
-    match run_target_alone::<P>(alloc, graph, source, target) {
-        Ok(answer) => of_answer(answer),
-        Err(_) => Err(Told::Memory),
+    let At { graph, room } = at;
+    fitting::<P>(graph);
+    if let Some(answers) = room.find(alloc, graph, source, targets) {
+        return Ok(answers);
+    }
+    match run_targets_alone::<P>(alloc, graph, source, targets) {
+        Ok(answers) => Ok(answers),
+        Err(_) => Err(AllocError),
     }
 }
 
-/// Returns the distance and the predecessor of a target in the tree of a source, or why there are none, by the layout with the
-/// greatest distances that can name the vertices. The run ends as soon as they are known.
-pub fn find_target(alloc: Global, graph: &Graph, source: u32, target: u32) -> Result<Cell, Told>
-    requires n { IsCount graph.now.n }
-    requires source { IsVertex graph.now.n source }
-    requires target { IsVertex graph.now.n target }
-    ensures { IsFoundIn (reach graph.now.n) graph.now source target result }
+/// Returns the answers for targets of a source, in their order. The search ends as soon as they are known.
+pub(crate) fn find_answers(
+    alloc: Global,
+    prepared: Prepared,
+    source: u32,
+    targets: &[u32],
+) -> Result<Vec<PairAnswer>, AllocError>
+    requires n { IsCount prepared.graph.now.n }
+    requires source { IsVertex prepared.graph.now.n source }
+    requires targets { All (IsVertex prepared.graph.now.n) targets.now }
+    ensures { IfOk result (λ answers. AreAnswersFor prepared.entry.graph.now source
+        (reach prepared.entry.graph.now.n) targets.now answers.items) }
 {
-    let n = graph.n();
-    if n <= 1_048_574 {
-        find_by::<20>(alloc, graph, source, target)
-    } else if n <= 16_777_214 {
-        find_by::<24>(alloc, graph, source, target)
-    } else if n <= 268_435_454 {
-        find_by::<28>(alloc, graph, source, target)
-    } else {
-        find_by::<32>(alloc, graph, source, target)
+    by_layout!(prepared, at => answers_by(alloc, at, source, targets))
+}
+
+/// Returns the distance and the predecessor of a target in the tree of a source, or why there are none, by the layout with the
+/// greatest distances that can name the vertices. The search ends as soon as they are known.
+pub fn find_target(
+    alloc: Global,
+    prepared: Prepared,
+    source: u32,
+    target: u32,
+) -> Result<Cell, Told>
+    requires n { IsCount prepared.graph.now.n }
+    requires source { IsVertex prepared.graph.now.n source }
+    requires target { IsVertex prepared.graph.now.n target }
+    ensures { IsFoundIn (reach prepared.entry.graph.now.n) prepared.entry.graph.now
+        source target result }
+{
+    let targets = [target];
+    match find_answers(alloc, prepared, source, &targets) {
+        Ok(answers) => of_answer(answers[0]),
+        Err(_) => Err(Told::Memory),
     }
 }

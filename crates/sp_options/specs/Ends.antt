@@ -1,10 +1,10 @@
 -- How runs from sources end.
-use Rattle.std.specs.Prelude.{Bool, true, false, ◌==◌, if◌then◌else◌}
-use Rattle.sp_job.specs.declared.answers.Summary.{Summary}
-use Rattle.sp_job.specs.declared.answers.BatchError.{BatchError}
-use Rattle.sp_job.specs.declared.answers.BatchError.TheVariants as batch
-use Rattle.sp_job.specs.declared.answers.Role.{Role}
-use Rattle.sp_job.specs.declared.answers.Role.TheVariants as role
+use Rattle.std.specs.Prelude.{Bool, true, false, ◌==◌, if◌then◌else◌, Result, Ok, Err}
+use Rattle.sp_jobs.specs.declared.answers.Summary.{Summary}
+use Rattle.sp_jobs.specs.declared.answers.BatchError.{BatchError}
+use Rattle.sp_jobs.specs.declared.answers.BatchError.TheVariants as batch
+use Rattle.sp_jobs.specs.declared.answers.Role.{Role}
+use Rattle.sp_jobs.specs.declared.answers.Role.TheVariants as role
 use Rattle.sp_command.specs.declared.faults.Fault.{Fault}
 use Rattle.sp_command.specs.declared.faults.Fault.TheVariants as fault
 use Rattle.sp_command.specs.declared.faults.FileKind.{FileKind}
@@ -30,3 +30,8 @@ fault_of (batch.Pairs error) = fault.Input file.Pairs error
 fault_of (batch.NoSuchVertex number role) = fault.NoSuchVertex number (kind_of role)
 fault_of batch.Memory = fault.Memory
 fault_of batch.Write = fault.WriteFailed
+
+-- what a command answers whose job has answered this
+abbrev pub end_after : (far_ok : Bool) → Result Summary BatchError → Result Status Fault
+end_after far_ok (Ok summary) = Ok (end_of far_ok summary)
+end_after far_ok (Err error) = Err (fault_of error)

@@ -2,7 +2,7 @@
 use Rattle.std.specs.Prelude.{◌≡◌, ◌<◌, ◌^◌, ℕ, List, All, Option, Some, option_map}
 use Rattle.clap.specs.Matches.{matched_of, typed_values}
 use Rattle.clap.specs.declared.parser.matches.Found.{Found}
-use Rattle.sp_job.specs.Places.{AreNumbered}
+use Rattle.sp_jobs.specs.Places.{AreNumbered}
 use Rattle.sp_options.specs.Numbers.{SpellNumbers}
 
 -- These are the values of the option of this name, where it was given.

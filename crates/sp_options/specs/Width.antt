@@ -1,8 +1,8 @@
 -- The width of a bucket as a command line gives it.
 use Rattle.std.specs.Prelude.{◌≡◌, ◌≤◌, ℕ, List, codes}
 use Rattle.sp_word.specs.Ranges.{IsWidth}
-use Rattle.sp_job.specs.declared.width.BucketWidth.{BucketWidth}
-use Rattle.sp_job.specs.declared.width.BucketWidth.TheVariants as bucket
+use Rattle.sp_jobs.specs.declared.settings.BucketWidth.{BucketWidth}
+use Rattle.sp_jobs.specs.declared.settings.BucketWidth.TheVariants as bucket
 use Rattle.sp_options.specs.declared.width.TheConstants.{MAX_DELTA}
 use Rattle.sp_options.specs.declared.width.Width.{Width}
 use Rattle.sp_options.specs.declared.width.Width.TheVariants.{Number, MeanLength}

@@ -3,7 +3,7 @@ ghost use Rattle.std.specs.Prelude.{◌≡◌, ◌<◌, ◌^◌, ℕ, List, All,
 ghost use Rattle.clap.specs.Matches.{found_of, values_left};
 ghost use Rattle.clap.specs.Walk.{rule_of};
 ghost use Rattle.sp_options.specs.Rules.{given_rule};
-ghost use Rattle.sp_job.specs.Places.{AreNumbered};
+ghost use Rattle.sp_jobs.specs.Places.{AreNumbered};
 ghost use Rattle.sp_options.specs.Numbers.{SpellNumbers};
 ghost use Rattle.sp_options.specs.Given.{AreGiven, LacksGiven};
 

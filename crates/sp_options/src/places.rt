@@ -4,7 +4,7 @@ ghost use Rattle.std.specs.Option.{SomeIff};
 ghost use Rattle.sp_options.specs.Numbers.{SpellsNumber};
 ghost use Rattle.sp_options.specs.Places.{ArePlacesIn};
 
-use sp_job::Places;
+use sp_jobs::Places;
 
 /// Returns the places that a word `A-B` names, or `None` if A or B is no number, A is 0, or B is less than A.
 pub fn places_of(text: &str) -> Option<Places>

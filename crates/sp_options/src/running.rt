@@ -2,7 +2,7 @@
 ghost use Rattle.std.specs.Prelude.{◌≡◌, ◌∷◌, ℕ, true, List, Some, Ok, Err, codes, IfOk, IfErr, MatchOption, MatchResult};
 ghost use Rattle.sp_word.specs.Word.{is_layout};
 ghost use Rattle.clap.specs.Matches.{found_of};
-ghost use Rattle.sp_options.specs.Ends.{end_of, fault_of};
+ghost use Rattle.sp_options.specs.Ends.{end_after, end_of, fault_of};
 ghost use Rattle.sp_options.specs.Numbers.{IsFlag};
 ghost use Rattle.clap.specs.Walk.{rule_of};
 ghost use Rattle.sp_command.specs.Rules.{AddsRules, flag_rule};
@@ -15,7 +15,7 @@ use crate::width::Width;
 use crate::workers::{WORKERS, read_workers, workers_option};
 use clap::{Arg, ArgMatches, Command, Error};
 use sp_command::{BuiltCommand, Fault, FileKind, Inputs, Report, Status, flag};
-use sp_job::{BatchError, Listener, Progress, Role, Settings, Summary};
+use sp_jobs::{BatchError, Listener, Progress, Role, Settings, Summary};
 use sp_word::{Meter, Workers};
 use std::alloc::Global;
 
@@ -134,8 +134,7 @@ impl RunOptions {
 
     /// Returns how a command ends whose batch has answered this.
     pub fn end_of(&self, answer: Result<Summary, BatchError>) -> Result<Status, Fault>
-        ensures { MatchResult answer (λ summary. result ≡ Ok (end_of self.now.far_ok summary))
-            (λ error. result ≡ Err (fault_of error)) }
+        ensures { result ≡ end_after self.now.far_ok answer }
     {
         match answer {
             Ok(summary) => Ok(status_after(summary, self.far_ok)),

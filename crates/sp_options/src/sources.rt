@@ -7,7 +7,7 @@ use crate::given::{Given, SOURCE};
 use crate::places::places_of;
 use clap::{Arg, ArgMatches, Command};
 use sp_command::{BuiltCommand, PLACES};
-use sp_job::Places;
+use sp_jobs::Places;
 use std::alloc::{AllocError, Global};
 
 const PART: &str = "Write only the trees of the sources at these places";

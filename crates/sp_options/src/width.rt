@@ -9,7 +9,7 @@ ghost use Rattle.sp_options.specs.Width.{bucket_of, IsBucket, SpellsWidth};
 
 use clap::{Arg, Command, Error, value_parser};
 use sp_command::valued;
-use sp_job::BucketWidth;
+use sp_jobs::BucketWidth;
 use sp_word::Delta;
 use std::alloc::Global;
 

@@ -2,4 +2,3 @@ pub mod TextsToPairs
 pub mod SlotSteps
 pub mod PairLines
 pub mod PairsOfFile
-pub mod KnownSteps

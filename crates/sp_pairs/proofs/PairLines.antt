@@ -5,7 +5,8 @@ use Rattle.sp_device.specs.declared.devices.Write.{Ghosts as Writer}
 use Rattle.sp_device.specs.declared.printing.Printer.{Printer}
 use Rattle.sp_device.specs.Printing.{IsSending}
 use Rattle.sp_pairs.specs.declared.asking.Slot.{Slot}
-use Rattle.sp_pairs.specs.Pairs.{pair_text, pairs_text}
+use Rattle.sp_files.specs.PairText.{pair_text}
+use Rattle.sp_jobs.specs.PairAnswers.{pairs_text}
 use Rattle.sp_pairs.specs.Slots.{answer_in, pair_at}
 
 lines_suc : (pairs : List (ℕ × ℕ)) (slots : List Slot) (i : ℕ) (d : Slot) → length slots ≡ length pairs → i < length slots

@@ -10,12 +10,13 @@ use Rattle.sp_paths.proofs.SameArcs.{same_arcs_same_answers}
 use Rattle.sp_dimacs.specs.declared.graphs.GrFile.{GrFile}
 use Rattle.sp_dimacs.specs.declared.pairs.PairsFile.{PairsFile}
 use Rattle.sp_dimacs.specs.Graph.{graph_of}
-use Rattle.sp_job.specs.declared.answers.Summary.{Summary}
-use Rattle.sp_job.specs.declared.answers.BatchError.{BatchError}
-use Rattle.sp_job.specs.declared.answers.BatchError.TheVariants.{Gr, Ss, Targets, Pairs, NoSuchVertex, Memory, Write}
+use Rattle.sp_jobs.specs.declared.answers.Summary.{Summary}
+use Rattle.sp_jobs.specs.declared.answers.BatchError.{BatchError}
+use Rattle.sp_jobs.specs.declared.answers.BatchError.TheVariants.{Gr, Ss, Targets, Pairs, NoSuchVertex, Memory, Write}
 use Rattle.sp_pairs.specs.declared.asking.Slot.{Slot}
-use Rattle.sp_job.specs.Answers.{is_early}
-use Rattle.sp_pairs.specs.Pairs.{IsAnswerToPair, ArePairAnswers, IsPairUpTo, ArePairsDone}
+use Rattle.sp_jobs.specs.Answers.{is_early}
+use Rattle.sp_pairs.specs.Pairs.{IsPairUpTo, ArePairsDone}
+use Rattle.sp_jobs.specs.PairAnswers.{IsAnswerToPair, ArePairAnswers}
 use Rattle.sp_pairs.specs.Slots.{IsClosed, pair_at, answer_in, AreHeld, ArePairsWritten}
 
 -- The answers that slots hold, place by place.

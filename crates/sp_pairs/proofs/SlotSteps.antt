@@ -1,6 +1,5 @@
 -- Answers put into the slots of pairs.
 use Rattle.std.proofs.Common.{◌≡◌, ℕ, ◌+◌, ◌<◌, ◌⊎◌, inl, inr, List, length, set, get_or, get_or-set_other, get_or-set_same, refl, sym, ◌∙◌, subst, arith, zero, suc}
-use Rattle.std.specs.Prelude.{slice_index}
 use Rattle.std.proofs.lemmas.Bool.{cases_eq}
 use Rattle.std.proofs.lemmas.List.{length-set}
 use Rattle.sp_word.specs.Word.{max_dist}
@@ -8,7 +7,7 @@ use Rattle.sp_paths.specs.Paths.{Graph, IsPair}
 use Rattle.sp_answer.specs.declared.pair.PairAnswer.{PairAnswer as Told}
 use Rattle.sp_answer.specs.declared.pair.PairAnswer.TheVariants as told
 use Rattle.sp_answer.specs.Pair.{answer_of}
-use Rattle.sp_solve.specs.Reach.{Reached, IsAnswerFor}
+use Rattle.sp_forest.specs.Run.{IsAnswerFor}
 use Rattle.sp_pairs.specs.declared.asking.Slot.{Slot}
 use Rattle.sp_pairs.specs.declared.asking.Slot.TheVariants.{Open, Found, TooFar, NoWalk}
 use Rattle.sp_pairs.specs.Slots.{IsOpen, IsClosed, slot_of, IsHeld, pair_at, AreAllOpen, AreHeld, IsClosedAt, AreFirstClosed, StayClosed, IsFor}
@@ -28,10 +27,10 @@ held_set P g pairs slots place slot h is = record { size = length-set slots plac
     at i d less (inr other) = rw (get_or-set_other slots place i slot d other) (h.held i d less)
 
 -- The answer for the target of a pair is the pair's.
-pub kept : (P : ℕ) (r : Reached) (pairs : List (ℕ × ℕ)) (slots : List Slot) (place k : ℕ) (t : Told) → AreHeld P r.graph pairs slots → (pair_at pairs place).0 ≡ r.source → (pair_at pairs place).1 ≡ slice_index r.targets k → IsAnswerFor P r.graph r.source (slice_index r.targets k) t
-    → AreHeld P r.graph pairs (set slots place (slot_of t))
-kept P r pairs slots place k t h source target is =
-    held_set P r.graph pairs slots place (slot_of t) h (told_held P r.graph (pair_at pairs place) t (rw (source, target) is))
+pub kept : (P : ℕ) (g : Graph) (s target : ℕ) (pairs : List (ℕ × ℕ)) (slots : List Slot) (place : ℕ) (t : Told) → AreHeld P g pairs slots → (pair_at pairs place).0 ≡ s → (pair_at pairs place).1 ≡ target → IsAnswerFor g s target (max_dist P) t
+    → AreHeld P g pairs (set slots place (slot_of t))
+kept P g s target pairs slots place t h source at is =
+    held_set P g pairs slots place (slot_of t) h (told_held P g (pair_at pairs place) t (rw (source, at) is))
 
 -- ## The answers of a run
 
@@ -62,10 +61,10 @@ pub open_held : (P : ℕ) (g : Graph) (pairs : List (ℕ × ℕ)) (slots : List 
 open_held P g pairs slots h = record { size = h.size; held = λ i d less closed. absurd (closed_open (get_or slots i d) (h.each i d less) closed) }
 
 -- Behind the answer for the target at place `k`, the pair that was asked for is closed.
-pub closed_next : (r : Reached) (pairs : List (ℕ × ℕ)) (k at place : ℕ) (mid new : List Slot) → place < length mid → StayClosed mid new → IsFor (pair_at pairs place) 0 r → (IsFor (pair_at pairs at) k r → IsClosedAt at new) → (k ≡ 0 → at ≡ place) → (0 < k → IsClosedAt place mid)
+pub closed_next : (s : ℕ) (targets : List ℕ) (pairs : List (ℕ × ℕ)) (k at place : ℕ) (mid new : List Slot) → place < length mid → StayClosed mid new → IsFor (pair_at pairs place) 0 s targets → (IsFor (pair_at pairs at) k s targets → IsClosedAt at new) → (k ≡ 0 → at ≡ place) → (0 < k → IsClosedAt place mid)
     → IsClosedAt place new
-closed_next r pairs zero at place mid new low stay asked closed same before =
+closed_next s targets pairs zero at place mid new low stay asked closed same before =
     let e = same refl in
-    let here : IsClosedAt at new = closed (subst (λ (x : ℕ). IsFor (pair_at pairs x) 0 r) (sym e) asked) in
+    let here : IsClosedAt at new = closed (subst (λ (x : ℕ). IsFor (pair_at pairs x) 0 s targets) (sym e) asked) in
     subst (λ (x : ℕ). IsClosedAt x new) e here
-closed_next r pairs (suc k) at place mid new low stay asked closed same before = stay.stay place low (before (omega arith))
+closed_next s targets pairs (suc k) at place mid new low stay asked closed same before = stay.stay place low (before (omega arith))

@@ -8,9 +8,9 @@ use Rattle.sp_dimacs.specs.declared.graphs.GrFile.{GrFile}
 use Rattle.sp_dimacs.specs.declared.pairs.PairsFile.{PairsFile}
 use Rattle.sp_dimacs.specs.Graph.{SpellsGraph}
 use Rattle.sp_dimacs.specs.Pairs.{SpellsPairs}
-use Rattle.sp_job.specs.declared.answers.Summary.{Summary}
-use Rattle.sp_job.specs.declared.answers.BatchError.{BatchError}
-use Rattle.sp_job.specs.declared.answers.BatchError.TheVariants.{Gr, Ss, Targets, Pairs, NoSuchVertex, Memory, Write}
+use Rattle.sp_jobs.specs.declared.answers.Summary.{Summary}
+use Rattle.sp_jobs.specs.declared.answers.BatchError.{BatchError}
+use Rattle.sp_jobs.specs.declared.answers.BatchError.TheVariants.{Gr, Ss, Targets, Pairs, NoSuchVertex, Memory, Write}
 use Rattle.sp_pairs.specs.Pairs.{ArePairsDone, PairsAnswered, PairsOfSome, MayFail}
 
 -- What was answered for a graph and pairs is the answer to texts that spell them.

@@ -1,4 +1,2 @@
 pub mod Pairs
 pub mod Slots
-pub mod Known
-pub mod Near

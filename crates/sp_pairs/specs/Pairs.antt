@@ -1,69 +1,21 @@
 -- What is written for a list of pairs, a source and a target each.
-use Rattle.std.specs.Prelude.{◌≡◌, ◌≢◌, ◌<◌, ◌≤◌, ◌⊎◌, ℕ, Bool, true, false, List, ◌++◌, length, slice_get, codes, All, Option, Some, Result, Ok, Err}
-use Rattle.std.specs.List.{AllZip, zip, flat_map, count_by}
+use Rattle.std.specs.Prelude.{◌≡◌, ◌≢◌, ◌<◌, ◌≤◌, ◌⊎◌, ℕ, true, List, slice_get, All, Some, Result, Ok, Err}
 use Rattle.std.specs.Io.KnownBytes.{Appends}
-use Rattle.sp_word.specs.Word.{max_dist}
-use Rattle.sp_text.specs.Numeral.{number_text}
 use Rattle.sp_text.specs.declared.faults.Kind.TheVariants as kind
 use Rattle.sp_device.specs.Failing.{Failing, Never}
 use Rattle.sp_device.specs.declared.devices.Read.{Ghosts as Reader}
 use Rattle.sp_device.specs.declared.devices.Write.{Ghosts as Writer}
-use Rattle.sp_device.specs.Devices.{IsBegun}
-use Rattle.sp_paths.specs.Paths.{Graph, IsPair, PairAnswer, Found, TooFar, NoWalk}
-use Rattle.sp_tree.specs.TreeText.{far_text}
+use Rattle.sp_paths.specs.Paths.{PairAnswer}
 use Rattle.sp_dimacs.specs.declared.graphs.GrFile.{GrFile}
 use Rattle.sp_dimacs.specs.declared.pairs.PairsFile.{PairsFile}
 use Rattle.sp_dimacs.specs.Graph.{graph_of, SpellsGraph, GraphRead}
 use Rattle.sp_dimacs.specs.Pairs.{SpellsPairs, PairsRead}
-use Rattle.sp_job.specs.declared.answers.Summary.{Summary}
-use Rattle.sp_job.specs.declared.answers.Role.{Role}
-use Rattle.sp_job.specs.declared.answers.Role.TheVariants.{Source, Target}
-use Rattle.sp_job.specs.declared.answers.BatchError.{BatchError}
-use Rattle.sp_job.specs.declared.answers.BatchError.TheVariants.{Gr, Ss, Targets, Pairs, NoSuchVertex, Memory, Write}
-use Rattle.sp_job.specs.Answers.{IsCount}
-
--- ## Texts
-
--- the answer to a pair
-abbrev pub IsAnswerToPair : (P : ℕ) → Graph → ℕ × ℕ → PairAnswer → Type 0
-IsAnswerToPair P g pair answer = IsPair g pair.0 pair.1 (max_dist P) answer
-
--- the answers to a list of pairs, in its order
-abbrev pub ArePairAnswers : (P : ℕ) → Graph → List (ℕ × ℕ) → List PairAnswer → Type 0
-ArePairAnswers P g pairs answers = AllZip (IsAnswerToPair P g) pairs answers
-
--- `d S T D P`: the target's word of the tree
-unfoldable pub found_text : (source target dist pred : ℕ) → List ℕ
-found_text s t d p = codes "d" ++ number_text s ++ number_text t ++ number_text d ++ number_text p ++ codes "\n"
-
--- `n S T`: no walk leads to the target
-unfoldable pub none_text : (source target : ℕ) → List ℕ
-none_text s t = codes "n" ++ number_text s ++ number_text t ++ codes "\n"
-
--- the line of a pair: its target's word, or the vertex that is too far, or that there is no walk
-abbrev pub pair_text : ℕ × ℕ → PairAnswer → List ℕ
-pair_text pair (Found d p) = found_text pair.0 pair.1 d p
-pair_text pair (TooFar v) = far_text pair.0 v
-pair_text pair NoWalk = none_text pair.0 pair.1
-
--- the lines of pairs, in their order
-abbrev pub pairs_text : List (ℕ × ℕ) → List PairAnswer → List ℕ
-pairs_text pairs answers = flat_map (λ told. pair_text told.0 told.1) (zip pairs answers)
-
-abbrev pub is_too_far : PairAnswer → Bool
-is_too_far (Found d p) = false
-is_too_far (TooFar v) = true
-is_too_far NoWalk = false
-
--- how many pairs there were, how many of them with a vertex that is too far, and how many bytes were written
-abbrev pub IsPairsSummary : List (ℕ × ℕ) → List PairAnswer → Summary → Type 0
-IsPairsSummary pairs answers summary = IsCount (length pairs) (count_by is_too_far answers) (pairs_text pairs answers) summary
-
--- Each pair has an answer, and of the text of all the answers a beginning stands.
-pub record HasBegunPairs (P : ℕ) (g : Graph) (pairs : List (ℕ × ℕ)) (old new : Option (List ℕ)) : Type 0 where
-  pub answers : List PairAnswer
-  pub are : ArePairAnswers P g pairs answers
-  pub begun : IsBegun (pairs_text pairs answers) old new
+use Rattle.sp_jobs.specs.declared.answers.Summary.{Summary}
+use Rattle.sp_jobs.specs.declared.answers.Role.{Role}
+use Rattle.sp_jobs.specs.declared.answers.Role.TheVariants.{Source, Target}
+use Rattle.sp_jobs.specs.declared.answers.BatchError.{BatchError}
+use Rattle.sp_jobs.specs.declared.answers.BatchError.TheVariants.{Gr, Ss, Targets, Pairs, NoSuchVertex, Memory, Write}
+use Rattle.sp_jobs.specs.PairAnswers.{ArePairAnswers, pairs_text, IsPairsSummary, HasBegunPairs}
 
 -- ## Vertices
 

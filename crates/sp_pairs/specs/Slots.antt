@@ -3,17 +3,16 @@ use Rattle.std.specs.Prelude.{◌≡◌, ◌<◌, ℕ, List, length, true, slice
 use Rattle.std.specs.Io.KnownBytes.{Appends}
 use Rattle.sp_device.specs.declared.devices.Write.{Ghosts as Writer}
 use Rattle.sp_device.specs.Devices.{IsBegun}
-use Rattle.sp_job.specs.declared.answers.Summary.{Summary}
-use Rattle.sp_job.specs.declared.answers.BatchError.{BatchError}
-use Rattle.sp_job.specs.declared.answers.BatchError.TheVariants.{Write}
+use Rattle.sp_jobs.specs.declared.answers.Summary.{Summary}
+use Rattle.sp_jobs.specs.declared.answers.BatchError.{BatchError}
+use Rattle.sp_jobs.specs.declared.answers.BatchError.TheVariants.{Write}
 use Rattle.sp_paths.specs.Paths.{Graph, IsVertex, PairAnswer}
 use Rattle.sp_paths.specs.Paths.{Found as FoundPair, TooFar as FarVertex, NoWalk as NoWay}
 use Rattle.sp_answer.specs.declared.pair.PairAnswer.{PairAnswer as Told}
 use Rattle.sp_answer.specs.declared.pair.PairAnswer.TheVariants as told
-use Rattle.sp_solve.specs.Reach.{Reached}
 use Rattle.sp_pairs.specs.declared.asking.Slot.{Slot}
 use Rattle.sp_pairs.specs.declared.asking.Slot.TheVariants.{Open, Found, TooFar, NoWalk}
-use Rattle.sp_pairs.specs.Pairs.{IsAnswerToPair, pairs_text, IsPairsSummary}
+use Rattle.sp_jobs.specs.PairAnswers.{IsAnswerToPair, pairs_text, IsPairsSummary}
 
 -- ## One slot
 
@@ -94,10 +93,10 @@ pub record AreTargetsOf (n : ℕ) (pair : ℕ × ℕ) (targets : List ℕ) : Typ
   pub vertices : All (IsVertex n) targets
 
 -- The run is from the pair's source, and the target at this place is the pair's.
-pub record IsFor (pair : ℕ × ℕ) (k : ℕ) (reach : Reached) : Type 0 where
-  pub source : reach.source ≡ pair.0
-  pub within : k < length reach.targets
-  pub target : slice_index reach.targets k ≡ pair.1
+pub record IsFor (pair : ℕ × ℕ) (k s : ℕ) (targets : List ℕ) : Type 0 where
+  pub source : s ≡ pair.0
+  pub within : k < length targets
+  pub target : slice_index targets k ≡ pair.1
 
 -- ## Lines
 

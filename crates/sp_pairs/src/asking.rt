@@ -1,15 +1,14 @@
 //! The answers for pairs, found by one search or run from each source.
 ghost use Rattle.std.specs.Prelude.{◌≡◌, ◌+◌, ◌<◌, false, length, All, IfOk, IfSome};
-ghost use Rattle.sp_job.specs.Ready.{IsReady};
-ghost use Rattle.sp_pairs.specs.Known.{asked_of};
+ghost use Rattle.sp_word.specs.Word.{max_dist};
+ghost use Rattle.sp_forest.specs.Run.{AreAnswersFor};
+ghost use Rattle.sp_jobs.specs.Ready.{IsReady};
 ghost use Rattle.sp_pairs.specs.Slots.{IsClosed, slot_of, IsPairOf, AreAllOpen, pair_at, AreHeld, AreFirstClosed, StayClosed, IsPlaceBehind, AreTargetsOf, IsFor, IsClosedAt};
 
-use crate::known::Known;
-use crate::targets::find_targets;
+use sp_answer::PairAnswer;
 use sp_graph::Graph;
-use sp_job::{Job, Listener, Progress};
+use sp_jobs::{Job, Listener, Progress, find_targets};
 use sp_serial::Rooms;
-use sp_solve::PairAnswer;
 use sp_word::Crew;
 use std::alloc::{AllocError, Global};
 
@@ -107,46 +106,62 @@ fn targets_from(
     Ok(targets)
 }
 
+// The answers for targets of a source, in their order.
+#[derive(Clone, Copy)]
+struct Known<'k> {
+    source: u32,
+    targets: &'k [u32],
+    answers: &'k [PairAnswer],
+}
+
 // Keeps the answer for the target number `k` as that of the pair at a place, if it is that pair's.
 fn keep_answer<const P: u32>(
-    known: &Known<P>,
+    graph: &Graph,
+    known: Known,
     pairs: &[(u32, u32)],
     slots: &mut Vec<Slot>,
     place: usize,
     k: usize,
 )
-    requires k { k < length (asked_of known.now).targets }
+    requires known { AreAnswersFor graph.now known.source (max_dist P)
+        known.targets.now known.answers.now }
+    requires size { length known.answers.now ≡ length known.targets.now }
+    requires k { k < length known.targets.now }
     requires here { place < length pairs.now }
-    requires held { AreHeld P (asked_of known.now).graph pairs.now slots.old.items }
-    ensures held { AreHeld P (asked_of known.now).graph pairs.now slots.new.items }
+    requires held { AreHeld P graph.now pairs.now slots.old.items }
+    ensures held { AreHeld P graph.now pairs.now slots.new.items }
     ensures stay { StayClosed slots.old.items slots.new.items }
-    ensures closed { IsFor (pair_at pairs.now place) k (asked_of known.now)
+    ensures closed { IsFor (pair_at pairs.now place) k known.entry.source known.entry.targets.now
         → IsClosedAt place slots.new.items }
 {
     let (source, target) = pairs[place];
-    if source == known.source() && target == known.targets()[k] {
-        slots[place] = slot_of(known.answer(k));
+    if source == known.source && target == known.targets[k] {
+        slots[place] = slot_of(known.answers[k]);
     }
 }
 
 // Keeps the answers that were found for the pair at a place, and for those of the same source behind it.
 fn keep_answers<const P: u32>(
-    known: &Known<P>,
+    graph: &Graph,
+    known: Known,
     pairs: &[(u32, u32)],
     slots: &mut Vec<Slot>,
     place: usize,
 )
+    requires known { AreAnswersFor graph.now known.source (max_dist P)
+        known.targets.now known.answers.now }
+    requires size { length known.answers.now ≡ length known.targets.now }
     requires here { place < length pairs.now }
-    requires held { AreHeld P (asked_of known.now).graph pairs.now slots.old.items }
+    requires held { AreHeld P graph.now pairs.now slots.old.items }
     requires first { AreFirstClosed place slots.old.items }
-    requires known { IsFor (pair_at pairs.now place) 0 (asked_of known.now) }
-    ensures held { AreHeld P (asked_of known.now).graph pairs.now slots.new.items }
+    requires asked { IsFor (pair_at pairs.now place) 0 known.source known.targets.now }
+    ensures held { AreHeld P graph.now pairs.now slots.new.items }
     ensures first { AreFirstClosed (place + 1) slots.new.items }
 {
     let mut at = place;
-    for k in 0..known.targets().len() {
+    for k in 0..known.targets.len() {
         let next = next_place(pairs, slots, at);
-        keep_answer(known, pairs, slots, at, k);
+        keep_answer::<P>(graph, known, pairs, slots, at, k);
         match next {
             Some(place) => at = place,
             None => return,
@@ -158,7 +173,8 @@ fn keep_answers<const P: u32>(
 pub(crate) fn find_answers<const P: u32, R: Crew, L: Listener>(
     rt: &R,
     alloc: Global,
-    job: &Job<P, L>,
+    job: &Job<P>,
+    listener: &L,
     pairs: &[(u32, u32)],
 ) -> Result<Vec<Slot>, AllocError>
     requires ready { IsReady P job.now.graph.now }
@@ -172,13 +188,19 @@ pub(crate) fn find_answers<const P: u32, R: Crew, L: Listener>(
         if !is_open(&slots[place]) {
             continue;
         }
-        job.listener.hear(Progress::Pairs {
+        listener.hear(Progress::Pairs {
             found: place,
             count: pairs.len(),
         });
         let targets = targets_from(alloc, job.graph, pairs, &slots, place)?;
-        let known = find_targets(rt, alloc, &rooms, job, pairs[place].0, targets)?;
-        keep_answers(&known, pairs, &mut slots, place);
+        let source = pairs[place].0;
+        let answers = find_targets(rt, alloc, &rooms, job, source, &targets)?;
+        let known = Known {
+            source,
+            targets: &targets,
+            answers: &answers,
+        };
+        keep_answers::<P>(job.graph, known, pairs, &mut slots, place);
     }
     Ok(slots)
 }

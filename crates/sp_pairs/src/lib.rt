@@ -2,16 +2,11 @@
 #![tactic(auto)]
 
 mod asking;
-mod known;
 mod pair_lines;
 mod pairs;
-mod targets;
 
-pub use known::Known;
-pub use pair_lines::send_pair;
 pub use pairs::{run_pairs, run_pairs_told};
-pub use sp_job::{BatchError, BucketWidth, Listener, Nobody, Progress, Role, Settings, Summary};
-pub use targets::find_targets;
+pub use sp_jobs::{BatchError, BucketWidth, Listener, Nobody, Progress, Role, Settings, Summary};
 
 #[cfg(test)]
 mod tests;

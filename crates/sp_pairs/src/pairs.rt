@@ -3,14 +3,13 @@ ghost use Rattle.std.specs.Prelude.{◌≡◌, ℕ, true, List, All, Some, IfSom
 ghost use Rattle.sp_word.specs.Word.{is_layout};
 ghost use Rattle.sp_dimacs.specs.Graph.{IsNetwork};
 ghost use Rattle.sp_dimacs.specs.Pairs.{ArePairsWithin};
-ghost use Rattle.sp_job.specs.Answers.{is_early};
+ghost use Rattle.sp_jobs.specs.Answers.{is_early};
 ghost use Rattle.sp_pairs.specs.Pairs.{IsPairUpTo, IsFirstPairAbove, ArePairsDone, PairsAnswered, PairsOfSome, MayFail};
 
 use crate::asking::find_answers;
 use crate::pair_lines::write_pairs;
-use sp_dimacs::{GrFile, PairsFile, Read, Write, read_gr_by, read_pairs};
-use sp_graph::Graph;
-use sp_job::{BatchError, BucketWidth, Job, Listener, Nobody, Progress, Role, Settings, Summary};
+use sp_dimacs::{GrFile, PairsFile, Read, Write, read_pairs};
+use sp_jobs::{BatchError, BucketWidth, Job, Listener, Nobody, Role, Settings, Summary};
 use sp_word::{Crew, Meter, Workers};
 use std::alloc::Global;
 
@@ -49,19 +48,14 @@ fn answer_pairs<const P: u32, R: Crew, W: Write, L: Listener>(
     if let Some((number, role)) = first_pair_above(&list.pairs, file.n) {
         return Err(BatchError::NoSuchVertex(number, role));
     }
-    let graph = Graph::from_arcs_by(rt, alloc, file.n, file.arcs, settings.workers)?;
-    settings.listener.hear(Progress::Graph {
-        vertices: graph.n(),
-        arcs: graph.m(),
-    });
+    let graph = settings.build(rt, alloc, file)?;
     let uncounted = Meter::new();
     let job = Job {
         graph: &graph,
         team: settings.team_for(&graph),
         meter: settings.listener.meter().unwrap_or(&uncounted),
-        listener: settings.listener,
     };
-    let slots = find_answers::<P, R, L>(rt, alloc, &job, &list.pairs)?;
+    let slots = find_answers::<P, R, L>(rt, alloc, &job, settings.listener, &list.pairs)?;
     write_pairs(&list.pairs, &slots, out)
 }
 
@@ -118,10 +112,7 @@ pub fn run_pairs_told<const P: u32, R: Crew, G: Read, S: Read, W: Write, L: List
     ensures found { PairsOfSome P W.Write out.old out.new result }
     ensures may_fail { IfErr result (MayFail (G.failing gr.old) (S.failing pairs.old)) }
 {
-    let file = match read_gr_by::<P, R, G>(rt, alloc, gr, settings.workers) {
-        Ok(file) => file,
-        Err(error) => return Err(BatchError::Gr(error)),
-    };
+    let file = settings.read_graph::<R, G>(rt, alloc, gr)?;
     let list = match read_pairs::<P, S>(alloc, pairs) {
         Ok(list) => list,
         Err(error) => return Err(BatchError::Pairs(error)),

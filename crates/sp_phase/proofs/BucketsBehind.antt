@@ -17,10 +17,10 @@ use Rattle.sp_offer.specs.Order.{IsNoMore}
 use Rattle.sp_offer.specs.Story.{Knowledge, known_table}
 use Rattle.sp_offer.proofs.Orders.{at_most-both}
 use Rattle.sp_bins.specs.declared.entry.Entry.{Entry}
-use Rattle.sp_bucket.specs.Content.{Content, IsLowest, Takes, bucket_of}
-use Rattle.sp_store.specs.declared.marks.LeaderMark.{LeaderMark}
-use Rattle.sp_store.specs.Stage.{Stage, IsStage, Learns}
-use Rattle.sp_store.specs.Marks.{no_mark, light_at, is_remembered}
+use Rattle.sp_rounds.specs.Content.{Content, IsLowest, Takes, bucket_of}
+use Rattle.sp_phase.specs.declared.marks.LeaderMark.{LeaderMark}
+use Rattle.sp_phase.specs.Stage.{Stage, IsStage, Learns}
+use Rattle.sp_phase.specs.Marks.{no_mark, light_at, is_remembered}
 use Rattle.sp_phase.specs.Lead.{Lead}
 use Rattle.sp_phase.specs.declared.sweeping.Bounds.{Bounds}
 use Rattle.sp_phase.specs.Running.{IsQueued, EntriesFrom, Leads}
@@ -28,7 +28,7 @@ use Rattle.sp_phase.specs.Sweep.{AreRelaxed, IsOpen, IsCopied, HasCopied, TakesC
 use Rattle.sp_phase.specs.Settling.{IsLaterBucket}
 use Rattle.sp_phase.specs.Progress.{MayLead}
 use Rattle.sp_phase.specs.Behind.{IsFinal, IsPast, HasCome, end_of, KeepsPast, KeepsLevel, CatchesUp, StaysFrom, Empties, Reaches}
-use Rattle.sp_solve.proofs.WholeRun.{lawful_walk}
+use Rattle.sp_run.proofs.LawfulWalks.{lawful_walk}
 use Rattle.sp_phase.proofs.KnownWords.{known_pair, known_lawful, tree_lowest}
 use Rattle.sp_phase.proofs.LeaderHolds.{replicate_at, takes_from, takes_past, bucket_next, leads_queued, put_queued}
 use Rattle.sp_phase.proofs.CopiedWords.{open_queued}

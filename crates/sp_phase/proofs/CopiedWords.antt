@@ -18,16 +18,16 @@ use Rattle.sp_offer.specs.Order.{IsKnownWord, IsNoMore}
 use Rattle.sp_offer.specs.Story.{Knowledge, known_table, IsCopy}
 use Rattle.sp_bins.specs.declared.entry.Entry.{Entry}
 use Rattle.sp_answer.specs.Table.{TreeTable, HasPredWithin, table_of, tree_of}
-use Rattle.sp_store.specs.declared.marks.LeaderMark.{LeaderMark}
+use Rattle.sp_phase.specs.declared.marks.LeaderMark.{LeaderMark}
 use Rattle.sp_answer.specs.declared.answer.RunError.TheVariants.{TooFar}
-use Rattle.sp_store.specs.Stage.{Stage, IsStage, law_of}
-use Rattle.sp_store.specs.Marks.{Noted, mark_of, light_at, heavy_at}
-use Rattle.sp_store.proofs.TaskMarks.{some_same}
+use Rattle.sp_phase.specs.Stage.{Stage, IsStage, law_of}
+use Rattle.sp_phase.specs.Marks.{Noted, mark_of, light_at, heavy_at}
+use Rattle.sp_phase.proofs.TaskMarks.{some_same}
 use Rattle.sp_phase.specs.declared.sweeping.Bounds.{Bounds}
 use Rattle.sp_phase.specs.Running.{IsQueued, Holds}
 use Rattle.sp_phase.specs.Sweep.{IsMarkedAt, IsRelaxedAtDist, IsRelaxedHere, AreRelaxed, IsOpen, IsCopied, IsSwept, HasWords}
 use Rattle.sp_answer.specs.Answer.{IsAnswer, IsRefusal}
-use Rattle.sp_solve.proofs.WholeRun.{lawful_walk}
+use Rattle.sp_run.proofs.LawfulWalks.{lawful_walk}
 use Rattle.sp_phase.proofs.KnownWords.{at_most_pair, zero_stays, known_pair, known_lawful, walk_vertex, tree_known}
 use Rattle.sp_phase.proofs.LeaderHolds.{dist_pair}
 

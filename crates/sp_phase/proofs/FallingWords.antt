@@ -7,13 +7,13 @@ use Rattle.sp_paths.proofs.Least.{least_exists}
 use Rattle.sp_offer.specs.Order.{IsKnownWord, IsNoMore}
 use Rattle.sp_offer.specs.Story.{Knowledge, known_table}
 use Rattle.sp_offer.proofs.Orders.{at_most-refl, at_most-trans}
-use Rattle.sp_task.specs.declared.task.Task.{Task}
-use Rattle.sp_store.specs.declared.marks.LeaderMark.{LeaderMark}
-use Rattle.sp_store.specs.Stage.{Stage, IsStage, Falls, Learns, law_of}
-use Rattle.sp_store.specs.Marks.{heavy_at, SameDistances}
+use Rattle.sp_rounds.specs.declared.task.Task.{Task}
+use Rattle.sp_phase.specs.declared.marks.LeaderMark.{LeaderMark}
+use Rattle.sp_phase.specs.Stage.{Stage, IsStage, Falls, Learns, law_of}
+use Rattle.sp_phase.specs.Marks.{heavy_at, SameDistances}
 use Rattle.sp_phase.specs.Lead.{Lead}
 use Rattle.sp_phase.specs.Behind.{IsCarried, IsFinal, HasRun}
-use Rattle.sp_solve.proofs.WholeRun.{lawful_walk}
+use Rattle.sp_run.proofs.LawfulWalks.{lawful_walk}
 use Rattle.sp_phase.proofs.KnownWords.{known_pair}
 use Rattle.sp_phase.proofs.SettledBuckets.{word_stays, settled_stays}
 

@@ -13,12 +13,12 @@ use Rattle.sp_paths.specs.Paths.{IsGraph, IsVertex, IsArc, IsAtMost}
 use Rattle.sp_paths.specs.Rows.{row_of, IsArcRelaxed}
 use Rattle.sp_bins.specs.declared.entry.Entry.{Entry}
 use Rattle.sp_graph.specs.RowsValue.{Split}
-use Rattle.sp_task.specs.declared.task.TaskKind.{TaskKind}
-use Rattle.sp_task.specs.declared.task.TaskKind.TheVariants.{Light, Heavy}
-use Rattle.sp_task.specs.declared.task.Task.{Task}
-use Rattle.sp_task.specs.Offers.{Asked, arcs_of, arcs_of_kind, offer_along, offers_along, offers_of, AreSameOffers}
-use Rattle.sp_task.specs.Calls.{question_of, entries, entry_of_reply, entry_of_call, word_offered}
-use Rattle.sp_store.specs.Stage.{Stage, rows_of}
+use Rattle.sp_rounds.specs.declared.task.TaskKind.{TaskKind}
+use Rattle.sp_rounds.specs.declared.task.TaskKind.TheVariants.{Light, Heavy}
+use Rattle.sp_rounds.specs.declared.task.Task.{Task}
+use Rattle.sp_rounds.specs.Offers.{Asked, arcs_of, arcs_of_kind, offer_along, offers_along, offers_of, AreSameOffers}
+use Rattle.sp_rounds.specs.Calls.{question_of, entries, entry_of_reply, entry_of_call, word_offered}
+use Rattle.sp_phase.specs.Stage.{Stage, rows_of}
 use Rattle.sp_phase.specs.Running.{IsQueued}
 
 -- a test of offers, by the vertex and the distance

@@ -7,10 +7,10 @@ use Rattle.sp_paths.specs.Paths.{Graph, IsGraph, IsVertex, HasArc, HasWalk, HasW
 use Rattle.sp_paths.proofs.Walks.{arc_in, walk_from_by, walk_by_parts, walk_cases, walk_more}
 use Rattle.sp_offer.specs.Order.{IsKnownWord, IsNoMore}
 use Rattle.sp_offer.proofs.Orders.{at_most-both}
-use Rattle.sp_store.specs.declared.marks.LeaderMark.{LeaderMark}
-use Rattle.sp_store.specs.Stage.{Stage, law_of, Falls}
-use Rattle.sp_store.specs.Rounds.{IsRunning}
-use Rattle.sp_solve.proofs.WholeRun.{lawful_walk}
+use Rattle.sp_phase.specs.declared.marks.LeaderMark.{LeaderMark}
+use Rattle.sp_phase.specs.Stage.{Stage, law_of, Falls}
+use Rattle.sp_phase.specs.Rounds.{IsRunning}
+use Rattle.sp_run.proofs.LawfulWalks.{lawful_walk}
 
 -- a word that is no more than one that is at most a pair
 pub at_most_pair : (a b : Word) (d p : ℕ) → IsNoMore a b → IsAtMost b d p → IsAtMost a d p

@@ -12,20 +12,20 @@ use Rattle.sp_word.specs.History.{Table}
 use Rattle.sp_paths.specs.Paths.{IsGraph, IsVertex}
 use Rattle.sp_offer.specs.Story.{Knowledge, known_table}
 use Rattle.sp_bins.specs.declared.entry.Entry.{Entry}
-use Rattle.sp_bucket.specs.Content.{Content, bucket_of, Puts, Takes}
-use Rattle.sp_bucket.proofs.EntryPlaces.{All-before, All-behind}
-use Rattle.sp_task.specs.declared.task.TaskKind.{TaskKind}
-use Rattle.sp_task.specs.declared.task.Task.{Task}
-use Rattle.sp_task.specs.Left.{RoundDone}
-use Rattle.sp_store.specs.declared.marks.LeaderMark.{LeaderMark}
-use Rattle.sp_store.specs.Stage.{Stage, IsStage, Learns, law_of, rows_of}
-use Rattle.sp_store.specs.Marks.{Noted, no_mark, mark_of, light_at, heavy_at, SameDistances, Remembers}
-use Rattle.sp_store.specs.Rounds.{IsRunning, IsDue, KeepsRunning}
-use Rattle.sp_store.proofs.TaskMarks.{running_same}
+use Rattle.sp_rounds.specs.Content.{Content, bucket_of, Puts, Takes}
+use Rattle.sp_rounds.proofs.EntryPlaces.{All-before, All-behind}
+use Rattle.sp_rounds.specs.declared.task.TaskKind.{TaskKind}
+use Rattle.sp_rounds.specs.declared.task.Task.{Task}
+use Rattle.sp_rounds.specs.Left.{RoundDone}
+use Rattle.sp_phase.specs.declared.marks.LeaderMark.{LeaderMark}
+use Rattle.sp_phase.specs.Stage.{Stage, IsStage, Learns, law_of, rows_of}
+use Rattle.sp_phase.specs.Marks.{Noted, no_mark, mark_of, light_at, heavy_at, SameDistances, Remembers}
+use Rattle.sp_phase.specs.Rounds.{IsRunning, IsDue, KeepsRunning}
+use Rattle.sp_phase.proofs.TaskMarks.{running_same}
 use Rattle.sp_phase.specs.Lead.{Lead}
 use Rattle.sp_phase.specs.Running.{IsQueued, Holds, Leads, TasksFrom, EntriesFrom}
 use Rattle.sp_phase.specs.Behind.{IsPast}
-use Rattle.sp_solve.proofs.WholeRun.{lawful_walk}
+use Rattle.sp_run.proofs.LawfulWalks.{lawful_walk}
 use Rattle.sp_phase.proofs.KnownWords.{running_falls, known_pair}
 use Rattle.sp_phase.proofs.FoundEntries.{found_queued}
 

@@ -1,3 +1,6 @@
+pub mod TaskMarks
+pub mod StageTasks
+pub mod RoundMarks
 pub mod KnownWords
 pub mod FoundEntries
 pub mod LeaderHolds

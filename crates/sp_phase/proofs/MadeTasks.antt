@@ -8,14 +8,14 @@ use Rattle.sp_word.specs.Word.{Word, Unreached, Pair, dist_of}
 use Rattle.sp_paths.specs.Paths.{IsVertex}
 use Rattle.sp_offer.specs.Order.{IsKnownWord}
 use Rattle.sp_offer.specs.Story.{Knowledge, known_table}
-use Rattle.sp_task.specs.declared.task.TaskKind.{TaskKind}
-use Rattle.sp_task.specs.declared.task.TaskKind.TheVariants.{Light, Heavy}
-use Rattle.sp_task.specs.declared.task.Task.{Task}
-use Rattle.sp_store.specs.declared.marks.LeaderMark.{LeaderMark}
-use Rattle.sp_store.specs.Stage.{Stage, Learns, law_of}
-use Rattle.sp_store.specs.Marks.{Noted, SameDistances, is_remembered, Enters, Forgets}
-use Rattle.sp_store.specs.Rounds.{HasTask, IsDue}
-use Rattle.sp_store.proofs.TaskMarks.{task_of}
+use Rattle.sp_rounds.specs.declared.task.TaskKind.{TaskKind}
+use Rattle.sp_rounds.specs.declared.task.TaskKind.TheVariants.{Light, Heavy}
+use Rattle.sp_rounds.specs.declared.task.Task.{Task}
+use Rattle.sp_phase.specs.declared.marks.LeaderMark.{LeaderMark}
+use Rattle.sp_phase.specs.Stage.{Stage, Learns, law_of}
+use Rattle.sp_phase.specs.Marks.{Noted, SameDistances, is_remembered, Enters, Forgets}
+use Rattle.sp_phase.specs.Rounds.{HasTask, IsDue}
+use Rattle.sp_phase.proofs.TaskMarks.{task_of}
 use Rattle.sp_phase.specs.Lead.{Lead, lead_without_memory}
 use Rattle.sp_phase.specs.Behind.{AreCarried, OwesHeavy, WasKnown, MakesTasks, MakesLight, MakesHeavy, HandsOver, IsFrom, HandsSome, Reads, MakesDue, PreparesLight, GivesHeavy, GivesSome}
 use Rattle.sp_phase.specs.Running.{Holds, Leads}

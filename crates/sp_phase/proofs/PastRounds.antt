@@ -10,16 +10,16 @@ use Rattle.sp_paths.specs.Paths.{IsVertex, IsSettled}
 use Rattle.sp_offer.specs.Order.{IsKnownWord}
 use Rattle.sp_offer.specs.Story.{Knowledge, known_table}
 use Rattle.sp_bins.specs.declared.entry.Entry.{Entry}
-use Rattle.sp_task.specs.declared.task.TaskKind.{TaskKind}
-use Rattle.sp_task.specs.declared.task.TaskKind.TheVariants.{Light, Heavy}
-use Rattle.sp_task.specs.declared.task.Task.{Task}
-use Rattle.sp_task.specs.Left.{RoundDone}
-use Rattle.sp_store.specs.declared.marks.LeaderMark.{LeaderMark}
-use Rattle.sp_store.specs.Stage.{Stage, IsStage, Falls, Learns, law_of, rows_of}
-use Rattle.sp_store.specs.Marks.{Noted, light_at, heavy_at, SameDistances, is_remembered}
-use Rattle.sp_store.specs.Rounds.{HasTask, IsMarkedBy, AreMarked}
-use Rattle.sp_store.proofs.TaskMarks.{some_same, task_of}
-use Rattle.sp_store.proofs.RoundMarks.{light_heavy, heavy_light}
+use Rattle.sp_rounds.specs.declared.task.TaskKind.{TaskKind}
+use Rattle.sp_rounds.specs.declared.task.TaskKind.TheVariants.{Light, Heavy}
+use Rattle.sp_rounds.specs.declared.task.Task.{Task}
+use Rattle.sp_rounds.specs.Left.{RoundDone}
+use Rattle.sp_phase.specs.declared.marks.LeaderMark.{LeaderMark}
+use Rattle.sp_phase.specs.Stage.{Stage, IsStage, Falls, Learns, law_of, rows_of}
+use Rattle.sp_phase.specs.Marks.{Noted, light_at, heavy_at, SameDistances, is_remembered}
+use Rattle.sp_phase.specs.Rounds.{HasTask, IsMarkedBy, AreMarked}
+use Rattle.sp_phase.proofs.TaskMarks.{some_same, task_of}
+use Rattle.sp_phase.proofs.RoundMarks.{light_heavy, heavy_light}
 use Rattle.sp_phase.specs.Lead.{Lead}
 use Rattle.sp_phase.specs.Running.{TasksFrom, EntriesFrom, Holds, Leads}
 use Rattle.sp_phase.specs.Behind.{IsCarried, AreCarried, OwesHeavy, IsFinal, IsPast, WasKnown, MakesTasks, MakesLight, MakesHeavy, HasRun, MakesDue, PreparesLight, KeepsPast, CatchesUp}

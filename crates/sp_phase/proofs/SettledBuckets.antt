@@ -12,15 +12,15 @@ use Rattle.sp_graph.specs.LeftOut.{IsLeastLeftOut}
 use Rattle.sp_offer.specs.Order.{IsKnownWord}
 use Rattle.sp_offer.specs.Story.{Knowledge, known_table}
 use Rattle.sp_bins.specs.declared.entry.Entry.{Entry}
-use Rattle.sp_bucket.specs.Content.{Content, IsLowest}
-use Rattle.sp_store.specs.declared.marks.LeaderMark.{LeaderMark}
-use Rattle.sp_store.specs.Stage.{Stage, IsStage, Falls, law_of}
-use Rattle.sp_store.specs.Marks.{light_at, heavy_at}
+use Rattle.sp_rounds.specs.Content.{Content, IsLowest}
+use Rattle.sp_phase.specs.declared.marks.LeaderMark.{LeaderMark}
+use Rattle.sp_phase.specs.Stage.{Stage, IsStage, Falls, law_of}
+use Rattle.sp_phase.specs.Marks.{light_at, heavy_at}
 use Rattle.sp_phase.specs.declared.sweeping.Bounds.{Bounds}
 use Rattle.sp_phase.specs.Running.{IsQueued}
 use Rattle.sp_phase.specs.Sweep.{AreRelaxed, IsCopied, IsSwept}
 use Rattle.sp_phase.specs.Settling.{IsTold, IsSettledExactly, EndsExactly}
-use Rattle.sp_solve.proofs.WholeRun.{lawful_walk}
+use Rattle.sp_run.proofs.LawfulWalks.{lawful_walk}
 use Rattle.sp_phase.proofs.KnownWords.{tree_known, known_pair, walk_vertex}
 
 -- a vertex of which a pair is known is near

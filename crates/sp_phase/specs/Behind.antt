@@ -6,13 +6,13 @@ use Rattle.sp_paths.specs.Paths.{IsVertex, IsSettled}
 use Rattle.sp_offer.specs.Order.{IsKnownWord}
 use Rattle.sp_offer.specs.Story.{Knowledge, known_table}
 use Rattle.sp_bins.specs.declared.entry.Entry.{Entry}
-use Rattle.sp_task.specs.declared.task.TaskKind.{TaskKind}
-use Rattle.sp_task.specs.declared.task.TaskKind.TheVariants.{Light, Heavy}
-use Rattle.sp_task.specs.declared.task.Task.{Task}
-use Rattle.sp_store.specs.declared.marks.LeaderMark.{LeaderMark}
-use Rattle.sp_store.specs.Stage.{Stage, Falls, Learns, law_of}
-use Rattle.sp_store.specs.Marks.{Noted, light_at, heavy_at, SameDistances, is_remembered, Forgets}
-use Rattle.sp_store.specs.Rounds.{IsDue, IsRoundOf, HasTask, AreMarked}
+use Rattle.sp_rounds.specs.declared.task.TaskKind.{TaskKind}
+use Rattle.sp_rounds.specs.declared.task.TaskKind.TheVariants.{Light, Heavy}
+use Rattle.sp_rounds.specs.declared.task.Task.{Task}
+use Rattle.sp_phase.specs.declared.marks.LeaderMark.{LeaderMark}
+use Rattle.sp_phase.specs.Stage.{Stage, Falls, Learns, law_of}
+use Rattle.sp_phase.specs.Marks.{Noted, light_at, heavy_at, SameDistances, is_remembered, Forgets}
+use Rattle.sp_phase.specs.Rounds.{IsDue, IsRoundOf, HasTask, AreMarked}
 use Rattle.sp_phase.specs.Lead.{Lead}
 use Rattle.sp_phase.specs.Running.{HasPut, EntriesFrom}
 

@@ -2,10 +2,10 @@
 use Rattle.std.specs.Prelude.{List, []}
 use Rattle.sp_word.specs.Word.{Word}
 use Rattle.sp_offer.specs.Story.{Knowledge}
-use Rattle.sp_bucket.specs.Content.{Content}
-use Rattle.sp_store.specs.declared.marks.LeaderMarks.{LeaderMarks}
-use Rattle.sp_store.specs.Stage.{Stage}
-use Rattle.sp_store.specs.Marks.{Noted, notes_of}
+use Rattle.sp_rounds.specs.Content.{Content}
+use Rattle.sp_phase.specs.declared.marks.LeaderMarks.{LeaderMarks}
+use Rattle.sp_phase.specs.Stage.{Stage}
+use Rattle.sp_phase.specs.Marks.{Noted, notes_of}
 
 -- The leader has the store's stage, the caller, what is recorded about the vertices, the queued entries, and a copy of
 -- all words.

@@ -1,3 +1,7 @@
+pub mod Stage
+pub mod Held
+pub mod Marks
+pub mod Rounds
 pub mod Lead
 pub mod Running
 pub mod Sweep

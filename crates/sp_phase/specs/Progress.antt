@@ -4,7 +4,7 @@ use Rattle.sp_word.specs.Word.{Word}
 use Rattle.sp_offer.specs.Story.{Knowledge, known_table}
 use Rattle.sp_answer.specs.declared.answer.RunError.{RunError}
 use Rattle.sp_answer.specs.declared.answer.RunError.TheVariants.{Memory, TooFar, NoSuchVertex}
-use Rattle.sp_store.specs.Stage.{Stage}
+use Rattle.sp_phase.specs.Stage.{Stage}
 use Rattle.sp_phase.specs.Lead.{Lead}
 use Rattle.sp_phase.specs.Behind.{HasCome}
 

@@ -5,11 +5,11 @@ use Rattle.sp_word.specs.Word.{max_dist}
 use Rattle.sp_paths.specs.Paths.{IsVertex}
 use Rattle.sp_offer.specs.Story.{Knowledge, known_table}
 use Rattle.sp_bins.specs.declared.entry.Entry.{Entry}
-use Rattle.sp_bucket.specs.Content.{Content}
-use Rattle.sp_task.specs.declared.task.Task.{Task}
-use Rattle.sp_store.specs.Stage.{Stage, IsStage}
-use Rattle.sp_store.specs.Marks.{Noted}
-use Rattle.sp_store.specs.Rounds.{IsRunning}
+use Rattle.sp_rounds.specs.Content.{Content}
+use Rattle.sp_rounds.specs.declared.task.Task.{Task}
+use Rattle.sp_phase.specs.Stage.{Stage, IsStage}
+use Rattle.sp_phase.specs.Marks.{Noted}
+use Rattle.sp_phase.specs.Rounds.{IsRunning}
 use Rattle.sp_phase.specs.Lead.{Lead}
 
 -- The entry has a vertex, and a distance from low to max.

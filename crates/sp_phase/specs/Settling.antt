@@ -4,7 +4,7 @@ use Rattle.sp_word.specs.Word.{Pair, max_dist}
 use Rattle.sp_word.specs.History.{Table}
 use Rattle.sp_paths.specs.Paths.{Graph, IsVertex, IsTreeWord, EndsInTree, IsSettled}
 use Rattle.sp_offer.specs.Story.{Knowledge, known_table}
-use Rattle.sp_store.specs.Stage.{Stage}
+use Rattle.sp_phase.specs.Stage.{Stage}
 use Rattle.sp_phase.specs.Lead.{Lead}
 use Rattle.sp_phase.specs.Progress.{Progress}
 

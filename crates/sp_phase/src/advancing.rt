@@ -1,7 +1,7 @@
 //! Advances a leader from bucket to bucket.
 ghost use Rattle.std.specs.Prelude.{◌≡◌, ◌+◌, ◌*◌, ◌<◌, Some, None, IsTrue, IfOk, IfSome, IfNone};
 ghost use Rattle.sp_paths.specs.Paths.{IsVertex};
-ghost use Rattle.sp_bucket.specs.Content.{IsLowest};
+ghost use Rattle.sp_rounds.specs.Content.{IsLowest};
 ghost use Rattle.sp_phase.specs.Settling.{Tells};
 ghost use Rattle.sp_phase.specs.Behind.{Reaches, ComesOn};
 ghost use Rattle.sp_phase.specs.Sweep.{HasSwept};
@@ -11,7 +11,7 @@ use crate::leader::{Leader, MOST_ROUNDS};
 use crate::sweeping::Bounds;
 use sp_graph::look_up;
 use sp_paths::tested_copy;
-use sp_task::Gate;
+use sp_rounds::Gate;
 use sp_word::Word;
 use std::alloc::AllocError;
 use std::thread::Threads;

@@ -7,11 +7,10 @@ ghost use Rattle.sp_answer.specs.Answer.{IsAnswer, IsRefusal};
 ghost use Rattle.sp_phase.specs.Sweep.{HasSwept, HasWords};
 
 use crate::leader::Leader;
-use sp_answer::Tree;
+use sp_answer::{RunError, Tree};
 use sp_graph::left_out;
 use sp_offer::Caller;
 use sp_paths::swept_copy;
-use sp_store::RunError;
 use std::alloc::AllocError;
 
 impl<'a, 'g, const P: u32> Leader<'a, 'g, P> {

@@ -2,15 +2,15 @@
 ghost use Rattle.std.specs.Prelude.{◌≡◌, ◌≤◌, None, IfOk, IfSome};
 ghost use Rattle.sp_paths.specs.Paths.{IsVertex};
 ghost use Rattle.sp_offer.specs.Story.{known_table};
-ghost use Rattle.sp_bucket.specs.Content.{IsLowest};
-ghost use Rattle.sp_store.specs.Stage.{IsStage};
+ghost use Rattle.sp_rounds.specs.Content.{IsLowest};
+ghost use Rattle.sp_phase.specs.Stage.{IsStage};
 ghost use Rattle.sp_phase.specs.Lead.{lead_without_memory};
 ghost use Rattle.sp_phase.specs.Behind.{HasCome, Reads};
 
-use sp_bucket::{Buckets, Entry};
-use sp_claim::Claimer;
+use crate::marks::LeaderMarks;
+use crate::store::Store;
 use sp_offer::Caller;
-use sp_store::{LeaderMarks, Store};
+use sp_rounds::{Buckets, Claimer, Entry};
 use sp_word::{Word, Workers};
 use std::alloc::{AllocError, Global};
 use std::marker::Model;

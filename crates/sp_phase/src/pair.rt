@@ -2,16 +2,17 @@
 ghost use Rattle.std.specs.Prelude.{◌≡◌, ◌≤◌, true, IfOk, IfErr};
 ghost use Rattle.sp_word.specs.Word.{is_layout, max_pred};
 ghost use Rattle.sp_paths.specs.Paths.{IsVertex};
-ghost use Rattle.sp_store.specs.Stage.{IsStage};
+ghost use Rattle.sp_phase.specs.Stage.{IsStage};
 ghost use Rattle.sp_phase.specs.Pairs.{IsPairAnswer, IsPairRefusal, KnowsTarget};
 
 use crate::advancing::Until;
 use crate::leader::Leader;
 use crate::run::RunStart;
+use crate::store::Store;
+use sp_answer::RunError;
 use sp_graph::{Graph, left_out, look_up};
 use sp_paths::swept_copy;
-use sp_store::{RunError, Store};
-use sp_task::{Gate, OpenGate};
+use sp_rounds::{Gate, OpenGate};
 use sp_word::{Delta, Word, Workers};
 use std::alloc::Global;
 use std::thread::Threads;

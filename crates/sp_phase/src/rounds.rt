@@ -4,16 +4,15 @@
 //! "Delta-stepping: a parallelizable shortest path algorithm", Journal of Algorithms 49, 2003, section 2.)
 ghost use Rattle.std.specs.Prelude.{◌≡◌, ℕ, ◌++◌, All, IfOk, IfSome, OnOk, option_to_list, take};
 ghost use Rattle.sp_paths.specs.Paths.{IsVertex};
-ghost use Rattle.sp_bucket.specs.Content.{Takes};
-ghost use Rattle.sp_store.specs.Stage.{Learns};
-ghost use Rattle.sp_store.specs.Rounds.{IsDue};
+ghost use Rattle.sp_rounds.specs.Content.{Takes};
+ghost use Rattle.sp_phase.specs.Stage.{Learns};
+ghost use Rattle.sp_phase.specs.Rounds.{IsDue};
 ghost use Rattle.sp_phase.specs.Running.{IsQueued, HasPut};
 ghost use Rattle.sp_phase.specs.Behind.{HasRun, PreparesLight, GivesHeavy, KeepsPast, KeepsFrom, CatchesUp, Empties};
 
 use crate::leader::{Leader, MOST_ROUNDS};
-use sp_bucket::{Buckets, Entry};
-use sp_store::RoundTeam;
-use sp_task::{Gate, Task, TaskKind};
+use crate::store::RoundTeam;
+use sp_rounds::{Buckets, Entry, Gate, Task, TaskKind};
 use std::alloc::AllocError;
 use std::thread::Threads;
 

@@ -10,11 +10,10 @@ ghost use Rattle.sp_phase.specs.Settling.{IsToldBy, IsLaterBucket};
 
 use crate::advancing::{Settled, Until};
 use crate::leader::Leader;
-use sp_answer::Tree;
-use sp_claim::Claimer;
+use crate::store::Store;
+use sp_answer::{RunError, Tree};
 use sp_offer::Caller;
-use sp_store::{RunError, Store};
-use sp_task::Gate;
+use sp_rounds::{Claimer, Gate};
 use sp_word::{Word, Workers};
 use std::alloc::Global;
 use std::marker::Model;
@@ -42,7 +41,7 @@ pub struct Run<'a, 'g, const P: u32> {
 }
 
 impl<'a, 'g, const P: u32> Model for Run<'a, 'g, P> {
-    ghost use Rattle.sp_store.specs.Stage.{IsStage};
+    ghost use Rattle.sp_phase.specs.Stage.{IsStage};
     ghost use Rattle.sp_phase.specs.Progress.{Progress, caller_of, MayLead};
 
     ghost Value = { Progress };

@@ -4,10 +4,10 @@ ghost use Rattle.sp_word.specs.Word.{is_layout, max_pred};
 ghost use Rattle.sp_answer.specs.Answer.{IsAnswer, IsRefusal};
 
 use crate::run::{Run, RunStart};
-use sp_answer::Tree;
+use crate::store::Store;
+use sp_answer::{RunError, Tree};
 use sp_graph::Graph;
-use sp_store::{RunError, Store};
-use sp_task::Gate;
+use sp_rounds::Gate;
 use sp_word::{Delta, Workers};
 use std::alloc::Global;
 use std::thread::Threads;

@@ -1,17 +1,17 @@
 //! Finds the vertices whose arcs weren't relaxed at their distances, from a copy of all words.
 ghost use Rattle.std.specs.Prelude.{◌≡◌, ◌<◌, ◌↔◌, [], Some, None, length, All, IsTrue, IfOk, IfSome, IfNone, OnOk};
 ghost use Rattle.sp_paths.specs.Paths.{IsVertex};
-ghost use Rattle.sp_store.specs.Marks.{mark_of};
+ghost use Rattle.sp_phase.specs.Marks.{mark_of};
 ghost use Rattle.sp_phase.specs.Settling.{Tells};
 ghost use Rattle.sp_phase.specs.Behind.{KeepsLevel, StaysFrom};
 ghost use Rattle.sp_phase.specs.Sweep.{IsMarkedAt, AreRelaxed, IsRelaxedHere, IsOpen, HasRelaxed, HasCopied, HasSwept, TakesCopy};
 
 use crate::leader::Leader;
+use crate::marks::LeaderMark;
 use crate::rounds::{push_some, put_all};
-use sp_bucket::Entry;
 use sp_graph::look_up;
 use sp_paths::swept_copy;
-use sp_store::LeaderMark;
+use sp_rounds::Entry;
 use sp_word::Word;
 use std::alloc::{AllocError, Global};
 

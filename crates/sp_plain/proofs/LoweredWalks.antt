@@ -11,25 +11,15 @@ use Rattle.sp_paths.proofs.Walks.{arc_in, walk_by_parts}
 use Rattle.sp_graph.specs.LeftOut.{network}
 use Rattle.sp_forest.specs.Forests.{HasWalkFromAnyBy, IsLawful, IsTableFrom}
 use Rattle.sp_forest.proofs.Walks.{any_by, lawful_walk}
-use Rattle.sp_plain.specs.Passing.{IsLesserOffer, IsSmall, IsTableOfWalks}
+use Rattle.sp_plain.specs.Passing.{IsLesserOffer, IsSmall}
 use Rattle.sp_plain.specs.Lowering.{Step, AreSteps, IsLowered}
 use Rattle.sp_plain.specs.Several.{IsTableOfAny, IsFinishedTableOfAny}
-use Rattle.sp_plain.proofs.PassSteps.{pair_of, not_at_most, word_other, word_same, walks_set}
+use Rattle.sp_plain.proofs.PassSteps.{pair_of, not_at_most, word_other, word_same}
 use Rattle.sp_plain.proofs.TableSteps.{small_within}
 
 module _ (g : Graph) (fine : IsGraph g) (max : ℕ) where
   ends : (words : List Word) → length words ≡ g.n → (arc : Arc) → Contains g.arcs arc → IsArc (length words) arc
   ends words size arc here = subst (λ n. IsArc n arc) (sym size) (All-contains (IsArc g.n) g.arcs arc fine here)
-
-  steps_keep_walks : (s : ℕ) → IsVertex g.n s → (steps : List Step) (before after : List Word) → AreSteps max g.arcs steps before after → IsTableOfWalks g s max before → IsTableOfWalks g s max after
-  steps_keep_walks s at [] before after is walks = subst (IsTableOfWalks g s max) (sym is) walks
-  steps_keep_walks s at (x ∷ xs) before after h walks =
-      steps_keep_walks s at xs (set before (x.0.head - 1) x.1) after h.2
-      (walks_set max before x.0 (ends before walks.size x.0 h.0) x.1 h.1 g s fine at h.0 walks)
-
-  -- words lowered from walks of one source are such ones
-  pub lowered_walks : (s : ℕ) → IsVertex g.n s → (before after : List Word) → IsLowered max g.arcs before after → IsTableOfWalks g s max before → IsTableOfWalks g s max after
-  lowered_walks s at before after h walks = steps_keep_walks s at h.0 before after h.1 walks
 
   module _ (sources : List ℕ) where
     -- a word that an arc lowers is of a walk from a source still
@@ -73,7 +63,7 @@ module _ (g : Graph) (fine : IsGraph g) (max : ℕ) where
     steps_keep_any vertices (x ∷ xs) before after h t =
         steps_keep_any vertices xs (set before (x.0.head - 1) x.1) after h.2 (any_set before x.0 x.1 h.0 h.1 t vertices)
 
-    -- and those lowered from walks of several
+    -- words lowered from walks of the sources are such ones
     pub lowered_any : All (IsVertex g.n) sources → (before after : List Word) → IsLowered max g.arcs before after → IsTableOfAny g sources max before → IsTableOfAny g sources max after
     lowered_any vertices before after h t = steps_keep_any (λ s there. All-contains (IsVertex g.n) sources s vertices there) h.0 before after h.1 t
 

@@ -11,7 +11,7 @@ use Rattle.sp_word.specs.History.{Table}
 use Rattle.sp_paths.specs.declared.arc.Arc.{Arc}
 use Rattle.sp_paths.specs.Paths.{Graph, IsGraph, IsVertex, IsArc, HasArc, HasWalkBy, IsLawful, IsAtMost, IsClosed, IsTableFrom, word_at}
 use Rattle.sp_graph.specs.LeftOut.{network}
-use Rattle.sp_plain.specs.Passing.{IsLesserOffer, IsNoLesser, IsSmall, KeepsTables, KeepsWalks, rank}
+use Rattle.sp_plain.specs.Passing.{IsLesserOffer, IsNoLesser, IsSmall, KeepsTables, rank}
 use Rattle.sp_plain.specs.Lowering.{IsLowered}
 use Rattle.sp_plain.proofs.LoweringSteps.{lowered_one, lowered_then}
 use Rattle.sp_paths.proofs.Walks.{walk_by}
@@ -84,14 +84,6 @@ module _ (g : Graph) (gr : IsGraph g) (max : ℕ) (words : List Word) (size : le
       source : (s ≡ arc.head) ⊎ (s ≡ arc.head → ⊥) → word_at (set words (arc.head - 1) w) s ≡ Pair 0 0
       source (inl same) = absurd (no_less (rw same at table.source))
       source (inr other) = word_other words arc.head s w in'.1.0 at.0 other ∙ table.source
-
--- a word that an arc lowers is of a walk still
-pub walks_set : (max : ℕ) (words : List Word) (arc : Arc) → IsArc (length words) arc → (w : Word) → IsLesserOffer max (word_at words arc.tail) arc (word_at words arc.head) w → KeepsWalks max arc words (set words (arc.head - 1) w)
-walks_set max words arc in' w lesser g s fine at here t = record {
-  size = length-set words (arc.head - 1) w ∙ t.size;
-  small = subst (λ n. All (IsSmall n max) (set words (arc.head - 1) w)) (sym (length-set words (arc.head - 1) w)) (All-set (IsSmall (length words) max) words (arc.head - 1) w (rw lesser.3 (lesser.2, in'.0.1)) t.small);
-  table = set_table g fine max words t.size arc here (subst (λ n. IsArc n arc) t.size in') w lesser s at t.table;
-}
 
 -- what holds after i arcs of a pass
 pub record IsPassing (n max : ℕ) (arcs : List Arc) (i : ℕ) (initial words : List Word) (changed : Bool) : Type 0 where

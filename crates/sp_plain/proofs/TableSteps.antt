@@ -5,10 +5,10 @@ use Rattle.std.proofs.lemmas.Bool.{cases_eq}
 use Rattle.std.proofs.lemmas.List.{length-replicate, get_or-replicate}
 use Rattle.sp_word.specs.Word.{Word, Unreached, Pair}
 use Rattle.sp_paths.specs.declared.arc.Arc.{Arc}
-use Rattle.sp_paths.specs.Paths.{Graph, IsGraph, IsVertex, IsArc, IsLawful, IsClosed, IsTableFrom, IsWithin, word_at}
+use Rattle.sp_paths.specs.Paths.{Graph, IsVertex, IsArc, IsLawful, IsClosed, IsTableFrom, IsWithin, word_at}
 use Rattle.sp_paths.specs.Theorems.{IsFinished}
 use Rattle.sp_graph.specs.LeftOut.{network, IsLeastLeftOut}
-use Rattle.sp_plain.specs.Passing.{IsSmall, IsSmallTable, KeepsTables, first_words, IsFinishedTable, IsOutcome, IsTableOfWalks}
+use Rattle.sp_plain.specs.Passing.{IsSmall, IsSmallTable, KeepsTables, first_words, IsFinishedTable, IsOutcome}
 use Rattle.sp_plain.specs.Lowering.{IsLowered}
 use Rattle.sp_plain.proofs.PassSteps.{word_other, word_same}
 use Rattle.sp_paths.proofs.TheoremProofs.{finished_is_tree, finished_is_far}
@@ -57,15 +57,6 @@ finished_words n s max arcs first words fine h is size small kept closed =
     let C : ℕ → Type 0 = λ m. IsClosed (network m arcs) max (word_at words) in
     let whole : length words ≡ n = size ∙ n_is in
     record { size = whole; small = small; finished = finished n s max arcs words fine h whole small kept' (subst C n_is closed) }
-
--- what the passes leave of a table of walks
-pub walks_finished : (g : Graph) (s max : ℕ) (before words : List Word) → IsGraph g → IsVertex g.n s → IsTableOfWalks g s max before → length words ≡ length before → IsSmallTable max words
-    → KeepsTables (network (length before) g.arcs) before words → IsClosed (network (length before) g.arcs) max (word_at words) → IsFinishedTable g s max words
-walks_finished g s max before words fine at t size small kept closed =
-    let whole : length words ≡ g.n = size ∙ t.size in
-    let kept' : KeepsTables (network g.n g.arcs) before words = subst (λ n. KeepsTables (network n g.arcs) before words) t.size kept in
-    let closed' : IsClosed (network g.n g.arcs) max (word_at words) = subst (λ n. IsClosed (network n g.arcs) max (word_at words)) t.size closed in
-    record { size = whole; small = small; finished = record { graph = fine; source = at; table = kept' s at t.table; within = small_within g.n max words whole small; closed = closed' } }
 
 -- the vertex that is left out is the one that is too far
 pub outcome : (g : Graph) (s max : ℕ) (words : List Word) (far : Option ℕ) → IsLeastLeftOut g (word_at words) far → IsFinishedTable g s max words → IsOutcome g s max words far

@@ -2,7 +2,7 @@
 use Rattle.std.specs.Prelude.{◌≡◌, ℕ, replicate, ◌+◌, ◌-◌, ◌*◌, ◌≤◌, List, length, slice_set, All, sum_by, Option, Some, None}
 use Rattle.sp_word.specs.Word.{Word, Unreached, Pair, IsBelow, dist_of}
 use Rattle.sp_paths.specs.declared.arc.Arc.{Arc}
-use Rattle.sp_paths.specs.Paths.{Graph, IsGraph, IsVertex, HasArc, IsTree, IsFar, IsTableFrom, IsClosed, word_at}
+use Rattle.sp_paths.specs.Paths.{Graph, IsVertex, IsTree, IsFar, IsTableFrom, IsClosed, word_at}
 use Rattle.sp_graph.specs.LeftOut.{network}
 use Rattle.sp_paths.specs.Theorems.{IsFinished}
 
@@ -45,16 +45,6 @@ total_rank max words = sum_by (rank (length words) max) words
 -- The source has (0, 0), and the other vertices are unreached.
 abbrev pub first_words : (n s : ℕ) → List Word
 first_words n s = slice_set (replicate n Unreached) (s - 1) (Pair 0 0)
-
--- The table has n words within max; they come from walks from s, and the source has its own pair.
-pub record IsTableOfWalks (g : Graph) (s max : ℕ) (words : List Word) : Type 0 where
-  pub size : length words ≡ g.n
-  pub small : IsSmallTable max words
-  pub table : IsTableFrom g s (word_at words)
-
--- Such a table stays one, for each graph that has the arc.
-abbrev pub KeepsWalks : (max : ℕ) → Arc → List Word → List Word → Type 0
-KeepsWalks max arc before after = (g : Graph) (s : ℕ) → IsGraph g → IsVertex g.n s → HasArc g arc.tail arc.head arc.len → IsTableOfWalks g s max before → IsTableOfWalks g s max after
 
 -- The table has n words, and every arc is relaxed.
 pub record IsFinishedTable (g : Graph) (s max : ℕ) (words : List Word) : Type 0 where

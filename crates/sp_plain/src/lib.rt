@@ -13,8 +13,8 @@ mod plain;
 mod random;
 mod several;
 
-pub use lowering::{open_table, relax};
+pub use lowering::relax;
 pub use pass::relax_all;
-pub use plain::{Answer, close_table, finish_table, plain_tree};
+pub use plain::{Answer, plain_tree};
 pub use random::{GraphKind, Random, random_graph};
 pub use several::close_table_of_any;

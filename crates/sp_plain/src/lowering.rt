@@ -1,29 +1,13 @@
 //! Relaxation of one arc, in a table of words that another program lowers.
-ghost use Rattle.std.specs.Prelude.{◌≡◌, ◌≢◌, ℕ, ◌≤◌, true, vec_len, IfOk, IfSome, IfNone};
+ghost use Rattle.std.specs.Prelude.{◌≡◌, ◌≢◌, ℕ, ◌≤◌, true, vec_len, IfSome, IfNone};
 ghost use Rattle.sp_word.specs.Word.{dist_of, is_layout, max_dist, max_pred};
-ghost use Rattle.sp_paths.specs.Paths.{IsArc, IsVertex};
+ghost use Rattle.sp_paths.specs.Paths.{IsArc};
 ghost use Rattle.sp_plain.specs.Lowering.{IsLoweredBy, TakesLesser, KeepsUnlessLesser, IsShorterDist, HasSameDist};
-ghost use Rattle.sp_plain.specs.Passing.{IsTableOfWalks, KeepsWalks};
 
-use crate::pass::{first_table, lesser_offer};
-use sp_graph::{Graph, look_up};
+use crate::pass::lesser_offer;
+use sp_graph::look_up;
 use sp_paths::Arc;
 use sp_word::Word;
-use std::alloc::{AllocError, Global};
-
-/// Returns the words of a run before any arc is relaxed: (0, 0) at the source, and unreached elsewhere.
-pub fn open_table<const P: u32>(
-    alloc: Global,
-    graph: &Graph,
-    source: u32,
-) -> Result<Vec<Word<P>>, AllocError>
-    requires layout { is_layout P ≡ true }
-    requires source { IsVertex graph.now.n source }
-    ensures { IfOk result
-        (λ words. IsTableOfWalks graph.now source (max_dist P) words.items) }
-{
-    first_table(alloc, graph.n(), source)
-}
 
 // Returns the distance of `word` if it differs from that of the word found.
 fn distance_below<const P: u32>(found: Word<P>, word: Word<P>) -> Option<u64>
@@ -46,7 +30,6 @@ pub fn relax<const P: u32>(words: &mut Vec<Word<P>>, arc: Arc) -> Option<u64>
     requires room { vec_len words.old ≤ max_pred P }
     requires arc { IsArc (vec_len words.old) arc }
     ensures size { vec_len words.new ≡ vec_len words.old }
-    ensures kept { KeepsWalks (max_dist P) arc words.old.items words.new.items }
     ensures lowered { IsLoweredBy (max_dist P) arc words.old.items words.new.items }
     ensures lesser { TakesLesser (max_dist P) arc words.old.items words.new.items }
     ensures no_lesser { KeepsUnlessLesser (max_dist P) arc words.old.items words.new.items }

@@ -1,5 +1,5 @@
 //! Passes over the arcs.
-ghost use Rattle.std.specs.Prelude.{◌≡◌, ℕ, ◌+◌, ◌≤◌, true, length, vec_len, All, IfOk, IfSome, IfNone, cond};
+ghost use Rattle.std.specs.Prelude.{◌≡◌, ◌+◌, ◌≤◌, true, vec_len, All, IfOk, IfSome, IfNone, cond};
 ghost use Rattle.std.specs.Bool.{OnFalse};
 ghost use Rattle.sp_word.specs.Word.{is_layout, max_dist, max_pred};
 ghost use Rattle.sp_paths.specs.Paths.{IsArc, IsVertex};

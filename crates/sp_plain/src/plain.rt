@@ -2,11 +2,11 @@
 ghost use Rattle.std.specs.Prelude.{◌≡◌, ℕ, ◌≤◌, true, vec_len, IfOk};
 ghost use Rattle.sp_word.specs.Word.{is_layout, max_dist, max_pred};
 ghost use Rattle.sp_paths.specs.Paths.{IsVertex};
-ghost use Rattle.sp_plain.specs.Passing.{IsFinishedTable, IsTableOfWalks};
+ghost use Rattle.sp_plain.specs.Passing.{IsFinishedTable};
 ghost use Rattle.sp_plain.specs.Answer.{IsAnswer, ArePredsWithin};
 
 use crate::far::first_too_far;
-use crate::pass::{finished_table, relax_all};
+use crate::pass::finished_table;
 use sp_graph::Graph;
 use sp_word::Word;
 use std::alloc::{AllocError, Global};
@@ -36,31 +36,6 @@ pub fn plain_tree<const P: u32>(
 {
     let words = finished_table(alloc, graph, source)?;
     Ok(answer_of(graph, words))
-}
-
-/// Relaxes the arcs until no word changes, in a table that any other program may have lowered before, and returns the
-/// answer for the source.
-pub fn finish_table<const P: u32>(graph: &Graph, source: u32, mut words: Vec<Word<P>>) -> Answer<P>
-    requires layout { is_layout P ≡ true }
-    requires source { IsVertex graph.now.n source }
-    requires room { graph.now.n ≤ max_pred P }
-    requires table { IsTableOfWalks graph.now source (max_dist P) words.items }
-    ensures answer { IsAnswer graph.now source (max_dist P) result }
-    ensures predecessors { ArePredsWithin graph.now.n result }
-{
-    close_table(graph, source, &mut words);
-    answer_of(graph, words)
-}
-
-/// Relaxes the arcs until no word changes, in a table that any other program may have lowered before.
-pub fn close_table<const P: u32>(graph: &Graph, source: u32, words: &mut Vec<Word<P>>)
-    requires layout { is_layout P ≡ true }
-    requires source { IsVertex graph.now.n source }
-    requires room { graph.now.n ≤ max_pred P }
-    requires table { IsTableOfWalks graph.now source (max_dist P) words.old.items }
-    ensures { IsFinishedTable graph.now source (max_dist P) words.new.items }
-{
-    relax_all(words, graph.arcs());
 }
 
 // What is told by the words of a table in which every arc is relaxed.

@@ -4,3 +4,5 @@ pub mod Bounds
 pub mod KeepSteps
 pub mod Legal
 pub mod ReachedWords
+pub mod Making
+pub mod LeastWords

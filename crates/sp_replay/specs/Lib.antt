@@ -6,3 +6,6 @@ pub mod ReplayFile
 pub mod Offers
 pub mod OfferKeeping
 pub mod ReportText
+pub mod Least
+pub mod Ran
+pub mod Made

@@ -1,7 +1,12 @@
 //! The files of the step machine: reads replay files and offers files, and writes the report of a run, or the words
 //! that offers leave.
+//!
+//! It also makes the offers of a programme, with a thread for each actor, and finds the words that they leave: it is proved
+//! that these are the least that are offered, in whatever order the offers are made. That threads make the offers isn't
+//! proved: a body that makes all of them itself meets the same contract.
 #![tactic(auto)]
 
+mod actors;
 mod formats;
 mod keeper;
 mod lines;
@@ -11,6 +16,7 @@ mod reports;
 mod rows;
 mod words;
 
+pub use actors::words::final_words;
 pub use offers::read_offers;
 pub use replays::{ReplayFile, read_replay};
 pub use reports::write_report;

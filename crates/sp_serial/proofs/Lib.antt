@@ -1,9 +1,7 @@
 pub mod Lowered
-pub mod SeveralSources
-pub mod ForestAnswers
-pub mod Targets
-pub mod TargetAnswers
-pub mod WordsOfTree
+pub mod Started
+pub mod Telling
+pub mod Refusals
 pub mod Touching
 pub mod PartRows
 pub mod RootedRows

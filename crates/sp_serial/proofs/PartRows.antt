@@ -1,18 +1,17 @@
 -- The part of a tree within a limit, row by row.
-use Rattle.std.proofs.Common.{◌≡◌, ◌≢◌, ℕ, zero, suc, ◌+◌, ◌<◌, ◌≤◌, ◌⊎◌, inl, inr, List, [], ◌∷◌, ◌++◌, length, get_or, refl, sym, ap, ◌∙◌, subst, eq-eqb, ne_eqb, arith}
-use Rattle.std.specs.Prelude.{◌==◌, if◌then◌else◌, All, map, Option, Some, None, Result, Ok, Err, IfOk, IfSome}
+use Rattle.std.proofs.Common.{◌≡◌, ◌≢◌, ℕ, zero, ◌+◌, ◌<◌, ◌≤◌, ◌⊎◌, inl, inr, List, [], ◌∷◌, ◌++◌, length, get_or, refl, sym, ap, ◌∙◌, subst, eq-eqb, ne_eqb, arith}
+use Rattle.std.specs.Prelude.{◌==◌, if◌then◌else◌, Option, Some, None, Result, Ok, Err, IfOk, IfSome}
 use Rattle.std.proofs.lemmas.Bool.{cases_eq, cases_lt}
 use Rattle.sp_word.specs.Word.{Word, Unreached, Pair, dist_of, pred_of, max_dist}
-use Rattle.sp_paths.specs.Paths.{Graph, IsGraph, IsVertex, IsTreeWord, EndsInTree, word_at}
-use Rattle.sp_paths.proofs.Core.{walk_vertex}
+use Rattle.sp_paths.specs.Paths.{Graph, IsGraph, IsVertex, word_at}
 use Rattle.sp_answer.specs.Table.{TreeTable, AreRows, IsPairWithin, IsTable, last_after, last_vertex, table_of, with_row, word_in}
 use Rattle.sp_answer.specs.Within.{IsTreeWithin, up_to}
-use Rattle.sp_scan.specs.Shown.{IsClosedUpTo}
-use Rattle.sp_plain.specs.Several.{IsTableOfAny}
-use Rattle.sp_forest.specs.Laws.{ClosedShowsWithin, ForestOfOneIsTree}
-use Rattle.sp_serial.proofs.SeveralSources.{cut_word, part_of_forest}
-use Rattle.sp_serial.specs.Part.{HasGained, HasNoOther, IsPartOf}
-use Rattle.sp_serial.specs.Several.{AreForestWords}
+use Rattle.sp_forest.specs.Forests.{IsForestWord}
+use Rattle.sp_forest.specs.Run.{AreRunWords}
+use Rattle.sp_forest.proofs.Walks.{any_vertex}
+use Rattle.sp_forest.proofs.OneForest.{forest_of_one_is_tree}
+use Rattle.sp_forest.specs.declared.asked.Until.TheVariants.{Limit}
+use Rattle.sp_serial.specs.Part.{HasGained, HasNoOther, IsPartOf, HasPart}
 use Rattle.sp_serial.specs.Touched.{AreTouched}
 
 -- ## One row
@@ -126,33 +125,22 @@ pushed_all s limit words reached count t all touched pushed = record {
         let (k, from, less, same) = touched.covers v d p at is in
         subst (λ (u : ℕ). table_of t u ≡ up_to limit (word_at words u)) same (pushed.each k 0 (omega (arith, less, all)))
 
--- ## The part of the tree
+-- ## The part of the forest
 
-pub part_is : (P : ℕ) (g : Graph) → IsGraph g → (s : ℕ) → IsVertex g.n s → (limit : ℕ) (words cut : List Word) → length words ≡ g.n → AreForestWords P g (s ∷ []) (Some limit) cut → ((v : ℕ) → word_at cut v ≡ up_to limit (word_at words v))
-    → ForestOfOneIsTree → (t : TreeTable) → IsPartOf s limit words t → IsTreeWithin g s limit t
-part_is P g graph s at limit words cut size are cut_is law t is =
-    let ends : EndsInTree g s limit (word_at cut) = ((law g s).within limit (word_at cut)).0 are.forest in
-    let same : (v : ℕ) → IsVertex g.n v → word_at cut v ≡ table_of t v = λ v h. cut_is v ∙ sym (is.each v (subst (λ (n : ℕ). IsVertex n v) (sym size) h)) in
+pub part_of : (P : ℕ) (g : Graph) → IsGraph g → (sources : List ℕ) (limit : ℕ) (words : List Word) → AreRunWords P g sources (Limit limit) words None → (t : TreeTable) → IsPartOf (get_or sources 0 0) limit words t → HasPart g sources limit t
+part_of P g graph sources limit words told t is =
+    let same : (v : ℕ) → IsVertex g.n v → table_of t v ≡ up_to limit (word_at words v) = λ v at. is.each v (subst (λ (n : ℕ). IsVertex n v) (sym told.size) at) in
     record {
-      vertex = at;
-      n = is.n ∙ size;
+      n = is.n ∙ told.size;
       source = is.source;
-      tree = record {
-        near = λ v is_near. subst (IsTreeWord g s v) (same v (walk_vertex g graph s at v is_near.0 is_near.1.walk)) (ends.near v is_near);
-        others = λ v h far. sym (same v h) ∙ ends.others v h far;
+      part = record {
+        near = λ v near. subst (IsForestWord g sources v) (sym (same v (any_vertex g graph sources told.vertices v near.0 near.1.walk))) (told.tells.0.near v near);
+        others = λ v at far. same v at ∙ told.tells.0.others v at far;
       };
     }
 
-one_vertex : (n s : ℕ) → IsVertex n s → All (IsVertex n) (s ∷ [])
-one_vertex n s at zero d low = at
-one_vertex n s at (suc k) d low = absurd (omega (arith, low))
-
-pub part_of : (P : ℕ) (g : Graph) → IsGraph g → (s : ℕ) → IsVertex g.n s → (limit : ℕ) → limit ≤ max_dist P → (words : List Word) → IsTableOfAny g (s ∷ []) (max_dist P) words → IsClosedUpTo g (max_dist P) limit (word_at words)
-    → ClosedShowsWithin → ForestOfOneIsTree → (t : TreeTable) → IsPartOf s limit words t → IsTreeWithin g s limit t
-part_of P g graph s at limit most words table closed shows law t is =
-    let cut = map (up_to limit) words in
-    let are = part_of_forest P g graph (s ∷ []) (one_vertex g.n s at) words table limit most closed shows cut refl in
-    part_is P g graph s at limit words cut table.size are (cut_word limit words) law t is
+pub part_of_tree : (g : Graph) (s : ℕ) → IsVertex g.n s → (limit : ℕ) (t : TreeTable) → HasPart g (s ∷ []) limit t → IsTreeWithin g s limit t
+part_of_tree g s at limit t has = record { vertex = at; n = has.n; source = has.source; tree = ((forest_of_one_is_tree g s).within limit (table_of t)).0 has.part }
 
 -- so it is with each tree that is found
 pub found_as : {X E : Type 0} (A B : X → Type 0) → ((t : X) → A t → B t) → (r : Result (Option X) E) → IfOk r (λ found. IfSome found A) → IfOk r (λ found. IfSome found B)

@@ -1,26 +1,23 @@
 -- Rows of a part within a limit, and their roots.
 use Rattle.std.proofs.Common.{◌≡◌, ◌≢◌, ℕ, zero, suc, ◌+◌, ◌<◌, ◌≤◌, ◌⊎◌, inl, inr, List, [], ◌∷◌, ◌++◌, length, take, get_or, set, replicate, refl, sym, ap, ◌∙◌, subst, eq-eqb, ne_eqb, arith, length-set, get_or-set_same, get_or-set_other}
-use Rattle.std.specs.Prelude.{All, Some, map}
+use Rattle.std.specs.Prelude.{All, Contains, Some}
 use Rattle.std.specs.List.{AllZip}
 use Rattle.std.proofs.lemmas.Bool.{cases_eq}
 use Rattle.std.proofs.lemmas.List.{get_or-replicate, length-replicate, take_all, take_more}
 use Rattle.sp_word.specs.Word.{Word, Unreached, Pair, max_dist}
 use Rattle.sp_word.specs.History.{Table}
-use Rattle.sp_paths.specs.Paths.{Graph, IsGraph, IsVertex, word_at}
-use Rattle.sp_scan.specs.Shown.{IsClosedUpTo}
+use Rattle.sp_paths.specs.Paths.{Graph, IsGraph, IsVertex, IsLeast}
 use Rattle.sp_answer.specs.Table.{TreeTable, IsTable, table_of, word_in}
-use Rattle.sp_answer.specs.Within.{up_to}
 use Rattle.sp_answer.proofs.RisingRows.{row_found}
-use Rattle.sp_plain.specs.Several.{IsTableOfAny}
 use Rattle.sp_forest.specs.Roots.{LeadsBack, IsRoot}
-use Rattle.sp_forest.specs.ForestTable.{ForestTable, Row, root_in, root_of, row_in, word_of}
+use Rattle.sp_forest.specs.ForestTable.{ForestTable, Row, root_in, row_in, word_of}
 use Rattle.sp_forest.specs.ForestTable.{table_of as word_in_forest}
-use Rattle.sp_forest.specs.Laws.{ClosedShowsWithin, ForestHasRoots, PartHasRoots}
-use Rattle.sp_forest.specs.Nearest.{IsForestAnswer}
-use Rattle.sp_serial.specs.Part.{IsPartOf}
+use Rattle.sp_forest.specs.Forests.{IsForestWord, IsForestWithin}
+use Rattle.sp_forest.proofs.Chains.{part_has_roots}
+use Rattle.sp_forest.proofs.RootSteps.{root_on}
+use Rattle.sp_forest.specs.Nearest.{HasRoots, IsForestAnswer}
+use Rattle.sp_serial.specs.Part.{HasPart}
 use Rattle.sp_serial.specs.Rooted.{AreKnownRoots, HasRow, IsForestOf, IsRowAt}
-use Rattle.sp_serial.proofs.ForestAnswers.{rooted_answer, up_to_same}
-use Rattle.sp_serial.proofs.SeveralSources.{cut_word, part_of_forest}
 
 -- ## The root of a row
 
@@ -30,10 +27,6 @@ row_word P t place none table low = row_found (max_dist P) t.n 0 t.rows place no
 -- a source's own
 pub own_root : (t : TreeTable) (v : ℕ) → table_of t v ≡ Pair 0 0 → IsRoot (table_of t) v v
 own_root t v is = (0, (refl, is))
-
--- that of the predecessor
-pub root_back : (t : TreeTable) (v d p r : ℕ) → table_of t v ≡ Pair d p → 0 < d → IsRoot (table_of t) p r → IsRoot (table_of t) v r
-root_back t v d p r is low chain = (suc chain.0, (d, p, is, low, chain.1))
 
 module _ (P : ℕ) (t : TreeTable) (table : IsTable P t) (place : ℕ) (row : ℕ × Word) (low : place < length t.rows) (at : (none : ℕ × Word) → get_or t.rows place none ≡ row) where
   word_here : table_of t row.0 ≡ row.1
@@ -49,7 +42,7 @@ module _ (P : ℕ) (t : TreeTable) (table : IsTable P t) (place : ℕ) (row : �
   later_root d p word far roots known before before_at some none =
       let r = get_or roots before 0 in
       let chain : IsRoot (table_of t) p r = subst (λ (v : ℕ). IsRoot (table_of t) v r) (before_at.1 row) (known.known before row before_at.0 some) in
-      there none r (root_back t row.0 d p r (word_here ∙ word) far chain)
+      there none r (root_on (table_of t) row.0 d p r (word_here ∙ word) far chain)
 
 pub known_none : (t : TreeTable) (roots : List ℕ) → roots ≡ replicate (length t.rows) 0 → AreKnownRoots t roots
 known_none t roots is = record {
@@ -146,12 +139,16 @@ leads_on : (a b : Table) → ((v : ℕ) → b v ≡ a v) → (steps v r : ℕ) �
 leads_on a b same zero v r back = (back.0, same v ∙ back.1)
 leads_on a b same (suc k) v r (d, p, is, low, back) = (d, p, same v ∙ is, low, leads_on a b same k p r back)
 
-pub forest_of_part : (P : ℕ) (g : Graph) → IsGraph g → (sources : List ℕ) → All (IsVertex g.n) sources → (limit : ℕ) → limit ≤ max_dist P → (words : List Word) → IsTableOfAny g sources (max_dist P) words → IsClosedUpTo g (max_dist P) limit (word_at words)
-    → ClosedShowsWithin → ForestHasRoots → PartHasRoots → (s : ℕ) (t : TreeTable) → IsPartOf s limit words t → (f : ForestTable) → IsForestOf t f → IsForestAnswer P g sources (Some limit) f
-forest_of_part P g graph sources vertices limit most words table closed shows all part s t is f of =
-    let cut = map (up_to limit) words in
-    let are = part_of_forest P g graph sources vertices words table limit most closed shows cut refl in
-    let same : (v : ℕ) → IsVertex g.n v → word_in_forest f v ≡ word_at cut v = λ v at. of.words v ∙ is.each v (subst (λ (n : ℕ). IsVertex n v) (sym table.size) at) ∙ sym (cut_word limit words v) in
-    rooted_answer P g graph sources vertices all part (Some limit) f (of.n ∙ is.n ∙ table.size) (up_to_same P g graph sources vertices (Some limit) (word_at cut) (word_in_forest f) same are.forest) (λ v d p at here.
-    let (r, told, chain) = of.roots v d p (sym (of.words v) ∙ here) in
-    (r, told, (chain.0, leads_on (table_of t) (word_in_forest f) of.words chain.0 v r chain.1)))
+pub forest_of_part : (P : ℕ) (g : Graph) → IsGraph g → (sources : List ℕ) → All (IsVertex g.n) sources → (limit : ℕ) (t : TreeTable) → HasPart g sources limit t → (f : ForestTable) → IsForestOf t f → IsForestAnswer P g sources (Some limit) f
+forest_of_part P g graph sources vertices limit t has f of = record { vertices = vertices; n = of.n ∙ has.n; forest = part; roots = roots }
+  where
+    part : IsForestWithin g sources limit (word_in_forest f)
+    part = record { near = λ v near. subst (IsForestWord g sources v) (sym (of.words v)) (has.part.near v near); others = λ v at far. of.words v ∙ has.part.others v at far }
+
+    roots : HasRoots g sources f
+    roots v d p at is =
+        let (r, told, back) = of.roots v d p (sym (of.words v) ∙ is) in
+        let chain : IsRoot (word_in_forest f) v r = (back.0, leads_on (table_of t) (word_in_forest f) of.words back.0 v r back.1) in
+        let law = (part_has_roots g sources limit (word_in_forest f) graph part).roots v d p at is in
+        let root : r ≡ law.root = law.one r chain in
+        (r, told, record { chain = chain; source = subst (Contains sources) (sym root) law.source; dist = subst (λ x. IsLeast g x v d) (sym root) (law.dist d p is) })

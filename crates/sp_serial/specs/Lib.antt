@@ -1,8 +1,5 @@
-pub mod Target
-pub mod TreeWords
 pub mod Asked
-pub mod Several
-pub mod Told
+pub mod Bearing
 pub mod Touched
 pub mod Part
 pub mod Rooted

@@ -1,23 +1,30 @@
-//! The part of a tree or a forest within a distance, from the words that a search has touched.
-ghost use Rattle.std.specs.Prelude.{◌≡◌, ◌≤◌, [], ◌∷◌, true, vec_len, All, Some, IfOk, IfSome};
+//! The rows of a part within a distance, from the words that a search has touched.
+ghost use Rattle.std.specs.Prelude.{◌≡◌, ◌<◌, ◌≤◌, true, length, vec_len, All, IfOk, IfSome};
 ghost use Rattle.std.specs.Bool.{OnTrue};
 ghost use Rattle.sp_word.specs.Word.{is_layout, max_dist, max_pred};
 ghost use Rattle.sp_paths.specs.Paths.{IsVertex};
-ghost use Rattle.sp_plain.specs.Passing.{IsSmall, IsSmallTable};
-ghost use Rattle.sp_plain.specs.Several.{IsTableOfAny};
-ghost use Rattle.sp_answer.specs.Within.{IsTreeWithin};
-ghost use Rattle.sp_forest.specs.Nearest.{IsForestAnswer};
-ghost use Rattle.sp_serial.specs.Touched.{AreTouched};
-ghost use Rattle.sp_serial.specs.Part.{HasGained, HasNoOther, IsPartOf};
+ghost use Rattle.sp_answer.specs.Table.{HasPredWithin};
+ghost use Rattle.sp_answer.specs.Within.{up_to};
+ghost use Rattle.sp_serial.specs.Touched.{AreTouched, IsClear};
+ghost use Rattle.sp_serial.specs.Part.{HasGained, HasNoOther, IsPartOf, HasPart};
 
-use crate::rooted::rooted;
-use crate::several::up_to;
-use crate::touched::{Touched, are_relaxed_up_to, sort};
+use crate::reach::reach;
+use crate::touched::{Touched, sort};
 use sp_answer::Tree;
-use sp_forest::{Forest, closed_table, meanings, roots};
+use sp_forest::{Run, Until};
 use sp_graph::{Graph, look_up};
 use sp_word::Word;
 use std::alloc::{AllocError, Global};
+
+// Returns the word if its distance is at most the limit, and an unreached one otherwise.
+fn up_to<const P: u32>(word: Word<P>, limit: u64) -> Word<P>
+    ensures { result ≡ up_to limit word.entry }
+{
+    match word.dist() {
+        Some(dist) if dist <= limit => word,
+        _ => Word::unreached(),
+    }
+}
 
 // Appends the row of a vertex with this word, unless it is unreached or has its row. Returns whether it has it then: none is
 // appended behind the row of a greater vertex.
@@ -27,7 +34,7 @@ fn push_word<const P: u32>(
     word: Word<P>,
 ) -> Result<bool, AllocError>
     requires vertex { IsVertex tree.old.n vertex }
-    requires small { IsSmall tree.old.n (max_dist P) word }
+    requires pred { HasPredWithin tree.old.n word }
     requires before { HasNoOther tree.old vertex word }
     ensures { IfOk result (λ pushed.
         OnTrue pushed (HasGained tree.old vertex word.entry tree.new)) }
@@ -59,7 +66,7 @@ fn tree_of<const P: u32>(
     requires source { IsVertex graph.now.n source }
     requires room { graph.now.n ≤ max_pred P }
     requires size { vec_len touched.now.words ≡ graph.now.n }
-    requires small { IsSmallTable (max_dist P) touched.now.words.items }
+    requires preds { All (HasPredWithin graph.now.n) touched.now.words.items }
     requires touched { AreTouched 0 touched.now.reached.items touched.now.words.items }
     ensures { IfOk result (λ found. IfSome found
         (IsPartOf source limit touched.now.words.items)) }
@@ -74,76 +81,30 @@ fn tree_of<const P: u32>(
     Ok(Some(tree))
 }
 
-/// Returns the part of the tree that a search up to the limit has found, if it came to its end and the words show it: all arcs
-/// within the limit are relaxed.
-pub(crate) fn part_shown<const P: u32>(
-    alloc: Global,
-    graph: &Graph,
-    source: u32,
-    limit: u64,
-    touched: &mut Touched<P>,
-    ended: Result<bool, AllocError>,
-) -> Result<Option<Tree<P>>, AllocError>
-    requires layout { is_layout P ≡ true }
-    requires source { IsVertex graph.now.n source }
-    requires room { graph.now.n ≤ max_pred P }
-    requires limit { limit ≤ max_dist P }
-    requires size { vec_len touched.old.words ≡ graph.now.n }
-    requires table { IfOk ended
-        (λ _. IsTableOfAny graph.now (source ∷ []) (max_dist P) touched.old.words.items) }
-    requires touched { AreTouched 0 touched.old.reached.items touched.old.words.items }
-    ensures words { touched.new.words ≡ touched.old.words }
-    ensures touched { AreTouched 0 touched.new.reached.items touched.new.words.items }
-    ensures part { IfOk result (λ found. IfSome found (IsTreeWithin graph.now source limit)) }
-{
-    if !ended? {
-        return Ok(None);
-    }
-    if !are_relaxed_up_to(graph, touched, limit) {
-        return Ok(None);
-    }
-    closed_table();
-    meanings();
-    let _ = graph.n();
-    sort(touched);
-    tree_of(alloc, graph, source, limit, touched)
-}
-
-/// Returns the part of the forest that a search from the sources up to the limit has found, if it came to its end and the words
-/// show it. Without sources there is none.
-pub(crate) fn forest_shown<const P: u32>(
+/// Looks for the rows of the part of the forest of the sources within a limit, where all vertices are unreached. It gives up where
+/// more entries than `most` would be worked off.
+pub(crate) fn rows_in<const P: u32>(
     alloc: Global,
     graph: &Graph,
     sources: &[u32],
     limit: u64,
+    most: usize,
     touched: &mut Touched<P>,
-    ended: Result<bool, AllocError>,
-) -> Result<Option<Forest<P>>, AllocError>
-    requires layout { is_layout P ≡ true }
+) -> Result<Option<Tree<P>>, AllocError>
+    requires some { 0 < length sources.now }
     requires sources { All (IsVertex graph.now.n) sources.now }
-    requires room { graph.now.n ≤ max_pred P }
     requires limit { limit ≤ max_dist P }
-    requires size { vec_len touched.old.words ≡ graph.now.n }
-    requires table { IfOk ended
-        (λ _. IsTableOfAny graph.now sources.now (max_dist P) touched.old.words.items) }
-    requires touched { AreTouched 0 touched.old.reached.items touched.old.words.items }
-    ensures words { touched.new.words ≡ touched.old.words }
+    requires clear { IsClear P graph.now touched.old.words.items }
+    ensures size { vec_len touched.new.words ≡ graph.now.n }
     ensures touched { AreTouched 0 touched.new.reached.items touched.new.words.items }
-    ensures forest { IfOk result (λ found.
-        IfSome found (IsForestAnswer P graph.now sources.now (Some limit))) }
+    ensures rows { IfOk result (λ found. IfSome found
+        (HasPart graph.now sources.now limit)) }
 {
-    if !ended? || sources.is_empty() {
-        return Ok(None);
-    }
-    if !are_relaxed_up_to(graph, touched, limit) {
-        return Ok(None);
-    }
-    closed_table();
-    roots();
+    let until = Until::Limit(limit);
     let _ = graph.n();
-    sort(touched);
-    let Some(tree) = tree_of(alloc, graph, sources[0], limit, touched)? else {
+    if !reach(alloc, graph, Run { sources, until }, most, touched)? {
         return Ok(None);
-    };
-    rooted(alloc, &tree)
+    }
+    sort(touched);
+    tree_of(alloc, graph, sources[0], limit, touched)
 }

@@ -1,25 +1,23 @@
 //! Searches that cost what they touch.
-ghost use Rattle.std.specs.Prelude.{◌≡◌, ◌≤◌, true, vec_len, All, Some, IfOk, IfErr, IfSome};
+ghost use Rattle.std.specs.Prelude.{◌≡◌, ◌≤◌, true, vec_len, All, Some, IfOk, IfSome};
 ghost use Rattle.sp_word.specs.Word.{is_layout, max_dist, max_pred};
 ghost use Rattle.sp_paths.specs.Paths.{IsVertex};
-ghost use Rattle.sp_plain.specs.Passing.{IsTableOfWalks};
-ghost use Rattle.sp_plain.specs.Lowering.{IsLowered};
 ghost use Rattle.sp_answer.specs.Within.{IsTreeWithin};
 ghost use Rattle.sp_forest.specs.Nearest.{IsForestAnswer};
-ghost use Rattle.sp_serial.specs.Asked.{AreAnswersFor};
+ghost use Rattle.sp_forest.specs.Run.{AreAnswersFor};
 ghost use Rattle.sp_serial.specs.Touched.{AreTouched, IsClear};
 
-use crate::part::{forest_shown, part_shown};
-use crate::reach::{Until, reach, search};
-use crate::row::{answers_of, farthest};
-use crate::search::open_bins;
-use crate::touched::{Touched, are_relaxed_up_to, clear};
+use crate::part::rows_in;
+use crate::reach::reach;
+use crate::rooted::rooted;
+use crate::touched::{Touched, clear};
 use sp_answer::{PairAnswer, Tree};
-use sp_forest::Forest;
+use sp_forest::{Forest, Run, RunWords, Until};
 use sp_graph::Graph;
 use sp_word::Word;
 use std::alloc::{AllocError, Global};
 use std::marker::Model;
+use std::mem::replace;
 
 /// Words of all vertices of a graph, for searches that touch few of them: all are unreached between two searches, and each
 /// puts back what it has touched. So a search costs what lies nearer than its targets, however large the graph is.
@@ -30,8 +28,6 @@ pub struct Room<'g, const P: u32> {
     pub(crate) alloc: Global,
     pub(crate) graph: &'g Graph,
     pub(crate) touched: Touched<P>,
-    // the width that the buckets of the last search have found, as a power of 2
-    pub(crate) shift: u32,
 }
 
 impl<'g, const P: u32> Model for Room<'g, P> {
@@ -45,57 +41,38 @@ impl<'g, const P: u32> Model for Room<'g, P> {
     ghost invariant = { λ r. IsClear P r.graph.now r.touched.words.items };
 }
 
-// Gives the source its word, where all vertices are unreached.
-fn begin<const P: u32>(
-    graph: &Graph,
-    source: u32,
-    touched: &mut Touched<P>,
-) -> Result<(), AllocError>
-    requires source { IsVertex graph.now.n source }
-    requires clear { IsClear P graph.now touched.old.words.items }
-    ensures table { IfOk result
-        (λ _. IsTableOfWalks graph.now source (max_dist P) touched.new.words.items) }
-    ensures touched { IfOk result
-        (λ _. AreTouched 0 touched.new.reached.items touched.new.words.items) }
-    ensures clear { IfErr result (λ _. IsClear P graph.now touched.new.words.items) }
-{
-    touched.reached.clear();
-    touched.reached.push(source)?;
-    touched.words[(source - 1) as usize] = Word::pack(0, 0);
-    Ok(())
-}
-
-// Returns the answers of a search that came to its end, if the words show them: each target has a distance, and all arcs within
-// the farthest are relaxed.
-fn answers_shown<const P: u32>(
+// Looks for targets from a source, where all vertices are unreached. It gives up where more entries than `most` would be worked
+// off.
+fn find_in<const P: u32>(
     alloc: Global,
     graph: &Graph,
     source: u32,
     targets: &[u32],
-    touched: &Touched<P>,
-    ended: Result<bool, AllocError>,
+    most: usize,
+    touched: &mut Touched<P>,
 ) -> Result<Option<Vec<PairAnswer>>, AllocError>
-    requires layout { is_layout P ≡ true }
     requires source { IsVertex graph.now.n source }
     requires targets { All (IsVertex graph.now.n) targets.now }
-    requires room { graph.now.n ≤ max_pred P }
-    requires walks { IsTableOfWalks graph.now source (max_dist P) touched.now.words.items }
-    requires touched { AreTouched 0 touched.now.reached.items touched.now.words.items }
-    ensures { IfOk result (λ found. IfSome found
+    requires clear { IsClear P graph.now touched.old.words.items }
+    ensures size { vec_len touched.new.words ≡ graph.now.n }
+    ensures touched { AreTouched 0 touched.new.reached.items touched.new.words.items }
+    ensures answers { IfOk result (λ found. IfSome found
         (λ answers. AreAnswersFor graph.now source (max_dist P) targets.now answers.items)) }
 {
-    if !ended? {
-        return Ok(None);
-    }
-    let _ = graph.n();
-    let Some(far) = farthest(&touched.words, targets) else {
-        return Ok(None);
+    let run = Run {
+        sources: &[source],
+        until: Until::Targets(targets),
     };
-    if !are_relaxed_up_to(graph, touched, far) {
+    let _ = graph.n();
+    if !reach(alloc, graph, run, most, touched)? {
         return Ok(None);
     }
-    let answers = answers_of(alloc, touched.words.as_slice(), None, targets)?;
-    Ok(Some(answers))
+    let words = replace(&mut touched.words, Vec::new(alloc));
+    let told = RunWords { words, far: None };
+    let answers = told.answers(alloc, graph, source, targets);
+    let RunWords { words, .. } = told;
+    touched.words = words;
+    Ok(Some(answers?))
 }
 
 impl<'g, const P: u32> Room<'g, P> {
@@ -111,8 +88,8 @@ impl<'g, const P: u32> Room<'g, P> {
             touched: Touched {
                 words: vec![in alloc; Word::unreached(); graph.n() as usize]?,
                 reached: Vec::new(alloc),
+                shift: 0,
             },
-            shift: 0,
         })
     }
 
@@ -139,19 +116,9 @@ impl<'g, const P: u32> Room<'g, P> {
         if targets.is_empty() {
             return Ok(Some(Vec::new(self.alloc)));
         }
-        let until = Until {
-            targets,
-            limit: u64::MAX,
-            most,
-        };
-        let mut bins = open_bins(self.alloc, self.shift, &[source])?;
-        let touched = &mut self.touched;
-        begin(graph, source, touched)?;
-        let ended = search(self.alloc, graph, &until, touched, &mut bins);
-        let answers = answers_shown(self.alloc, graph, source, targets, touched, ended);
-        clear(touched);
-        self.shift = bins.shift();
-        answers
+        let found = find_in(self.alloc, graph, source, targets, most, &mut self.touched);
+        clear(&mut self.touched);
+        found
     }
 
     /// Looks for the part of the tree within a distance of its source, by rising distance. It gives up once it would relax more
@@ -171,19 +138,11 @@ impl<'g, const P: u32> Room<'g, P> {
     {
         let graph = self.graph;
         let _ = graph.n();
-        let until = Until {
-            targets: &[],
-            limit,
-            most,
-        };
-        let mut bins = open_bins(self.alloc, self.shift, &[source])?;
-        let touched = &mut self.touched;
-        let ended = reach(self.alloc, graph, &[source], &until, touched, &mut bins);
-        let part = part_shown(self.alloc, graph, source, limit, touched, ended);
-        clear(touched);
-        self.shift = bins.shift();
+        let part = rows_in(self.alloc, graph, &[source], limit, most, &mut self.touched);
+        clear(&mut self.touched);
         part
     }
+
     /// Looks for the part of the forest of the sources within a distance, as `part` does for one source. Without sources it finds
     /// none.
     pub fn forest(
@@ -200,17 +159,14 @@ impl<'g, const P: u32> Room<'g, P> {
     {
         let graph = self.graph;
         let _ = graph.n();
-        let until = Until {
-            targets: &[],
-            limit,
-            most,
+        if sources.is_empty() {
+            return Ok(None);
+        }
+        let rows = rows_in(self.alloc, graph, sources, limit, most, &mut self.touched);
+        clear(&mut self.touched);
+        let Some(part) = rows? else {
+            return Ok(None);
         };
-        let mut bins = open_bins(self.alloc, self.shift, sources)?;
-        let touched = &mut self.touched;
-        let ended = reach(self.alloc, graph, sources, &until, touched, &mut bins);
-        let forest = forest_shown(self.alloc, graph, sources, limit, touched, ended);
-        clear(touched);
-        self.shift = bins.shift();
-        forest
+        rooted(self.alloc, &part)
     }
 }

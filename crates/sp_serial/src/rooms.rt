@@ -4,7 +4,7 @@ ghost use Rattle.sp_word.specs.Word.{is_layout, max_dist, max_pred};
 ghost use Rattle.sp_paths.specs.Paths.{IsVertex};
 ghost use Rattle.sp_answer.specs.Within.{IsTreeWithin};
 ghost use Rattle.sp_forest.specs.Nearest.{IsForestAnswer};
-ghost use Rattle.sp_serial.specs.Asked.{AreAnswersFor};
+ghost use Rattle.sp_forest.specs.Run.{AreAnswersFor};
 
 use crate::room::Room;
 use crate::spare::Spare;
@@ -22,7 +22,7 @@ const SHARE: u32 = 64;
 const LEAST: u32 = 1024;
 
 // After searches that gave up in a row, so many at most that count, no search is made for twice as many sources each time.
-const MOST_MISSES: u32 = 3;
+pub(crate) const MOST_MISSES: u32 = 3;
 
 /// Rooms for searches by several threads that share them: the words of a search that has found its answer wait for the next one,
 /// of whichever thread. No thread waits for another.
@@ -36,7 +36,7 @@ pub struct Rooms<const P: u32> {
 }
 
 // Returns how many vertices a search may relax before it gives up.
-fn most_of(graph: &Graph) -> usize {
+pub(crate) fn most_of(graph: &Graph) -> usize {
     (graph.n() / SHARE).max(LEAST) as usize
 }
 
@@ -118,18 +118,25 @@ impl<const P: u32> Rooms<P> {
             .store((1u32 << misses).saturating_sub(2), Ordering::SeqCst);
     }
 
-    // Takes note of a search that has found its answer, and keeps its words.
-    fn keep(&self, room: Room<P>) {
-        self.misses.store(0, Ordering::SeqCst);
-        self.put(Spare::of_room(room));
+    // Takes note of whether a search has found its answer, and keeps its words where it has.
+    fn close(&self, room: Room<P>, found: bool) {
+        if found {
+            self.misses.store(0, Ordering::SeqCst);
+            self.put(Spare::of_room(room));
+        } else {
+            self.miss();
+        }
     }
 
-    // Makes a room of words that wait, or a new one.
+    // Makes a room of words that wait, or a new one, unless no search is made now.
     fn open<'g>(&self, alloc: Global, graph: &'g Graph) -> Option<Room<'g, P>>
         requires layout { is_layout P ≡ true }
         requires n { graph.now.n ≤ max_pred P }
         ensures { IfSome result (λ room. room ≡ graph.entry.now) }
     {
+        if self.rests() {
+            return None;
+        }
         if let Some(spare) = self.take() {
             if let Some(room) = spare.to_room(alloc, graph) {
                 return Some(room);
@@ -155,20 +162,10 @@ impl<const P: u32> Rooms<P> {
         ensures answers { IfSome result
             (λ answers. AreAnswersFor graph.now source (max_dist P) targets.now answers.items) }
     {
-        if self.rests() {
-            return None;
-        }
         let mut room = self.open(alloc, graph)?;
-        match room.find(source, targets, most_of(graph)) {
-            Ok(Some(answers)) => {
-                self.keep(room);
-                Some(answers)
-            }
-            _ => {
-                self.miss();
-                None
-            }
-        }
+        let found = room.find(source, targets, most_of(graph)).unwrap_or(None);
+        self.close(room, found.is_some());
+        found
     }
 
     /// Returns the part of the tree within a distance of its source, as `Room::part` does, where it is small. Where it isn't, or
@@ -180,23 +177,15 @@ impl<const P: u32> Rooms<P> {
         requires limit { limit ≤ max_dist P }
         ensures { IfSome result (IsTreeWithin graph.now source limit) }
     {
-        if self.rests() {
-            return None;
-        }
         let mut room = self.open(alloc, graph)?;
-        match room.part(source, limit, most_of(graph)) {
-            Ok(Some(part)) => {
-                self.keep(room);
-                Some(part)
-            }
-            _ => {
-                self.miss();
-                None
-            }
-        }
+        let found = room.part(source, limit, most_of(graph)).unwrap_or(None);
+        self.close(room, found.is_some());
+        found
     }
+
     /// Returns the part of the forest of the sources within a distance, as `Room::forest` does, where it is small. Where it isn't,
-    /// where there are no sources, or where memory is refused, nothing is kept of the search.
+    /// where there are no sources, or where memory is refused, nothing is kept of the search. Of more sources than a search relaxes
+    /// vertices there is none at all: how often a source is named costs no memory.
     pub fn forest(
         &self,
         alloc: Global,
@@ -210,19 +199,12 @@ impl<const P: u32> Rooms<P> {
         requires limit { limit ≤ max_dist P }
         ensures { IfSome result (IsForestAnswer P graph.now sources.now (Some limit)) }
     {
-        if self.rests() {
+        if sources.len() > most_of(graph) {
             return None;
         }
         let mut room = self.open(alloc, graph)?;
-        match room.forest(sources, limit, most_of(graph)) {
-            Ok(Some(forest)) => {
-                self.keep(room);
-                Some(forest)
-            }
-            _ => {
-                self.miss();
-                None
-            }
-        }
+        let found = room.forest(sources, limit, most_of(graph)).unwrap_or(None);
+        self.close(room, found.is_some());
+        found
     }
 }

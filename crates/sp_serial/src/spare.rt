@@ -15,7 +15,6 @@ use std::marker::Model;
 #[derive(Drop)]
 pub(crate) struct Spare<const P: u32> {
     touched: Touched<P>,
-    shift: u32,
 }
 
 impl<const P: u32> Model for Spare<P> {
@@ -34,8 +33,8 @@ impl<const P: u32> Spare<P> {
     pub(crate) fn of_room(room: Room<P>) -> Spare<P>
         ensures { result ≡ room.entry.n }
     {
-        let Room { touched, shift, .. } = room;
-        Spare { touched, shift }
+        let Room { touched, .. } = room;
+        Spare { touched }
     }
 
     /// Makes a room of the words, if the graph has as many vertices.
@@ -44,7 +43,7 @@ impl<const P: u32> Spare<P> {
         ensures graph { IfSome result (λ room. room ≡ graph.entry.now) }
         ensures size { IfSome result (λ _. graph.entry.now.n ≡ self.entry) }
     {
-        let Spare { touched, shift } = self;
+        let Spare { touched } = self;
         if touched.words.len() != graph.n() as usize {
             return None;
         }
@@ -52,7 +51,6 @@ impl<const P: u32> Spare<P> {
             alloc,
             graph,
             touched,
-            shift,
         })
     }
 }

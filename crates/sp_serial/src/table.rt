@@ -1,7 +1,7 @@
 //! Words of all vertices, which arcs lower.
-ghost use Rattle.std.specs.Prelude.{◌≡◌, ◌≤◌, true, List, length};
-ghost use Rattle.sp_word.specs.Word.{Word as Label, is_layout, max_dist, max_pred};
-ghost use Rattle.sp_paths.specs.Paths.{IsArc};
+ghost use Rattle.std.specs.Prelude.{◌≡◌, ◌-◌, ◌≤◌, true, List, length, slice_set, OnOk};
+ghost use Rattle.sp_word.specs.Word.{Word as Label, Pair, is_layout, max_dist, max_pred};
+ghost use Rattle.sp_paths.specs.Paths.{IsArc, IsVertex};
 ghost use Rattle.sp_plain.specs.Lowering.{IsLoweredBy};
 
 use sp_paths::Arc;
@@ -19,6 +19,16 @@ pub(crate) trait Table<const P: u32> {
     /// Returns the words.
     fn words(&self) -> &[Word<P>]
         ensures { result.now ≡ labels self.now };
+
+    /// Gives a source its word. It fails only if there is no memory.
+    fn start(&mut self, source: u32) -> Result<(), AllocError>
+        requires layout { is_layout P ≡ true }
+        requires source { IsVertex (length (labels self.old)) source }
+        requires kept { IsKept self.old }
+        ensures size { length (labels self.new) ≡ length (labels self.old) }
+        ensures word { OnOk result
+            (labels self.new ≡ slice_set (labels self.old) (source - 1) (Pair 0 0)) }
+        ensures kept { IsKept self.new };
 
     /// Relaxes an arc, and returns its head's distance if that became shorter. It fails only if there is no memory.
     fn lower(&mut self, arc: Arc) -> Result<Option<u64>, AllocError>
@@ -38,6 +48,11 @@ impl<const P: u32> Table<P> for Vec<Word<P>> {
 
     fn words(&self) -> &[Word<P>] {
         self.as_slice()
+    }
+
+    fn start(&mut self, source: u32) -> Result<(), AllocError> {
+        self[(source - 1) as usize] = Word::pack(0, 0);
+        Ok(())
     }
 
     fn lower(&mut self, arc: Arc) -> Result<Option<u64>, AllocError> {

@@ -19,10 +19,12 @@ use std::alloc::AllocError;
 pub(crate) struct Touched<const P: u32> {
     pub(crate) words: Vec<Word<P>>,
     pub(crate) reached: Vec<u32>,
+    /// The width that the buckets of the last search have found, as a power of 2.
+    pub(crate) shift: u32,
 }
 
-/// Puts an unreached vertex into the list, since it may get a word.
-pub(crate) fn note<const P: u32>(touched: &mut Touched<P>, vertex: u32) -> Result<(), AllocError>
+// Puts an unreached vertex into the list, since it may get a word.
+fn note<const P: u32>(touched: &mut Touched<P>, vertex: u32) -> Result<(), AllocError>
     requires vertex { IsVertex (vec_len touched.old.words) vertex }
     requires touched { AreTouched 0 touched.old.reached.items touched.old.words.items }
     ensures words { touched.new.words ≡ touched.old.words }
@@ -42,6 +44,12 @@ impl<const P: u32> Table<P> for Touched<P> {
 
     fn words(&self) -> &[Word<P>] {
         self.words.as_slice()
+    }
+
+    fn start(&mut self, source: u32) -> Result<(), AllocError> {
+        note(self, source)?;
+        self.words[(source - 1) as usize] = Word::pack(0, 0);
+        Ok(())
     }
 
     // A head that was unreached stands in the list first.

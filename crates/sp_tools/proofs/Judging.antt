@@ -10,12 +10,12 @@ use Rattle.sp_paths.specs.Paths.{Graph}
 use Rattle.sp_device.specs.declared.devices.Read.{Ghosts as Reader}
 use Rattle.sp_text.specs.declared.faults.DimacsError.{DimacsError}
 use Rattle.sp_answer.specs.Table.{TreeTable, IsTable}
-use Rattle.sp_tree.specs.TreeText.{tree_text}
-use Rattle.sp_tree.specs.declared.blocks.TreeBlocks.{TreeBlocks}
-use Rattle.sp_tree.specs.Block.{lines_in}
-use Rattle.sp_tree.specs.Stream.{IsFaultOf}
-use Rattle.sp_tree.specs.Giving.{left_of, IsFresh, IsGoing, Gives, in_file, lines_before}
-use Rattle.sp_tree.specs.Whole.{trees_text, lines_of, IsFileFault}
+use Rattle.sp_files.specs.TreeText.{tree_text}
+use Rattle.sp_files.specs.declared.trees.blocks.TreeBlocks.{TreeBlocks}
+use Rattle.sp_files.specs.Block.{lines_in}
+use Rattle.sp_files.specs.Stream.{IsFaultOf}
+use Rattle.sp_files.specs.Giving.{left_of, IsFresh, IsGoing, Gives, in_file, lines_before}
+use Rattle.sp_files.specs.Whole.{trees_text, lines_of, IsFileFault}
 use Rattle.sp_tools.specs.declared.check_all.Judged.{Judged}
 use Rattle.sp_tools.specs.Verdict.{IsVerdict}
 use Rattle.sp_tools.specs.Verdicts.{AreJudged, FileJudged}

@@ -14,9 +14,9 @@ use Rattle.sp_dimacs.specs.declared.graphs.GrFile.{GrFile}
 use Rattle.sp_dimacs.specs.Graph.{graph_of}
 use Rattle.sp_answer.specs.Table.{TreeTable, table_of}
 use Rattle.sp_forest.specs.ForestTable.{ForestTable, IsForestTable}
-use Rattle.sp_forest_file.specs.declared.either.TreeOrForest.{TreeOrForest}
-use Rattle.sp_forest_file.specs.declared.either.TreeOrForest.TheVariants.{Tree, Forest}
-use Rattle.sp_forest_file.specs.TreeOrForest.{IsEither}
+use Rattle.sp_files.specs.declared.either.TreeOrForest.{TreeOrForest}
+use Rattle.sp_files.specs.declared.either.TreeOrForest.TheVariants.{Tree, Forest}
+use Rattle.sp_files.specs.TreeOrForest.{IsEither}
 use Rattle.sp_options.specs.Within.{IsLimit}
 use Rattle.sp_cert.specs.declared.rule.Rule.{Rule}
 use Rattle.sp_cert.specs.declared.rule.Rule.TheVariants.{Size, OwnSource, NoLesserOffer, NamesPredecessor, OnlyTooFar, BeyondLimit, OtherRoot}

@@ -7,8 +7,8 @@ use Rattle.sp_paths.specs.Paths.{Graph, IsGraph}
 use Rattle.sp_dimacs.specs.declared.graphs.GrFile.{GrFile}
 use Rattle.sp_dimacs.specs.Formats.{gr}
 use Rattle.sp_dimacs.specs.Graph.{SpellsGraph, GraphRead, graph_of}
-use Rattle.sp_forest_file.specs.declared.either.TreeOrForest.{TreeOrForest}
-use Rattle.sp_forest_file.specs.TreeOrForest.{EitherRead, IsEither, either_text}
+use Rattle.sp_files.specs.declared.either.TreeOrForest.{TreeOrForest}
+use Rattle.sp_files.specs.TreeOrForest.{EitherRead, IsEither, either_text}
 use Rattle.sp_options.specs.Within.{IsLimit}
 use Rattle.sp_replay.specs.declared.replays.ReplayFile.{ReplayFile}
 use Rattle.sp_replay.specs.ReplayFormat.{replay}

@@ -4,9 +4,9 @@ use Rattle.std.specs.List.{flat_map}
 use Rattle.sp_text.specs.declared.faults.DimacsError.{DimacsError}
 use Rattle.sp_dimacs.specs.declared.graphs.GrFile.{GrFile}
 use Rattle.sp_dimacs.specs.Graph.{graph_of, SpellsGraph}
-use Rattle.sp_tree.specs.Whole.{IsFileFault}
-use Rattle.sp_forest_file.specs.declared.either.TreeOrForest.{TreeOrForest}
-use Rattle.sp_forest_file.specs.TreeOrForest.{IsEither, either_text}
+use Rattle.sp_files.specs.Whole.{IsFileFault}
+use Rattle.sp_files.specs.declared.either.TreeOrForest.{TreeOrForest}
+use Rattle.sp_files.specs.TreeOrForest.{IsEither, either_text}
 use Rattle.sp_options.specs.Within.{IsLimit}
 use Rattle.sp_command.specs.declared.faults.Fault.{Fault}
 use Rattle.sp_command.specs.declared.faults.Fault.TheVariants as fault

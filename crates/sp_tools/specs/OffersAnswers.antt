@@ -8,7 +8,7 @@ use Rattle.sp_machine.specs.Programme.{Programme}
 use Rattle.sp_replay.specs.ReplayFormat.{offers}
 use Rattle.sp_replay.specs.Offers.{IsOffers, OffersRead}
 use Rattle.sp_replay.specs.ReportText.{words_text}
-use Rattle.sp_actors.specs.Least.{AreLeast}
+use Rattle.sp_replay.specs.Least.{AreLeast}
 use Rattle.sp_command.specs.declared.faults.Fault.{Fault}
 use Rattle.sp_command.specs.declared.faults.Status.{Status}
 use Rattle.sp_command.specs.declared.faults.FileKind.{FileKind}

@@ -7,8 +7,8 @@ use Rattle.sp_paths.specs.Paths.{Graph}
 use Rattle.sp_paths.specs.Bags.{AreSame}
 use Rattle.sp_dimacs.specs.declared.graphs.GrFile.{GrFile}
 use Rattle.sp_dimacs.specs.Graph.{graph_of, SpellsGraph, GraphRead}
-use Rattle.sp_forest_file.specs.declared.either.TreeOrForest.{TreeOrForest}
-use Rattle.sp_forest_file.specs.TreeOrForest.{EitherRead}
+use Rattle.sp_files.specs.declared.either.TreeOrForest.{TreeOrForest}
+use Rattle.sp_files.specs.TreeOrForest.{EitherRead}
 use Rattle.sp_replay.specs.declared.replays.ReplayFile.{ReplayFile}
 use Rattle.sp_replay.specs.ReplayFormat.{replay}
 use Rattle.sp_replay.specs.Replay.{IsReplay}

@@ -5,8 +5,8 @@ use Rattle.sp_paths.specs.Paths.{Graph}
 use Rattle.sp_answer.specs.Table.{TreeTable}
 use Rattle.sp_cert.specs.Certificate.{IsCertified, IsCertifiedWithin}
 use Rattle.sp_forest.specs.ForestTable.{ForestTable}
-use Rattle.sp_forest_file.specs.declared.either.TreeOrForest.{TreeOrForest}
-use Rattle.sp_forest_file.specs.declared.either.TreeOrForest.TheVariants.{Tree, Forest}
+use Rattle.sp_files.specs.declared.either.TreeOrForest.{TreeOrForest}
+use Rattle.sp_files.specs.declared.either.TreeOrForest.TheVariants.{Tree, Forest}
 use Rattle.sp_cert.specs.declared.checking.CheckError.{CheckError}
 use Rattle.sp_cert.specs.declared.checking.CheckError.TheVariants.{Fault, Memory}
 use Rattle.sp_cert.specs.Claims.{claim_of_tree, claim_of_forest}

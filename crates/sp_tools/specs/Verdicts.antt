@@ -3,7 +3,7 @@ use Rattle.std.specs.Prelude.{◌≡◌, ℕ, Bool, true, false, List, [], ◌�
 use Rattle.sp_paths.specs.Paths.{Graph}
 use Rattle.sp_answer.specs.Table.{TreeTable}
 use Rattle.sp_cert.specs.Rules.{number_of}
-use Rattle.sp_tree.specs.Whole.{IsFile, IsFileFault}
+use Rattle.sp_files.specs.Whole.{IsFile, IsFileFault}
 use Rattle.sp_command.specs.declared.faults.Status.{Status}
 use Rattle.sp_command.specs.declared.faults.Status.TheVariants as status
 use Rattle.sp_command.specs.declared.faults.Fault.{Fault}

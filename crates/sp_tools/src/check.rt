@@ -20,10 +20,9 @@ use sp_command::{
     BuiltCommand, Command, Fault, FileKind, GRAPH_FILE, Inputs, Run, Status, after_help, file, flag,
 };
 use sp_device::{Printer, Write, WriteFault, finish, print_number, print_text};
-use sp_forest_file::{ForestFile, TreeOrForest, read_tree_or_forest};
+use sp_files::{ForestFile, Tree, TreeOrForest, read_tree_or_forest};
 use sp_graph::Graph;
 use sp_options::Within;
-use sp_tree::Tree;
 use std::alloc::{AllocError, Global};
 use std::sync::Wait;
 use std::thread::Threads;

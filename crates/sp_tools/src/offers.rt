@@ -11,11 +11,10 @@ ghost use Rattle.sp_tools.specs.Early.{IsEarly, no_faults};
 ghost use Rattle.sp_tools.specs.Words.{IsOffers, LacksFile, offers_rules};
 
 use clap::{ArgMatches, Error};
-use sp_actors::final_words;
 use sp_command::{BuiltCommand, Command, Fault, FileKind, Inputs, Run, Status, after_help, file};
 use sp_device::Write;
 use sp_machine::Programme;
-use sp_replay::{read_offers, write_words};
+use sp_replay::{final_words, read_offers, write_words};
 use std::alloc::Global;
 use std::sync::Wait;
 use std::thread::Threads;

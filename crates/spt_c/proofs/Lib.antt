@@ -1,3 +1,4 @@
+mod SlotValue
 mod Same
 mod OneSource
 pub mod Pairs

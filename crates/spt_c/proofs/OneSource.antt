@@ -7,7 +7,7 @@ use Rattle.std.specs.Prelude.{slice_get, slice_index}
 use Rattle.sp_paths.specs.Paths.{Graph, IsFar}
 use Rattle.sp_paths.specs.Bags.{AreSame}
 use Rattle.sp_lists.specs.declared.answers.Told.{Told}
-use Rattle.sp_lists.specs.declared.answers.Told.TheVariants.{Tree, BadSize, BadDelta, BadArc, NoSuchVertex, TooFar, Memory, Wrong, NoGraph, BadLimit}
+use Rattle.sp_lists.specs.declared.answers.Told.TheVariants.{Tree, TooFar, Memory}
 use Rattle.sp_lists.specs.declared.answers.Batch.{Batch}
 use Rattle.sp_lists.specs.Limits.{reach}
 use Rattle.sp_lists.specs.Blocks.{Slices, IsCell, HasSameAt, HasTreeAt, KeepsFrom, HasNone, EndsBy, AreSolved}
@@ -29,13 +29,7 @@ none_of : (max : ℕ) (g : Graph) (s done : ℕ) (told : Told) → (told ≡ Tre
 none_of max g s done Tree not is = absurd (not refl)
 none_of max g s done (TooFar v) not is = subst (λ x. IsFar g x max (Some v)) (only s is.0 done is.1) is.2
 none_of max g s done Memory not is = tt
-none_of max g s done BadSize not is = absurd is
-none_of max g s done BadDelta not is = absurd is
-none_of max g s done (BadArc place) not is = absurd is
-none_of max g s done (NoSuchVertex place) not is = absurd is
-none_of max g s done (Wrong v) not is = absurd is
-none_of max g s done NoGraph not is = absurd is
-none_of max g s done BadLimit not is = absurd is
+none_of max g s done told not is = absurd is
 
 -- Why one source isn't done is why it has no tree.
 pub no_tree : (max : ℕ) (g h : Graph) (s : ℕ) (old new : Slices) (b : Batch) → AreSame g h → AreSolved max g (s ∷ []) old new b → (b.told ≡ Tree → ⊥) → HasNone max h s b.told
@@ -79,13 +73,7 @@ none_done max g s done Tree is not = absurd (not refl)
 none_done max g s done (TooFar v) is not = let within : done < length (s ∷ []) = slice_get_within (s ∷ []) done is.0 is.1 in omega arith
 none_done max g s done Memory (inl low) not = omega (arith, low)
 none_done max g s done Memory (inr none) not = none
-none_done max g s done BadSize is not = absurd is
-none_done max g s done BadDelta is not = absurd is
-none_done max g s done (BadArc place) is not = absurd is
-none_done max g s done (NoSuchVertex place) is not = absurd is
-none_done max g s done (Wrong v) is not = absurd is
-none_done max g s done NoGraph is not = absurd is
-none_done max g s done BadLimit is not = absurd is
+none_done max g s done told is not = absurd is
 
 pub nothing_written : (arcs : List SptArc) (n s delta : ℕ) (old new : Slices) (b : Batch) → IsTold (asked arcs n (s ∷ []) delta) old new b → ((answer_of b.told).status ≡ 0 → ⊥) → KeepsFrom 0 old new
 nothing_written arcs n s delta old new b (inl refused) not = subst (KeepsFrom 0 old) (sym refused.same) (λ k low. (refl, refl))

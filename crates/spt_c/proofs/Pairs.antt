@@ -5,7 +5,7 @@ use Rattle.sp_paths.specs.Paths.{TooFar as FarVertex}
 use Rattle.sp_paths.specs.Bags.{AreSame}
 use Rattle.sp_paths.proofs.SameArcs.{same_arcs_same_answers}
 use Rattle.sp_lists.specs.declared.answers.Told.{Told}
-use Rattle.sp_lists.specs.declared.answers.Told.TheVariants.{Tree, BadSize, BadDelta, BadArc, NoSuchVertex, TooFar, Memory, Wrong, NoGraph, BadLimit}
+use Rattle.sp_lists.specs.declared.answers.Told.TheVariants.{TooFar}
 use Rattle.sp_lists.specs.declared.cells.Cell.{Cell}
 use Rattle.sp_lists.specs.Limits.{reach}
 use Rattle.sp_lists.specs.Target.{HasNoCell, IsFoundIn}
@@ -14,15 +14,7 @@ use Rattle.spt_c.specs.Found.{IsFoundBy, unlimited}
 
 same_none : (max : ℕ) (g h : Graph) (s t : ℕ) (told : Told) → AreSame g h → HasNoCell max g s t told → HasNoCell max h s t told
 same_none max g h s t (TooFar v) same is = (same_arcs_same_answers g h same).pair s t max (FarVertex v) is
-same_none max g h s t Memory same is = tt
-same_none max g h s t Tree same is = is
-same_none max g h s t BadSize same is = is
-same_none max g h s t BadDelta same is = is
-same_none max g h s t (BadArc place) same is = is
-same_none max g h s t (NoSuchVertex place) same is = is
-same_none max g h s t (Wrong v) same is = is
-same_none max g h s t NoGraph same is = is
-same_none max g h s t BadLimit same is = is
+same_none max g h s t told same is = is
 
 -- What is found by the rows of a graph is found by the arcs that were passed.
 pub same_found : (max : ℕ) (g h : Graph) (s t : ℕ) (found : Result Cell Told) → AreSame g h → IsFoundIn max g s t found → IsFoundIn max h s t found

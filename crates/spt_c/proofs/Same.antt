@@ -7,7 +7,7 @@ use Rattle.sp_paths.specs.Paths.{Graph}
 use Rattle.sp_paths.specs.Bags.{AreSame}
 use Rattle.sp_paths.proofs.SameArcs.{same_arcs_same_answers}
 use Rattle.sp_lists.specs.declared.answers.Told.{Told}
-use Rattle.sp_lists.specs.declared.answers.Told.TheVariants.{Tree, BadSize, BadDelta, BadArc, NoSuchVertex, TooFar, Memory, Wrong, NoGraph, BadLimit}
+use Rattle.sp_lists.specs.declared.answers.Told.TheVariants.{TooFar}
 use Rattle.sp_lists.specs.declared.answers.Batch.{Batch}
 use Rattle.sp_lists.specs.Blocks.{Slices, AreCells, HasTreeAt, KeepsFrom, EndsBy, AreSolved}
 
@@ -28,16 +28,8 @@ same_tree max g h s i there same is =
     }
 
 same_ends : (max : ℕ) (g h : Graph) (sources : List ℕ) (done : ℕ) (told : Told) → AreSame g h → EndsBy max g sources done told → EndsBy max h sources done told
-same_ends max g h sources done Tree same is = is
 same_ends max g h sources done (TooFar v) same is = (is.0, is.1, (same_arcs_same_answers g h same).far is.0 max (Some v) is.2)
-same_ends max g h sources done Memory same is = is
-same_ends max g h sources done BadSize same is = is
-same_ends max g h sources done BadDelta same is = is
-same_ends max g h sources done (BadArc place) same is = is
-same_ends max g h sources done (NoSuchVertex place) same is = is
-same_ends max g h sources done (Wrong v) same is = is
-same_ends max g h sources done NoGraph same is = is
-same_ends max g h sources done BadLimit same is = is
+same_ends max g h sources done told same is = is
 
 -- What is told of the rows of a graph is told of the arcs that were passed.
 pub same_solved : (max : ℕ) (g h : Graph) (sources : List ℕ) (old new : Slices) (b : Batch) → AreSame g h → AreSolved max g sources old new b → AreSolved max h sources old new b

@@ -5,5 +5,8 @@ pub mod Told
 pub mod Checked
 pub mod Found
 pub mod Texts
+pub mod Owned
+pub mod Owners
+pub mod Place
 pub mod Kept
 pub mod KeptLists

@@ -1,8 +1,9 @@
 //! The answers of calls.
 ghost use Rattle.std.specs.Prelude.{◌≡◌};
 ghost use Rattle.spt_c.specs.Told.{answer_of, batch_of};
+ghost use Rattle.spt_c.specs.KeptLists.{part_of};
 
-use sp_lists::{Batch, Told};
+use sp_lists::{Batch, Listed, Told};
 
 /// The answer of a call for one source: a status, the vertex that is too far, and the index of the arc or of the source
 /// that is invalid. A field that the status doesn't use is 0.
@@ -23,6 +24,14 @@ pub struct SptBatch {
     pub vertex: u32,
     pub index: u64,
     pub done: u64,
+}
+
+/// The answer of a call for the list of a part: a status, and how many vertices the part has.
+#[repr(C)]
+#[derive(Clone, Copy, Debug, PartialEq, Eq)]
+pub struct SptPart {
+    pub status: u32,
+    pub count: u64,
 }
 
 fn reply(status: u32, vertex: u32, place: usize) -> SptAnswer
@@ -66,6 +75,18 @@ impl SptBatch {
             vertex: answer.vertex,
             index: answer.index,
             done: batch.done as u64,
+        }
+    }
+}
+
+impl SptPart {
+    /// Returns what is told of a part in the form for C.
+    pub(crate) fn of(listed: Listed) -> SptPart
+        ensures { result ≡ part_of listed }
+    {
+        SptPart {
+            status: SptAnswer::of(listed.told).status,
+            count: listed.count as u64,
         }
     }
 }

@@ -1,11 +1,14 @@
-//! A whole call, from what C passes to its answer.
+//! A whole call for trees, from what C passes to its answer; a limit that C passes.
+ghost use Rattle.std.specs.Prelude.{◌≡◌};
 ghost use Rattle.sp_lists.specs.Blocks.{slices};
+ghost use Rattle.spt_c.specs.Kept.{IsToldOf};
+ghost use Rattle.spt_c.specs.KeptLists.{limit_of};
 ghost use Rattle.spt_c.specs.Question.{asked_by};
 ghost use Rattle.spt_c.specs.Told.{IsTold};
 
 use crate::arcs::{SptArc, graph_of};
 use crate::refusals::refusal;
-use sp_lists::{Batch, Told, write_trees};
+use sp_lists::{AnyRoom, Batch, Prepared, Told, write_trees};
 use std::alloc::Global;
 
 /// What a call asks for: the trees from these sources in the graph of n vertices with these arcs. Delta is tested, and
@@ -31,13 +34,42 @@ pub(crate) fn solve(alloc: Global, question: &Question, dist: &mut [u64], pred: 
     } = *question;
     let places = dist.len().min(pred.len());
     if let Some(told) = refusal(arcs, n, sources, delta, places) {
-        return Batch { done: 0, told };
+        return Batch::none(told);
     }
     match graph_of(alloc, n, arcs) {
-        Ok(graph) => write_trees(alloc, &graph, sources, dist, pred),
-        Err(_) => Batch {
-            done: 0,
-            told: Told::Memory,
-        },
+        Ok(graph) => {
+            let prepared = Prepared {
+                graph: &graph,
+                room: &AnyRoom::new(),
+            };
+            write_trees(alloc, prepared, sources, dist, pred)
+        }
+        Err(_) => Batch::none(Told::Memory),
     }
+}
+
+/// Tests all arguments that come with a graph, and writes the trees of the sources.
+pub(crate) fn solve_known(
+    alloc: Global,
+    prepared: Prepared,
+    sources: &[u32],
+    delta: u64,
+    dist: &mut [u64],
+    pred: &mut [u32],
+) -> Batch
+    ensures { IsToldOf prepared.entry.graph.now sources.now delta
+        (slices dist.old pred.old) (slices dist.new pred.new) result }
+{
+    let places = dist.len().min(pred.len());
+    if let Some(told) = refusal(&[], prepared.n(), sources, delta, places) {
+        return Batch::none(told);
+    }
+    write_trees(alloc, prepared, sources, dist, pred)
+}
+
+/// Returns the limit that C passes; the greatest number stands for none.
+pub(crate) fn limit_of(limit: u64) -> Option<u64>
+    ensures { result ≡ limit_of limit }
+{
+    if limit == u64::MAX { None } else { Some(limit) }
 }

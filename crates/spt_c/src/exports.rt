@@ -1,45 +1,47 @@
 //! The functions that C calls.
 ghost use Rattle.std.specs.Prelude.{◌≡◌, ◌≢◌, ◌∷◌, [], Result};
 ghost use Rattle.std.specs.declared.option.Option.TheVariants.{None};
-ghost use Rattle.sp_kept.specs.Kept.{kept};
+ghost use Rattle.spt_c.specs.Place.{kept};
 ghost use Rattle.sp_lists.specs.Limits.{IsCount, reach};
 ghost use Rattle.sp_lists.specs.Blocks.{slices, KeepsFrom};
 ghost use Rattle.sp_lists.specs.Near.{lists};
+ghost use Rattle.sp_lists.specs.Listed.{listing};
 ghost use Rattle.sp_lists.specs.declared.answers.Batch.{Batch};
+ghost use Rattle.sp_lists.specs.declared.answers.Listed.{Listed};
 ghost use Rattle.sp_lists.specs.declared.answers.Told.{Told};
 ghost use Rattle.sp_lists.specs.declared.cells.Cell.{Cell};
 ghost use Rattle.spt_c.specs.Asked.{asked};
 ghost use Rattle.spt_c.specs.Told.{IsTold, answer_of, batch_of};
 ghost use Rattle.spt_c.specs.Checked.{IsChecked};
-ghost use Rattle.spt_c.specs.KeptLists.{limit_of, IsPartOfKept, IsForestOfKept, IsMatrixOfKept};
+ghost use Rattle.spt_c.specs.KeptLists.{limit_of, part_of, IsPartOfKept, IsListOfKept, IsForestOfKept, IsMatrixOfKept};
 ghost use Rattle.spt_c.specs.Found.{IsFound, IsFoundOfKept, found_of};
 ghost use Rattle.spt_c.specs.Texts.{IsRead, text_of};
 ghost use Rattle.spt_c.specs.Kept.{made_of, IsMade, IsShared, counts_of, IsToldOfKept};
 ghost use Rattle.spt_c.specs.declared.making.Made.{Made};
 ghost use Rattle.spt_c.specs.declared.texts.TextAnswer.{TextAnswer};
 
-use crate::answers::{SptAnswer, SptBatch};
+use crate::answers::{SptAnswer, SptBatch, SptPart};
 use crate::arcs::SptArc;
-use crate::calls::{Question, solve};
+use crate::calls::{Question, limit_of, solve, solve_known};
 use crate::checking::check;
 use crate::counts::{SptCounts, counts};
-use crate::found::{SptFound, find, find_kept};
-use crate::kept_forest::{forest_kept, limit_of};
-use crate::kept_matrix::matrix_kept;
-use crate::kept_part::part_kept;
-use crate::kept_trees::solve_kept;
+use crate::found::{SptFound, find, find_known};
+use crate::kept::of_kept;
 use crate::making::{make, share};
+use crate::place::KeptGraph;
 use crate::texts::{SptText, read_graph};
-use sp_kept::KeptGraph;
-use sp_lists::{Near, Part, is_count, reach};
+use sp_lists::{
+    Batch, Listed, Near, Part, Told, is_count, list_part, reach, write_forest, write_matrix,
+    write_part,
+};
 use std::alloc::Global;
 
 /// Returns the library's version: ten thousand for each unit of the first part, and a hundred for each of the second.
 #[unsafe(no_mangle)]
 pub extern "C" fn spt_version() -> u32
-    ensures { result ≡ 10200 }
+    ensures { result ≡ 10300 }
 {
-    10_200
+    10_300
 }
 
 /// Returns the greatest distance in a graph of n vertices, or 0 if no graph can have n vertices.
@@ -210,8 +212,7 @@ pub extern "C" fn spt_graph_trees(
         (slices dist.old pred.old) (slices dist.new pred.new) batch }
     ensures same { kept graph.new ≡ kept graph.old }
 {
-    let batch = solve_kept(alloc, graph, sources, delta, dist, pred);
-    SptBatch::of(batch)
+    of_kept!(alloc, graph, held => SptBatch::of(solve_known(alloc, held.prepared(), sources, delta, dist, pred)), SptBatch::of(Batch::none(Told::NoGraph)))
 }
 
 /// Returns the distance and the predecessor of a target in the shortest-path tree from a source in the graph that is
@@ -228,8 +229,7 @@ pub extern "C" fn spt_graph_pair(
         × IsFoundOfKept (kept graph.old) source target delta found }
     ensures same { kept graph.new ≡ kept graph.old }
 {
-    let found = find_kept(alloc, graph, source, target, delta);
-    SptFound::of(found)
+    of_kept!(alloc, graph, held => SptFound::of(find_known(alloc, held.prepared(), source, target, delta)), SptFound::of(Err(Told::NoGraph)))
 }
 
 /// Returns the numbers of vertices and arcs of the graph that is kept.
@@ -264,8 +264,33 @@ pub extern "C" fn spt_graph_within(
         limit,
         delta,
     };
-    let told = part_kept(alloc, graph, part, dist, pred);
-    SptAnswer::of(told)
+    of_kept!(alloc, graph, held => SptAnswer::of(write_part(alloc, held.prepared(), part, dist, pred)), SptAnswer::of(Told::NoGraph))
+}
+
+/// Lists the part of the shortest-path tree from a source that lies within the limit, in the graph that is kept: the vertices whose
+/// least length is at most the limit, by rising number, each with its distance and its predecessor in the tree. Where the slices
+/// have too few places it writes nothing, and tells how many vertices there are.
+#[unsafe(no_mangle)]
+pub extern "C" fn spt_graph_part(
+    alloc: Global,
+    graph: &mut KeptGraph,
+    source: u32,
+    limit: u64,
+    vertex: &mut [u32],
+    dist: &mut [u64],
+    pred: &mut [u32],
+) -> SptPart
+    ensures told { (listed : Listed) × (result ≡ part_of listed)
+        × IsListOfKept (kept graph.old) source limit 0
+        (listing vertex.old dist.old pred.old) (listing vertex.new dist.new pred.new) listed }
+    ensures same { kept graph.new ≡ kept graph.old }
+{
+    let part = Part {
+        source,
+        limit,
+        delta: 0,
+    };
+    of_kept!(alloc, graph, held => SptPart::of(list_part(alloc, held.prepared(), part, vertex, dist, pred)), SptPart::of(Listed::none(Told::NoGraph)))
 }
 
 /// Writes the forest of shortest paths from the sources in the graph that is kept: of each vertex its least distance from any of
@@ -293,8 +318,7 @@ pub extern "C" fn spt_graph_nearest(
         limit: limit_of(limit),
         delta,
     };
-    let told = forest_kept(alloc, graph, near, dist, pred, root);
-    SptAnswer::of(told)
+    of_kept!(alloc, graph, held => SptAnswer::of(write_forest(alloc, held.prepared(), near, dist, pred, root)), SptAnswer::of(Told::NoGraph))
 }
 
 /// Writes the distances of the targets from each of the sources in the graph that is kept, row after row: the greatest number if
@@ -314,6 +338,5 @@ pub extern "C" fn spt_graph_matrix(
         dist.old dist.new batch }
     ensures same { kept graph.new ≡ kept graph.old }
 {
-    let batch = matrix_kept(alloc, graph, sources, targets, delta, dist);
-    SptBatch::of(batch)
+    of_kept!(alloc, graph, held => SptBatch::of(write_matrix(alloc, held.prepared(), sources, targets, delta, dist)), SptBatch::of(Batch::none(Told::NoGraph)))
 }

@@ -1,15 +1,12 @@
 //! One target of a source.
 ghost use Rattle.std.specs.Prelude.{◌≡◌, ◌∷◌, []};
-ghost use Rattle.sp_kept.specs.Kept.{kept};
 ghost use Rattle.spt_c.specs.Asked.{asked};
-ghost use Rattle.spt_c.specs.Found.{found_of, IsFoundBy, IsFound, IsFoundOfKept};
+ghost use Rattle.spt_c.specs.Found.{found_of, IsFoundBy, IsFound};
 
 use crate::answers::SptAnswer;
 use crate::arcs::{SptArc, graph_of};
 use crate::refusals::refusal;
-use sp_graph::Graph;
-use sp_kept::KeptGraph;
-use sp_lists::{Cell, Told, find_target};
+use sp_lists::{AnyRoom, Cell, Prepared, Told, find_target};
 use std::alloc::Global;
 
 /// The answer of a call for a target: a status; its distance and its predecessor; and the index of the invalid arc, or
@@ -65,46 +62,32 @@ pub(crate) fn find(
         return Err(told);
     }
     match graph_of(alloc, n, arcs) {
-        Ok(graph) => find_target(alloc, &graph, source, target),
+        Ok(graph) => {
+            let made = Prepared {
+                graph: &graph,
+                room: &AnyRoom::new(),
+            };
+            find_target(alloc, made, source, target)
+        }
         Err(_) => Err(Told::Memory),
     }
 }
 
-// Tests all arguments that come with a graph, and finds the target in it.
-fn find_known(
+/// Tests all arguments that come with a graph, and finds the target in it.
+pub(crate) fn find_known(
     alloc: Global,
-    graph: &Graph,
+    prepared: Prepared,
     source: u32,
     target: u32,
     delta: u64,
 ) -> Result<Cell, Told>
-    ensures { IsFoundBy (asked [] graph.now.n (source ∷ target ∷ []) delta)
-        graph.now source target result }
+    ensures { IsFoundBy
+        (asked [] prepared.entry.graph.now.n (source ∷ target ∷ []) delta)
+        prepared.entry.graph.now source target result }
 {
     let ends = [source, target];
-    if let Some(told) = refusal(&[], graph.n(), &ends, delta, usize::MAX) {
+    if let Some(told) = refusal(&[], prepared.n(), &ends, delta, usize::MAX) {
         return Err(told);
     }
-    find_target(alloc, graph, source, target)
-}
-
-/// Finds the target in the graph that a place keeps. The place still keeps it.
-pub(crate) fn find_kept(
-    alloc: Global,
-    graph: &mut KeptGraph,
-    source: u32,
-    target: u32,
-    delta: u64,
-) -> Result<Cell, Told>
-    ensures found { IsFoundOfKept (kept graph.old) source target delta result }
-    ensures same { kept graph.new ≡ kept graph.old }
-{
-    match graph.take(alloc) {
-        Some(held) => {
-            let found = find_known(alloc, held.graph(), source, target, delta);
-            graph.put(alloc, held);
-            found
-        }
-        None => Err(Told::NoGraph),
-    }
+    find_target(alloc, prepared, source, target)
 }

@@ -1,24 +1,28 @@
-//! The engine as a static library for C, run by the calling thread alone. Every argument is tested when a call runs.
+//! The engine as a static library for C, run by the calling thread alone. Every argument is tested when a call runs. A graph may be
+//! kept between calls: a place of two words, which C can hold, has it on the heap behind it, with the words of the searches in it.
+//! Several places, in several threads, may keep one graph.
 #![tactic(auto)]
 
 mod answers;
 mod arcs;
+mod box_parts;
 mod calls;
 mod checking;
 mod counts;
 mod exports;
 mod found;
-mod kept_forest;
-mod kept_matrix;
-mod kept_part;
-mod kept_trees;
+mod kept;
 mod making;
 mod own;
+mod place;
 mod refusals;
+mod shared;
+mod slot;
 mod texts;
 
-pub use answers::{SptAnswer, SptBatch};
+pub use answers::{SptAnswer, SptBatch, SptPart};
 pub use arcs::SptArc;
 pub use counts::SptCounts;
 pub use found::SptFound;
+pub use place::KeptGraph;
 pub use texts::SptText;

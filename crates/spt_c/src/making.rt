@@ -1,11 +1,11 @@
 //! Graphs that are kept between calls.
 ghost use Rattle.std.specs.Prelude.{◌≡◌};
-ghost use Rattle.sp_kept.specs.Kept.{kept};
+ghost use Rattle.spt_c.specs.Place.{kept};
 ghost use Rattle.spt_c.specs.Kept.{made_of, IsMade, IsShared};
 
 use crate::answers::SptAnswer;
 use crate::arcs::{SptArc, first_bad, graph_of};
-use sp_kept::KeptGraph;
+use crate::place::KeptGraph;
 use sp_lists::{Told, is_count};
 use std::alloc::Global;
 

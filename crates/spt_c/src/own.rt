@@ -7,7 +7,7 @@ ghost use Rattle.spt_c.specs.Arcs.{graph_of};
 ghost use Rattle.spt_c.specs.Asked.{IsArcOf};
 
 use crate::arcs::{SptArc, graph_of};
-use sp_lists::{Told, write_trees};
+use sp_lists::{AnyRoom, Prepared, Told, write_trees};
 use std::alloc::{AllocError, Global};
 
 /// The distances and the predecessors by vertex.
@@ -44,10 +44,14 @@ pub(crate) fn own_tree(alloc: Global, arcs: &[SptArc], n: u32, source: u32) -> R
     let Ok(graph) = graph_of(alloc, n, arcs) else {
         return Err(Told::Memory);
     };
+    let prepared = Prepared {
+        graph: &graph,
+        room: &AnyRoom::new(),
+    };
     let sources = [source];
     let dist = own.dist.as_mut_slice();
     let pred = own.pred.as_mut_slice();
-    match write_trees(alloc, &graph, &sources, dist, pred).told {
+    match write_trees(alloc, prepared, &sources, dist, pred).told {
         Told::Tree => Ok(own),
         told => Err(told),
     }

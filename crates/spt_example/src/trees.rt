@@ -8,7 +8,7 @@ use crate::roads::roads;
 use anyhow::Result;
 use sp_answer::Tree;
 use sp_graph::Graph;
-use sp_solve::{RunError, run_source};
+use sp_run::{RunError, run_source};
 use sp_word::{Delta, Workers};
 use std::sync::Wait;
 use std::thread::Threads;

@@ -4,7 +4,7 @@ ghost use Rattle.std.specs.Prelude.{◌≤◌};
 use crate::roads::roads;
 use anyhow::Result;
 use sp_phase::{Run, Store};
-use sp_task::OpenGate;
+use sp_rounds::OpenGate;
 use sp_word::{Delta, Word, Workers};
 use std::sync::Wait;
 use std::thread::Threads;

@@ -1,10 +1,13 @@
 //! Batches over memory.
-ghost use Rattle.std.specs.Prelude.{◌≡◌, true};
+ghost use Rattle.std.specs.Prelude.{◌≡◌, true, IfOk};
 ghost use Rattle.sp_word.specs.Word.{is_layout};
+ghost use Rattle.sp_jobs.specs.Listing.{IsNumbered};
 
-use sp_batch::{BatchError, BucketWidth, Summary, run_batch};
 use sp_device::{OfRead, UpToWriter};
+use sp_jobs::{BatchError, BucketWidth, Listing, Summary, run_batch};
 use sp_word::{Delta, Workers};
+use std::alloc::{AllocError, Global};
+use std::collections::VecDeque;
 use std::process::Abort;
 use std::sync::Wait;
 use std::thread::Threads;
@@ -45,6 +48,17 @@ pub(crate) fn width_of(rt: &impl Abort, delta: Option<u64>) -> BucketWidth<28> {
         Some(delta) => BucketWidth::Of(Delta::new(delta).expect(rt, "a width in range")),
         None => BucketWidth::MeanLength,
     }
+}
+
+/// A list of numbers, or of a text that is owned.
+pub(crate) type List = Listing<'static, OfRead<VecDeque<u8>>>;
+
+/// The list of this text.
+pub(crate) fn listed(alloc: Global, text: &str) -> Result<List, AllocError>
+    ensures { IfOk result IsNumbered }
+{
+    let bytes = text.as_bytes().to_vec(alloc)?;
+    Ok(Listing::InText(OfRead::new(VecDeque::from(bytes)), None))
 }
 
 /// Runs a batch.

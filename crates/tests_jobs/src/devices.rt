@@ -3,8 +3,8 @@ ghost use Rattle.std.specs.Prelude.{◌<◌, ◌≤◌, length};
 
 use crate::batches::{Case, crew, run_narrow, summary, width_of};
 use crate::graphs::{ALONE, DIAMOND, ONE, TWO, TWO_TEXT};
-use sp_batch::{BatchError, Summary, run_batch};
 use sp_device::{OfRead, UpTo, UpToWriter};
+use sp_jobs::{BatchError, Summary, run_batch};
 use sp_text::{DimacsError, Kind};
 use std::process::Abort;
 use std::sync::Wait;

@@ -2,7 +2,7 @@
 ghost use Rattle.std.specs.Prelude.{◌<◌, length};
 
 use sp_device::{Read, UpTo, UpToWriter};
-use sp_forest_file::{
+use sp_files::{
     ForestReader, TreeOrForest, first_line_tells, forest_text_is_read, forest_texts_are_accepted,
     read_forest, read_tree_or_forest, write_forest,
 };

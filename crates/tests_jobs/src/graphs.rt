@@ -1,8 +1,7 @@
 //! Graphs and the texts of their trees. What is written for worked examples is compared by `tests/commands.py`.
 
 use crate::batches::{AMPLE, Case, run, summary, width_of};
-use sp_batch::{BatchError, BucketWidth, Summary};
-use sp_job::Role;
+use sp_jobs::{BatchError, BucketWidth, Role, Summary};
 use std::process::Abort;
 use std::sync::Wait;
 use std::test::Fail;

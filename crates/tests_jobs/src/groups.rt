@@ -3,7 +3,7 @@
 use crate::batches::{AMPLE, Case, Ran, run_narrow, summary};
 use crate::devices::is_written_up_to;
 use crate::graphs::WIDE;
-use sp_batch::BatchError;
+use sp_jobs::BatchError;
 use std::alloc::Global;
 use std::test::Fail;
 

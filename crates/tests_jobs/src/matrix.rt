@@ -1,13 +1,10 @@
 //! Matrices over memory.
-ghost use Rattle.std.specs.Prelude.{◌≡◌, IfOk};
-ghost use Rattle.sp_matrix.specs.Listing.{IsNumbered};
+ghost use Rattle.sp_jobs.specs.Listing.{IsNumbered};
 
-use crate::batches::{crew, summary, width_of};
+use crate::batches::{List, crew, listed, summary, width_of};
 use crate::graphs::{DIAMOND, TWO, WIDE};
 use sp_device::{OfRead, UpToWriter};
-use sp_matrix::{BatchError, Listing, Nobody, Role, Settings, Summary, run_matrix_told};
-use std::alloc::{AllocError, Global};
-use std::collections::VecDeque;
+use sp_jobs::{BatchError, Listing, Nobody, Role, Settings, Summary, run_matrix_told};
 use std::process::Abort;
 use std::sync::Wait;
 use std::test::Fail;
@@ -25,17 +22,6 @@ fn settings(rt: &impl Abort, workers: u32) -> Settings<'static, 28, Nobody> {
         workers: crew(rt, workers),
         listener: &Nobody,
     }
-}
-
-// A list of numbers, or of a text that is owned.
-type List = Listing<'static, OfRead<VecDeque<u8>>>;
-
-// The list of this text.
-fn listed(alloc: Global, text: &str) -> Result<List, AllocError>
-    ensures { IfOk result IsNumbered }
-{
-    let bytes = text.as_bytes().to_vec(alloc)?;
-    Ok(Listing::InText(OfRead::new(VecDeque::from(bytes)), None))
 }
 
 // Whether so many workers give this answer for the sources 1 and 4, and this text to a writer that takes so many bytes.

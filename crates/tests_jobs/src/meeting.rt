@@ -3,9 +3,10 @@ ghost use Rattle.std.specs.Prelude.{◌≤◌, [], length};
 
 use crate::batches::{crew, summary};
 use crate::threads::count_processors;
-use sp_batch::{BatchError, Nobody, Progress, Summary};
 use sp_device::{UpToWriter, Write};
-use sp_sources::{Asked, LEAST_ITEMS, Question, answer_sources};
+use sp_jobs::{
+    Asked, BatchError, LEAST_ITEMS, Nobody, Progress, Question, Summary, answer_sources,
+};
 use sp_word::Workers;
 use std::alloc::{AllocError, Global};
 use std::sync::Wait;
@@ -114,7 +115,6 @@ fn do_meet(
         sources,
         count: sources.len(),
         items: LEAST_ITEMS,
-        least_items: LEAST_ITEMS,
         workers,
         listener: &Nobody,
     };

@@ -1,14 +1,13 @@
 //! Forests over memory: the worked examples, whose texts are those of the specification.
 ghost use Rattle.std.specs.Prelude.{◌≡◌, ◌≤◌, true, IfSome};
 ghost use Rattle.sp_word.specs.Word.{is_layout, max_dist};
-ghost use Rattle.sp_job.specs.Places.{AreNumbered};
+ghost use Rattle.sp_jobs.specs.Listing.{IsNumbered};
 
-use crate::batches::{crew, summary};
+use crate::batches::{List, crew, listed, summary};
 use crate::graphs::DIAMOND;
 use sp_device::{OfRead, UpToWriter};
-use sp_job::Role;
-use sp_nearest::{
-    BatchError, BucketWidth, Nobody, Settings, Summary, run_nearest_given_told, run_nearest_told,
+use sp_jobs::{
+    BatchError, BucketWidth, Listing, Nobody, Role, Settings, Summary, run_nearest_told,
 };
 use sp_word::Delta;
 use std::process::Abort;
@@ -54,13 +53,15 @@ fn is_written_by<const P: u32>(
     requires layout { is_layout P ≡ true }
     requires limit { IfSome limit (λ limit. limit ≤ max_dist P) }
 {
+    let Ok(list) = listed(rt.alloc(), sources.ss) else {
+        return false;
+    };
     let mut out = UpToWriter::new(rt.alloc(), 1000, 1000);
     let answer = run_nearest_told(
         rt,
         rt.alloc(),
         &mut OfRead::new(sources.gr.as_bytes()),
-        &mut OfRead::new(sources.ss.as_bytes()),
-        None,
+        list,
         limit,
         &mut out,
         &settings::<P>(rt, workers),
@@ -140,15 +141,15 @@ fn far_vertices(rt: HostRuntime) -> Result<(), Fail> {
 // Whether this is the answer, and the text, for sources of the diamond in place of a list, and a writer that takes so many bytes.
 fn is_written_of(
     rt: &(impl Abort + AllocGlobal + Threads + Wait + Sync),
-    sources: &[u32],
+    sources: List,
     room: u32,
     answer: Result<Summary, BatchError>,
     text: &str,
 ) -> bool
-    requires { AreNumbered sources.now }
+    requires { IsNumbered sources }
 {
     let mut out = UpToWriter::new(rt.alloc(), room as usize, 1000);
-    let told = run_nearest_given_told(
+    let told = run_nearest_told(
         rt,
         rt.alloc(),
         &mut OfRead::new(DIAMOND.as_bytes()),
@@ -164,8 +165,8 @@ fn is_written_of(
 #[test]
 fn given_sources(rt: HostRuntime) -> Result<(), Fail> {
     let none = Err(BatchError::NoSuchVertex(5, Role::Source));
-    assert!(rt; is_written_of(&rt, &[3, 5, 6], 1000, none, ""));
+    assert!(rt; is_written_of(&rt, Listing::These(&[3, 5, 6]), 1000, none, ""));
     let failed = Err(BatchError::Write);
-    assert!(rt; is_written_of(&rt, &[3, 1], 13, failed, "p near 4 2\nv "));
+    assert!(rt; is_written_of(&rt, Listing::These(&[3, 1]), 13, failed, "p near 4 2\nv "));
     Ok(())
 }

@@ -2,12 +2,12 @@
 ghost use Rattle.std.specs.Prelude.{◌≡◌, ◌≤◌, true};
 ghost use Rattle.sp_word.specs.Word.{is_layout, max_pred};
 
+use sp_files::Tree;
 use sp_graph::Graph;
 use sp_phase::{RunError, run_source_with};
 use sp_plain::Answer;
-use sp_task::OpenGate;
+use sp_rounds::OpenGate;
 use sp_team::Team;
-use sp_tree::Tree;
 use sp_word::{Delta, Meter, Workers};
 use std::process::Abort;
 use std::sync::Wait;
@@ -57,7 +57,7 @@ pub(crate) fn run_by_team<const P: u32>(
     requires n { graph.now.n ≤ max_pred P }
 {
     let team = team(rt, delta, workers);
-    sp_solve::run_by_team(rt, rt.alloc(), graph, team, &Meter::new(), source)
+    sp_run::run_by_team(rt, rt.alloc(), graph, team, &Meter::new(), source)
 }
 
 /// Whether a run tells what the plain program does.

@@ -1,13 +1,14 @@
 //! From bytes to bytes: texts in memory, and standard output.
 ghost use Rattle.std.specs.Prelude.{◌≡◌, IfOk};
-ghost use Rattle.sp_matrix.specs.Listing.{IsNumbered};
+ghost use Rattle.sp_jobs.specs.Listing.{IsNumbered};
 
 use crate::report::Ending;
 use crate::sample::Sample;
-use sp_batch::{BatchError, BucketWidth, Summary, run_batch};
 use sp_dimacs::{OfRead, Write};
-use sp_matrix::{Listing, Nobody, Settings, run_matrix_told};
-use sp_nearest::run_nearest_told;
+use sp_jobs::{
+    BatchError, BucketWidth, Listing, Nobody, Settings, Summary, run_batch, run_matrix_told,
+    run_nearest_told,
+};
 use sp_pairs::run_pairs;
 use sp_text::Kind;
 use sp_word::Workers;
@@ -136,12 +137,14 @@ pub fn call_run_nearest<R: AllocGlobal + Print + Threads + Wait + Sync, W: Write
         workers,
         listener: &Nobody,
     };
+    let Ok(sources) = listed(rt.alloc(), FROM_ONE) else {
+        return Ok(Ending::Memory);
+    };
     let answer = run_nearest_told::<28, R, _, _, _, _>(
         rt,
         rt.alloc(),
         &mut OfRead::new(sample.gr().as_bytes()),
-        &mut OfRead::new(FROM_ONE.as_bytes()),
-        None,
+        sources,
         None,
         out,
         &settings,

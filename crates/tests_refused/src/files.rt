@@ -3,8 +3,8 @@ use crate::report::{Ending, tell_fault, tell_written};
 use crate::sample::Sample;
 use sp_cert::{CheckError, check};
 use sp_device::{OfRead, Write};
+use sp_files::{read_tree, write_tree_in_pages};
 use sp_replay::{read_offers, read_replay, replay, write_report};
-use sp_tree::{read_tree, write_tree_in_pages};
 use std::io;
 use std::thread::Threads;
 

@@ -2,7 +2,7 @@
 use crate::report::{Ending, tell_fault, tell_tree};
 use crate::sample::Sample;
 use sp_dimacs::{OfRead, Write, read_gr, read_pairs, read_ss};
-use sp_tree::read_tree;
+use sp_files::read_tree;
 use std::io;
 use tests_samples::FROM_ONE;
 

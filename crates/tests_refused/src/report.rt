@@ -1,8 +1,8 @@
 //! What a call told, on standard output.
 use sp_device::{Write, WriteFault};
+use sp_files::{Tree, write_far, write_tree};
 use sp_phase::RunError;
 use sp_text::{DimacsError, Kind};
-use sp_tree::{Tree, write_far, write_tree};
 use std::io;
 
 /// How a call ended. `Wrong` is what no contract lets it answer here.

@@ -2,14 +2,14 @@
 ghost use Rattle.std.specs.Prelude.{◌≡◌, All, IfOk, IfErr};
 ghost use Rattle.sp_word.specs.Word.{max_dist};
 ghost use Rattle.sp_offer.specs.Order.{lawful};
-ghost use Rattle.sp_task.specs.Offers.{IsTask};
+ghost use Rattle.sp_rounds.specs.Offers.{IsTask};
 
 use crate::report::Ending;
-use sp_bucket::Entry;
-use sp_claim::{ClaimTable, Claimer};
 use sp_graph::Rows;
 use sp_offer::{AnyWord, Caller, OfferTable};
-use sp_task::{OpenGate, Round, RoundOut, RoundRefused, Task, TaskKind, run_round};
+use sp_rounds::{
+    ClaimTable, Claimer, Entry, OpenGate, Round, RoundOut, RoundRefused, Task, TaskKind, run_round,
+};
 use sp_word::{Word, Workers};
 use std::io;
 use std::sync::Wait;

@@ -4,8 +4,8 @@ use crate::sample::Sample;
 use sp_device::Write;
 use sp_graph::Graph;
 use sp_phase::{run_pair, run_source_with};
-use sp_solve::{PairAnswer, Query, run_by_team, run_source, run_targets};
-use sp_task::OpenGate;
+use sp_rounds::OpenGate;
+use sp_run::{PairAnswer, Query, run_by_team, run_source, run_targets};
 use sp_word::{Meter, Team, Workers};
 use std::io;
 use std::sync::Wait;
@@ -116,15 +116,15 @@ pub fn call_run_targets<R: AllocGlobal + Print + Threads + Wait + Sync>(
         delta: sample.delta(),
         workers,
     };
-    let mut targets = Vec::new(alloc);
-    targets.push(graph.n())?;
-    targets.push(1)?;
-    let query = Query { source: 1, targets };
-    let Ok(reach) = run_targets::<28, R>(rt, alloc, &graph, team, &Meter::new(), query) else {
+    let query = Query {
+        source: 1,
+        targets: &[graph.n(), 1],
+    };
+    let Ok(answers) = run_targets::<28, R>(rt, alloc, &graph, team, &Meter::new(), query) else {
         return Ok(Ending::Memory);
     };
-    for place in 0..reach.targets().len() {
-        tell_target(rt, reach.answer(place))?;
+    for answer in &answers {
+        tell_target(rt, *answer)?;
     }
     Ok(Ending::Answered)
 }

@@ -3,7 +3,7 @@ use crate::report::{Ending, tell_refusal, tell_tree};
 use crate::sample::Sample;
 use sp_device::Write;
 use sp_phase::{Run, RunError, Store};
-use sp_task::OpenGate;
+use sp_rounds::OpenGate;
 use sp_word::Workers;
 use std::io;
 use std::sync::Wait;

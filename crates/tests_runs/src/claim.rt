@@ -1,6 +1,6 @@
 ghost use Rattle.std.specs.Prelude.{◌≡◌};
 
-use sp_claim::{ClaimTable, Claimer, Grant};
+use sp_rounds::{ClaimTable, Claimer, Grant};
 use std::alloc::{AllocError, Global};
 use std::test::Fail;
 use std::thread::{Threads, join};

@@ -1,12 +1,12 @@
 //! Runs on small graphs, for several numbers of workers and widths of a bucket.
 ghost use Rattle.std.specs.Prelude.{◌≡◌, ◌≤◌, IfOk};
 
+use sp_files::Tree;
 use sp_graph::Graph;
 use sp_offer::Caller;
 use sp_phase::{RunError, Store, run_source, run_source_with};
-use sp_task::OpenGate;
+use sp_rounds::OpenGate;
 use sp_team::Team;
-use sp_tree::Tree;
 use sp_word::{Delta, Meter, Workers};
 use std::alloc::{AllocError, Global};
 use std::process::Abort;
@@ -68,7 +68,7 @@ fn run_by_team(
         delta: width(rt, 2),
         workers: crew(rt, workers),
     };
-    sp_solve::run_by_team(rt, rt.alloc(), graph, team, meter, 1)
+    sp_run::run_by_team(rt, rt.alloc(), graph, team, meter, 1)
 }
 
 // The first caller of a store, and another.

@@ -3,12 +3,11 @@ ghost use Rattle.std.specs.Prelude.{◌≡◌, ℕ, ◌<◌, ◌≤◌, length, 
 
 use crate::phase::crew;
 use gates::{Count, Meeting, Thief};
-use sp_bucket::Entry;
 use sp_graph::Rows;
 use sp_offer::{AnyWord, Loop, Lowering, OneMin};
 use sp_paths::Arc;
-use sp_task::{
-    Gate, OpenGate, Round, RoundOut, RoundRefused, Task, TaskKind, run_round, run_round_by,
+use sp_rounds::{
+    Entry, Gate, OpenGate, Round, RoundOut, RoundRefused, Task, TaskKind, run_round, run_round_by,
 };
 use sp_word::{Word, Workers};
 use std::alloc::{AllocError, Global};
@@ -16,8 +15,7 @@ use std::sync::Wait;
 use std::sync::atomic::{AtomicBool, AtomicU64, Ordering};
 use std::test::Fail;
 use std::thread::Threads;
-use tests_round_samples::{Bench, MOST_DIST, MOST_VERTICES, any_tasks, set_up};
-use tests_samples::{DIAMOND, Triple};
+use tests_samples::{Bench, DIAMOND, MOST_DIST, MOST_VERTICES, Triple, any_tasks, set_up};
 
 mod gates;
 

@@ -1,9 +1,12 @@
-//! The worked examples' graphs, and their texts, for tests.
+//! The worked examples' graphs, and their texts, for tests; what tests and benchmarks play rounds over.
 #![tactic(auto)]
 
 ghost use Rattle.std.specs.Prelude.{◌≡◌, ◌≤◌, All, IfOk, IfSome};
 ghost use Rattle.sp_paths.specs.Paths.{IsArc};
 
+mod rounds;
+
+pub use rounds::{Bench, MOST_DIST, MOST_VERTICES, any_tasks, set_up};
 use sp_graph::Graph;
 use sp_paths::Arc;
 use std::alloc::{AllocError, Global};

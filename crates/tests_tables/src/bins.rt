@@ -1,6 +1,6 @@
 //! Entries come out by bucket, each once, however far their buckets lie.
 
-use sp_bucket::{Bins, Entry};
+use sp_rounds::{Bins, Entry};
 use std::alloc::{AllocError, Global};
 use std::test::Fail;
 

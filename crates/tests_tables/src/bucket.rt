@@ -1,7 +1,7 @@
 //! Entries in buckets, and the length of their ring.
 ghost use Rattle.std.specs.Prelude.{◌<◌};
 
-use sp_bucket::{Buckets, Entry};
+use sp_rounds::{Buckets, Entry};
 use std::alloc::{AllocError, Global};
 use std::test::Fail;
 

@@ -1,7 +1,6 @@
 //! A run by the calling thread alone.
 
-use sp_plain::Answer;
-use sp_serial::solve_alone;
+use sp_serial::{Run, Until, words_alone};
 use sp_word::Word;
 use std::test::Fail;
 use tests_samples::{DIAMOND, graph_of};
@@ -16,7 +15,13 @@ fn diamond(rt: HostRuntime) -> Result<(), Fail> {
         Word::pack(3, 1),
         Word::pack(5, 2),
     ];
-    let told = solve_alone::<28>(rt.alloc(), &graph, 1)?;
-    assert!(rt; matches!(&told, Answer::Tree(words) if words.as_slice() == want.as_slice()));
+    let run = Run {
+        sources: &[1],
+        until: Until::All,
+    };
+    let told = words_alone::<28>(rt.alloc(), &graph, run);
+    assert!(rt;
+        matches!(&told, Ok(made) if made.words.as_slice() == want.as_slice() && made.far.is_none())
+    );
     Ok(())
 }

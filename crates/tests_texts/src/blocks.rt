@@ -1,8 +1,8 @@
 //! Files of several trees, however their device cuts them.
 use crate::answers::fault;
 use sp_device::UpTo;
+use sp_files::TreeBlocks;
 use sp_text::{DimacsError, Kind};
-use sp_tree::TreeBlocks;
 
 const BLOCKS: &[u8] = b"p spt 2 1\nv 1 0 0\nv 2 7 1\ne 2\np spt 2 2\nv 2 0 0\ne 1\n";
 

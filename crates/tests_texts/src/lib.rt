@@ -12,6 +12,8 @@ mod dimacs;
 #[cfg(test)]
 mod faulty;
 #[cfg(test)]
+mod packed;
+#[cfg(test)]
 mod replay;
 #[cfg(test)]
 mod text;

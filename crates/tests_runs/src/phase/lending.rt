@@ -2,12 +2,11 @@
 ghost use Rattle.std.specs.Prelude.{◌≡◌};
 
 use super::{crew, is_told, width};
-use sp_claim::Claimer;
+use sp_files::Tree;
 use sp_graph::Rows;
 use sp_offer::Caller;
 use sp_phase::{Run, RunError, Store};
-use sp_task::OpenGate;
-use sp_tree::Tree;
+use sp_rounds::{Claimer, OpenGate};
 use std::process::Abort;
 use std::sync::Wait;
 use std::test::Fail;

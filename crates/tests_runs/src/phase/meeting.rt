@@ -1,7 +1,7 @@
 //! Two workers of a run meet, at a gate that holds the first for a bounded number of loads.
 use super::{crew, width};
 use sp_phase::run_source_with;
-use sp_task::Gate;
+use sp_rounds::Gate;
 use std::sync::atomic::{AtomicBool, AtomicU64, Ordering};
 use std::test::Fail;
 use tests_samples::graph_of;

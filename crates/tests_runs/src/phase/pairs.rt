@@ -5,7 +5,7 @@ use super::{WIDE, WORKERS, crew, width};
 use sp_graph::Graph;
 use sp_phase::{RunError, run_pair, run_pair_with};
 use sp_plain::{Answer, GraphKind, Random, plain_tree, random_graph};
-use sp_task::Gate;
+use sp_rounds::Gate;
 use sp_word::Word;
 use std::alloc::AllocError;
 use std::process::Abort;

@@ -3,11 +3,10 @@ ghost use Rattle.std.specs.Prelude.{◌≡◌, ◌≤◌, OnOk};
 ghost use Rattle.sp_phase.specs.Progress.{IsUnspent};
 
 use super::{WORKERS, crew, split, width};
-use sp_claim::Claimer;
 use sp_graph::Graph;
 use sp_offer::Caller;
 use sp_phase::{Run, RunError, Store};
-use sp_task::OpenGate;
+use sp_rounds::{Claimer, OpenGate};
 use sp_word::Word;
 use std::process::Abort;
 use std::sync::Wait;

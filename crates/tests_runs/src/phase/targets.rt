@@ -1,12 +1,11 @@
 //! Runs for some targets of one source.
-ghost use Rattle.std.specs.Prelude.{◌≤◌, All, IfOk};
-ghost use Rattle.sp_paths.specs.Paths.{IsVertex};
+ghost use Rattle.std.specs.Prelude.{◌≤◌};
 
 use super::pairs::parts;
 use super::{WORKERS, crew, width};
 use sp_graph::Graph;
 use sp_plain::{Answer, GraphKind, Random, plain_tree, random_graph};
-use sp_solve::{PairAnswer, Query, Reach, run_targets};
+use sp_run::{PairAnswer, Query, run_targets};
 use sp_word::{Meter, Team};
 use std::alloc::{AllocError, Global};
 use std::process::Abort;
@@ -25,30 +24,6 @@ struct Case<'c> {
     want: &'c [PairAnswer],
 }
 
-// Those of the targets that are vertices.
-fn vertices(alloc: Global, graph: &Graph, targets: &[u32]) -> Result<Vec<u32>, AllocError>
-    ensures { IfOk result (λ list. All (IsVertex graph.now.n) list.items) }
-{
-    let mut list = Vec::new(alloc);
-    for target in targets {
-        if graph.has_vertex(*target) {
-            list.push(*target)?;
-        }
-    }
-    Ok(list)
-}
-
-// Whether these are the answers, in the order of the targets.
-fn are_answers(reach: &Reach<28>, want: &[PairAnswer]) -> bool {
-    let targets = reach.targets().len();
-    for place in 0..targets {
-        if want.get(place) != Some(&reach.answer(place)) {
-            return false;
-        }
-    }
-    want.len() == targets
-}
-
 // Whether a run tells what it should.
 fn tells(
     rt: &(impl Abort + AllocGlobal + Threads + Wait + Sync),
@@ -57,19 +32,20 @@ fn tells(
     workers: u32,
     case: Case<'_>,
 ) -> Result<bool, AllocError>
-    requires n { graph.now.n ≤ 10000 }
-    requires source { IsVertex graph.now.n case.source }
+    requires { graph.now.n ≤ 10000 }
 {
     let query = Query {
         source: case.source,
-        targets: vertices(rt.alloc(), graph, case.targets)?,
+        targets: case.targets,
     };
     let team = Team {
         delta: width(rt, delta),
         workers: crew(rt, workers),
     };
-    let reach = run_targets(rt, rt.alloc(), graph, team, &Meter::new(), query)?;
-    Ok(are_answers(&reach, case.want))
+    match run_targets(rt, rt.alloc(), graph, team, &Meter::new(), query) {
+        Ok(answers) => Ok(answers.as_slice() == case.want),
+        Err(_) => Err(AllocError),
+    }
 }
 
 // Whether runs by every number of workers do.
@@ -79,8 +55,7 @@ fn crews_tell(
     delta: u64,
     case: Case<'_>,
 ) -> Result<bool, AllocError>
-    requires n { graph.now.n ≤ 10000 }
-    requires source { IsVertex graph.now.n case.source }
+    requires { graph.now.n ≤ 10000 }
 {
     for workers in WORKERS {
         if !tells(rt, graph, delta, workers, case)? {
@@ -97,8 +72,8 @@ fn all_tell(
     arcs: &[Triple],
     case: Case<'_>,
 ) -> Result<bool, AllocError>
-    requires n { n ≤ 10000 }
-    requires source { IsVertex n case.source }
+    requires least { 1 ≤ n }
+    requires most { n ≤ 10000 }
 {
     let graph = graph_of(rt.alloc(), n, arcs)?;
     for delta in DELTAS {

@@ -2,11 +2,10 @@
 ghost use Rattle.std.specs.Prelude.{◌≡◌, ◌≤◌, IfOk};
 
 use super::{crew, has_rows, split, width};
-use sp_claim::Claimer;
+use sp_files::Tree;
 use sp_offer::{Caller, Lawful, OfferTable};
 use sp_phase::{Run, RunError, Store};
-use sp_task::OpenGate;
-use sp_tree::Tree;
+use sp_rounds::{Claimer, OpenGate};
 use sp_word::Word;
 use std::process::Abort;
 use std::sync::Wait;

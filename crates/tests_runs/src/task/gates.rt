@@ -1,6 +1,6 @@
 //! Gates that hold workers, for a bounded number of loads, and one that counts offers.
 
-use sp_task::Gate;
+use sp_rounds::Gate;
 use std::sync::atomic::{AtomicBool, AtomicU64, Ordering};
 
 const MOST_LOADS: u64 = 1_000_000_000;

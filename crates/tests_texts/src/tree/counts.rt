@@ -2,8 +2,8 @@
 ghost use Rattle.std.specs.Prelude.{◌≤◌, ◌<◌, ◌^◌, length};
 
 use sp_device::UpTo;
+use sp_files::{Tree, TreeReader, read_tree};
 use sp_text::DimacsError;
-use sp_tree::{Tree, TreeReader, read_tree};
 use sp_word::Word;
 use std::alloc::{AllocError, Global};
 

@@ -1,6 +1,6 @@
 use sp_device::UpTo;
+use sp_files::read_tree;
 use sp_text::DimacsError;
-use sp_tree::read_tree;
 use sp_word::Word;
 
 // A tree takes no memory by the number of its vertices.

@@ -2,7 +2,7 @@
 ghost use Rattle.std.specs.Prelude.{◌≤◌, ◌^◌};
 
 use sp_device::{UpToWriter, WriteFault};
-use sp_tree::{Tree, write_tree, write_tree_in_pages};
+use sp_files::{Tree, write_tree, write_tree_in_pages};
 use std::alloc::{AllocError, Global};
 use std::test::Fail;
 

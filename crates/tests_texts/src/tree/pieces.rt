@@ -1,8 +1,8 @@
 use super::counts::{cut_off, diamond, fed, fed_by, is_read};
 use crate::answers::{failed_behind, fault, told};
 use sp_device::{Read, UpTo};
+use sp_files::{Tree, TreeReader, read_tree};
 use sp_text::Kind;
-use sp_tree::{Tree, TreeReader, read_tree};
 use std::test::Fail;
 use tests_samples::{ALONE_TREE, DIAMOND_TREE};
 

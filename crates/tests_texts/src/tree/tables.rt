@@ -1,6 +1,6 @@
 use super::counts::{diamond, is_read};
 use sp_device::UpTo;
-use sp_tree::{read_tree, tree_text_is_exact, tree_texts_are_accepted};
+use sp_files::{read_tree, tree_text_is_exact, tree_texts_are_accepted};
 use sp_word::Word;
 use std::test::Fail;
 use tests_samples::{ALONE_TREE, DIAMOND_TREE};

@@ -2,7 +2,7 @@ ghost use Rattle.std.specs.Prelude.{◌≤◌, ◌^◌, length};
 
 use super::counts::diamond;
 use sp_device::{UpToWriter, WriteFault};
-use sp_tree::{Tree, write_far, write_tree};
+use sp_files::{Tree, write_far, write_tree};
 use sp_word::Word;
 use std::alloc::Global;
 use std::test::Fail;

@@ -1,33 +1,21 @@
-use Rattle.std.proofs.Common.{◌≡◌, ℕ, sym, subst, arith}
-use Rattle.sp_word.specs.Word.{max_dist}
-use Rattle.sp_lists.specs.Limits.{pred_bits}
-use Rattle.sp_lists.specs.Blocks.{slices, AreSolved}
+use Rattle.std.proofs.Common.{◌+◌, ◌*◌, ◌∙◌, sym, ap}
+use Rattle.sp_lists.specs.Limits.{reach}
+use Rattle.sp_lists.specs.Blocks.{slices}
+use Rattle.sp_lists.proofs.Blocks.{one_more, stopped, next_block}
 use Rattle.sp_lists.proofs.solving.write_trees.Goals as goal
 
-pub returns-then-n-le1048574 : goal.returns-then-n-le1048574
-returns-then-n-le1048574 c =
-    let gr = c.args.graph.now in
-    let S : ℕ → Type 0 = λ P. AreSolved (max_dist P) gr c.args.sources.now (slices c.args.dist.now c.args.pred.now) (slices c.solve_each.new.dist c.solve_each.new.pred) c.solve_each.result in
-    let bits : pred_bits gr.n ≡ 20 = grind arith in
-    subst S (sym bits) c.solve_each.ensures
+pub returns-in_default : goal.returns-in_default
+returns-in_default c =
+    let gr = c.args.prepared.graph.now in
+    let loop = c.loop-place in
+    stopped (reach gr.n) gr c.args.sources.now loop.place loop.low (slices c.args.dist.now c.args.pred.now) (slices loop.dist loop.pred)
+    (slices c.solve_at.new.dist c.solve_at.new.pred) c.solve_at.result c.loop-place-test.true c.in_default.not-Tree loop.invariant.done c.solve_at.ensures
 
-pub returns-then-n-le16777214 : goal.returns-then-n-le16777214
-returns-then-n-le16777214 c =
-    let gr = c.args.graph.now in
-    let S : ℕ → Type 0 = λ P. AreSolved (max_dist P) gr c.args.sources.now (slices c.args.dist.now c.args.pred.now) (slices c.solve_each-then-n-le16777214.new.dist c.solve_each-then-n-le16777214.new.pred) c.solve_each-then-n-le16777214.result in
-    let bits : pred_bits gr.n ≡ 24 = grind arith in
-    subst S (sym bits) c.solve_each-then-n-le16777214.ensures
-
-pub returns-then-n-le268435454 : goal.returns-then-n-le268435454
-returns-then-n-le268435454 c =
-    let gr = c.args.graph.now in
-    let S : ℕ → Type 0 = λ P. AreSolved (max_dist P) gr c.args.sources.now (slices c.args.dist.now c.args.pred.now) (slices c.solve_each-then-n-le268435454.new.dist c.solve_each-then-n-le268435454.new.pred) c.solve_each-then-n-le268435454.result in
-    let bits : pred_bits gr.n ≡ 28 = grind arith in
-    subst S (sym bits) c.solve_each-then-n-le268435454.ensures
-
-pub returns-else-n-le268435454 : goal.returns-else-n-le268435454
-returns-else-n-le268435454 c =
-    let gr = c.args.graph.now in
-    let S : ℕ → Type 0 = λ P. AreSolved (max_dist P) gr c.args.sources.now (slices c.args.dist.now c.args.pred.now) (slices c.solve_each-else-n-le268435454.new.dist c.solve_each-else-n-le268435454.new.pred) c.solve_each-else-n-le268435454.result in
-    let bits : pred_bits gr.n ≡ 32 = grind arith in
-    subst S (sym bits) c.solve_each-else-n-le268435454.ensures
+pub loop-place-preserved : goal.loop-place-preserved
+loop-place-preserved c =
+    let gr = c.args.prepared.graph.now in
+    let loop = c.loop-place in record {
+      at = ap (λ k. k + c.n-n.result) loop.invariant.at ∙ (ap (λ k. loop.place * gr.n + k) c.n-n.ensures ∙ sym (next_block loop.place gr.n));
+      done = one_more (reach gr.n) gr c.args.sources.now loop.place loop.low (slices c.args.dist.now c.args.pred.now) (slices loop.dist loop.pred)
+          (slices c.solve_at.new.dist c.solve_at.new.pred) loop.invariant.at loop.invariant.done c.in-Tree.ensures;
+    }

@@ -1,6 +1,6 @@
 use Rattle.std.proofs.Common.{◌≡◌, ◌≤◌, map, take}
 use Rattle.std.specs.List.{count_by}
-use Rattle.sp_pairs.specs.Pairs.{is_too_far}
+use Rattle.sp_jobs.specs.PairAnswers.{is_too_far}
 use Rattle.sp_pairs.specs.Slots.{answer_in}
 use Rattle.sp_pairs.proofs.pair_lines.count_far.Given as goal
 

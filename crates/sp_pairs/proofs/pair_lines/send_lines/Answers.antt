@@ -1,5 +1,5 @@
 use Rattle.std.proofs.Common.{◌++◌, take, map}
-use Rattle.sp_pairs.specs.Pairs.{pairs_text}
+use Rattle.sp_jobs.specs.PairAnswers.{pairs_text}
 use Rattle.sp_pairs.specs.Slots.{answer_in}
 use Rattle.sp_pairs.proofs.PairLines.{sent_more}
 use Rattle.sp_pairs.proofs.pair_lines.send_lines.Goals as goal

@@ -1,6 +1,6 @@
 use Rattle.std.proofs.Common.{take, map}
 use Rattle.sp_device.specs.Printing.{Sends}
-use Rattle.sp_pairs.specs.Pairs.{pairs_text}
+use Rattle.sp_jobs.specs.PairAnswers.{pairs_text}
 use Rattle.sp_pairs.specs.Slots.{answer_in}
 use Rattle.sp_pairs.proofs.pair_lines.send_lines.Given as goal
 

@@ -1,5 +1,5 @@
 use Rattle.std.proofs.Common.{IfOk, ap, ◌∙◌, subst}
-use Rattle.sp_store.specs.Stage.{Stage}
+use Rattle.sp_phase.specs.Stage.{Stage}
 use Rattle.sp_phase.specs.Lead.{Lead}
 use Rattle.sp_phase.specs.Pairs.{IsPairAnswer}
 use Rattle.sp_phase.proofs.pair.run_stored_pair.Goals as goal

@@ -1,7 +1,7 @@
 use Rattle.std.proofs.Common.{ℕ, ◌<◌, ◌++◌, length, get_or, take, refl, sym, subst, ◌∙◌}
 use Rattle.std.specs.List.Sorted.{IsPermutation}
 use Rattle.sp_bins.specs.declared.entry.Entry.{Entry}
-use Rattle.sp_bucket.specs.Content.{Content}
+use Rattle.sp_rounds.specs.Content.{Content}
 use Rattle.sp_phase.proofs.LeaderHolds.{put_more, put_none}
 use Rattle.sp_phase.proofs.rounds.put_all.Goals as goal
 

@@ -1,12 +1,6 @@
 use Rattle.sp_word.specs.Word.{max_dist}
 use Rattle.sp_plain.proofs.LoweringSteps.{lowered_one}
-use Rattle.sp_plain.proofs.PassSteps.{walks_set}
 use Rattle.sp_plain.proofs.lowering.relax.Goals as goal
-
-pub returns-clause-kept : goal.returns-clause-kept
-returns-clause-kept g c =
-    let lesser = rw (c.look_up.ensures, c.look_up-found.ensures, c.deref.ensures.value, c.deref-2.ensures.value) at c.in_ok-word.ensures.some in
-    walks_set (max_dist g.row.P) c.args.words.now.items c.args.arc (rw c.args.words.now.ok.0 at c.requires.arc) c.in_ok-word.word lesser
 
 pub returns-clause-lowered : goal.returns-clause-lowered
 returns-clause-lowered g c arcs here =

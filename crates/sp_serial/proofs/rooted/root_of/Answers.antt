@@ -1,4 +1,4 @@
-use Rattle.std.proofs.Common.{ℕ, List, sym, ap, ◌∙◌, subst, arith}
+use Rattle.std.proofs.Common.{ℕ, List, ap, ◌∙◌, subst, arith}
 use Rattle.sp_word.specs.Word.{Word, Pair}
 use Rattle.sp_serial.specs.Rooted.{IsRowAt}
 use Rattle.sp_serial.proofs.PartRows.{pair_is}

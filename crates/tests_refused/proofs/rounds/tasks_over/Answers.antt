@@ -1,9 +1,9 @@
 use Rattle.std.proofs.Common.{◌≤◌, [], ◌∷◌, arith}
 use Rattle.std.proofs.lemmas.List.Elements.{All-cons, All-nil}
 use Rattle.sp_paths.specs.Paths.{IsVertex}
-use Rattle.sp_task.specs.declared.task.Task.{Task}
-use Rattle.sp_task.specs.declared.task.TaskKind.TheVariants.{Light}
-use Rattle.sp_task.proofs.Checks.{any_tasks}
+use Rattle.sp_rounds.specs.declared.task.Task.{Task}
+use Rattle.sp_rounds.specs.declared.task.TaskKind.TheVariants.{Light}
+use Rattle.sp_rounds.proofs.Checks.{any_tasks}
 use Rattle.tests_refused.proofs.rounds.tasks_over.Goals as goal
 
 pub returns : goal.returns

@@ -1,7 +1,7 @@
 use Rattle.std.proofs.Common.{◌≡◌, ◌∙◌, ℕ, List, [], ◌∷◌, Option, Some, None, MatchOption, refl, sym, subst}
 use Rattle.clap.specs.Matches.{found_of}
 use Rattle.clap.specs.declared.parser.matches.Found.{Found}
-use Rattle.sp_job.specs.Places.{AreNumbered}
+use Rattle.sp_jobs.specs.Places.{AreNumbered}
 use Rattle.sp_options.specs.declared.given.Given.{Given}
 use Rattle.sp_options.specs.Numbers.{SpellNumbers}
 use Rattle.sp_options.specs.Given.{AreGiven, LacksGiven, given_words}

@@ -1,5 +1,5 @@
 use Rattle.std.proofs.Common.{◌∙◌, ap, sym, subst}
-use Rattle.sp_store.specs.Marks.{Noted}
+use Rattle.sp_phase.specs.Marks.{Noted}
 use Rattle.sp_phase.specs.Lead.{Lead}
 use Rattle.sp_phase.specs.Running.{Leads}
 use Rattle.sp_phase.proofs.leader.Leader.begin_round.Goals as goal

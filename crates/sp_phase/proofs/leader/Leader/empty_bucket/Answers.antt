@@ -1,6 +1,6 @@
 use Rattle.std.proofs.Common.{◌+◌, ◌*◌, ap, sym, subst, ◌∙◌, arith}
 use Rattle.std.specs.Prelude.{All}
-use Rattle.sp_store.specs.Stage.{Stage}
+use Rattle.sp_phase.specs.Stage.{Stage}
 use Rattle.sp_phase.specs.Lead.{Lead}
 use Rattle.sp_phase.specs.Running.{IsQueued, EntriesFrom}
 use Rattle.sp_phase.proofs.LeaderHolds.{takes_from}

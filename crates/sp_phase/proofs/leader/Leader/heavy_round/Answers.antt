@@ -2,8 +2,8 @@ use Rattle.std.proofs.Common.{ℕ, List, [], get_or, refl, ap, sym, subst, ◌�
 use Rattle.std.specs.Prelude.{All}
 use Rattle.std.proofs.lemmas.Result.{IfOk-weaker}
 use Rattle.sp_paths.specs.Paths.{IsVertex}
-use Rattle.sp_store.specs.Stage.{Stage}
-use Rattle.sp_store.specs.Rounds.{IsDue}
+use Rattle.sp_phase.specs.Stage.{Stage}
+use Rattle.sp_phase.specs.Rounds.{IsDue}
 use Rattle.sp_phase.specs.Lead.{Lead, lead_without_memory}
 use Rattle.sp_phase.specs.Running.{Leads}
 use Rattle.sp_phase.specs.Behind.{GivesSome, HasRun}

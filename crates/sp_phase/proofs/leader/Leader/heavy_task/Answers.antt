@@ -1,8 +1,8 @@
 use Rattle.std.proofs.Common.{Some, None, ap, sym, subst}
 use Rattle.sp_paths.specs.Paths.{IsVertex}
-use Rattle.sp_task.specs.declared.task.TaskKind.TheVariants.{Heavy}
-use Rattle.sp_store.specs.Marks.{notes_of}
-use Rattle.sp_store.proofs.TaskMarks.{task_of}
+use Rattle.sp_rounds.specs.declared.task.TaskKind.TheVariants.{Heavy}
+use Rattle.sp_phase.specs.Marks.{notes_of}
+use Rattle.sp_phase.proofs.TaskMarks.{task_of}
 use Rattle.sp_phase.specs.Lead.{Lead, lead_of}
 use Rattle.sp_phase.specs.Behind.{GivesHeavy}
 use Rattle.sp_phase.proofs.LeaderHolds.{holds_forgets, leads_holds}

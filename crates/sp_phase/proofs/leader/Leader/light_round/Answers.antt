@@ -4,9 +4,9 @@ use Rattle.std.proofs.lemmas.List.Elements.{All-nil}
 use Rattle.std.proofs.lemmas.Result.{IfOk-weaker}
 use Rattle.sp_paths.specs.Paths.{IsVertex}
 use Rattle.sp_bins.specs.declared.entry.Entry.{Entry}
-use Rattle.sp_task.specs.declared.task.Task.{Task}
-use Rattle.sp_store.specs.Stage.{Stage}
-use Rattle.sp_store.specs.Rounds.{IsDue}
+use Rattle.sp_rounds.specs.declared.task.Task.{Task}
+use Rattle.sp_phase.specs.Stage.{Stage}
+use Rattle.sp_phase.specs.Rounds.{IsDue}
 use Rattle.sp_phase.specs.Lead.{Lead}
 use Rattle.sp_phase.specs.Running.{Leads, TasksFrom, EntriesFrom}
 use Rattle.sp_phase.specs.Behind.{PreparesLight, HasRun}

@@ -2,9 +2,9 @@ use Rattle.std.proofs.Common.{◌≡◌, [], false, true, Some, ◌∙◌, ap, s
 use Rattle.sp_word.specs.Word.{dist_of}
 use Rattle.sp_paths.specs.Paths.{IsVertex}
 use Rattle.sp_offer.specs.Story.{known_table}
-use Rattle.sp_store.specs.declared.marks.LeaderMarks.{LeaderMarks}
-use Rattle.sp_store.specs.Stage.{Stage}
-use Rattle.sp_store.specs.Marks.{notes_of}
+use Rattle.sp_phase.specs.declared.marks.LeaderMarks.{LeaderMarks}
+use Rattle.sp_phase.specs.Stage.{Stage}
+use Rattle.sp_phase.specs.Marks.{notes_of}
 use Rattle.sp_phase.specs.Lead.{Lead, lead_of}
 use Rattle.sp_phase.specs.Behind.{Reads, PreparesLight}
 use Rattle.sp_phase.proofs.LeaderHolds.{holds_enters, leads_holds}

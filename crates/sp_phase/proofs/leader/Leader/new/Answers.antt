@@ -1,5 +1,5 @@
 use Rattle.std.proofs.Common.{ℕ, ap, subst, sym, ◌∙◌}
-use Rattle.sp_bucket.specs.Content.{Puts}
+use Rattle.sp_rounds.specs.Content.{Puts}
 use Rattle.sp_phase.proofs.LeaderHolds.{first_leads}
 use Rattle.sp_phase.proofs.BucketsBehind.{first_past}
 use Rattle.sp_phase.proofs.leader.Leader.new.Goals as goal

@@ -4,9 +4,9 @@ use Rattle.std.specs.List.Sorted.{IsPermutation}
 use Rattle.std.proofs.lemmas.Bool.{eqb-true}
 use Rattle.sp_word.specs.Word.{Word}
 use Rattle.sp_bins.specs.declared.entry.Entry.{Entry}
-use Rattle.sp_bucket.specs.Content.{Content}
-use Rattle.sp_bucket.proofs.EntryPlaces.{empty_is}
-use Rattle.sp_store.specs.declared.marks.LeaderMark.{LeaderMark}
+use Rattle.sp_rounds.specs.Content.{Content}
+use Rattle.sp_rounds.proofs.EntryPlaces.{empty_is}
+use Rattle.sp_phase.specs.declared.marks.LeaderMark.{LeaderMark}
 use Rattle.sp_phase.specs.Lead.{Lead, lead_of}
 use Rattle.sp_phase.specs.Running.{EntriesFrom}
 use Rattle.sp_phase.specs.Sweep.{IsOpen, AreRelaxed, HasCopied, TakesCopy}

@@ -1,6 +1,6 @@
 use Rattle.std.proofs.Common.{ap, subst}
-use Rattle.sp_store.specs.Stage.{Learns}
-use Rattle.sp_store.specs.Marks.{notes_of}
+use Rattle.sp_phase.specs.Stage.{Learns}
+use Rattle.sp_phase.specs.Marks.{notes_of}
 use Rattle.sp_phase.specs.Lead.{Lead}
 use Rattle.sp_phase.proofs.LeaderHolds.{holds_learns, leads_holds}
 use Rattle.sp_phase.proofs.leader.Leader.read.Goals as goal

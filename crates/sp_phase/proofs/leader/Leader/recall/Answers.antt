@@ -1,5 +1,5 @@
 use Rattle.std.proofs.Common.{◌≡◌, [], ◌∙◌, ap, sym, subst}
-use Rattle.sp_store.specs.Marks.{Noted, notes_of}
+use Rattle.sp_phase.specs.Marks.{Noted, notes_of}
 use Rattle.sp_phase.specs.Lead.{Lead, lead_without_memory}
 use Rattle.sp_phase.specs.Running.{Leads}
 use Rattle.sp_phase.proofs.LeaderHolds.{holds_recalls, leads_holds}

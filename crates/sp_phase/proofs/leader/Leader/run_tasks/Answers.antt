@@ -2,9 +2,9 @@ use Rattle.std.proofs.Common.{List, ◌++◌, refl, ap, sym, subst, ◌∙◌, a
 use Rattle.std.specs.Prelude.{All}
 use Rattle.std.specs.List.Sorted.{IsPermutation}
 use Rattle.sp_bins.specs.declared.entry.Entry.{Entry}
-use Rattle.sp_task.specs.declared.task.Task.{Task}
-use Rattle.sp_store.specs.Marks.{notes_of}
-use Rattle.sp_store.specs.Rounds.{IsDue}
+use Rattle.sp_rounds.specs.declared.task.Task.{Task}
+use Rattle.sp_phase.specs.Marks.{notes_of}
+use Rattle.sp_phase.specs.Rounds.{IsDue}
 use Rattle.sp_phase.specs.Lead.{Lead, lead_of}
 use Rattle.sp_phase.specs.Behind.{HasRun}
 use Rattle.sp_phase.proofs.LeaderHolds.{round_leads}

@@ -1,6 +1,6 @@
 use Rattle.std.proofs.Common.{◌≡◌, ℕ, ◌+◌, ◌*◌, ◌<◌, sym, subst, ap, ◌∙◌}
-use Rattle.sp_bucket.specs.Content.{IsLowest}
-use Rattle.sp_store.specs.Stage.{Stage, IsStage}
+use Rattle.sp_rounds.specs.Content.{IsLowest}
+use Rattle.sp_phase.specs.Stage.{Stage, IsStage}
 use Rattle.sp_phase.specs.Lead.{Lead}
 use Rattle.sp_phase.proofs.SettledBuckets.{test_told, bucket_fits}
 use Rattle.sp_phase.proofs.BucketsBehind.{final_tested, level_reaches, bucket_reached}

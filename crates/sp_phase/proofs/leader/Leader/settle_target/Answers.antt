@@ -1,8 +1,8 @@
 use Rattle.std.proofs.Common.{◌≡◌, ℕ, ◌+◌, ◌*◌, ◌<◌, List, sym, subst, ap, ◌∙◌}
 use Rattle.sp_word.specs.Word.{Word}
 use Rattle.sp_paths.specs.Paths.{IsVertex, word_at}
-use Rattle.sp_bucket.specs.Content.{IsLowest}
-use Rattle.sp_store.specs.Stage.{Stage}
+use Rattle.sp_rounds.specs.Content.{IsLowest}
+use Rattle.sp_phase.specs.Stage.{Stage}
 use Rattle.sp_phase.specs.Lead.{Lead}
 use Rattle.sp_phase.specs.Pairs.{IsBelowDist}
 use Rattle.sp_phase.proofs.SettledBuckets.{test_told, test_pair, bucket_fits}

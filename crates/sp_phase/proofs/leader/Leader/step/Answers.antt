@@ -2,7 +2,7 @@ use Rattle.std.proofs.Common.{ℕ, Bool, Option, IfOk, sym, subst}
 use Rattle.std.specs.Prelude.{IsTrue}
 use Rattle.sp_paths.specs.Paths.{IsVertex}
 use Rattle.sp_paths.proofs.Sweep.{swept_is_pair}
-use Rattle.sp_store.specs.Stage.{Stage}
+use Rattle.sp_phase.specs.Stage.{Stage}
 use Rattle.sp_phase.specs.Lead.{Lead}
 use Rattle.sp_phase.specs.Settling.{Tells}
 use Rattle.sp_phase.specs.Behind.{Reaches}

@@ -1,6 +1,6 @@
 use Rattle.std.proofs.Common.{◌+◌, ◌*◌, ap, subst}
 use Rattle.std.specs.Prelude.{All}
-use Rattle.sp_bucket.specs.Content.{Takes}
+use Rattle.sp_rounds.specs.Content.{Takes}
 use Rattle.sp_phase.specs.Lead.{Lead}
 use Rattle.sp_phase.specs.Running.{IsQueued, EntriesFrom}
 use Rattle.sp_phase.proofs.LeaderHolds.{takes_queued}

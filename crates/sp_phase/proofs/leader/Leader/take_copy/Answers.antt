@@ -2,8 +2,8 @@ use Rattle.std.proofs.Common.{◌≡◌, ℕ, length, ap, sym, subst, ◌∙◌,
 use Rattle.sp_paths.specs.Paths.{IsVertex, word_at}
 use Rattle.sp_offer.specs.Order.{IsNoMore}
 use Rattle.sp_offer.specs.Story.{known_table}
-use Rattle.sp_store.specs.Stage.{Learns}
-use Rattle.sp_store.specs.Marks.{notes_of}
+use Rattle.sp_phase.specs.Stage.{Learns}
+use Rattle.sp_phase.specs.Marks.{notes_of}
 use Rattle.sp_phase.specs.Lead.{Lead}
 use Rattle.sp_phase.proofs.LeaderHolds.{holds_learns}
 use Rattle.sp_phase.proofs.CopiedWords.{copied}

@@ -2,7 +2,7 @@ use Rattle.std.proofs.Common.{ℕ, Option, IfOk, refl, sym, ap, ◌∙◌, subst
 use Rattle.std.specs.Prelude.{IfNone}
 use Rattle.sp_offer.specs.Story.{Knowledge, known_table}
 use Rattle.sp_answer.specs.Table.{TreeTable}
-use Rattle.sp_store.specs.Stage.{Stage}
+use Rattle.sp_phase.specs.Stage.{Stage}
 use Rattle.sp_phase.specs.Progress.{Progress}
 use Rattle.sp_phase.specs.Sweep.{HasSwept, HasWords}
 use Rattle.sp_phase.proofs.BucketsBehind.{led}

@@ -1,5 +1,5 @@
 use Rattle.std.proofs.Common.{ℕ, Option, None, ◌∙◌, subst, sym}
-use Rattle.sp_store.specs.Stage.{Learns}
+use Rattle.sp_phase.specs.Stage.{Learns}
 use Rattle.sp_phase.specs.Lead.{Lead}
 use Rattle.sp_phase.specs.Progress.{Progress, caller_of}
 use Rattle.sp_phase.specs.Settling.{IsToldBy}

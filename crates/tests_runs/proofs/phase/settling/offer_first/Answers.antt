@@ -4,7 +4,7 @@ use Rattle.std.proofs.lemmas.List.Elements.{Contains-get_or}
 use Rattle.sp_word.specs.Word.{IsPair}
 use Rattle.sp_paths.specs.declared.arc.Arc.{Arc}
 use Rattle.sp_paths.specs.Paths.{Graph, IsArc, IsLawful}
-use Rattle.sp_walks.specs.Walks.{WalksFrom}
+use Rattle.sp_run.specs.Walks.{WalksFrom}
 use Rattle.tests_runs.proofs.ArcOffers.{first_arc}
 use Rattle.tests_runs.proofs.phase.settling.offer_first.Goals as goal
 

@@ -1,3 +1,0 @@
-pub mod Least
-pub mod Ran
-pub mod Made

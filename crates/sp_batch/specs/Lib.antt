@@ -1,3 +1,0 @@
-pub mod Batch
-pub mod Found
-pub mod Answered

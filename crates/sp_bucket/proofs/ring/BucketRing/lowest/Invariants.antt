@@ -1,6 +1,0 @@
-use Rattle.std.proofs.Common.{◌+◌, ◌≤◌, All}
-use Rattle.sp_bucket.specs.Content.{bucket_of}
-use Rattle.sp_bucket.proofs.ring.BucketRing.lowest.Given as goal
-
-abbrev pub invariant-loop-offset : goal.invariant-loop-offset
-invariant-loop-offset l = All (λ entry. l.self.first + l.offset ≤ bucket_of l.self.delta entry) l.self.entries

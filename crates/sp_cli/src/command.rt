@@ -1,0 +1,132 @@
+//! What a command is that runs a job in a graph: what all of them have, and the part that is its own, of which it says what its words
+//! are (`Command`) and what its job answers (`Answer`).
+ghost use Rattle.std.specs.Prelude.{◌≡◌, ◌∷◌, [], true};
+ghost use Rattle.sp_command.specs.Causes.{NamesInputTwice};
+ghost use Rattle.sp_command.specs.Reading.{IsLacking, IsNamed, IsUnnamed};
+ghost use Rattle.sp_command.specs.Rules.{shape_with};
+ghost use Rattle.sp_cli.specs.Commands.{IsInGraph, IsJobAnswer, LacksInGraph, faults_in, paths_in};
+
+use crate::answer::Answer;
+use crate::place::Place;
+use clap::{ArgMatches, Error};
+use sp_command::{BuiltCommand, Command, Commands, Fault, FileKind, Inputs, Run, Status};
+use sp_device::Write;
+use sp_jobs::Listener;
+use sp_options::RunOptions;
+use std::alloc::Global;
+use std::sync::Wait;
+use std::thread::Threads;
+
+/// A command that runs a job in a graph.
+#[derive(Drop)]
+pub struct InGraph<'a, C> {
+    /// The path of the graph.
+    pub graph: &'a str,
+    /// The options that say how runs are made.
+    pub options: RunOptions,
+    /// What is the command's own.
+    pub own: C,
+}
+
+impl<'a, C: Command<'a>> Commands<'a> for InGraph<'a, C> {
+    ghost shapes = { shape_with C.spelled C.rules ∷ [] };
+
+    ghost named = { IsNamed C.spelled (IsInGraph C.reads) };
+
+    ghost unnamed = { IsUnnamed C.spelled (LacksInGraph C.lacks) };
+
+    ghost lacking = { IsLacking C.spelled (LacksInGraph C.lacks) };
+
+    fn add_to(program: clap::Command<'a>, alloc: Global) -> BuiltCommand<'a> {
+        C::add_to(program, alloc)
+    }
+
+    fn read_named(
+        alloc: Global,
+        name: &str,
+        given: &ArgMatches<'a>,
+    ) -> Result<Option<Self>, Error> {
+        if name != C::word() {
+            return Ok(None);
+        }
+        let Some(graph) = given.get_str("GR") else {
+            return Ok(None);
+        };
+        let Some(options) = RunOptions::read(alloc, given)? else {
+            return Ok(None);
+        };
+        let Some(own) = C::read(alloc, given)? else {
+            return Ok(None);
+        };
+        Ok(Some(InGraph {
+            graph,
+            options,
+            own,
+        }))
+    }
+
+    fn name(&self) -> &'a str {
+        C::word()
+    }
+
+    fn path(&self, file: FileKind) -> Option<&'a str> {
+        match file {
+            FileKind::Graph => Some(self.graph),
+            _ => self.own.path_of(file),
+        }
+    }
+}
+
+impl<const P: u32, C: Answer<P>> Run<P> for InGraph<'_, C> {
+    ghost answers = { IsJobAnswer P C.within C.placeless C.answers };
+
+    ghost paths = { λ given. paths_in given.graph.now (C.paths given.own) };
+
+    ghost own_faults = { faults_in P C.within C.placeless };
+
+    fn run<R: Threads + Wait + Sync, F: Inputs, W: Write>(
+        &self,
+        rt: &R,
+        alloc: Global,
+        files: &F,
+        out: &mut W,
+    ) -> Result<Status, Fault> {
+        let teller = self.options.teller(files);
+        let settings = self.options.settings::<P, _>(&teller)?;
+        let place = Place {
+            graph: self.graph,
+            files,
+            teller: &teller,
+            limit: self.own.limit()?,
+            workers: settings.workers,
+        };
+        if self.own.lacks_places() {
+            return Err(Fault::NoPlaces);
+        }
+        if names_input_twice::<P, C>(self.graph, &self.own) {
+            return Err(Fault::InputTwice);
+        }
+        let answer = self
+            .own
+            .answer::<R, F, W>(rt, alloc, &place, settings.width, out)?;
+        let end = self.options.end_of(answer);
+        if let Ok(written) = answer {
+            teller.hear(C::progress(written, written.sources as usize));
+        }
+        end
+    }
+}
+
+// Returns whether standard input is named for two of a command's files. No command has targets and pairs.
+#[tactic(auto, using(crate::proofs::Opening::both_lists))]
+fn names_input_twice<const P: u32, C: Answer<P>>(graph: &str, own: &C) -> bool
+    ensures { result ≡ true → NamesInputTwice (paths_in graph.now (C.paths own.now)) }
+{
+    let sources = own.is_input(FileKind::Sources);
+    let targets = own.is_input(FileKind::Targets);
+    let pairs = own.is_input(FileKind::Pairs);
+    if graph == "-" {
+        return sources || targets || pairs;
+    }
+    sources && targets
+}

@@ -1,0 +1,112 @@
+//! Where a command's job runs: the files that its words name, and who is told of its progress.
+ghost use Rattle.std.specs.Prelude.{◌≡◌, ℕ, true, false, List, Some, IfOk, IfErr, codes};
+ghost use Rattle.sp_command.specs.Causes.{StaysClosed};
+ghost use Rattle.sp_command.specs.Scene.{IsOpened};
+ghost use Rattle.sp_command.specs.declared.faults.Fault.TheVariants.{CannotOpen};
+ghost use Rattle.sp_options.specs.Sources.{path_of};
+ghost use Rattle.sp_cli.specs.Told.{IsOpenedList, LackPlaces};
+
+use sp_command::{Fault, FileKind, Inputs};
+use sp_device::Read;
+use sp_jobs::{BucketWidth, Listing, Settings};
+use sp_options::{Sources, Teller, Watched};
+use sp_word::Workers;
+
+/// Returns what a job answers by the crew that its settings ask for: for one worker by the calling thread alone, which waits for no
+/// other, else by the runtime, whose threads may wait for one another.
+#[macro_export]
+macro_rules! by_crew {
+    ($rt:ident, $settings:ident, $crew:ident => $answer:expr) => {{
+        if $settings.workers.get() == 1 {
+            let $crew = &sp_word::Alone::new($rt);
+            return $answer;
+        }
+        let $crew = &$rt;
+        $answer
+    }};
+}
+
+/// The files of a command line and the path of the graph, the greatest distance that is told, if there is a limit, the number of
+/// threads that may work, and who hears of the progress.
+pub struct Place<'a, F> {
+    pub graph: &'a str,
+    pub files: &'a F,
+    pub teller: &'a Teller<'a, F>,
+    pub limit: Option<u64>,
+    pub workers: Workers,
+}
+
+impl<F> Drop for Place<'_, F> {
+    fn drop(self) {
+        let Place {
+            graph: _,
+            files: _,
+            teller: _,
+            limit: _,
+            workers: _,
+        } = self;
+    }
+}
+
+impl<'a, F: Inputs> Place<'a, F> {
+    /// Returns the settings of a job with buckets of this width.
+    pub fn settings<const P: u32>(&self, width: BucketWidth<P>) -> Settings<'a, P, Teller<'a, F>> {
+        Settings {
+            width,
+            workers: self.workers,
+            listener: self.teller,
+        }
+    }
+
+    /// Opens a file at its start, as a device that tells how much of it is read.
+    pub fn open(&self, kind: FileKind, path: &str) -> Result<Watched<'a, 'a, F::File, F>, Fault>
+        ensures opened { IfOk result
+            (IsOpened ⟦<Watched<'static, 'static, F::File, F> as Read>⟧
+            (F.files self.now.files.now) path.now) }
+        ensures closed { IfErr result (StaysClosed (F.files self.now.files.now) kind path.now) }
+    {
+        let file = kind.open(self.files, path)?;
+        Ok(Watched::new(file, kind, self.teller))
+    }
+
+    /// Opens a list at its start, if it stands in a file.
+    pub fn open_list<'l>(
+        &self,
+        kind: FileKind,
+        list: &'l Sources<'_>,
+    ) -> Result<Listing<'l, Watched<'a, 'a, F::File, F>>, Fault>
+        ensures opened { IfOk result
+            (IsOpenedList ⟦<Watched<'static, 'static, F::File, F> as Read>⟧
+            (F.files self.now.files.now) list.now) }
+        ensures closed { IfErr result (λ fault. (fault ≡ CannotOpen kind) × ((path : List ℕ)
+            × (path_of list.now ≡ Some path)
+            × ((F.files self.now.files.now).opens path ≡ false))) }
+    {
+        match list {
+            Sources::File(path) => Ok(Listing::InText(self.open(kind, path)?, None)),
+            Sources::Part(path, places) => Ok(Listing::InText(self.open(kind, path)?, *places)),
+            Sources::Given(given) => Ok(Listing::These(&given.list)),
+        }
+    }
+}
+
+/// Returns whether the word for the places of a list spells none.
+pub fn lacks_places(list: &Sources<'_>) -> bool
+    ensures lacking { result ≡ true → LackPlaces list.now }
+    ensures none { result ≡ false → ¬ (LackPlaces list.now) }
+{
+    match list {
+        Sources::Part(_, places) => places.is_none(),
+        Sources::File(_) | Sources::Given(_) => false,
+    }
+}
+
+/// Returns whether a list is to be read from standard input.
+pub fn is_input(list: &Sources<'_>) -> bool
+    ensures { result ≡ true → path_of list.now ≡ Some (codes "-") }
+{
+    match list {
+        Sources::File(path) | Sources::Part(path, _) => *path == "-",
+        Sources::Given(_) => false,
+    }
+}

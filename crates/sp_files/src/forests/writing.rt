@@ -1,0 +1,132 @@
+//! Forests that are written to a device.
+ghost use Rattle.std.specs.Prelude.{◌++◌, ◌≡◌, ◌≤◌, ◌+◌, length};
+ghost use Rattle.std.specs.List.{flat_map};
+ghost use Rattle.sp_device.specs.Printing.{Sends, Finished as Written, Counted};
+ghost use Rattle.sp_files.specs.ForestText.{problem_text, reached_text, row_text, is_first, source_count, forest_text, no_forest_text};
+
+use crate::common_lines::{LINE_ROOM, send_end};
+use sp_device::{Block, Printer, Write, WriteFault, finish, make_room};
+use sp_forest::Forest;
+use sp_text::push_number;
+use sp_word::Word;
+
+fn push_problem(block: &mut Block, n: u32, count: u64)
+    requires { length block.old + LINE_ROOM ≤ 8192 }
+    ensures { block.new ≡ block.old ++ problem_text n count }
+{
+    block.push(b"p near");
+    push_number(block, n as u64);
+    push_number(block, count);
+    block.push(b"\n");
+}
+
+fn push_row<const P: u32>(block: &mut Block, vertex: u32, word: Word<P>, root: u32)
+    requires { length block.old + LINE_ROOM ≤ 8192 }
+    ensures { block.new ≡ block.old ++ reached_text vertex word.entry root }
+{
+    let (Some(dist), Some(pred)) = (word.dist(), word.pred()) else {
+        return;
+    };
+    block.push(b"v");
+    push_number(block, vertex as u64);
+    push_number(block, dist);
+    push_number(block, pred as u64);
+    push_number(block, root as u64);
+    block.push(b"\n");
+}
+
+#[tactic(auto, unfolding(crate::specs::ForestText::no_forest_text))]
+fn push_far(block: &mut Block, vertex: u32)
+    requires { length block.old + LINE_ROOM ≤ 8192 }
+    ensures { block.new ≡ block.old ++ no_forest_text vertex }
+{
+    block.push(b"x");
+    push_number(block, vertex as u64);
+    block.push(b"\n");
+}
+
+// Returns whether the word is that of a source.
+fn is_first<const P: u32>(word: Word<P>) -> bool
+    ensures { result ≡ is_first word.entry }
+{
+    word.pred() == Some(0)
+}
+
+// Returns how many of the rows are those of sources.
+fn count_sources<const P: u32>(rows: &[(u32, Word<P>, u32)]) -> u64
+    ensures { result ≡ source_count rows.now }
+{
+    let mut count = 0;
+    for (_, word, _) in rows {
+        if is_first(*word) {
+            count += 1;
+        }
+    }
+    count
+}
+
+fn send_row<const P: u32, W: Write>(
+    out: &mut W,
+    printer: &mut Printer,
+    vertex: u32,
+    word: Word<P>,
+    root: u32,
+)
+    ensures { Sends W.Write (reached_text vertex word.entry root)
+        out.old printer.old out.new printer.new }
+{
+    make_room(out, printer, LINE_ROOM);
+    push_row(&mut printer.block, vertex, word, root);
+}
+
+// Sends the lines of rows, one after the other.
+fn send_rows<const P: u32, W: Write>(
+    out: &mut W,
+    printer: &mut Printer,
+    rows: &[(u32, Word<P>, u32)],
+)
+    ensures { Sends W.Write (flat_map row_text rows.now) out.old printer.old out.new printer.new }
+{
+    for (vertex, word, root) in rows {
+        send_row(out, printer, *vertex, *word, *root);
+    }
+}
+
+// Sends the problem line of a forest.
+fn send_problem<const P: u32, W: Write>(out: &mut W, printer: &mut Printer, forest: &Forest<P>)
+    ensures { Sends W.Write (problem_text forest.now.n (source_count forest.now.rows))
+        out.old printer.old out.new printer.new }
+{
+    make_room(out, printer, LINE_ROOM);
+    push_problem(&mut printer.block, forest.n(), count_sources(forest.rows()));
+}
+
+/// Writes the block of a forest, and returns its number of bytes. A source that was named twice counts once.
+///
+/// It allocates no memory. If the writer fails, a prefix of the block was written.
+pub fn write_forest<const P: u32, W: Write>(
+    forest: &Forest<P>,
+    out: &mut W,
+) -> Result<u64, WriteFault>
+    ensures written { Written W.Write (forest_text forest.now) out.old result out.new }
+    ensures passed { Counted W.Write out.old result out.new }
+{
+    let mut printer = Printer::new();
+    send_problem(out, &mut printer, forest);
+    send_rows(out, &mut printer, forest.rows());
+    send_end(out, &mut printer, forest.rows().len());
+    finish(out, printer)
+}
+
+/// Writes the line `x V` of a vertex that is too far from all sources, and returns its number of bytes.
+///
+/// It allocates no memory. If the writer fails, a prefix of the line was written.
+pub fn write_no_forest<W: Write>(vertex: u32, out: &mut W) -> Result<u64, WriteFault>
+    ensures written { Written W.Write (no_forest_text vertex) out.old result out.new }
+    ensures passed { Counted W.Write out.old result out.new }
+{
+    let mut printer = Printer::new();
+    make_room(out, &mut printer, LINE_ROOM);
+    push_far(&mut printer.block, vertex);
+    finish(out, printer)
+}

@@ -1,9 +1,0 @@
-pub mod ForestPieces
-pub mod CappedNumbers
-pub mod Canonical
-pub mod ForestTexts
-pub mod SpelledForests
-pub mod FileEnds
-pub mod OwnTexts
-pub mod FirstBytes
-pub mod FirstLines

@@ -1,6 +1,0 @@
-use Rattle.std.proofs.Common.{◌≡◌, take}
-use Rattle.sp_forest_file.specs.ForestText.{source_count}
-use Rattle.sp_forest_file.proofs.writing.count_sources.Given as goal
-
-abbrev pub invariant-loop-word : goal.invariant-loop-word
-invariant-loop-word g l = l.count ≡ source_count (take l.word-index l.rows)

@@ -1,2 +1,0 @@
-pub mod PartsOfLists
-pub mod Files

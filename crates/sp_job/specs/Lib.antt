@@ -1,5 +1,0 @@
-pub mod Width
-pub mod Places
-pub mod Vertices
-pub mod Ready
-pub mod Answers

@@ -1,0 +1,14 @@
+pub mod PartsOfLists
+pub mod Files
+pub mod Outcomes
+pub mod ToldInOrder
+pub mod AnswersInOrder
+pub mod PartsExist
+pub mod AnswersExist
+pub mod BatchOfFile
+pub mod Lines
+pub mod Rows
+pub mod MatrixOfFile
+pub mod SameForests
+pub mod CountedSources
+pub mod NearestOfFile

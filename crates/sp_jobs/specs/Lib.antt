@@ -1,0 +1,16 @@
+pub mod Width
+pub mod Places
+pub mod Vertices
+pub mod Ready
+pub mod Answers
+pub mod Listing
+pub mod Answered
+pub mod Told
+pub mod Steps
+pub mod PairAnswers
+pub mod Batch
+pub mod Trees
+pub mod Matrix
+pub mod Row
+pub mod Nearest
+pub mod ForestAnswer

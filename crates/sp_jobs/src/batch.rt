@@ -1,0 +1,132 @@
+//! A batch of sources.
+ghost use Rattle.std.specs.Prelude.{◌≡◌, ◌≤◌, ℕ, true, List, Some, None, IfSome, IfErr};
+ghost use Rattle.sp_word.specs.Word.{is_layout, max_dist};
+ghost use Rattle.sp_dimacs.specs.Graph.{IsNetwork};
+ghost use Rattle.sp_jobs.specs.Places.{AreNumbered};
+ghost use Rattle.sp_jobs.specs.Answers.{is_early};
+ghost use Rattle.sp_jobs.specs.Answered.{MayFail, MayRead, wrote_by};
+ghost use Rattle.sp_jobs.specs.Listing.{HasLeft, IsNumbered, MayRefuse, asked_in};
+ghost use Rattle.sp_jobs.specs.Batch.{BatchAnswered, BatchOfSome, IsBatch, TreesAnswered, TreesOfSome};
+
+use crate::answering::Asked;
+use crate::answers::{BatchError, Role, Summary};
+use crate::job::Job;
+use crate::listing::Listing;
+use crate::places::chosen;
+use crate::progress::{Listener, Nobody};
+use crate::settings::{BucketWidth, Settings};
+use crate::tree_crews::TreeCrew;
+use crate::vertices::first_above;
+use sp_dimacs::{GrFile, Read, Write, read_ss};
+use sp_word::{Meter, Workers};
+use std::alloc::Global;
+use std::sync::Wait;
+use std::thread::Threads;
+
+// Tests the sources of a batch, and then finds and writes their answers.
+#[tactic(auto, using(crate::proofs::ToldInOrder::not_early))]
+fn answer_batch<const P: u32, R: TreeCrew<P>, W: Write, L: Listener>(
+    rt: &R,
+    alloc: Global,
+    file: GrFile,
+    sources: &[u32],
+    limit: Option<u64>,
+    settings: &Settings<P, L>,
+    out: &mut W,
+) -> Result<Summary, BatchError>
+    requires crew { R.is_shared }
+    requires layout { is_layout P ≡ true }
+    requires network { IsNetwork P file }
+    requires sources { AreNumbered sources.now }
+    requires limit { IfSome limit (λ l. l ≤ max_dist P) }
+    ensures batch { IsBatch P limit file sources.now (wrote_by W.Write out.old out.new) result }
+    ensures untouched { IfErr result (λ e. is_early e ≡ true → out.new ≡ out.old) }
+{
+    if let Some(source) = first_above(sources, file.n) {
+        return Err(BatchError::NoSuchVertex(source, Role::Source));
+    }
+    let graph = settings.build(rt, alloc, file)?;
+    let uncounted = Meter::new();
+    let job = Job {
+        graph: &graph,
+        team: settings.team_for(&graph),
+        meter: settings.listener.meter().unwrap_or(&uncounted),
+    };
+    let asked = Asked::of(&job, settings.listener, sources, sources.len());
+    rt.answer_trees::<W, L>(alloc, &graph, job.team, limit, job.meter, &asked, out)
+}
+
+/// Reads a graph and a list of sources, and writes for each source, in the order of the list, its shortest-path tree,
+/// or the line of the vertex that is too far for a word of `P` bits of predecessor.
+///
+/// The graph is read first, then the sources; then all sources are tested before anything is written. `width` is the width
+/// of a bucket, and `workers` the number of threads, this one counted; what is written is the same for all widths and
+/// numbers. Where memory is refused or the writer fails, a beginning of the text stands.
+///
+/// As many sources are answered at once as there are workers, each by one of them. This thread writes the answers for a
+/// group of sources while the workers find those for the next.
+pub fn run_batch<const P: u32, R: Threads + Wait + Sync, G: Read, S: Read, W: Write>(
+    rt: &R,
+    alloc: Global,
+    gr: &mut G,
+    ss: &mut S,
+    out: &mut W,
+    width: BucketWidth<P>,
+    workers: Workers,
+) -> Result<Summary, BatchError>
+    requires layout { is_layout P ≡ true }
+    ensures exact { (gr_text ss_text : List ℕ)
+        → G.left gr.old ≡ Some gr_text → S.left ss.old ≡ Some ss_text
+        → BatchAnswered P None None gr_text ss_text G.Read gr.new S.Read ss.new
+        W.Write out.old out.new result }
+    ensures untouched { IfErr result (λ e. is_early e ≡ true → out.new ≡ out.old) }
+    ensures found { BatchOfSome P None None W.Write out.old out.new result }
+    ensures may_fail { IfErr result
+        (MayFail (G.failing gr.old) (MayRead (S.failing ss.old)) (λ _. ⊥)) }
+{
+    let settings = Settings {
+        width,
+        workers,
+        listener: &Nobody,
+    };
+    let file = settings.read_graph::<&R, G>(&rt, alloc, gr)?;
+    let list = match read_ss::<P, S>(alloc, ss) {
+        Ok(list) => list,
+        Err(fault) => return Err(BatchError::Ss(fault)),
+    };
+    let sources = chosen::<P>(None, &list);
+    answer_batch::<P, &R, W, Nobody>(&rt, alloc, file, sources, None, &settings, out)
+}
+
+/// Does what `run_batch` does for the sources of a listing, and tells a listener how far it is: when the graph stands, and before each
+/// source, or each group of sources that are answered at once. Where a limit is given, it writes for each source the part of its tree
+/// within that distance, however far other vertices are.
+///
+/// By `&Alone::new(rt)` the calling thread makes the whole job, and waits for no other; by `&rt`, a reference to the runtime's, threads
+/// may wait for one another.
+pub fn run_batch_told<const P: u32, R: TreeCrew<P>, G: Read, S: Read + Drop, W: Write, L: Listener>(
+    rt: &R,
+    alloc: Global,
+    gr: &mut G,
+    sources: Listing<'_, S>,
+    limit: Option<u64>,
+    out: &mut W,
+    settings: &Settings<P, L>,
+) -> Result<Summary, BatchError>
+    requires crew { R.is_shared }
+    requires layout { is_layout P ≡ true }
+    requires sources { IsNumbered sources }
+    requires limit { IfSome limit (λ l. l ≤ max_dist P) }
+    ensures exact { (gr_text ss_text : List ℕ)
+        → G.left gr.old ≡ Some gr_text → HasLeft S.Read sources.entry ss_text
+        → TreesAnswered P limit gr_text (asked_in sources.entry ss_text)
+        G.Read gr.new W.Write out.old out.new result }
+    ensures untouched { IfErr result (λ e. is_early e ≡ true → out.new ≡ out.old) }
+    ensures found { TreesOfSome P limit (asked_in sources.entry) W.Write out.old out.new result }
+    ensures may_fail { IfErr result
+        (MayFail (G.failing gr.old) (MayRefuse S.Read sources.entry) (λ _. ⊥)) }
+{
+    let (file, listed) = settings.read::<R, G, S>(rt, alloc, gr, sources)?;
+    let sources = listed.numbers::<P>();
+    answer_batch::<P, R, W, L>(rt, alloc, file, sources, limit, settings, out)
+}

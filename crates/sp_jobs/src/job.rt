@@ -1,0 +1,120 @@
+//! A job: how its graph is taken from a file, and what each of its runs takes.
+ghost use Rattle.std.specs.Prelude.{◌≡◌, ℕ, true, List, Some, IfOk, IfErr, MatchResult};
+ghost use Rattle.sp_word.specs.Word.{is_layout};
+ghost use Rattle.sp_paths.specs.Bags.{AreSame};
+ghost use Rattle.sp_dimacs.specs.Graph.{IsNetwork, SpellsGraph, graph_of};
+ghost use Rattle.sp_forest.specs.Run.{IsAsked, AreRunWords, IsRunRefusal};
+ghost use Rattle.sp_jobs.specs.Ready.{IsReady};
+ghost use Rattle.sp_jobs.specs.Listing.{HasLeft, IsNumbered, IsReadBy, MayRefuse, AreRefused, asked_in};
+ghost use Rattle.sp_jobs.specs.Answered.{AreRead, IsFileFault, IsGraphFault, IsGraphRefused, IsListFault, MayRead};
+
+use crate::answers::BatchError;
+use crate::listing::{Listed, Listing};
+use crate::progress::{Listener, Progress};
+use crate::settings::Settings;
+use sp_dimacs::{GrFile, Read, read_gr_by};
+use sp_graph::Graph;
+use sp_run::{Run, RunError, RunWords, useful_team, words_of_run};
+use sp_word::{Crew, Meter, Team};
+use std::alloc::{AllocError, Global};
+use std::marker::Sync;
+use std::thread::Threads;
+
+impl<const P: u32, L: Listener> Settings<'_, P, L> {
+    /// Reads the graph of a job from a file, by as many threads as there are workers. Each job takes its graph by this call, and
+    /// then, once it has tested its numbers, by `build`.
+    pub fn read_graph<R: Crew, G: Read>(
+        &self,
+        rt: &R,
+        alloc: Global,
+        gr: &mut G,
+    ) -> Result<GrFile, BatchError>
+        requires { is_layout P ≡ true }
+        ensures exact { (text : List ℕ) → G.left gr.old ≡ Some text → MatchResult result
+            (SpellsGraph P text) (IsGraphFault (IsGraphRefused P text G.Read gr.new)) }
+        ensures found { IfOk result (λ file. (text : List ℕ) × SpellsGraph P text file) }
+        ensures network { IfOk result (IsNetwork P) }
+        ensures may_fail { IfErr result (IsGraphFault (MayRead (G.failing gr.old))) }
+    {
+        match read_gr_by::<P, R, G>(rt, alloc, gr, self.workers) {
+            Ok(file) => Ok(file),
+            Err(error) => Err(BatchError::Gr(error)),
+        }
+    }
+
+    /// Reads the graph of a job, and then the list of its sources.
+    pub fn read<'s, R: Crew, G: Read, S: Read + Drop>(
+        &self,
+        rt: &R,
+        alloc: Global,
+        gr: &mut G,
+        sources: Listing<'s, S>,
+    ) -> Result<(GrFile, Listed<'s>), BatchError>
+        requires layout { is_layout P ≡ true }
+        requires sources { IsNumbered sources }
+        ensures exact { (gr_text ss_text : List ℕ)
+            → G.left gr.old ≡ Some gr_text → HasLeft S.Read sources.entry ss_text
+            → MatchResult result (AreRead P gr_text (asked_in sources.entry ss_text))
+            (IsFileFault (IsGraphRefused P gr_text G.Read gr.new)
+            (IsListFault P gr_text (AreRefused P (asked_in sources.entry ss_text)))) }
+        ensures found { IfOk result (λ files. (gr_text ss_text : List ℕ)
+            × AreRead P gr_text (asked_in sources.entry ss_text) files) }
+        ensures network { IfOk result (λ files. IsNetwork P files.0) }
+        ensures numbered { IfOk result (λ files. IsReadBy P files.1) }
+        ensures may_fail { IfErr result
+            (IsFileFault (MayRead (G.failing gr.old)) (MayRefuse S.Read sources.entry)) }
+    {
+        let file = self.read_graph::<R, G>(rt, alloc, gr)?;
+        match sources.read::<P>(alloc) {
+            Ok(listed) => Ok((file, listed)),
+            Err(error) => Err(BatchError::Ss(error)),
+        }
+    }
+
+    /// Builds the graph of a file that was read, by as many threads as there are workers, and lets the listener hear of it.
+    #[tactic(auto, using(crate::proofs::Files::same_graph))]
+    pub fn build<R: Threads + Sync>(
+        &self,
+        rt: &R,
+        alloc: Global,
+        file: GrFile,
+    ) -> Result<Graph, AllocError>
+        requires { IsNetwork P file }
+        ensures n { IfOk result (λ graph. graph.n ≡ file.n) }
+        ensures arcs { IfOk result (λ graph. AreSame graph (graph_of file)) }
+    {
+        let graph = Graph::from_arcs_by(rt, alloc, file.n, file.arcs, self.workers)?;
+        self.listener.hear(Progress::Graph {
+            vertices: graph.n(),
+            arcs: graph.m(),
+        });
+        Ok(graph)
+    }
+}
+
+/// A job whose graph has been read: the graph, and what each of its runs takes.
+#[derive(Drop)]
+pub struct Job<'a, const P: u32> {
+    /// The graph that the runs search.
+    pub graph: &'a Graph,
+    /// The width of a bucket and the number of workers of a run, which `Settings::team_for` has chosen for this graph.
+    pub team: Team<P>,
+    /// The meter on which the workers count the vertices that they relax.
+    pub meter: &'a Meter,
+}
+
+impl<const P: u32> Job<'_, P> {
+    /// Runs from sources, as far as is asked. This is the one call by which a job runs by its team, of which no more workers run
+    /// than there is work for in the graph.
+    pub fn run<R: Crew>(&self, rt: &R, alloc: Global, asked: Run) -> Result<RunWords<P>, RunError>
+        requires ready { IsReady P self.now.graph.now }
+        requires asked { IsAsked P self.now.graph.now.n asked.until }
+        ensures words { IfOk result (λ made. AreRunWords P self.now.graph.now
+            asked.entry.sources.now asked.entry.until made.words.items made.far) }
+        ensures refused { IfErr result
+            (IsRunRefusal self.now.graph.now asked.entry.sources.now) }
+    {
+        let team = useful_team(rt, self.graph.n(), &self.team);
+        words_of_run(rt, alloc, self.graph, team, self.meter, asked)
+    }
+}

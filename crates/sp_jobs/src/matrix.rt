@@ -1,0 +1,124 @@
+//! A matrix of answers: each source with each target.
+ghost use Rattle.std.specs.Prelude.{◌≡◌, ℕ, true, List, Some, IfErr};
+ghost use Rattle.sp_word.specs.Word.{is_layout};
+ghost use Rattle.sp_dimacs.specs.Graph.{IsNetwork};
+ghost use Rattle.sp_jobs.specs.Places.{AreNumbered};
+ghost use Rattle.sp_jobs.specs.Answers.{is_early};
+ghost use Rattle.sp_jobs.specs.Answered.{MayFail, wrote_by};
+ghost use Rattle.sp_jobs.specs.Listing.{HasLeft, IsNumbered, MayRefuse, asked_in};
+ghost use Rattle.sp_jobs.specs.Matrix.{IsMatrix};
+ghost use Rattle.sp_jobs.specs.Matrix.{MatrixAnswered, MatrixOfSome};
+
+use crate::answering::Asked;
+use crate::answers::{BatchError, Role, Summary};
+use crate::job::Job;
+use crate::listing::Listing;
+use crate::progress::Listener;
+use crate::row_crews::RowCrew;
+use crate::settings::Settings;
+use crate::vertices::first_above;
+use sp_dimacs::{GrFile, Read, Write};
+use sp_word::Meter;
+use std::alloc::Global;
+
+// Tests the sources and then the targets of a matrix, and then finds and writes its lines.
+#[tactic(auto, using(crate::proofs::ToldInOrder::not_early))]
+fn answer_matrix<const P: u32, R: RowCrew<P>, W: Write, L: Listener>(
+    rt: &R,
+    alloc: Global,
+    file: GrFile,
+    sources: &[u32],
+    targets: &[u32],
+    settings: &Settings<P, L>,
+    out: &mut W,
+) -> Result<Summary, BatchError>
+    requires crew { R.is_shared }
+    requires layout { is_layout P ≡ true }
+    requires network { IsNetwork P file }
+    requires sources { AreNumbered sources.now }
+    requires targets { AreNumbered targets.now }
+    ensures matrix { IsMatrix P file sources.now targets.now
+        (wrote_by W.Write out.old out.new) result }
+    ensures untouched { IfErr result (λ e. is_early e ≡ true → out.new ≡ out.old) }
+{
+    if let Some(source) = first_above(sources, file.n) {
+        return Err(BatchError::NoSuchVertex(source, Role::Source));
+    }
+    if let Some(target) = first_above(targets, file.n) {
+        return Err(BatchError::NoSuchVertex(target, Role::Target));
+    }
+    let graph = settings.build(rt, alloc, file)?;
+    let uncounted = Meter::new();
+    let job = Job {
+        graph: &graph,
+        team: settings.team_for(&graph),
+        meter: settings.listener.meter().unwrap_or(&uncounted),
+    };
+    let count = sources.len().saturating_mul(targets.len());
+    let asked = Asked::of(&job, settings.listener, sources, count);
+    rt.answer_rows::<W, L>(
+        alloc,
+        &graph,
+        job.team.delta,
+        targets,
+        job.meter,
+        &asked,
+        out,
+    )
+}
+
+/// Reads a graph, and writes for each of the sources, in the order of their list, and for each of the targets, in the order of
+/// their list, the line of this pair: the target's word of the source's shortest-path tree, or the vertex that is too far for a
+/// word of `P` bits of predecessor, or that no walk leads there.
+///
+/// The graph is read first, then the sources, then the targets, where a text spells them; then all sources are tested, and then
+/// all targets, before anything is written. What is written is the same for all widths of buckets and numbers of workers. Where
+/// memory is refused or the writer fails, a beginning of the text stands.
+///
+/// From each source it looks for near targets, and where they aren't near it makes one run, no further than to the farthest of
+/// the targets. Several sources are answered at once, as `run_batch` does; a source's lines are written as soon as they and those
+/// before them are known. The listener hears when the graph stands, and before each source, or each group of sources that are
+/// answered at once. The crew is as in `run_batch_told`.
+pub fn run_matrix_told<
+    const P: u32,
+    R: RowCrew<P>,
+    G: Read,
+    S: Read + Drop,
+    T: Read + Drop,
+    W: Write,
+    L: Listener,
+>(
+    rt: &R,
+    alloc: Global,
+    gr: &mut G,
+    sources: Listing<'_, S>,
+    targets: Listing<'_, T>,
+    out: &mut W,
+    settings: &Settings<P, L>,
+) -> Result<Summary, BatchError>
+    requires crew { R.is_shared }
+    requires layout { is_layout P ≡ true }
+    requires sources { IsNumbered sources }
+    requires targets { IsNumbered targets }
+    ensures exact { (gr_text sources_text targets_text : List ℕ)
+        → G.left gr.old ≡ Some gr_text
+        → HasLeft S.Read sources.entry sources_text → HasLeft T.Read targets.entry targets_text
+        → MatrixAnswered P gr_text
+        (asked_in sources.entry sources_text) (asked_in targets.entry targets_text)
+        G.Read gr.new W.Write out.old out.new result }
+    ensures untouched { IfErr result (λ e. is_early e ≡ true → out.new ≡ out.old) }
+    ensures found { MatrixOfSome P (asked_in sources.entry) (asked_in targets.entry)
+        W.Write out.old out.new result }
+    ensures may_fail { IfErr result
+        (MayFail (G.failing gr.old)
+        (MayRefuse S.Read sources.entry) (MayRefuse T.Read targets.entry)) }
+{
+    let (file, starts) = settings.read::<R, G, S>(rt, alloc, gr, sources)?;
+    let ends = match targets.read::<P>(alloc) {
+        Ok(ends) => ends,
+        Err(error) => return Err(BatchError::Targets(error)),
+    };
+    let sources = starts.numbers::<P>();
+    let targets = ends.numbers::<P>();
+    answer_matrix::<P, R, W, L>(rt, alloc, file, sources, targets, settings, out)
+}

@@ -1,0 +1,105 @@
+//! The forest of the sources of a list.
+ghost use Rattle.std.specs.Prelude.{◌≡◌, ◌≤◌, ℕ, true, List, Some, IfErr, IfSome};
+ghost use Rattle.sp_word.specs.Word.{is_layout, max_dist};
+ghost use Rattle.sp_dimacs.specs.Graph.{IsNetwork};
+ghost use Rattle.sp_jobs.specs.Places.{AreNumbered};
+ghost use Rattle.sp_jobs.specs.Answers.{is_early};
+ghost use Rattle.sp_jobs.specs.Answered.{MayFail, wrote_by};
+ghost use Rattle.sp_jobs.specs.Listing.{HasLeft, IsNumbered, MayRefuse, asked_in};
+ghost use Rattle.sp_jobs.specs.Nearest.{IsForestRun, ForestAnswered, ForestOfSome};
+
+use crate::answers::{BatchError, Role, Summary};
+use crate::forest_answer::{find_answer, write_answer};
+use crate::job::Job;
+use crate::listing::Listing;
+use crate::progress::{Listener, Progress};
+use crate::settings::Settings;
+use crate::vertices::first_above;
+use sp_dimacs::{GrFile, Read, Write};
+use sp_run::Nearest;
+use sp_word::{Crew, Meter};
+use std::alloc::Global;
+
+// What is written before the one answer is found.
+const NOTHING: Summary = Summary {
+    sources: 0,
+    too_far: 0,
+    bytes: 0,
+};
+
+// Tests the sources, and then finds and writes their answer.
+fn answer_nearest<const P: u32, R: Crew, W: Write, L: Listener>(
+    rt: &R,
+    alloc: Global,
+    file: GrFile,
+    asked: Nearest,
+    settings: &Settings<P, L>,
+    out: &mut W,
+) -> Result<Summary, BatchError>
+    requires layout { is_layout P ≡ true }
+    requires network { IsNetwork P file }
+    requires sources { AreNumbered asked.sources.now }
+    requires limit { IfSome asked.limit (λ limit. limit ≤ max_dist P) }
+    ensures forest { IsForestRun P file asked.entry.sources.now asked.entry.limit
+        (wrote_by W.Write out.old out.new) result }
+    ensures untouched { IfErr result (λ e. is_early e ≡ true → out.new ≡ out.old) }
+{
+    if let Some(source) = first_above(asked.sources, file.n) {
+        return Err(BatchError::NoSuchVertex(source, Role::Source));
+    }
+    let graph = settings.build(rt, alloc, file)?;
+    settings.listener.hear(Progress::Runs {
+        written: NOTHING,
+        count: 1,
+    });
+    let uncounted = Meter::new();
+    let job = Job {
+        graph: &graph,
+        team: settings.team_for(&graph),
+        meter: settings.listener.meter().unwrap_or(&uncounted),
+    };
+    let found = find_answer::<P, R>(rt, alloc, &job, asked)?;
+    write_answer(&found, out)
+}
+
+/// Reads a graph and a listing of sources, and writes the forest of all sources: of each vertex its least distance from any of
+/// them, the smallest vertex before it on such a walk, and the source that its predecessors lead to. A source that is named
+/// twice counts once. With a limit the forest has the vertices that are no farther; without one it may be that a vertex is
+/// too far for a word of `P` bits of predecessor, and the line of the smallest such vertex is written in its place.
+///
+/// The graph is read first, then the sources, where a text spells them; then all sources are tested before anything is written.
+/// What is written is the same for all widths of buckets and numbers of workers. Where memory is refused, nothing is written; where
+/// the writer fails, a beginning of the text stands.
+///
+/// With a limit the calling thread first looks for a small forest, at the cost of what it touches. Where it finds none, and
+/// without a limit, one run is made, with all workers. The listener hears when the graph stands, and before the forest is found;
+/// its meter counts the vertices that the run relaxes, and none that the calling thread's look does. The summary counts one
+/// answer.
+pub fn run_nearest_told<const P: u32, R: Crew, G: Read, S: Read + Drop, W: Write, L: Listener>(
+    rt: &R,
+    alloc: Global,
+    gr: &mut G,
+    sources: Listing<'_, S>,
+    limit: Option<u64>,
+    out: &mut W,
+    settings: &Settings<P, L>,
+) -> Result<Summary, BatchError>
+    requires layout { is_layout P ≡ true }
+    requires sources { IsNumbered sources }
+    requires limit { IfSome limit (λ limit. limit ≤ max_dist P) }
+    ensures exact { (gr_text ss_text : List ℕ)
+        → G.left gr.old ≡ Some gr_text → HasLeft S.Read sources.entry ss_text
+        → ForestAnswered P limit gr_text (asked_in sources.entry ss_text)
+        G.Read gr.new W.Write out.old out.new result }
+    ensures untouched { IfErr result (λ e. is_early e ≡ true → out.new ≡ out.old) }
+    ensures found { ForestOfSome P limit (asked_in sources.entry) W.Write out.old out.new result }
+    ensures may_fail { IfErr result
+        (MayFail (G.failing gr.old) (MayRefuse S.Read sources.entry) (λ _. ⊥)) }
+{
+    let (file, listed) = settings.read::<R, G, S>(rt, alloc, gr, sources)?;
+    let asked = Nearest {
+        sources: listed.numbers::<P>(),
+        limit,
+    };
+    answer_nearest::<P, R, W, L>(rt, alloc, file, asked, settings, out)
+}

@@ -1,0 +1,75 @@
+//! The layout of words that serves a graph.
+ghost use Rattle.std.specs.Prelude.{◌≡◌, ◌≤◌, true};
+ghost use Rattle.sp_word.specs.Word.{is_layout, max_dist, max_pred};
+ghost use Rattle.sp_lists.specs.Limits.{IsCount, pred_bits, reach};
+
+use crate::rooms::AnyRoom;
+use sp_graph::Graph;
+use sp_serial::OwnRoom;
+
+/// A graph that questions are asked of, and a room for the searches in it.
+#[derive(Clone, Copy)]
+pub struct Prepared<'a> {
+    pub graph: &'a Graph,
+    pub room: &'a AnyRoom,
+}
+
+/// A graph, and a room for the searches in it, in words with P bits of predecessor.
+#[derive(Clone, Copy)]
+pub(crate) struct At<'a, const P: u32> {
+    pub graph: &'a Graph,
+    pub room: &'a OwnRoom<P>,
+}
+
+/// Calls a function for the layout with the greatest distances that can name the vertices of a graph.
+macro_rules! by_layout {
+    ($prepared:ident, $at:ident => $call:expr) => {{
+        let graph = $prepared.graph;
+        let n = graph.n();
+        if n <= 1_048_574 {
+            let $at = $crate::prepared::At {
+                graph,
+                room: &$prepared.room.of20,
+            };
+            $call
+        } else if n <= 16_777_214 {
+            let $at = $crate::prepared::At {
+                graph,
+                room: &$prepared.room.of24,
+            };
+            $call
+        } else if n <= 268_435_454 {
+            let $at = $crate::prepared::At {
+                graph,
+                room: &$prepared.room.of28,
+            };
+            $call
+        } else {
+            let $at = $crate::prepared::At {
+                graph,
+                room: &$prepared.room.of32,
+            };
+            $call
+        }
+    }};
+}
+
+pub(crate) use by_layout;
+
+/// What holds of the layout that serves a graph.
+pub(crate) fn fitting<const P: u32>(graph: &Graph)
+    requires bits { P ≡ pred_bits graph.now.n }
+    requires n { IsCount graph.now.n }
+    ensures layout { is_layout P ≡ true }
+    ensures n { graph.now.n ≤ max_pred P }
+    ensures reach { max_dist P ≡ reach graph.now.n }
+{}
+
+impl Prepared<'_> {
+    /// Returns the number of vertices.
+    pub fn n(self) -> u32
+        ensures { result ≡ self.entry.graph.now.n }
+    {
+        self.graph.n()
+    }
+}

@@ -1,4 +1,0 @@
-pub mod Lines
-pub mod Rows
-pub mod OfFile
-pub mod TextsToMatrix

@@ -1,4 +1,0 @@
-pub mod Matrix
-pub mod Listing
-pub mod Answered
-pub mod Row

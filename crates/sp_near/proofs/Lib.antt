@@ -1,3 +1,0 @@
-pub mod NearRun
-pub mod Answers
-pub mod ForestAnswers

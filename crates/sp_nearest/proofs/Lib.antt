@@ -1,4 +1,0 @@
-pub mod SameForests
-pub mod CountedSources
-pub mod OfFile
-pub mod TextsToAnswers

@@ -1,3 +1,0 @@
-pub mod Nearest
-pub mod Found
-pub mod Answered

@@ -1,0 +1,21 @@
+//! Packed graphs: each graph has one text of words of 32 bits, which is written and read.
+#![tactic(auto)]
+
+mod blocks;
+mod ending;
+mod ends;
+mod faults;
+mod front;
+mod laws;
+mod reading;
+mod rows;
+mod words;
+mod writing;
+
+pub use faults::{PackedFault, PackedField, PackedKind};
+pub use laws::{
+    a_faulty_text_is_none, a_graph_has_one_text, a_text_has_its_length, a_text_has_one_graph,
+    no_text_begins_another,
+};
+pub use reading::read_packed;
+pub use writing::write_packed;

@@ -1,0 +1,89 @@
+//! A packed graph, read.
+ghost use Rattle.std.specs.Prelude.{◌≡◌, ◌≢◌, ◌≤◌, ℕ, List, true, Some, IfOk, IfErr};
+ghost use Rattle.sp_device.specs.Failing.{Never};
+ghost use Rattle.sp_word.specs.Word.{is_layout, max_pred};
+ghost use Rattle.sp_packed.specs.Packed.{IsPackable, IsWithin};
+ghost use Rattle.sp_packed.specs.Faults.{PackedRead};
+ghost use Rattle.sp_packed.specs.Reading.{HasParts, Told};
+
+use crate::blocks::Block;
+use crate::ending::read_sum;
+use crate::ends::read_ends;
+use crate::faults::{PackedFault, PackedKind};
+use crate::front::read_front;
+use crate::rows::read_rows;
+use sp_device::Read;
+use sp_graph::Graph;
+use sp_paths::Arc;
+use sp_word::Word;
+use std::alloc::Global;
+
+// What a packed text spells: the number of vertices, and the arcs in order.
+#[derive(Drop)]
+struct Parts {
+    n: u32,
+    arcs: Vec<Arc>,
+}
+
+// Reads a text whole.
+fn read_parts<R: Read>(
+    alloc: Global,
+    reader: &mut R,
+    top: u32,
+    most_arcs: u32,
+) -> Result<Parts, PackedFault>
+    requires { 1 ≤ top }
+    ensures parts { IfOk result (λ parts. HasParts top most_arcs
+        (R.left reader.old) (R.left reader.new) parts.n parts.arcs.items) }
+    ensures told { IfErr result (Told top most_arcs
+        (R.left reader.old) (R.left reader.new) (R.has_failed reader.new)) }
+    ensures never { R.failing reader.old ≡ Never → IfErr result (λ e. e.kind ≢ PackedKind.Read) }
+{
+    let mut block = Block::new();
+    let (n, m) = match read_front(reader, &mut block, top, most_arcs) {
+        Ok(front) => front,
+        Err(fault) => return Err(fault),
+    };
+    let ends = match read_ends(alloc, reader, &mut block, n, m) {
+        Ok(ends) => ends,
+        Err(fault) => return Err(fault),
+    };
+    let arcs = match read_rows(alloc, reader, &mut block, n, &ends) {
+        Ok(arcs) => arcs,
+        Err(fault) => return Err(fault),
+    };
+    if let Err(fault) = read_sum(reader, &mut block, n, m) {
+        return Err(fault);
+    }
+    Ok(Parts { n, arcs })
+}
+
+/// Reads the rest of a device's bytes, and returns the graph whose packed text they are, or their first fault. The graph has
+/// at most as many vertices as a word of `P` bits of predecessor can name, and at most `most_arcs` arcs.
+///
+/// Memory grows with the bytes that come, never by an announced number. If there is none for a word, the fault is Memory at
+/// that word, unless a word up to it has a fault; none for the whole graph is told at the last word.
+pub fn read_packed<const P: u32, R: Read>(
+    alloc: Global,
+    reader: &mut R,
+    most_arcs: u32,
+) -> Result<Graph, PackedFault>
+    requires { is_layout P ≡ true }
+    ensures exact { (text : List ℕ) → R.left reader.old ≡ Some text
+        → PackedRead (max_pred P) most_arcs text
+        (R.left reader.new) (R.has_failed reader.new) result }
+    ensures packable { IfOk result IsPackable }
+    ensures within { IfOk result (IsWithin (max_pred P) most_arcs) }
+    ensures read { IfErr result (λ e. e.kind ≡ PackedKind.Read → R.has_failed reader.new ≡ true) }
+    ensures never { R.failing reader.old ≡ Never → IfErr result (λ e. e.kind ≢ PackedKind.Read) }
+{
+    let parts = match read_parts(alloc, reader, Word::<P>::max_pred(), most_arcs) {
+        Ok(parts) => parts,
+        Err(fault) => return Err(fault),
+    };
+    let last = 8 + parts.n as u64 + 2 * parts.arcs.len() as u64;
+    match Graph::from_arcs(alloc, parts.n, parts.arcs) {
+        Ok(graph) => Ok(graph),
+        Err(_) => Err(PackedFault::behind(last, PackedKind::Memory)),
+    }
+}

@@ -1,0 +1,15 @@
+pub mod Grants
+pub mod Held
+pub mod Content
+pub mod Filed
+pub mod Window
+pub mod Beside
+pub mod Kept
+pub mod Offers
+pub mod Calls
+pub mod Later
+pub mod Work
+pub mod Left
+pub mod Rounds
+pub mod Walking
+pub use Rattle.atomic_table.specs.Seated

@@ -1,0 +1,4 @@
+pub mod LawfulWalks
+pub mod NearRun
+pub mod Marks
+pub mod Shown

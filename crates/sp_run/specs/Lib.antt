@@ -1,0 +1,4 @@
+pub mod Walks
+pub mod Sources
+pub mod NearRun
+pub mod Shown

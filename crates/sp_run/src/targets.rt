@@ -1,0 +1,60 @@
+//! Runs for some targets of one source.
+ghost use Rattle.std.specs.Prelude.{◌≡◌, ◌≤◌, true, IfOk, IfErr};
+ghost use Rattle.sp_word.specs.Word.{is_layout, max_dist, max_pred};
+ghost use Rattle.sp_forest.specs.Run.{AreAllEnds, AreAnswersFor, IsTargetsRefusal};
+
+use crate::words::words_of_run;
+use sp_answer::{PairAnswer, RunError};
+use sp_forest::{Run, Until, are_vertices};
+use sp_graph::Graph;
+use sp_word::{Crew, Meter, Team};
+use std::alloc::Global;
+
+/// What a run for targets is asked: the source that it begins at, and the targets, in any order.
+#[derive(Clone, Copy)]
+pub struct Query<'t> {
+    pub source: u32,
+    pub targets: &'t [u32],
+}
+
+/// Returns the answers for targets of a source, in their order. The run ends as soon as the words of all targets are final, so
+/// near targets take little time.
+///
+/// The number of threads and the width of a bucket have no bearing on the answers. The workers count on the meter the
+/// vertices that they relax.
+pub fn run_targets<const P: u32, C: Crew>(
+    rt: &C,
+    alloc: Global,
+    graph: &Graph,
+    team: Team<P>,
+    meter: &Meter,
+    query: Query,
+) -> Result<Vec<PairAnswer>, RunError>
+    requires layout { is_layout P ≡ true }
+    requires n { graph.now.n ≤ max_pred P }
+    ensures ends { IfOk result
+        (λ _. AreAllEnds graph.now.n query.entry.source query.entry.targets.now) }
+    ensures answers { IfOk result (λ answers. AreAnswersFor graph.now
+        query.entry.source (max_dist P) query.entry.targets.now answers.items) }
+    ensures refused { IfErr result
+        (IsTargetsRefusal graph.now.n query.entry.source query.entry.targets.now) }
+{
+    let Query { source, targets } = query;
+    if !graph.has_vertex(source) || !are_vertices(graph, targets) {
+        return Err(RunError::NoSuchVertex);
+    }
+    if targets.is_empty() {
+        return Ok(Vec::new(alloc));
+    }
+    let run = Run {
+        sources: &[source],
+        until: Until::Targets(targets),
+    };
+    let Ok(words) = words_of_run(rt, alloc, graph, team, meter, run) else {
+        return Err(RunError::Memory);
+    };
+    match words.answers(alloc, graph, source, targets) {
+        Ok(answers) => Ok(answers),
+        Err(_) => Err(RunError::Memory),
+    }
+}

@@ -1,7 +1,0 @@
-use Rattle.sp_word.specs.Word.{max_dist}
-use Rattle.sp_serial.proofs.SeveralSources.{opened_table}
-use Rattle.sp_serial.proofs.reach.put_sources.Goals as goal
-
-pub returns-clause-table : goal.returns-clause-table
-returns-clause-table g c =
-    opened_table c.args.graph.now c.args.sources.now (max_dist g.row.P) c.loop-source.source-index c.loop-source.touched.words.items c.loop-source-test.false c.loop-source.invariant.opened

@@ -1,0 +1,61 @@
+//! Words lowered from sources on.
+ghost use Rattle.std.specs.Prelude.{◌≡◌, ◌≤◌, true, All, IfOk, OnOk, length, replicate};
+ghost use Rattle.sp_word.specs.Word.{Unreached, is_layout, max_dist, max_pred};
+ghost use Rattle.sp_paths.specs.Paths.{IsVertex};
+ghost use Rattle.sp_plain.specs.Several.{IsTableOfAny};
+
+use crate::search::{Bounds, open_bins, search};
+use crate::table::Table;
+use sp_forest::Run;
+use sp_graph::Graph;
+use std::alloc::{AllocError, Global};
+
+// Gives the sources their words, where all vertices are unreached. Where memory is refused, some of them have these.
+fn start<T: Table<P>, const P: u32>(
+    graph: &Graph,
+    sources: &[u32],
+    table: &mut T,
+) -> Result<(), AllocError>
+    requires layout { is_layout P ≡ true }
+    requires sources { All (IsVertex graph.now.n) sources.now }
+    requires unreached { T.labels table.old ≡ replicate graph.now.n Unreached }
+    requires kept { T.IsKept table.old }
+    ensures size { length (T.labels table.new) ≡ graph.now.n }
+    ensures table { OnOk result
+        (IsTableOfAny graph.now sources.now (max_dist P) (T.labels table.new)) }
+    ensures kept { T.IsKept table.new }
+{
+    for source in sources {
+        table.start(*source)?;
+    }
+    Ok(())
+}
+
+/// Lowers words from the sources on, where all vertices are unreached, as far as is asked. It gives up where more entries than
+/// `most` would be worked off. Returns whether it has gone as far as it was to. The buckets begin with a width of this power of
+/// 2, and leave there the one that they have found.
+pub(crate) fn lower_from<T: Table<P>, const P: u32>(
+    alloc: Global,
+    graph: &Graph,
+    run: Run,
+    most: usize,
+    table: &mut T,
+    shift: &mut u32,
+) -> Result<bool, AllocError>
+    requires layout { is_layout P ≡ true }
+    requires sources { All (IsVertex graph.now.n) run.sources.now }
+    requires room { graph.now.n ≤ max_pred P }
+    requires unreached { T.labels table.old ≡ replicate graph.now.n Unreached }
+    requires kept { T.IsKept table.old }
+    ensures size { length (T.labels table.new) ≡ graph.now.n }
+    ensures table { IfOk result
+        (λ _. IsTableOfAny graph.now run.entry.sources.now (max_dist P) (T.labels table.new)) }
+    ensures kept { T.IsKept table.new }
+{
+    let _ = graph.n();
+    let mut bins = open_bins(alloc, *shift, run.sources)?;
+    start(graph, run.sources, table)?;
+    let ended = search(alloc, graph, Bounds::of(run.until, most), table, &mut bins)?;
+    *shift = bins.shift();
+    Ok(ended)
+}

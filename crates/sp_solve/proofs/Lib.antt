@@ -1,4 +1,0 @@
-pub mod WholeRun
-pub mod TargetAnswers
-pub mod TreeWithin
-pub mod Marks

@@ -1,2 +1,0 @@
-pub mod WholeRun
-pub mod Reach

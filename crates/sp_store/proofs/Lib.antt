@@ -1,3 +1,0 @@
-pub mod TaskMarks
-pub mod StageTasks
-pub mod RoundMarks

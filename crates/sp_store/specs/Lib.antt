@@ -1,4 +1,0 @@
-pub mod Stage
-pub mod Held
-pub mod Marks
-pub mod Rounds

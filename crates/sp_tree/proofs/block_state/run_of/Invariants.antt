@@ -1,6 +1,0 @@
-use Rattle.std.proofs.Common.{take}
-use Rattle.sp_tree.specs.Block.{Runs}
-use Rattle.sp_tree.proofs.block_state.run_of.Given as goal
-
-abbrev pub invariant-loop-end : goal.invariant-loop-end
-invariant-loop-end l = Runs l.fn.state (take l.end l.bytes) l.state

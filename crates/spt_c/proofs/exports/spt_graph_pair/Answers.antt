@@ -1,0 +1,10 @@
+use Rattle.std.proofs.Common.{Option, Err, refl, sym, subst}
+use Rattle.sp_paths.specs.Paths.{Graph}
+use Rattle.sp_lists.specs.declared.answers.Told.TheVariants.{NoGraph}
+use Rattle.spt_c.specs.Found.{IsFoundOfKept}
+use Rattle.spt_c.proofs.exports.spt_graph_pair.Goals as goal
+
+pub returns-in-None-clause-told : goal.returns-in-None-clause-told
+returns-in-None-clause-told c =
+    let K : Option Graph → Type 0 = λ k. IsFoundOfKept k c.args.source c.args.target c.args.delta (Err NoGraph) in
+    (Err NoGraph, c.of.ensures, subst K (sym c.in-None.ensures.none) refl)

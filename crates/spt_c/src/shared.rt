@@ -1,0 +1,66 @@
+//! A graph that has several owners.
+ghost use Rattle.std.specs.Prelude.{◌≡◌, IfOk};
+ghost use Rattle.spt_c.specs.Owners.{owned, held};
+
+mod graph;
+
+pub use graph::{HeldGraph, SharedGraph};
+use sp_graph::Graph;
+use sp_lists::{AnyRoom, Prepared};
+use std::alloc::{AllocError, Global};
+use std::sync::Arc;
+
+impl SharedGraph {
+    /// Makes the first owner.
+    pub fn new(alloc: Global, graph: Graph) -> Result<SharedGraph, AllocError>
+        ensures { IfOk result (λ shared. owned shared ≡ graph) }
+    {
+        Ok(SharedGraph {
+            graph: Arc::new(alloc, graph)?,
+            room: AnyRoom::new(),
+        })
+    }
+
+    /// Makes one more owner of the same graph.
+    pub fn another(&self) -> Result<SharedGraph, AllocError>
+        ensures { IfOk result (λ shared. owned shared ≡ owned self.now) }
+    {
+        Ok(SharedGraph {
+            graph: Arc::try_clone(&self.graph)?,
+            room: AnyRoom::new(),
+        })
+    }
+
+    /// Returns the graph.
+    pub fn graph(&self) -> &Graph
+        ensures { result.now ≡ owned self.now }
+    {
+        &self.graph
+    }
+
+    /// Returns the graph with its room.
+    pub fn prepared(&self) -> Prepared<'_>
+        ensures { result.graph.now ≡ owned self.now }
+    {
+        Prepared {
+            graph: &self.graph,
+            room: &self.room,
+        }
+    }
+}
+
+impl HeldGraph {
+    /// Returns the graph.
+    pub fn graph(&self) -> &Graph
+        ensures { result.now ≡ held self.now }
+    {
+        self.shared.graph()
+    }
+
+    /// Returns the graph, and a room for the searches in it that keeps its words until the next call.
+    pub fn prepared(&self) -> Prepared<'_>
+        ensures { result.graph.now ≡ held self.now }
+    {
+        self.shared.prepared()
+    }
+}

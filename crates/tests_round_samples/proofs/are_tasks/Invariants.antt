@@ -1,7 +1,0 @@
-use Rattle.std.proofs.Common.{ℕ, ◌<◌, ◌≤◌, get_or}
-use Rattle.sp_paths.specs.Paths.{IsVertex}
-use Rattle.sp_task.specs.declared.task.Task.{Task}
-use Rattle.tests_round_samples.proofs.are_tasks.Given as goal
-
-abbrev pub invariant-loop-task : goal.invariant-loop-task
-invariant-loop-task l = (k : ℕ) (d : Task) → k < l.task-index → IsVertex l.n (get_or l.tasks k d).vertex × ((get_or l.tasks k d).dist ≤ 1000000000)

@@ -1,0 +1,5 @@
+mod cut;
+mod examples;
+mod judged;
+mod words;
+mod written;
