@@ -1,0 +1,2 @@
+pub mod TurnedArcs
+pub mod Walks

@@ -1,0 +1,14 @@
+//! Graphs whose arcs are turned round, for what is asked towards a vertex, and graphs whose arcs lead both ways, for streets
+//! that are given once.
+#![tactic(auto)]
+
+mod laws;
+mod turning;
+mod ways;
+
+pub use laws::{both_ways_turned, both_ways_walks, turned_twice, turned_walks};
+pub use turning::turned;
+pub use ways::both_ways;
+
+#[cfg(test)]
+mod tests;

@@ -1,0 +1,43 @@
+//! Graphs whose arcs are turned round.
+ghost use Rattle.std.specs.Prelude.{◌≡◌, IfOk};
+ghost use Rattle.sp_graph.specs.Order.{IsInOrder};
+ghost use Rattle.sp_turned.specs.Turned.{turned_arc, IsTurned};
+
+use sp_graph::Graph;
+use sp_paths::Arc;
+use sp_word::Workers;
+use std::alloc::{AllocError, Global};
+use std::thread::Threads;
+
+/// Returns the arc from the head to the tail, of the same length.
+pub(crate) fn turned_arc(arc: &Arc) -> Arc
+    ensures { result ≡ turned_arc arc.now }
+{
+    Arc {
+        tail: arc.head,
+        head: arc.tail,
+        len: arc.len,
+    }
+}
+
+/// Returns the graph with each arc turned round: a walk to `v` in the one is a walk from `v` in the other.
+///
+/// It takes linear time: the arcs of each row are in order as soon as they are brought together by tail. As many threads
+/// work as there are workers, or fewer, as in `Graph::from_arcs_by`. The call fails only if there is no memory for two
+/// more lists of the arcs and for `n + 1` indices.
+pub fn turned<R: Threads + Sync>(
+    rt: &R,
+    alloc: Global,
+    graph: &Graph,
+    workers: Workers,
+) -> Result<Graph, AllocError>
+    ensures turned { IfOk result (λ other. IsTurned graph.now other) }
+    ensures order { IfOk result (λ other. IsInOrder other.arcs) }
+{
+    let n = graph.n();
+    let mut arcs = Vec::with_capacity(alloc, graph.m())?;
+    for arc in graph.arcs() {
+        arcs.push(turned_arc(arc))?;
+    }
+    Graph::from_arcs_by(rt, alloc, n, arcs, workers)
+}

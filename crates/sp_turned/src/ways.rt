@@ -1,0 +1,39 @@
+//! Graphs whose arcs lead both ways.
+ghost use Rattle.std.specs.Prelude.{◌*◌, ◌<◌, ◌^◌, length, IfOk, OnOk};
+ghost use Rattle.sp_graph.specs.Order.{IsInOrder};
+ghost use Rattle.sp_turned.specs.Turned.{IsBothWays};
+
+use crate::turning::turned_arc;
+use sp_graph::Graph;
+use sp_word::Workers;
+use std::alloc::{AllocError, Global};
+use std::thread::Threads;
+
+/// Returns the graph with the arcs of this one and, for each of them, one from its head to its tail of the same length. Where the
+/// graph has both already, each stands twice afterwards; a loop does so too.
+///
+/// It takes linear time, except that sorting a row of `l` arcs takes `l log l`. As many threads work as there are
+/// workers, or fewer, as in `Graph::from_arcs_by`. The call fails if twice the arcs are 2^32 or more, and else only if
+/// there is no memory for two lists of so many arcs and for `n + 1` indices.
+pub fn both_ways<R: Threads + Sync>(
+    rt: &R,
+    alloc: Global,
+    graph: &Graph,
+    workers: Workers,
+) -> Result<Graph, AllocError>
+    ensures both { IfOk result (λ other. IsBothWays graph.now other) }
+    ensures order { IfOk result (λ other. IsInOrder other.arcs) }
+    ensures few { OnOk result (2 * length graph.now.arcs < 2 ^ 32) }
+{
+    let n = graph.n();
+    let m = graph.m();
+    if m > u32::MAX as usize / 2 {
+        return Err(AllocError);
+    }
+    let mut arcs = Vec::with_capacity(alloc, 2 * m)?;
+    arcs.extend_from_slice(graph.arcs())?;
+    for arc in graph.arcs() {
+        arcs.push(turned_arc(arc))?;
+    }
+    Graph::from_arcs_by(rt, alloc, n, arcs, workers)
+}
