@@ -1,5 +1,5 @@
 -- From the texts of files to what is said of them.
-use Rattle.std.proofs.Common.{◌≡◌, ℕ, ◌<◌, Bool, List, length, Option, Result, Ok, Err, refl, inl, inr}
+use Rattle.std.proofs.Common.{◌≡◌, ℕ, ◌<◌, Bool, true, false, List, length, Option, Result, Ok, Err, refl, inl, inr}
 use Rattle.std.specs.Prelude.{◌⊎◌, IfOk, IfErr}
 use Rattle.sp_text.specs.Text.{items_of}
 use Rattle.sp_text.specs.Lines.{lines}
@@ -11,8 +11,10 @@ use Rattle.sp_files.specs.declared.either.TreeOrForest.{TreeOrForest}
 use Rattle.sp_files.specs.TreeOrForest.{EitherRead, IsEither, either_text}
 use Rattle.sp_options.specs.Within.{IsLimit}
 use Rattle.sp_replay.specs.declared.replays.ReplayFile.{ReplayFile}
-use Rattle.sp_replay.specs.ReplayFormat.{replay}
+use Rattle.sp_machine.specs.Programme.{Programme}
+use Rattle.sp_replay.specs.ReplayFormat.{offers, replay}
 use Rattle.sp_replay.specs.ReplayFile.{ReplayRead}
+use Rattle.sp_replay.specs.Offers.{OffersRead}
 use Rattle.sp_command.specs.declared.faults.Fault.{Fault}
 use Rattle.sp_command.specs.declared.faults.Fault.TheVariants as fault
 use Rattle.sp_command.specs.declared.faults.FileKind.TheVariants as kind
@@ -24,7 +26,8 @@ use Rattle.sp_tools.specs.Verdict.{IsVerdictOn}
 use Rattle.sp_tools.specs.Verdicts.{FileJudged, TellsFault}
 use Rattle.sp_tools.specs.Reading.{IsGraphIn, SpellsReplay}
 use Rattle.sp_tools.specs.CheckAnswers.{TreeJudged, TreesJudged, AreTreesRefused}
-use Rattle.sp_tools.specs.ReplayAnswers.{TellsPicture}
+use Rattle.sp_tools.specs.OffersAnswers.{SpellsOffers}
+use Rattle.sp_tools.specs.ReplayAnswers.{IsReplayRefused, SaysOf, TellsPicture}
 use Rattle.sp_tools.proofs.SameVerdicts.{same_verdict_on, same_file}
 
 -- What was read to its end is spelled.
@@ -33,6 +36,9 @@ graph_spelled P text left failed file (_, clean, (ps, found, is)) = (ps, items_o
 
 pub replay_spelled : {P : ℕ} (text : List ℕ) (left : Option (List ℕ)) (failed : Bool) (file : ReplayFile P) → ReplayRead text left failed (Ok file) → SpellsReplay text file
 replay_spelled text left failed file (_, clean, (ps, found, is)) = (ps, items_of replay (lines text), record { faultless = clean; problem_line = found; item_lines = refl }, is)
+
+pub offers_spelled : {P : ℕ} (text : List ℕ) (left : Option (List ℕ)) (failed : Bool) (p : Programme P) → OffersRead text left failed (Ok p) → SpellsOffers text p
+offers_spelled text left failed p (_, clean, (ps, found, is)) = (ps, items_of offers (lines text), record { faultless = clean; problem_line = found; item_lines = refl }, is)
 
 -- What is said of a tree against the rows of a graph is said of it against the graph.
 pub tree_judged : (P : ℕ) (limit : Option ℕ) (gr_text text : List ℕ) (g : Graph) (left : Option (List ℕ)) (failed : Bool) (held : TreeOrForest P) (verdict : Verdict)
@@ -93,6 +99,11 @@ trees_refused P gr_text text g failed graph fault.TooManySteps is = absurd is
 trees_refused P gr_text text g failed graph fault.Memory is = tt
 trees_refused P gr_text text g failed graph fault.WriteFailed is = absurd is
 trees_refused P gr_text text g failed graph fault.CannotWrite is = absurd is
+
+-- What keeps a replay from being read keeps its report and its picture from being found.
+pub unread : (P : ℕ) (svg : Bool) (text : List ℕ) (s : Scene) (why : Fault) → Hinders (IsReplayRefused P text) why → IsUnwritten s → SaysOf P svg text s (Err why)
+unread P true text s why hinders unwritten = inl (inl (hinders, unwritten))
+unread P false text s why hinders unwritten = inl (hinders, unwritten)
 
 -- There is no picture, for want of memory or since there are too many steps.
 pub undrawn : (P : ℕ) (text : List ℕ) (s : Scene) (file : ReplayFile P) (why : Fault) → SpellsReplay text file → IsUnwritten s

@@ -1,18 +1,15 @@
 //! `spt check`: checks whether a tree file holds the shortest-path tree of its source, or a forest's file that of its sources.
-ghost use Rattle.std.specs.Prelude.{◌≡◌, ◌≢◌, ℕ, List, ◌++◌, true, false, IfOk, IfErr, codes};
+ghost use Rattle.std.specs.Prelude.{◌≡◌, ℕ, List, true, IfOk, IfErr, codes};
 ghost use Rattle.sp_word.specs.Word.{is_layout};
 ghost use Rattle.sp_device.specs.Printing.{IsSending, Finished};
-ghost use Rattle.sp_command.specs.Causes.{IsBorneOut};
-ghost use Rattle.sp_command.specs.Faults.{is_done};
-ghost use Rattle.sp_command.specs.Scene.{scene};
 ghost use Rattle.sp_command.specs.Answers.{Hinders};
 ghost use Rattle.sp_tools.specs.Verdict.{IsVerdict, IsForestVerdict, IsVerdictOn, IsVerdictOf, verdict_text, verdict_end};
-ghost use Rattle.sp_tools.specs.CheckAnswers.{TreeJudged, IsTreeRefused, TellsVerdict, GiveTexts, SaysOf, SaysOfSome, CheckAnswers, check_paths, check_faults};
+ghost use Rattle.sp_tools.specs.CheckAnswers.{TreeJudged, IsTreeRefused, GiveTexts, CheckAnswers, check_paths, check_faults};
 ghost use Rattle.sp_options.specs.Within.{IsLimit};
 ghost use Rattle.sp_tools.specs.Early.{IsEarly};
 ghost use Rattle.sp_tools.specs.Words.{IsCheck, LacksCheck, check_rules};
 
-use crate::check_all::check_all_files;
+use crate::check_all::{find_verdicts, status_of, write_verdicts};
 use crate::graphs::read_graph;
 use clap::{ArgMatches, Error};
 use sp_cert::{CheckError, Rule, check, check_forest, check_within};
@@ -180,68 +177,15 @@ impl<const P: u32> Run<P> for CheckCommand<'_> {
         out: &mut W,
     ) -> Result<Status, Fault> {
         let limit = self.within.limit_for::<P>()?;
-        check_blocks::<P, R, F, W>(rt, alloc, self, limit, files, out)
+        if self.all {
+            let all = find_verdicts::<P, R, F>(rt, alloc, self, limit, files)?;
+            write_verdicts(&all, out)?;
+            return Ok(status_of(&all));
+        }
+        let verdict = find_verdict::<P, R, F>(rt, alloc, self, limit, files)?;
+        write_verdict(verdict, out)?;
+        Ok(verdict.status())
     }
-}
-
-// Checks the only block against the graph, or with `--all` each block, and writes the verdicts.
-fn check_blocks<const P: u32, R: Threads + Wait + Sync, F: Inputs, W: Write>(
-    rt: &R,
-    alloc: Global,
-    given: &CheckCommand<'_>,
-    limit: Option<u64>,
-    files: &F,
-    out: &mut W,
-) -> Result<Status, Fault>
-    requires layout { is_layout P ≡ true }
-    requires limit { IsLimit P limit }
-    ensures answered { (gr tree : List ℕ) → GiveTexts (F.files files.now).text given.now gr tree
-        → SaysOf P given.now.all limit gr tree
-        (scene (F.files files.now)
-        (W.written out.old) (W.written out.new) (W.has_failed out.new)) result }
-    ensures of_some { IfOk result (SaysOfSome P given.now.all limit
-        (scene (F.files files.now)
-        (W.written out.old) (W.written out.new) (W.has_failed out.new))) }
-    ensures borne_out { IfErr result (IsBorneOut (check_paths given.now) (check_faults P given.now)
-        (scene (F.files files.now)
-        (W.written out.old) (W.written out.new) (W.has_failed out.new))) }
-    ensures done { IfOk result (λ status. is_done status ≡ true) }
-    ensures unwritten { IfErr result (λ fault. fault ≢ Fault.WriteFailed → out.new ≡ out.old) }
-{
-    if given.all {
-        check_all_files::<P, R, F, W>(rt, alloc, given, limit, files, out)
-    } else {
-        check_file::<P, R, F, W>(rt, alloc, given, limit, files, out)
-    }
-}
-
-// Checks the tree or the forest against the graph, and writes the verdict.
-fn check_file<const P: u32, R: Threads + Wait + Sync, F: Inputs, W: Write>(
-    rt: &R,
-    alloc: Global,
-    given: &CheckCommand<'_>,
-    limit: Option<u64>,
-    files: &F,
-    out: &mut W,
-) -> Result<Status, Fault>
-    requires layout { is_layout P ≡ true }
-    requires limit { IsLimit P limit }
-    ensures answered { (gr tree : List ℕ) → GiveTexts (F.files files.now).text given.now gr tree
-        → TellsVerdict P limit gr tree
-        (scene (F.files files.now)
-        (W.written out.old) (W.written out.new) (W.has_failed out.new)) result }
-    ensures of_some { IfOk result (SaysOfSome P false limit
-        (scene (F.files files.now)
-        (W.written out.old) (W.written out.new) (W.has_failed out.new))) }
-    ensures borne_out { IfErr result (IsBorneOut (check_paths given.now) (check_faults P given.now)
-        (scene (F.files files.now)
-        (W.written out.old) (W.written out.new) (W.has_failed out.new))) }
-    ensures done { IfOk result (λ status. is_done status ≡ true) }
-    ensures unwritten { IfErr result (λ fault. fault ≢ Fault.WriteFailed → out.new ≡ out.old) }
-{
-    let verdict = find_verdict::<P, R, F>(rt, alloc, given, limit, files)?;
-    write_verdict(verdict, out)?;
-    Ok(verdict.status())
 }
 
 // Returns the verdict on the tree or the forest in a file, against the graph in another.

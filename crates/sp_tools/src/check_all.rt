@@ -1,15 +1,13 @@
 //! `spt check --all`: checks whether each block of a tree file holds the shortest-path tree of its source.
-ghost use Rattle.std.specs.Prelude.{◌≡◌, ◌≢◌, ℕ, List, Some, true, false, IfOk, IfErr};
+ghost use Rattle.std.specs.Prelude.{◌≡◌, ℕ, List, Some, true, false, IfOk, IfErr};
 ghost use Rattle.std.specs.List.{flat_map};
 ghost use Rattle.sp_word.specs.Word.{is_layout};
 ghost use Rattle.sp_device.specs.Printing.{Sends, Finished};
-ghost use Rattle.sp_command.specs.Causes.{IsBorneOut};
 ghost use Rattle.sp_command.specs.Faults.{is_done};
-ghost use Rattle.sp_command.specs.Scene.{scene};
 ghost use Rattle.sp_command.specs.Answers.{Hinders};
 ghost use Rattle.sp_options.specs.Within.{IsLimit};
 ghost use Rattle.sp_tools.specs.Verdicts.{FileJudged, TellsFault, judged_text, end_of};
-ghost use Rattle.sp_tools.specs.CheckAnswers.{TreesJudged, AreTreesRefused, TellsVerdicts, GiveTexts, SaysOfSome, check_paths, check_faults};
+ghost use Rattle.sp_tools.specs.CheckAnswers.{TreesJudged, AreTreesRefused, GiveTexts, check_paths, check_faults};
 ghost use Rattle.sp_tools.specs.Early.{IsEarly, IsOfFile};
 
 use crate::check::{CheckCommand, Verdict, judge};
@@ -31,37 +29,8 @@ pub struct Judged {
     pub verdict: Verdict,
 }
 
-/// Checks each block of the tree file against the graph, and writes the verdicts.
-pub fn check_all_files<const P: u32, R: Threads + Wait + Sync, F: Inputs, W: Write>(
-    rt: &R,
-    alloc: Global,
-    given: &CheckCommand<'_>,
-    limit: Option<u64>,
-    files: &F,
-    out: &mut W,
-) -> Result<Status, Fault>
-    requires layout { is_layout P ≡ true }
-    requires limit { IsLimit P limit }
-    ensures answered { (gr tree : List ℕ) → GiveTexts (F.files files.now).text given.now gr tree
-        → TellsVerdicts P limit gr tree
-        (scene (F.files files.now)
-        (W.written out.old) (W.written out.new) (W.has_failed out.new)) result }
-    ensures of_some { IfOk result (SaysOfSome P true limit
-        (scene (F.files files.now)
-        (W.written out.old) (W.written out.new) (W.has_failed out.new))) }
-    ensures borne_out { IfErr result (IsBorneOut (check_paths given.now) (check_faults P given.now)
-        (scene (F.files files.now)
-        (W.written out.old) (W.written out.new) (W.has_failed out.new))) }
-    ensures done { IfOk result (λ status. is_done status ≡ true) }
-    ensures unwritten { IfErr result (λ fault. fault ≢ Fault.WriteFailed → out.new ≡ out.old) }
-{
-    let all = find_verdicts::<P, R, F>(rt, alloc, given, limit, files)?;
-    write_verdicts(&all, out)?;
-    Ok(status_of(&all))
-}
-
-// Returns the verdict on each block of a file, against the graph in another.
-fn find_verdicts<const P: u32, R: Threads + Wait + Sync, F: Inputs>(
+/// Returns the verdict on each block of a file, against the graph in another.
+pub fn find_verdicts<const P: u32, R: Threads + Wait + Sync, F: Inputs>(
     rt: &R,
     alloc: Global,
     given: &CheckCommand<'_>,
@@ -120,8 +89,8 @@ fn judge_blocks<const P: u32, R: Threads + Sync, D: Read>(
     }
 }
 
-// Returns the exit status.
-fn status_of(all: &[Judged]) -> Status
+/// Returns the exit status.
+pub fn status_of(all: &[Judged]) -> Status
     ensures exact { result ≡ end_of all.now }
     ensures done { is_done result ≡ true }
 {
@@ -160,8 +129,8 @@ fn print_verdicts<W: Write>(all: &[Judged], out: &mut W, printer: &mut Printer)
     }
 }
 
-// Writes a line for each block.
-fn write_verdicts<W: Write>(all: &[Judged], out: &mut W) -> Result<u64, WriteFault>
+/// Writes a line for each block.
+pub fn write_verdicts<W: Write>(all: &[Judged], out: &mut W) -> Result<u64, WriteFault>
     ensures { Finished W.Write (flat_map judged_text all.now) out.old result out.new }
 {
     let mut printer = Printer::new();

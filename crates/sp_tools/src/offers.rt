@@ -1,19 +1,12 @@
 //! `spt offers`: makes the offers of several actors on threads.
-ghost use Rattle.std.specs.Prelude.{◌≡◌, ◌≢◌, ℕ, List, Some, true, IfOk, IfErr, codes};
-ghost use Rattle.sp_word.specs.Word.{is_layout};
-ghost use Rattle.sp_command.specs.declared.faults.Status.TheVariants.{Done};
-ghost use Rattle.sp_command.specs.Causes.{IsBorneOut};
-ghost use Rattle.sp_command.specs.Scene.{scene};
-ghost use Rattle.sp_command.specs.Answers.{Hinders};
-ghost use Rattle.sp_replay.specs.Offers.{IsOffersFile};
-ghost use Rattle.sp_tools.specs.OffersAnswers.{SpellsOffers, IsOffersRefused, TellsWords, TellsWordsOfSome, OffersAnswers, offers_paths};
-ghost use Rattle.sp_tools.specs.Early.{IsEarly, no_faults};
+ghost use Rattle.std.specs.Prelude.{◌≡◌, codes};
+ghost use Rattle.sp_tools.specs.OffersAnswers.{OffersAnswers, offers_paths};
+ghost use Rattle.sp_tools.specs.Early.{no_faults};
 ghost use Rattle.sp_tools.specs.Words.{IsOffers, LacksFile, offers_rules};
 
 use clap::{ArgMatches, Error};
 use sp_command::{BuiltCommand, Command, Fault, FileKind, Inputs, Run, Status, after_help, file};
 use sp_device::Write;
-use sp_machine::Programme;
 use sp_replay::{final_words, read_offers, write_words};
 use std::alloc::Global;
 use std::sync::Wait;
@@ -122,56 +115,13 @@ impl<const P: u32> Run<P> for OffersCommand<'_> {
         files: &F,
         out: &mut W,
     ) -> Result<Status, Fault> {
-        offer_file::<P, R, F, W>(rt, alloc, self, files, out)
-    }
-}
-
-// Makes the offers of the file, and writes the words that are left.
-fn offer_file<const P: u32, R: Threads + Wait + Sync, F: Inputs, W: Write>(
-    rt: &R,
-    alloc: Global,
-    given: &OffersCommand<'_>,
-    files: &F,
-    out: &mut W,
-) -> Result<Status, Fault>
-    requires layout { is_layout P ≡ true }
-    ensures answered { (text : List ℕ) → (F.files files.now).text given.now.file.now ≡ Some text
-        → TellsWords P text
-        (scene (F.files files.now)
-        (W.written out.old) (W.written out.new) (W.has_failed out.new)) result }
-    ensures of_some { IfOk result (TellsWordsOfSome P
-        (scene (F.files files.now)
-        (W.written out.old) (W.written out.new) (W.has_failed out.new))) }
-    ensures borne_out { IfErr result (IsBorneOut (offers_paths given.now) no_faults
-        (scene (F.files files.now)
-        (W.written out.old) (W.written out.new) (W.has_failed out.new))) }
-    ensures done { IfOk result (λ status. status ≡ Done) }
-    ensures unwritten { IfErr result (λ fault. fault ≢ Fault.WriteFailed → out.new ≡ out.old) }
-{
-    let programme = read_file::<P, F>(alloc, given, files)?;
-    let words = final_words::<P, R>(rt, alloc, &programme)?;
-    write_words::<P, W>(&words, out)?;
-    Ok(Status::Done)
-}
-
-// Reads the file.
-fn read_file<const P: u32, F: Inputs>(
-    alloc: Global,
-    given: &OffersCommand<'_>,
-    files: &F,
-) -> Result<Programme<P>, Fault>
-    requires { is_layout P ≡ true }
-    ensures spelled { (text : List ℕ) → (F.files files.now).text given.now.file.now ≡ Some text
-        → IfOk result (SpellsOffers text) }
-    ensures found { IfOk result IsOffersFile }
-    ensures refused { (text : List ℕ) → (F.files files.now).text given.now.file.now ≡ Some text
-        → IfErr result (Hinders (IsOffersRefused P text)) }
-    ensures early { IfErr result
-        (IsEarly (offers_paths given.now) no_faults (F.files files.now)) }
-{
-    let mut reader = FileKind::Offers.open(files, given.file)?;
-    match read_offers::<P, _>(alloc, &mut reader) {
-        Ok(programme) => Ok(programme),
-        Err(error) => Err(FileKind::Offers.fault(error)),
+        let mut reader = FileKind::Offers.open(files, self.file)?;
+        let programme = match read_offers::<P, _>(alloc, &mut reader) {
+            Ok(programme) => programme,
+            Err(error) => return Err(FileKind::Offers.fault(error)),
+        };
+        let words = final_words::<P, R>(rt, alloc, &programme)?;
+        write_words::<P, W>(&words, out)?;
+        Ok(Status::Done)
     }
 }

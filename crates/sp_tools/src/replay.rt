@@ -1,16 +1,8 @@
 //! `spt replay`: runs a replay file, and writes its report or its picture.
-ghost use Rattle.std.specs.Prelude.{◌≡◌, ◌≢◌, ◌<◌, ◌≤◌, ◌⊎◌, ◌↔◌, ℕ, List, Some, true, false, length, All, IfOk, IfErr, codes};
-ghost use Rattle.sp_word.specs.Word.{is_layout};
+ghost use Rattle.std.specs.Prelude.{◌≡◌, ◌≢◌, ◌<◌, ◌≤◌, ◌⊎◌, ◌↔◌, length, All, IfOk, IfErr, codes};
 ghost use Rattle.sp_command.specs.declared.faults.Fault.TheVariants.{Memory, TooManySteps, WriteFailed};
-ghost use Rattle.sp_command.specs.declared.faults.Status.TheVariants.{Done};
-ghost use Rattle.sp_command.specs.Causes.{IsBorneOut};
-ghost use Rattle.sp_command.specs.Scene.{scene};
-ghost use Rattle.sp_command.specs.Answers.{Hinders};
 ghost use Rattle.sp_machine.specs.Programme.{IsNumber};
-ghost use Rattle.sp_replay.specs.ReplayFile.{IsReplayFile};
-ghost use Rattle.sp_tools.specs.Reading.{SpellsReplay};
-ghost use Rattle.sp_tools.specs.ReplayAnswers.{IsReplayRefused, IsPictureOf, TellsReport, TellsPicture, SaysOfSome, ReplayAnswers, replay_paths, replay_faults};
-ghost use Rattle.sp_tools.specs.Early.{IsEarly};
+ghost use Rattle.sp_tools.specs.ReplayAnswers.{IsPictureOf, ReplayAnswers, replay_paths, replay_faults};
 ghost use Rattle.sp_tools.specs.Words.{IsReplay, LacksFile, replay_rules};
 
 use clap::{ArgMatches, Error};
@@ -167,62 +159,20 @@ impl<const P: u32> Run<P> for ReplayCommand<'_> {
         files: &F,
         out: &mut W,
     ) -> Result<Status, Fault> {
+        let mut reader = FileKind::Replay.open(files, self.file)?;
+        let file = match read_replay::<P, _>(alloc, &mut reader) {
+            Ok(file) => file,
+            Err(error) => return Err(FileKind::Replay.fault(error)),
+        };
         if self.svg {
-            draw::<P, F, W>(alloc, self, files, out)
-        } else {
-            report::<P, F, W>(alloc, self, files, out)
+            let picture = picture_in::<P>(alloc, &file)?;
+            write_picture::<P, W>(&picture, out)?;
+            return Ok(Status::Done);
         }
+        let report = sp_machine::replay::<P>(alloc, &file.programme, &file.steps)?;
+        write_report::<P, W>(&report, out)?;
+        Ok(Status::Done)
     }
-}
-
-// Reads the file.
-fn read_file<const P: u32, F: Inputs>(
-    alloc: Global,
-    given: &ReplayCommand<'_>,
-    files: &F,
-) -> Result<ReplayFile<P>, Fault>
-    requires { is_layout P ≡ true }
-    ensures spelled { (text : List ℕ) → (F.files files.now).text given.now.file.now ≡ Some text
-        → IfOk result (SpellsReplay text) }
-    ensures found { IfOk result IsReplayFile }
-    ensures refused { (text : List ℕ) → (F.files files.now).text given.now.file.now ≡ Some text
-        → IfErr result (Hinders (IsReplayRefused P text)) }
-    ensures steps { IfOk result (λ file. All (IsNumber file.programme.actors) file.steps.items) }
-    ensures early { IfErr result
-        (IsEarly (replay_paths given.now) (replay_faults given.now) (F.files files.now)) }
-{
-    let mut reader = FileKind::Replay.open(files, given.file)?;
-    match read_replay::<P, _>(alloc, &mut reader) {
-        Ok(file) => Ok(file),
-        Err(error) => Err(FileKind::Replay.fault(error)),
-    }
-}
-
-// Runs the steps of the file, and writes the report.
-fn report<const P: u32, F: Inputs, W: Write>(
-    alloc: Global,
-    given: &ReplayCommand<'_>,
-    files: &F,
-    out: &mut W,
-) -> Result<Status, Fault>
-    requires layout { is_layout P ≡ true }
-    ensures answered { (text : List ℕ) → (F.files files.now).text given.now.file.now ≡ Some text
-        → TellsReport P text
-        (scene (F.files files.now)
-        (W.written out.old) (W.written out.new) (W.has_failed out.new)) result }
-    ensures of_some { IfOk result (SaysOfSome P false
-        (scene (F.files files.now)
-        (W.written out.old) (W.written out.new) (W.has_failed out.new))) }
-    ensures borne_out { IfErr result (IsBorneOut (replay_paths given.now) (replay_faults given.now)
-        (scene (F.files files.now)
-        (W.written out.old) (W.written out.new) (W.has_failed out.new))) }
-    ensures done { IfOk result (λ status. status ≡ Done) }
-    ensures unwritten { IfErr result (λ fault. fault ≢ WriteFailed → out.new ≡ out.old) }
-{
-    let file = read_file::<P, F>(alloc, given, files)?;
-    let report = sp_machine::replay::<P>(alloc, &file.programme, &file.steps)?;
-    write_report::<P, W>(&report, out)?;
-    Ok(Status::Done)
 }
 
 // Returns the fault of a command that has no picture of its run.
@@ -249,32 +199,4 @@ fn picture_in<const P: u32>(alloc: Global, file: &ReplayFile<P>) -> Result<Pictu
         Ok(picture) => Ok(picture),
         Err(error) => Err(fault_of(error)),
     }
-}
-
-// Runs the steps of the file, and writes the picture.
-fn draw<const P: u32, F: Inputs, W: Write>(
-    alloc: Global,
-    given: &ReplayCommand<'_>,
-    files: &F,
-    out: &mut W,
-) -> Result<Status, Fault>
-    requires layout { is_layout P ≡ true }
-    requires picture { given.now.svg ≡ true }
-    ensures answered { (text : List ℕ) → (F.files files.now).text given.now.file.now ≡ Some text
-        → TellsPicture P text
-        (scene (F.files files.now)
-        (W.written out.old) (W.written out.new) (W.has_failed out.new)) result }
-    ensures of_some { IfOk result (SaysOfSome P true
-        (scene (F.files files.now)
-        (W.written out.old) (W.written out.new) (W.has_failed out.new))) }
-    ensures borne_out { IfErr result (IsBorneOut (replay_paths given.now) (replay_faults given.now)
-        (scene (F.files files.now)
-        (W.written out.old) (W.written out.new) (W.has_failed out.new))) }
-    ensures done { IfOk result (λ status. status ≡ Done) }
-    ensures unwritten { IfErr result (λ fault. fault ≢ WriteFailed → out.new ≡ out.old) }
-{
-    let file = read_file::<P, F>(alloc, given, files)?;
-    let picture = picture_in::<P>(alloc, &file)?;
-    write_picture::<P, W>(&picture, out)?;
-    Ok(Status::Done)
 }

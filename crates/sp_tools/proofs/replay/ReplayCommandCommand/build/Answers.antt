@@ -1,5 +1,5 @@
-use Rattle.std.proofs.Common.{◌≡◌, ◌∙◌, [], ap, codes, refl, rules}
-use Rattle.clap.specs.Words.{new_app, rule_of}
+use Rattle.std.proofs.Common.{◌≡◌, [], codes, refl, rules}
+use Rattle.clap.specs.Words.{rule_of}
 use Rattle.sp_command.specs.Rules.{IsBuilt, file_rule, flag_rule}
 use Rattle.sp_command.proofs.Building.{new_built, with_arg, then_arg}
 use Rattle.sp_tools.proofs.replay.ReplayCommandCommand.build.Goals as goal
