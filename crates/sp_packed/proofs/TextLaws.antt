@@ -3,7 +3,7 @@ use Rattle.std.proofs.Common.{◌≡◌, ◌≢◌, ℕ, ◌+◌, ◌*◌, ◌<�
 use Rattle.std.specs.List.Sorted.{IsPermutation}
 use Rattle.std.proofs.lemmas.List.{append-nil, nil_from_length, take_all, take-append-drop, length-drop, length-take-le, ext_get_or}
 use Rattle.std.proofs.lemmas.List.Elements.{All-get_or}
-use Rattle.std.proofs.lemmas.List.Sorted.{IsPermutation-sym, IsPermutation-trans}
+use Rattle.std.proofs.lemmas.List.Sorted.{length_permutation, IsPermutation-sym, IsPermutation-trans}
 use Rattle.sp_paths.specs.declared.arc.Arc.{Arc}
 use Rattle.sp_paths.specs.Paths.{Graph, IsArc}
 use Rattle.sp_graph.specs.Order.{in_order}
@@ -180,3 +180,28 @@ module _ (top most : ℕ) (came more : List ℕ) (has_failed : Bool) (g : Graph)
 
   pub faulty_none : (e : PackedFault) → Tells top most came (Some more) has_failed e → e.kind ≢ Memory → e.kind ≢ Read → ⊥
   faulty_none e h memory read = shown e.at h.word h.graph e.kind h.begins h.place h.within h.kind h.shows memory read
+
+-- Graphs with the same arcs are within the same limits.
+pub same_within : (top most : ℕ) (g h : Graph) → h.n ≡ g.n → IsPermutation g.arcs h.arcs → IsWithin top most g → IsWithin top most h
+same_within top most g h n_is perm w = record {
+  n = subst (λ k. k ≤ top) (sym n_is) w.n;
+  arcs = subst (λ k. k ≤ most) (sym (length_permutation g.arcs h.arcs perm)) w.arcs;
+}
+
+-- There was no memory for the graph of a whole text.
+pub tells_last : (top most : ℕ) (g : Graph) (has_failed : Bool) (text : List ℕ) (e : PackedFault) → IsPackable g → IsWithin top most g → text ≡ packed_text g
+    → e.at ≡ 4 * (8 + g.n + 2 * length g.arcs) → e.kind ≡ Memory → Tells top most text (Some []) has_failed e
+tells_last top most g has_failed text e pg wg is at_is kind_is =
+    let long : length text ≡ 4 * (g.n + 2 * length g.arcs + 9) = ap length is ∙ length-text g in
+    record {
+      word = 8 + g.n + 2 * length g.arcs;
+      place = at_is;
+      within = omega (arith, at_is, long);
+      graph = g;
+      begins = first e.at;
+      kind = subst (λ k. IsPlace k g.n (length g.arcs) (8 + g.n + 2 * length g.arcs)) (sym kind_is) (omega arith);
+      shows = subst (λ k. Shows top most text (Some []) has_failed e.at k) (sym kind_is) (omega (arith, at_is, long), (g, first (e.at + 4)));
+    }
+  where
+    first : (k : ℕ) → BeginsBy top most g (take k text)
+    first k = record { packable = pg; within = wg; more = drop k text; is = sym is ∙ sym (take-append-drop k text) }

@@ -1,27 +1,24 @@
 -- A text that was read whole.
-use Rattle.std.proofs.Common.{◌≡◌, ℕ, ◌+◌, ◌*◌, ◌≤◌, Bool, List, [], ◌∷◌, ◌++◌, length, refl, sym, ap, subst, ◌∙◌, arith, append_assoc, Option, Some, None}
+use Rattle.std.proofs.Common.{◌≡◌, ℕ, ◌+◌, Bool, List, [], ◌∷◌, ◌++◌, length, refl, sym, ap, subst, ◌∙◌, arith, append_assoc, Option, Some, None}
 use Rattle.std.specs.Io.KnownBytes.{Consumes, IsAtEnd}
 use Rattle.std.proofs.KnownBytes.{Consumes-trans}
 use Rattle.std.specs.List.Sorted.{IsPermutation}
-use Rattle.std.proofs.lemmas.List.{append-nil, take_all}
-use Rattle.std.proofs.lemmas.List.Sorted.{length_permutation}
+use Rattle.std.proofs.lemmas.List.{append-nil}
 use Rattle.sp_paths.specs.declared.arc.Arc.{Arc}
 use Rattle.sp_paths.specs.Paths.{Graph}
 use Rattle.sp_graph.specs.Order.{in_order}
 use Rattle.sp_packed.specs.declared.words.Sum.{Sum}
 use Rattle.sp_packed.specs.declared.faults.PackedFault.{PackedFault}
 use Rattle.sp_packed.specs.declared.faults.PackedKind.{PackedKind}
-use Rattle.sp_packed.specs.declared.faults.PackedKind.TheVariants.{Memory}
 use Rattle.sp_packed.specs.Words.{words, sum_on, no_sum, sum_words}
-use Rattle.sp_packed.specs.Packed.{head_words, ends_of, arcs_words, content, with_sum, packed_words, packed_text, IsWithin}
+use Rattle.sp_packed.specs.Packed.{head_words, ends_of, arcs_words, content, with_sum, packed_words, packed_text}
 use Rattle.sp_packed.specs.Ends.{AreEnds, HasEnds}
 use Rattle.sp_packed.specs.Rows.{AreRows, HasRows}
 use Rattle.sp_packed.specs.Faults.{Tells}
 use Rattle.sp_packed.specs.Reading.{front_words, HasFront, HasParts, Told}
 use Rattle.sp_packed.proofs.Spelling.{words-append, sum_on-append}
-use Rattle.sp_packed.proofs.Beginning.{length-parts, whole_begun, parts_are}
+use Rattle.sp_packed.proofs.Beginning.{parts_are}
 use Rattle.sp_packed.proofs.Graphs.{keys_to-perm, index_is, ends_same, one_in_order, words_are, words_of_parts}
-use Rattle.sp_packed.proofs.Telling.{told_memory}
 
 -- a fault that was made of a place and a kind
 pub as_fault : (P : PackedFault → Type 0) (e : PackedFault) (at : ℕ) (kind : PackedKind) → e.at ≡ at → e.kind ≡ kind → P (record { at = at; kind = kind }) → P e
@@ -88,33 +85,15 @@ same_text g h n_is perm =
     words_are g ∙ ap (λ k. with_sum (content k (ends_of g) (in_order g.arcs))) n_is ∙ ap (λ l. with_sum (content h.n l (in_order g.arcs))) ends
     ∙ ap (λ l. with_sum (content h.n (ends_of h) l)) (one_in_order g.arcs h.arcs perm) ∙ sym (words_are h)
 
--- The graph that was made of the parts.
-module _ (top most n : ℕ) (old new : Option (List ℕ)) (arcs : List Arc) (h : HasParts top most old new n arcs) (g : Graph) (n_is : g.n ≡ n) (perm : IsPermutation arcs g.arcs) where
-  pub made_within : IsWithin top most g
-  made_within = record {
-    n = subst (λ k. k ≤ top) (sym n_is) h.parts.n_within;
-    arcs = subst (λ k. k ≤ most) (sym (length_permutation arcs g.arcs perm)) h.parts.within;
-  }
-
-  pub made_text : (text : List ℕ) → old ≡ Some text → (new ≡ Some []) × (text ≡ packed_text g)
-  made_text text e =
+-- The text of the parts.
+module _ (top most n : ℕ) (old new : Option (List ℕ)) (arcs : List Arc) (h : HasParts top most old new n arcs) where
+  pub read_text : (text : List ℕ) → old ≡ Some text → (new ≡ Some []) × (text ≡ packed_text (record { n = n; arcs = arcs }))
+  read_text text e =
       let whole = with_sum (content n h.ends arcs) in
       let came = took_some old new (words whole) h.took text e in
       let none : came.0 ≡ [] = subst IsAtEnd came.2 h.ended in
       let parts : packed_words (record { n = n; arcs = arcs }) ≡ whole = words_of_parts top most n h.ends arcs h.parts in
-      let same : packed_words (record { n = n; arcs = arcs }) ≡ packed_words g = same_text (record { n = n; arcs = arcs }) g (sym n_is) perm in
-      (came.2 ∙ ap (λ l. Some l) none, came.1 ∙ ap (λ l. words whole ++ l) none ∙ append-nil (words whole) ∙ ap words (sym parts ∙ same))
-
--- no memory for the graph
-pub told_last : (top most n : ℕ) (old new : Option (List ℕ)) (has_failed : Bool) (arcs : List Arc) (at : ℕ) → HasParts top most old new n arcs
-    → at ≡ 4 * (8 + n + 2 * length arcs) → Told top most old new has_failed (record { at = at; kind = Memory })
-told_last top most n old new has_failed arcs at h e =
-    let whole = with_sum (content n h.ends arcs) in
-    let k = 8 + n + 2 * length arcs in
-    let long : length whole ≡ k + 1 = omega (arith, length-parts n h.ends arcs, h.parts.ends_are.size) in
-    subst (λ x. Told top most old new has_failed (record { at = x; kind = Memory })) (sym e)
-    (told_memory top most old new has_failed whole [] (subst (λ l. Consumes old new l) (sym (append-nil (words whole))) h.took) k whole (omega (arith, long)) (take_all (k + 1) whole (omega (arith, long)))
-    (whole_begun top most n h.ends arcs h.parts))
+      (came.2 ∙ ap (λ l. Some l) none, came.1 ∙ ap (λ l. words whole ++ l) none ∙ append-nil (words whole) ∙ ap words (sym parts))
 
 -- what came is the front of the text
 pub told_of : (top most : ℕ) (old new : Option (List ℕ)) (has_failed : Bool) (e : PackedFault) → Told top most old new has_failed e → (text : List ℕ) → old ≡ Some text

@@ -4,5 +4,6 @@ pub mod Ends
 pub mod Rows
 pub mod Parts
 pub mod Faults
+pub mod File
 pub mod Reading
 pub mod BlockView

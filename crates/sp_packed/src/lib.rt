@@ -17,5 +17,5 @@ pub use laws::{
     a_faulty_text_is_none, a_graph_has_one_text, a_text_has_its_length, a_text_has_one_graph,
     no_text_begins_another,
 };
-pub use reading::read_packed;
+pub use reading::{PackedFile, read_packed, read_packed_file};
 pub use writing::write_packed;

@@ -2,7 +2,9 @@
 ghost use Rattle.std.specs.Prelude.{◌≡◌, ◌≢◌, ◌≤◌, ℕ, List, true, Some, IfOk, IfErr};
 ghost use Rattle.sp_device.specs.Failing.{Never};
 ghost use Rattle.sp_word.specs.Word.{is_layout, max_pred};
+ghost use Rattle.sp_graph.specs.Order.{IsInOrder};
 ghost use Rattle.sp_packed.specs.Packed.{IsPackable, IsWithin};
+ghost use Rattle.sp_packed.specs.File.{file_graph, PackedFileRead};
 ghost use Rattle.sp_packed.specs.Faults.{PackedRead};
 ghost use Rattle.sp_packed.specs.Reading.{HasParts, Told};
 
@@ -18,11 +20,11 @@ use sp_paths::Arc;
 use sp_word::Word;
 use std::alloc::Global;
 
-// What a packed text spells: the number of vertices, and the arcs in order.
+/// What a packed text spells: the number of vertices, and the arcs by tail, then by head, then by length.
 #[derive(Drop)]
-struct Parts {
-    n: u32,
-    arcs: Vec<Arc>,
+pub struct PackedFile {
+    pub n: u32,
+    pub arcs: Vec<Arc>,
 }
 
 // Reads a text whole.
@@ -31,10 +33,10 @@ fn read_parts<R: Read>(
     reader: &mut R,
     top: u32,
     most_arcs: u32,
-) -> Result<Parts, PackedFault>
+) -> Result<PackedFile, PackedFault>
     requires { 1 ≤ top }
-    ensures parts { IfOk result (λ parts. HasParts top most_arcs
-        (R.left reader.old) (R.left reader.new) parts.n parts.arcs.items) }
+    ensures parts { IfOk result (λ file. HasParts top most_arcs
+        (R.left reader.old) (R.left reader.new) file.n file.arcs.items) }
     ensures told { IfErr result (Told top most_arcs
         (R.left reader.old) (R.left reader.new) (R.has_failed reader.new)) }
     ensures never { R.failing reader.old ≡ Never → IfErr result (λ e. e.kind ≢ PackedKind.Read) }
@@ -55,14 +57,37 @@ fn read_parts<R: Read>(
     if let Err(fault) = read_sum(reader, &mut block, n, m) {
         return Err(fault);
     }
-    Ok(Parts { n, arcs })
+    Ok(PackedFile { n, arcs })
 }
 
-/// Reads the rest of a device's bytes, and returns the graph whose packed text they are, or their first fault. The graph has
-/// at most as many vertices as a word of `P` bits of predecessor can name, and at most `most_arcs` arcs.
+/// Reads the rest of a device's bytes, and returns the numbers of vertices and arcs whose packed text they are, or their first
+/// fault. There are at most as many vertices as a word of `P` bits of predecessor can name, and at most `most_arcs` arcs.
 ///
 /// Memory grows with the bytes that come, never by an announced number. If there is none for a word, the fault is Memory at
-/// that word, unless a word up to it has a fault; none for the whole graph is told at the last word.
+/// that word, unless a word up to it has a fault.
+pub fn read_packed_file<const P: u32, R: Read>(
+    alloc: Global,
+    reader: &mut R,
+    most_arcs: u32,
+) -> Result<PackedFile, PackedFault>
+    requires { is_layout P ≡ true }
+    ensures exact { (text : List ℕ) → R.left reader.old ≡ Some text
+        → PackedFileRead (max_pred P) most_arcs text
+        (R.left reader.new) (R.has_failed reader.new) result }
+    ensures packable { IfOk result (λ file. IsPackable (file_graph file)) }
+    ensures within { IfOk result (λ file. IsWithin (max_pred P) most_arcs (file_graph file)) }
+    ensures order { IfOk result (λ file. IsInOrder file.arcs.items) }
+    ensures read { IfErr result (λ e. e.kind ≡ PackedKind.Read → R.has_failed reader.new ≡ true) }
+    ensures never { R.failing reader.old ≡ Never → IfErr result (λ e. e.kind ≢ PackedKind.Read) }
+{
+    match read_parts(alloc, reader, Word::<P>::max_pred(), most_arcs) {
+        Ok(file) => Ok(file),
+        Err(fault) => Err(fault),
+    }
+}
+
+/// Reads the rest of a device's bytes as `read_packed_file` does, and returns the graph. No memory for the whole graph is told
+/// as Memory at the last word.
 pub fn read_packed<const P: u32, R: Read>(
     alloc: Global,
     reader: &mut R,
@@ -77,12 +102,12 @@ pub fn read_packed<const P: u32, R: Read>(
     ensures read { IfErr result (λ e. e.kind ≡ PackedKind.Read → R.has_failed reader.new ≡ true) }
     ensures never { R.failing reader.old ≡ Never → IfErr result (λ e. e.kind ≢ PackedKind.Read) }
 {
-    let parts = match read_parts(alloc, reader, Word::<P>::max_pred(), most_arcs) {
-        Ok(parts) => parts,
+    let file = match read_packed_file::<P, R>(alloc, reader, most_arcs) {
+        Ok(file) => file,
         Err(fault) => return Err(fault),
     };
-    let last = 8 + parts.n as u64 + 2 * parts.arcs.len() as u64;
-    match Graph::from_arcs(alloc, parts.n, parts.arcs) {
+    let last = 8 + file.n as u64 + 2 * file.arcs.len() as u64;
+    match Graph::from_arcs(alloc, file.n, file.arcs) {
         Ok(graph) => Ok(graph),
         Err(_) => Err(PackedFault::behind(last, PackedKind::Memory)),
     }

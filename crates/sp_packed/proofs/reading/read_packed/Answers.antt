@@ -1,36 +1,26 @@
-use Rattle.std.proofs.Common.{refl, subst, arith}
+use Rattle.std.proofs.Common.{[], sym, subst, ◌∙◌, arith}
+use Rattle.std.proofs.lemmas.List.{append-nil}
 use Rattle.sp_word.specs.Word.{max_pred}
-use Rattle.sp_packed.specs.declared.faults.PackedKind.TheVariants.{Memory}
-use Rattle.sp_packed.specs.Packed.{IsWithin}
-use Rattle.sp_packed.specs.Reading.{Told}
-use Rattle.sp_packed.proofs.Whole.{as_fault, made_within, made_text, told_last, told_of}
+use Rattle.sp_packed.specs.Faults.{Tells}
+use Rattle.sp_packed.specs.File.{file_graph}
+use Rattle.sp_packed.proofs.TextLaws.{one_text, same_within, tells_last}
 use Rattle.sp_packed.proofs.reading.read_packed.Goals as goal
 
 pub returns-in-Ok-from_arcs-clause-exact : goal.returns-in-Ok-from_arcs-clause-exact
 returns-in-Ok-from_arcs-clause-exact g c text e =
-    let old = g.R.Read.left c.args.reader.now in
-    let new = g.R.Read.left c.read_parts.new.reader in
-    let parts = c.in-Ok.parts in
-    made_text c.max_pred.result c.args.most_arcs parts.n old new parts.arcs.items c.in-Ok.ensures.parts c.in-Ok-from_arcs.graph c.in-Ok-from_arcs.ensures.n c.in-Ok-from_arcs.ensures.arcs text e
+    let whole = c.in-Ok.ensures.exact text e in
+    let same = one_text (file_graph c.in-Ok.file) c.in-Ok-from_arcs.graph (sym c.in-Ok-from_arcs.ensures.n) c.in-Ok-from_arcs.ensures.arcs in
+    (whole.0, whole.1 ∙ same)
 
 pub returns-in-Ok-from_arcs-clause-within : goal.returns-in-Ok-from_arcs-clause-within
 returns-in-Ok-from_arcs-clause-within g c =
-    let old = g.R.Read.left c.args.reader.now in
-    let new = g.R.Read.left c.read_parts.new.reader in
-    let parts = c.in-Ok.parts in
-    let graph = c.in-Ok-from_arcs.graph in
-    subst (λ k. IsWithin k c.args.most_arcs graph) c.max_pred.ensures
-    (made_within c.max_pred.result c.args.most_arcs parts.n old new parts.arcs.items c.in-Ok.ensures.parts graph c.in-Ok-from_arcs.ensures.n c.in-Ok-from_arcs.ensures.arcs)
+    same_within (max_pred g.row.P) c.args.most_arcs (file_graph c.in-Ok.file) c.in-Ok-from_arcs.graph c.in-Ok-from_arcs.ensures.n c.in-Ok-from_arcs.ensures.arcs c.in-Ok.ensures.within
 
 pub returns-in-Err-from_arcs-clause-exact : goal.returns-in-Err-from_arcs-clause-exact
 returns-in-Err-from_arcs-clause-exact g c text e =
-    let old = g.R.Read.left c.args.reader.now in
-    let new = g.R.Read.left c.read_parts.new.reader in
-    let broken = g.R.Read.has_failed c.read_parts.new.reader in
-    let parts = c.in-Ok.parts in
-    let top = c.max_pred.result in
-    let told : Told c.max_pred.result c.args.most_arcs old new broken c.behind.result
-    = as_fault (λ x. Told c.max_pred.result c.args.most_arcs old new broken x) c.behind.result c.behind.result.at Memory refl c.behind.ensures.kind
-    (told_last c.max_pred.result c.args.most_arcs parts.n old new broken parts.arcs.items c.behind.result.at c.in-Ok.ensures.parts
-    (omega (arith, c.behind.ensures.at, c.len.ensures))) in
-    told_of (max_pred g.row.P) c.args.most_arcs old new broken c.behind.result (subst (λ k. Told k c.args.most_arcs old new broken c.behind.result) c.max_pred.ensures told) text e
+    let top = max_pred g.row.P in
+    let broken = g.R.Read.has_failed c.read_packed_file.new.reader in
+    let whole = c.in-Ok.ensures.exact text e in
+    let tells = tells_last top c.args.most_arcs (file_graph c.in-Ok.file) broken text c.behind.result c.in-Ok.ensures.packable c.in-Ok.ensures.within whole.1
+    (omega (arith, c.behind.ensures.at, c.len.ensures)) c.behind.ensures.kind in
+    (text, [], sym (append-nil text), whole.0, subst (λ left. Tells top c.args.most_arcs text left broken c.behind.result) (sym whole.0) tells)
