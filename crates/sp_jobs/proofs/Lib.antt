@@ -5,10 +5,10 @@ pub mod ToldInOrder
 pub mod AnswersInOrder
 pub mod PartsExist
 pub mod AnswersExist
-pub mod BatchOfFile
+pub mod SameBatch
 pub mod Lines
 pub mod Rows
-pub mod MatrixOfFile
+pub mod SameMatrix
 pub mod SameForests
 pub mod CountedSources
-pub mod NearestOfFile
+pub mod SameNearest

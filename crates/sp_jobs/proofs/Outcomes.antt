@@ -3,13 +3,17 @@ use Rattle.std.proofs.Common.{ℕ, List, Result, Ok, Err}
 use Rattle.std.specs.Prelude.{IfErr}
 use Rattle.sp_device.specs.Failing.{Failing}
 use Rattle.sp_text.specs.declared.faults.DimacsError.{DimacsError}
+use Rattle.sp_paths.specs.Paths.{Graph}
 use Rattle.sp_dimacs.specs.declared.graphs.GrFile.{GrFile}
+use Rattle.sp_dimacs.specs.Graph.{graph_of}
 use Rattle.sp_jobs.specs.declared.answers.Role.{Role}
 use Rattle.sp_jobs.specs.declared.answers.Summary.{Summary}
 use Rattle.sp_jobs.specs.declared.answers.BatchError.{BatchError}
 use Rattle.sp_jobs.specs.declared.answers.BatchError.TheVariants.{Gr, Ss, Targets, Pairs, NoSuchVertex, Memory, Write}
-use Rattle.sp_jobs.specs.Listing.{Asked}
-use Rattle.sp_jobs.specs.Answered.{Wrote, IsUnwritten, IsEnd, AreAnswered, IsFileFault, IsGraphFault, IsListFault, JobAnswered, JobOfSome, MayRead, MayFail}
+use Rattle.sp_jobs.specs.declared.listing.Listed.{Listed}
+use Rattle.sp_jobs.specs.Listing.{Asked, numbers_of}
+use Rattle.sp_jobs.specs.Network.{GraphFault, MayReadGraph}
+use Rattle.sp_jobs.specs.Answered.{Wrote, IsUnwritten, IsEnd, JobDone, AreRead, AreAnswered, IsFileFault, IsGraphFault, IsListFault, JobAnswered, JobOfSome, MayFail}
 
 -- It is no fault of a text.
 abbrev pub IsLate : Result Summary BatchError → Type 0
@@ -42,20 +46,24 @@ by_end Says (Err (Ss e)) is ok vertex memory write = absurd is
 by_end Says (Err (Targets e)) is ok vertex memory write = absurd is
 by_end Says (Err (Pairs e)) is ok vertex memory write = absurd is
 
-module _ (P : ℕ) (Done : GrFile → List ℕ → Result Summary BatchError → Type 0) (wrote : Wrote) (result : Result Summary BatchError) (is : IsLate result) where
-  -- It is the answer to a text that spells the graph, and to what asks for the sources.
-  pub answered : (gr_text : List ℕ) (asked : Asked) (NoGraph NoList : DimacsError → Type 0) → AreAnswered P gr_text asked (λ file sources. Done file sources result) → JobAnswered P gr_text asked NoGraph NoList Done wrote result
-  answered gr_text asked NoGraph NoList =
-      by_end (λ r. AreAnswered P gr_text asked (λ file sources. Done file sources r) → JobAnswered P gr_text asked NoGraph NoList Done wrote r) result is (λ summary are. are) (λ v role are. are) (λ are. are) (λ are. are)
+-- For what was read that was done.
+pub done_for : {P : ℕ} {gr_text : List ℕ} {asked : Asked} {files : GrFile × Listed} {Done : Graph → List ℕ → Type 0} → AreRead P gr_text asked files → Done (graph_of files.0) (numbers_of files.1) → AreAnswered P gr_text asked Done
+done_for {files = files} read done = record { graph = graph_of files.0; sources = numbers_of files.1; spells_graph = read.spells_graph; are_asked = read.are_asked; done = done }
 
-  pub of_some : (gr_text ss_text : List ℕ) (asked : List ℕ → Asked) → AreAnswered P gr_text (asked ss_text) (λ file sources. Done file sources result) → JobOfSome P asked Done wrote result
+module _ (P : ℕ) (Done : JobDone) (wrote : Wrote) (result : Result Summary BatchError) (is : IsLate result) where
+  -- It is the answer to a text that spells the graph, and to what asks for the sources.
+  pub answered : (gr_text : List ℕ) (asked : Asked) (NoGraph : GraphFault → Type 0) (NoList : DimacsError → Type 0) → AreAnswered P gr_text asked (λ graph sources. Done wrote graph sources result) → JobAnswered P gr_text asked NoGraph NoList Done wrote result
+  answered gr_text asked NoGraph NoList =
+      by_end (λ r. AreAnswered P gr_text asked (λ graph sources. Done wrote graph sources r) → JobAnswered P gr_text asked NoGraph NoList Done wrote r) result is (λ summary are. are) (λ v role are. are) (λ are. are) (λ are. are)
+
+  pub of_some : (gr_text ss_text : List ℕ) (asked : List ℕ → Asked) → AreAnswered P gr_text (asked ss_text) (λ graph sources. Done wrote graph sources result) → JobOfSome P asked Done wrote result
   of_some gr_text ss_text asked =
-      by_end (λ r. AreAnswered P gr_text (asked ss_text) (λ file sources. Done file sources r) → JobOfSome P asked Done wrote r) result is
+      by_end (λ r. AreAnswered P gr_text (asked ss_text) (λ graph sources. Done wrote graph sources r) → JobOfSome P asked Done wrote r) result is
       (λ summary are. (gr_text, ss_text, are)) (λ v role are. (gr_text, ss_text, are)) (λ are. (gr_text, ss_text, are)) (λ are. (gr_text, ss_text, are))
 
 -- What holds of each fault of the graph's text, and of each of the list of the sources, holds of one.
-pub by_fault : (Says : BatchError → Type 0) (OfGraph OfSources : DimacsError → Type 0) (e : BatchError) → IsFileFault OfGraph OfSources e
-    → ((f : DimacsError) → OfGraph f → Says (Gr f)) → ((f : DimacsError) → OfSources f → Says (Ss f)) → Says e
+pub by_fault : (Says : BatchError → Type 0) (OfGraph : GraphFault → Type 0) (OfSources : DimacsError → Type 0) (e : BatchError) → IsFileFault OfGraph OfSources e
+    → ((f : GraphFault) → OfGraph f → Says (Gr f)) → ((f : DimacsError) → OfSources f → Says (Ss f)) → Says e
 by_fault Says OfGraph OfSources (Gr f) is graph sources = graph f is
 by_fault Says OfGraph OfSources (Ss f) is graph sources = sources f is
 by_fault Says OfGraph OfSources (Targets f) is graph sources = absurd is
@@ -65,26 +73,26 @@ by_fault Says OfGraph OfSources Memory is graph sources = absurd is
 by_fault Says OfGraph OfSources Write is graph sources = absurd is
 
 -- What holds of each fault of the graph's text holds of one.
-pub by_graph_fault : (Says : BatchError → Type 0) (OfGraph : DimacsError → Type 0) (e : BatchError) → IsGraphFault OfGraph e → ((f : DimacsError) → OfGraph f → Says (Gr f)) → Says e
+pub by_graph_fault : (Says : BatchError → Type 0) (OfGraph : GraphFault → Type 0) (e : BatchError) → IsGraphFault OfGraph e → ((f : GraphFault) → OfGraph f → Says (Gr f)) → Says e
 by_graph_fault Says OfGraph e is graph = by_fault Says OfGraph (λ f. ⊥) e is graph (λ f no. absurd no)
 
 -- A fault of a text is the answer to the texts, where nothing was written.
-pub refused : (P : ℕ) (gr_text : List ℕ) (asked : Asked) (NoGraph NoList : DimacsError → Type 0) (Done : GrFile → List ℕ → Result Summary BatchError → Type 0) (wrote : Wrote) (e : BatchError)
+pub refused : (P : ℕ) (gr_text : List ℕ) (asked : Asked) (NoGraph : GraphFault → Type 0) (NoList : DimacsError → Type 0) (Done : JobDone) (wrote : Wrote) (e : BatchError)
     → IsFileFault NoGraph (IsListFault P gr_text NoList) e → IsUnwritten wrote → JobAnswered P gr_text asked NoGraph NoList Done wrote (Err e)
 refused P gr_text asked NoGraph NoList Done wrote e is same =
     by_fault (λ f. JobAnswered P gr_text asked NoGraph NoList Done wrote (Err f)) NoGraph (IsListFault P gr_text NoList) e is (λ f no. (no, same)) (λ f no. (no.0, no.1, same))
 
-pub refused_some : (P : ℕ) (asked : List ℕ → Asked) (Done : GrFile → List ℕ → Result Summary BatchError → Type 0) (OfGraph OfSources : DimacsError → Type 0) (wrote : Wrote) (e : BatchError)
+pub refused_some : (P : ℕ) (asked : List ℕ → Asked) (Done : JobDone) (OfGraph : GraphFault → Type 0) (OfSources : DimacsError → Type 0) (wrote : Wrote) (e : BatchError)
     → IsFileFault OfGraph OfSources e → IsUnwritten wrote → JobOfSome P asked Done wrote (Err e)
 refused_some P asked Done OfGraph OfSources wrote e is same = by_fault (λ f. JobOfSome P asked Done wrote (Err f)) OfGraph OfSources e is (λ f no. same) (λ f no. same)
 
 -- A fault of the graph's text is one of the two.
-pub of_graph : (OfGraph OfSources : DimacsError → Type 0) (e : BatchError) → IsGraphFault OfGraph e → IsFileFault OfGraph OfSources e
+pub of_graph : (OfGraph : GraphFault → Type 0) (OfSources : DimacsError → Type 0) (e : BatchError) → IsGraphFault OfGraph e → IsFileFault OfGraph OfSources e
 of_graph OfGraph OfSources e is = by_graph_fault (IsFileFault OfGraph OfSources) OfGraph e is (λ f no. no)
 
 -- A fault of a text tells of the devices of these texts alone.
-pub fault_may_fail : (gr : Failing) (sources targets : DimacsError → Type 0) (e : BatchError) → IsFileFault (MayRead gr) sources e → MayFail gr sources targets e
-fault_may_fail gr sources targets e is = by_fault (MayFail gr sources targets) (MayRead gr) sources e is (λ f no. no) (λ f no. no)
+pub fault_may_fail : (gr : Failing) (sources targets : DimacsError → Type 0) (e : BatchError) → IsFileFault (MayReadGraph gr) sources e → MayFail gr sources targets e
+fault_may_fail gr sources targets e is = by_fault (MayFail gr sources targets) (MayReadGraph gr) sources e is (λ f no. no) (λ f no. no)
 
 -- A job that has read its texts tells of no device.
 pub may_fail : (gr : Failing) (sources targets : DimacsError → Type 0) (result : Result Summary BatchError) → IsLate result → IfErr result (MayFail gr sources targets)

@@ -1,12 +1,12 @@
 -- What a job answers to the text of a graph and to a list of sources, and what stands written then.
-use Rattle.std.specs.Prelude.{◌≡◌, ◌≢◌, ℕ, Bool, true, List, Option, Result, Ok, Err}
-use Rattle.sp_device.specs.Failing.{Failing, Never}
+use Rattle.std.specs.Prelude.{◌≡◌, ℕ, Bool, true, List, Option, Result, Ok, Err}
+use Rattle.sp_device.specs.Failing.{Failing}
 use Rattle.sp_device.specs.declared.devices.Read.{Ghosts as Reader}
 use Rattle.sp_device.specs.declared.devices.Write.{Ghosts as Writer}
 use Rattle.sp_text.specs.declared.faults.DimacsError.{DimacsError}
-use Rattle.sp_text.specs.declared.faults.Kind.TheVariants as kind
+use Rattle.sp_paths.specs.Paths.{Graph}
 use Rattle.sp_dimacs.specs.declared.graphs.GrFile.{GrFile}
-use Rattle.sp_dimacs.specs.Graph.{SpellsGraph, GraphRead}
+use Rattle.sp_dimacs.specs.Graph.{graph_of}
 use Rattle.sp_dimacs.specs.Sources.{SourcesRead}
 use Rattle.sp_jobs.specs.declared.answers.Role.{Role}
 use Rattle.sp_jobs.specs.declared.answers.Summary.{Summary}
@@ -14,6 +14,7 @@ use Rattle.sp_jobs.specs.declared.answers.BatchError.{BatchError}
 use Rattle.sp_jobs.specs.declared.answers.BatchError.TheVariants.{Gr, Ss, Targets, Pairs, NoSuchVertex, Memory, Write}
 use Rattle.sp_jobs.specs.declared.listing.Listed.{Listed}
 use Rattle.sp_jobs.specs.Listing.{Asked, AreAsked, numbers_of}
+use Rattle.sp_jobs.specs.Network.{SpellsNetwork, HoldsGraph, GraphFault, MayReadGraph}
 
 -- ## What is written
 
@@ -41,64 +42,59 @@ IsEnd Finished NoVertex Refused Begun wrote (Err _) = ⊥
 
 -- ## What is read
 
--- A text spells a graph.
-abbrev pub HoldsGraph : (P : ℕ) → (text : List ℕ) → Type 0
-HoldsGraph P text = (file : GrFile) × SpellsGraph P text file
-
--- The reader of a graph's device, or of that of a list, refuses its text.
-abbrev pub IsGraphRefused : {G : Type 0} → (P : ℕ) → (text : List ℕ) → Reader G → G → DimacsError → Type 0
-IsGraphRefused P text g gr e = GraphRead P text (g.left gr) (g.has_failed gr) (Err e)
-
+-- The reader of a list's device refuses its text.
 abbrev pub IsListRefused : {S : Type 0} → (P : ℕ) → (text : List ℕ) → Reader S → S → DimacsError → Type 0
 IsListRefused P text s ss e = SourcesRead P text (s.left ss) (s.has_failed ss) (Err e)
 
 -- What a job has read of its files: a text spells the graph, and the list has the numbers that are asked for.
 pub record AreRead (P : ℕ) (gr_text : List ℕ) (asked : Asked) (files : GrFile × Listed) : Type 0 where
-  pub spells_graph : SpellsGraph P gr_text files.0
+  pub spells_graph : SpellsNetwork P gr_text (graph_of files.0)
   pub are_asked : AreAsked P asked (numbers_of files.1)
 
 -- A fault of the text of the graph, or of the list of the sources, of which that holds.
-abbrev pub IsFileFault : (OfGraph OfSources : DimacsError → Type 0) → BatchError → Type 0
+abbrev pub IsFileFault : (OfGraph : GraphFault → Type 0) → (OfSources : DimacsError → Type 0) → BatchError → Type 0
 IsFileFault OfGraph OfSources (Gr e) = OfGraph e
 IsFileFault OfGraph OfSources (Ss e) = OfSources e
 IsFileFault OfGraph OfSources _ = ⊥
 
 -- A fault of the text of the graph, of which that holds.
-abbrev pub IsGraphFault : (OfGraph : DimacsError → Type 0) → BatchError → Type 0
+abbrev pub IsGraphFault : (OfGraph : GraphFault → Type 0) → BatchError → Type 0
 IsGraphFault OfGraph e = IsFileFault OfGraph (λ fault. ⊥) e
 
 -- The list is refused, where a text spells a graph.
 abbrev pub IsListFault : (P : ℕ) → (gr_text : List ℕ) → (NoList : DimacsError → Type 0) → DimacsError → Type 0
 IsListFault P gr_text NoList e = HoldsGraph P gr_text × NoList e
 
+-- ## What is answered
+
+-- what is done for a graph and sources: what stands written then, and how it ends
+abbrev pub JobDone : Type 1
+JobDone = Wrote → Graph → (sources : List ℕ) → Result Summary BatchError → Type 0
+
 -- A text spells a graph, these are the sources that are asked for, and for them that was done.
-pub record AreAnswered (P : ℕ) (gr_text : List ℕ) (asked : Asked) (Done : GrFile → (sources : List ℕ) → Type 0) : Type 0 where
-  pub file : GrFile
+pub record AreAnswered (P : ℕ) (gr_text : List ℕ) (asked : Asked) (Done : Graph → (sources : List ℕ) → Type 0) : Type 0 where
+  pub graph : Graph
   pub sources : List ℕ
-  pub spells_graph : SpellsGraph P gr_text file
+  pub spells_graph : SpellsNetwork P gr_text graph
   pub are_asked : AreAsked P asked sources
-  pub done : Done file sources
+  pub done : Done graph sources
 
 -- The answer to the text of a graph and to a list: a refusal of the text, or of the list where the text spells a graph, with nothing
 -- written; or what is done for the graph and the sources that are asked for.
-abbrev pub JobAnswered : (P : ℕ) → (gr_text : List ℕ) → Asked → (NoGraph NoList : DimacsError → Type 0) → (Done : GrFile → (sources : List ℕ) → Result Summary BatchError → Type 0) → Wrote → Result Summary BatchError → Type 0
+abbrev pub JobAnswered : (P : ℕ) → (gr_text : List ℕ) → Asked → (NoGraph : GraphFault → Type 0) → (NoList : DimacsError → Type 0) → (Done : JobDone) → Wrote → Result Summary BatchError → Type 0
 JobAnswered P gr_text asked NoGraph NoList Done wrote (Err (Gr e)) = NoGraph e × IsUnwritten wrote
 JobAnswered P gr_text asked NoGraph NoList Done wrote (Err (Ss e)) = HoldsGraph P gr_text × NoList e × IsUnwritten wrote
-JobAnswered P gr_text asked NoGraph NoList Done wrote result = AreAnswered P gr_text asked (λ file sources. Done file sources result)
+JobAnswered P gr_text asked NoGraph NoList Done wrote result = AreAnswered P gr_text asked (λ graph sources. Done wrote graph sources result)
 
 -- The same where the devices perhaps don't tell their bytes: some text spells the graph, and the list is asked for in some text.
-abbrev pub JobOfSome : (P : ℕ) → (List ℕ → Asked) → (Done : GrFile → (sources : List ℕ) → Result Summary BatchError → Type 0) → Wrote → Result Summary BatchError → Type 0
+abbrev pub JobOfSome : (P : ℕ) → (List ℕ → Asked) → (Done : JobDone) → Wrote → Result Summary BatchError → Type 0
 JobOfSome P asked Done wrote (Err (Gr e)) = IsUnwritten wrote
 JobOfSome P asked Done wrote (Err (Ss e)) = IsUnwritten wrote
-JobOfSome P asked Done wrote result = (gr_text ss_text : List ℕ) × AreAnswered P gr_text (asked ss_text) (λ file sources. Done file sources result)
+JobOfSome P asked Done wrote result = (gr_text ss_text : List ℕ) × AreAnswered P gr_text (asked ss_text) (λ graph sources. Done wrote graph sources result)
 
--- If a device has failed, then it may fail.
-abbrev pub MayRead : Failing → DimacsError → Type 0
-MayRead device e = e.kind ≡ kind.Read → device ≢ Never
-
--- That is so of the device of the graph, and a list that is refused may be.
+-- If the device of the graph has failed, then it may fail, and a list that is refused may be.
 abbrev pub MayFail : (gr : Failing) → (sources targets : DimacsError → Type 0) → BatchError → Type 0
-MayFail gr sources targets (Gr e) = MayRead gr e
+MayFail gr sources targets (Gr e) = MayReadGraph gr e
 MayFail gr sources targets (Ss e) = sources e
 MayFail gr sources targets (Targets e) = targets e
 MayFail gr sources targets (Pairs e) = ⊥

@@ -13,11 +13,10 @@ use Rattle.sp_jobs.specs.Answers.{IsCount}
 use Rattle.std.specs.Io.KnownBytes.{Appends}
 use Rattle.sp_device.specs.declared.devices.Read.{Ghosts as Reader}
 use Rattle.sp_device.specs.declared.devices.Write.{Ghosts as Writer}
-use Rattle.sp_dimacs.specs.declared.graphs.GrFile.{GrFile}
-use Rattle.sp_dimacs.specs.Graph.{graph_of}
 use Rattle.sp_jobs.specs.declared.answers.BatchError.{BatchError}
-use Rattle.sp_jobs.specs.Answered.{Wrote, wrote_by, IsEnd, IsGraphRefused, IsListRefused, JobAnswered, JobOfSome}
+use Rattle.sp_jobs.specs.Answered.{Wrote, wrote_by, IsEnd, IsListRefused, JobAnswered, JobOfSome}
 use Rattle.sp_jobs.specs.Listing.{Asked, InText, AreRefused}
+use Rattle.sp_jobs.specs.Network.{IsGraphRefused}
 use Rattle.sp_jobs.specs.Vertices.{IsFirstSource}
 
 -- the answer to one source: its tree, or a part of that; or the vertex that is too far
@@ -64,18 +63,18 @@ pub record HasBegunBatch (P : ℕ) (limit : Option ℕ) (g : Graph) (sources : L
 -- ## Answers to texts
 
 -- The sources have answers, up to the limit if there is one; exactly the text of all of them was written, and they were counted.
-abbrev pub AreTreesWritten : (P : ℕ) → (limit : Option ℕ) → GrFile → (sources : List ℕ) → Wrote → Summary → Type 0
-AreTreesWritten P limit file sources wrote summary = (answers : List TreeAnswer) × AreTreeAnswers P limit (graph_of file) sources answers × Appends wrote.before wrote.after (batch_text answers) × IsBatchSummary answers summary
+abbrev pub AreTreesWritten : (P : ℕ) → (limit : Option ℕ) → Graph → (sources : List ℕ) → Wrote → Summary → Type 0
+AreTreesWritten P limit graph sources wrote summary = (answers : List TreeAnswer) × AreTreeAnswers P limit graph sources answers × Appends wrote.before wrote.after (batch_text answers) × IsBatchSummary answers summary
 
 -- All sources are vertices, and of the text of their answers a beginning stands.
-abbrev pub AreTreesBegun : (P : ℕ) → (limit : Option ℕ) → GrFile → (sources : List ℕ) → Wrote → Type 0
-AreTreesBegun P limit file sources wrote = All (λ s. s ≤ file.n) sources × HasBegunBatch P limit (graph_of file) sources wrote.before wrote.after
+abbrev pub AreTreesBegun : (P : ℕ) → (limit : Option ℕ) → Graph → (sources : List ℕ) → Wrote → Type 0
+AreTreesBegun P limit graph sources wrote = All (λ s. s ≤ graph.n) sources × HasBegunBatch P limit graph sources wrote.before wrote.after
 
 -- For the sources of a graph exactly the text of their answers was written; or a source is no vertex, and nothing was written; or
 -- memory was refused or the writer failed, and a beginning of the text stands.
-abbrev pub IsBatch : (P : ℕ) → (limit : Option ℕ) → GrFile → (sources : List ℕ) → Wrote → Result Summary BatchError → Type 0
-IsBatch P limit file sources wrote result =
-    IsEnd (AreTreesWritten P limit file sources wrote) (IsFirstSource file.n sources) (AreTreesBegun P limit file sources wrote) (AreTreesBegun P limit file sources wrote) wrote result
+abbrev pub IsBatch : (P : ℕ) → (limit : Option ℕ) → Wrote → Graph → (sources : List ℕ) → Result Summary BatchError → Type 0
+IsBatch P limit wrote graph sources result =
+    IsEnd (AreTreesWritten P limit graph sources wrote) (IsFirstSource graph.n sources) (AreTreesBegun P limit graph sources wrote) (AreTreesBegun P limit graph sources wrote) wrote result
 
 -- ## Sources of a listing
 
@@ -83,11 +82,11 @@ IsBatch P limit file sources wrote result =
 -- gives and the sources that are asked for, up to the limit.
 abbrev pub TreesAnswered : {G W : Type 0} → (P : ℕ) → (limit : Option ℕ) → (gr_text : List ℕ) → Asked → Reader G → G → Writer W → (old new : W) → Result Summary BatchError → Type 0
 TreesAnswered P limit gr_text asked g gr w old new result =
-    JobAnswered P gr_text asked (IsGraphRefused P gr_text g gr) (AreRefused P asked) (λ file sources. IsBatch P limit file sources (wrote_by w old new)) (wrote_by w old new) result
+    JobAnswered P gr_text asked (IsGraphRefused P gr_text g gr) (AreRefused P asked) (IsBatch P limit) (wrote_by w old new) result
 
 -- the same where the devices perhaps don't tell their bytes
 abbrev pub TreesOfSome : {W : Type 0} → (P : ℕ) → (limit : Option ℕ) → (List ℕ → Asked) → Writer W → (old new : W) → Result Summary BatchError → Type 0
-TreesOfSome P limit asked w old new result = JobOfSome P asked (λ file sources. IsBatch P limit file sources (wrote_by w old new)) (wrote_by w old new) result
+TreesOfSome P limit asked w old new result = JobOfSome P asked (IsBatch P limit) (wrote_by w old new) result
 
 -- ## Sources of a text
 
@@ -95,7 +94,7 @@ TreesOfSome P limit asked w old new result = JobOfSome P asked (λ file sources.
 -- device has left.
 abbrev pub BatchAnswered : {G S W : Type 0} → (P : ℕ) → (places : Option (ℕ × ℕ)) → (limit : Option ℕ) → (gr_text ss_text : List ℕ) → Reader G → G → Reader S → S → Writer W → (old new : W) → Result Summary BatchError → Type 0
 BatchAnswered P places limit gr_text ss_text g gr s ss w old new result =
-    JobAnswered P gr_text (InText places ss_text) (IsGraphRefused P gr_text g gr) (IsListRefused P ss_text s ss) (λ file sources. IsBatch P limit file sources (wrote_by w old new)) (wrote_by w old new) result
+    JobAnswered P gr_text (InText places ss_text) (IsGraphRefused P gr_text g gr) (IsListRefused P ss_text s ss) (IsBatch P limit) (wrote_by w old new) result
 
 abbrev pub BatchOfSome : {W : Type 0} → (P : ℕ) → (places : Option (ℕ × ℕ)) → (limit : Option ℕ) → Writer W → (old new : W) → Result Summary BatchError → Type 0
 BatchOfSome P places limit w old new result = TreesOfSome P limit (InText places) w old new result

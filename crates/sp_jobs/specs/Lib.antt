@@ -4,6 +4,7 @@ pub mod Vertices
 pub mod Ready
 pub mod Answers
 pub mod Listing
+pub mod Network
 pub mod Answered
 pub mod Told
 pub mod Steps

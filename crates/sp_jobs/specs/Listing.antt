@@ -1,6 +1,6 @@
 -- Lists of sources or of targets: what they ask for, and what is read of them.
 use Rattle.std.specs.Prelude.{◌≡◌, ◌≢◌, ℕ, Bool, List, Option, Some, Err}
-use Rattle.sp_device.specs.Failing.{Never}
+use Rattle.sp_device.specs.Failing.{Failing, Never}
 use Rattle.sp_device.specs.declared.devices.Read.{Ghosts as Reader}
 use Rattle.sp_text.specs.declared.faults.DimacsError.{DimacsError}
 use Rattle.sp_text.specs.declared.faults.Kind.TheVariants as kind
@@ -46,9 +46,13 @@ abbrev pub IsNumbered : {S : Type 0} → Listing S → Type 0
 IsNumbered (listing.InText device places) = Unit {0}
 IsNumbered (listing.These numbers) = AreNumbered numbers.now
 
+-- If a device has failed, then it may fail.
+abbrev pub MayRead : Failing → DimacsError → Type 0
+MayRead device e = e.kind ≡ kind.Read → device ≢ Never
+
 -- It is a text that is refused; and if that is because its device has failed, then that may fail.
 abbrev pub MayRefuse : {S : Type 0} → Reader S → Listing S → DimacsError → Type 0
-MayRefuse s (listing.InText device places) e = e.kind ≡ kind.Read → s.failing device ≢ Never
+MayRefuse s (listing.InText device places) e = MayRead (s.failing device) e
 MayRefuse s (listing.These numbers) e = ⊥
 
 -- ## What is read

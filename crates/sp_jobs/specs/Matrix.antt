@@ -1,21 +1,19 @@
 -- What is written for a matrix: each source with each target.
 use Rattle.std.specs.Prelude.{◌≡◌, ◌≤◌, ◌⊎◌, ℕ, List, map, All, Result, Err}
 use Rattle.std.specs.List.{flat_map}
-use Rattle.std.specs.Io.KnownBytes.{Appends}
-use Rattle.sp_paths.specs.Paths.{PairAnswer}
-use Rattle.sp_dimacs.specs.declared.graphs.GrFile.{GrFile}
-use Rattle.sp_dimacs.specs.Graph.{graph_of}
+use Rattle.sp_paths.specs.Paths.{Graph}
 use Rattle.sp_jobs.specs.declared.answers.Summary.{Summary}
 use Rattle.sp_jobs.specs.declared.answers.BatchError.{BatchError}
 use Rattle.sp_jobs.specs.declared.answers.Role.{Role}
 use Rattle.sp_jobs.specs.declared.answers.Role.TheVariants.{Target}
-use Rattle.sp_jobs.specs.Answered.{Wrote, IsEnd, wrote_by, IsUnwritten, IsGraphRefused, JobAnswered, JobOfSome}
+use Rattle.sp_jobs.specs.Answered.{Wrote, IsEnd, wrote_by, IsUnwritten, JobAnswered, JobOfSome}
 use Rattle.sp_jobs.specs.Vertices.{IsFirstAbove, IsFirstSource}
-use Rattle.sp_jobs.specs.PairAnswers.{ArePairAnswers, pairs_text, IsPairsSummary, HasBegunPairs}
+use Rattle.sp_jobs.specs.PairAnswers.{AreLinesWritten, HasBegunPairs}
 use Rattle.sp_device.specs.declared.devices.Read.{Ghosts as Reader}
 use Rattle.sp_device.specs.declared.devices.Write.{Ghosts as Writer}
 use Rattle.sp_jobs.specs.declared.answers.BatchError.TheVariants.{Targets}
 use Rattle.sp_jobs.specs.Listing.{Asked, AreAsked, AreRefused}
+use Rattle.sp_jobs.specs.Network.{IsGraphRefused}
 
 -- the pairs of a source with each target
 abbrev pub pairs_from : (s : ℕ) → (targets : List ℕ) → List (ℕ × ℕ)
@@ -34,38 +32,34 @@ pub record AreUpTo (n : ℕ) (sources targets : List ℕ) : Type 0 where
 abbrev pub IsFirstOfLists : (n : ℕ) → (sources targets : List ℕ) → (v : ℕ) → Role → Type 0
 IsFirstOfLists n sources targets v role = IsFirstSource n sources v role ⊎ (All (λ s. s ≤ n) sources × IsFirstAbove n targets v × (role ≡ Target))
 
--- For the pairs of a matrix exactly the lines were written that they have in a list of pairs, and they were counted.
-abbrev pub AreLinesWritten : (P : ℕ) → GrFile → (sources targets : List ℕ) → Wrote → Summary → Type 0
-AreLinesWritten P file sources targets wrote summary = (answers : List PairAnswer) × ArePairAnswers P (graph_of file) (matrix_of sources targets) answers × Appends wrote.before wrote.after (pairs_text (matrix_of sources targets) answers) × IsPairsSummary (matrix_of sources targets) answers summary
+-- All numbers are vertices, and of the lines of a matrix a beginning stands.
+abbrev pub AreLinesBegun : (P : ℕ) → Graph → (sources targets : List ℕ) → Wrote → Type 0
+AreLinesBegun P graph sources targets wrote = AreUpTo graph.n sources targets × HasBegunPairs P graph (matrix_of sources targets) wrote.before wrote.after
 
--- All numbers are vertices, and of these lines a beginning stands.
-abbrev pub AreLinesBegun : (P : ℕ) → GrFile → (sources targets : List ℕ) → Wrote → Type 0
-AreLinesBegun P file sources targets wrote = AreUpTo file.n sources targets × HasBegunPairs P (graph_of file) (matrix_of sources targets) wrote.before wrote.after
-
--- Exactly these lines were written; or a number is no vertex, and nothing was written; or memory was refused or the writer failed, and a
--- beginning of the lines stands.
-abbrev pub IsMatrix : (P : ℕ) → GrFile → (sources targets : List ℕ) → Wrote → Result Summary BatchError → Type 0
-IsMatrix P file sources targets wrote result =
-    IsEnd (AreLinesWritten P file sources targets wrote) (IsFirstOfLists file.n sources targets) (AreLinesBegun P file sources targets wrote) (AreLinesBegun P file sources targets wrote) wrote result
+-- For the pairs of a matrix exactly the lines were written that they have in a list of pairs; or a number is no vertex, and nothing was
+-- written; or memory was refused or the writer failed, and a beginning of the lines stands.
+abbrev pub IsMatrix : (P : ℕ) → (targets : List ℕ) → Wrote → Graph → (sources : List ℕ) → Result Summary BatchError → Type 0
+IsMatrix P targets wrote graph sources result =
+    IsEnd (AreLinesWritten P graph (matrix_of sources targets) wrote) (IsFirstOfLists graph.n sources targets) (AreLinesBegun P graph sources targets wrote) (AreLinesBegun P graph sources targets wrote) wrote result
 
 -- ## Answers to texts
 
 -- What is done for a graph and sources, and a list that asks for the targets: a refusal of the list, with nothing written; or the matrix.
-abbrev pub IsMatrixTo : (P : ℕ) → (ends : Asked) → Wrote → GrFile → (sources : List ℕ) → Result Summary BatchError → Type 0
-IsMatrixTo P ends wrote file sources (Err (Targets e)) = AreRefused P ends e × IsUnwritten wrote
-IsMatrixTo P ends wrote file sources result = (targets : List ℕ) × AreAsked P ends targets × IsMatrix P file sources targets wrote result
+abbrev pub IsMatrixTo : (P : ℕ) → (ends : Asked) → Wrote → Graph → (sources : List ℕ) → Result Summary BatchError → Type 0
+IsMatrixTo P ends wrote graph sources (Err (Targets e)) = AreRefused P ends e × IsUnwritten wrote
+IsMatrixTo P ends wrote graph sources result = (targets : List ℕ) × AreAsked P ends targets × IsMatrix P targets wrote graph sources result
 
 -- The same where the device perhaps doesn't tell its bytes: the list is asked for in some text.
-abbrev pub IsMatrixToSome : (P : ℕ) → (ends : List ℕ → Asked) → Wrote → GrFile → (sources : List ℕ) → Result Summary BatchError → Type 0
-IsMatrixToSome P ends wrote file sources (Err (Targets e)) = IsUnwritten wrote
-IsMatrixToSome P ends wrote file sources result = (text targets : List ℕ) × AreAsked P (ends text) targets × IsMatrix P file sources targets wrote result
+abbrev pub IsMatrixToSome : (P : ℕ) → (ends : List ℕ → Asked) → Wrote → Graph → (sources : List ℕ) → Result Summary BatchError → Type 0
+IsMatrixToSome P ends wrote graph sources (Err (Targets e)) = IsUnwritten wrote
+IsMatrixToSome P ends wrote graph sources result = (text targets : List ℕ) × AreAsked P (ends text) targets × IsMatrix P targets wrote graph sources result
 
 -- The answer to the text of a graph and to two lists: a fault of a text, where those before it have none, with nothing written; or
 -- what the graph gives that the text spells, and the sources and the targets.
 abbrev pub MatrixAnswered : {G W : Type 0} → (P : ℕ) → (gr_text : List ℕ) → (starts ends : Asked) → Reader G → G → Writer W → (old new : W) → Result Summary BatchError → Type 0
 MatrixAnswered P gr_text starts ends g gr w old new result =
-    JobAnswered P gr_text starts (IsGraphRefused P gr_text g gr) (AreRefused P starts) (IsMatrixTo P ends (wrote_by w old new)) (wrote_by w old new) result
+    JobAnswered P gr_text starts (IsGraphRefused P gr_text g gr) (AreRefused P starts) (IsMatrixTo P ends) (wrote_by w old new) result
 
 -- The same where the devices perhaps don't tell their bytes: some texts spell the graph, and what the lists ask for in them.
 abbrev pub MatrixOfSome : {W : Type 0} → (P : ℕ) → (starts ends : List ℕ → Asked) → Writer W → (old new : W) → Result Summary BatchError → Type 0
-MatrixOfSome P starts ends w old new result = JobOfSome P starts (IsMatrixToSome P ends (wrote_by w old new)) (wrote_by w old new) result
+MatrixOfSome P starts ends w old new result = JobOfSome P starts (IsMatrixToSome P ends) (wrote_by w old new) result

@@ -13,11 +13,10 @@ use Rattle.sp_jobs.specs.Answers.{IsCount}
 use Rattle.std.specs.Io.KnownBytes.{Appends}
 use Rattle.sp_device.specs.declared.devices.Read.{Ghosts as Reader}
 use Rattle.sp_device.specs.declared.devices.Write.{Ghosts as Writer}
-use Rattle.sp_dimacs.specs.declared.graphs.GrFile.{GrFile}
-use Rattle.sp_dimacs.specs.Graph.{graph_of}
 use Rattle.sp_jobs.specs.declared.answers.BatchError.{BatchError}
-use Rattle.sp_jobs.specs.Answered.{Wrote, wrote_by, IsEnd, IsUnwritten, IsGraphRefused, JobAnswered, JobOfSome}
+use Rattle.sp_jobs.specs.Answered.{Wrote, wrote_by, IsEnd, IsUnwritten, JobAnswered, JobOfSome}
 use Rattle.sp_jobs.specs.Listing.{Asked, AreRefused}
+use Rattle.sp_jobs.specs.Network.{IsGraphRefused}
 use Rattle.sp_jobs.specs.Vertices.{IsFirstSource}
 
 -- the answer: the forest of the sources, or the vertex that is too far from all of them
@@ -53,26 +52,26 @@ pub record HasBegunForest (P : ℕ) (g : Graph) (sources : List ℕ) (limit : Op
 -- ## Answers to texts
 
 -- The sources have an answer, up to the limit if there is one; exactly its text was written, and it was counted.
-abbrev pub IsForestWritten : (P : ℕ) → GrFile → (sources : List ℕ) → (limit : Option ℕ) → Wrote → Summary → Type 0
-IsForestWritten P file sources limit wrote summary = (answer : ForestAnswer) × IsAnswerToAll P (graph_of file) sources limit answer × Appends wrote.before wrote.after (forest_answer_text answer) × IsForestSummary answer summary
+abbrev pub IsForestWritten : (P : ℕ) → Graph → (sources : List ℕ) → (limit : Option ℕ) → Wrote → Summary → Type 0
+IsForestWritten P graph sources limit wrote summary = (answer : ForestAnswer) × IsAnswerToAll P graph sources limit answer × Appends wrote.before wrote.after (forest_answer_text answer) × IsForestSummary answer summary
 
 -- All sources are vertices.
-abbrev pub AreVertices : GrFile → (sources : List ℕ) → Type 0
-AreVertices file sources = All (λ s. s ≤ file.n) sources
+abbrev pub AreVertices : Graph → (sources : List ℕ) → Type 0
+AreVertices graph sources = All (λ s. s ≤ graph.n) sources
 
 -- For the sources of a graph exactly the text of their answer was written; or a source is no vertex, or memory was refused,
 -- and nothing was written; or the writer failed, and a beginning of the text stands.
-abbrev pub IsForestRun : (P : ℕ) → GrFile → (sources : List ℕ) → (limit : Option ℕ) → Wrote → Result Summary BatchError → Type 0
-IsForestRun P file sources limit wrote result =
-    IsEnd (IsForestWritten P file sources limit wrote) (IsFirstSource file.n sources) (AreVertices file sources × IsUnwritten wrote)
-    (AreVertices file sources × HasBegunForest P (graph_of file) sources limit wrote.before wrote.after) wrote result
+abbrev pub IsForestRun : (P : ℕ) → (limit : Option ℕ) → Wrote → Graph → (sources : List ℕ) → Result Summary BatchError → Type 0
+IsForestRun P limit wrote graph sources result =
+    IsEnd (IsForestWritten P graph sources limit wrote) (IsFirstSource graph.n sources) (AreVertices graph sources × IsUnwritten wrote)
+    (AreVertices graph sources × HasBegunForest P graph sources limit wrote.before wrote.after) wrote result
 
 -- The answer to a text and to what is asked for: a refusal of one of them, with nothing written; or what the graph that the text spells
 -- gives and the sources that are asked for, up to the limit.
 abbrev pub ForestAnswered : {G W : Type 0} → (P : ℕ) → (limit : Option ℕ) → (gr_text : List ℕ) → Asked → Reader G → G → Writer W → (old new : W) → Result Summary BatchError → Type 0
 ForestAnswered P limit gr_text asked g gr w old new result =
-    JobAnswered P gr_text asked (IsGraphRefused P gr_text g gr) (AreRefused P asked) (λ file sources. IsForestRun P file sources limit (wrote_by w old new)) (wrote_by w old new) result
+    JobAnswered P gr_text asked (IsGraphRefused P gr_text g gr) (AreRefused P asked) (IsForestRun P limit) (wrote_by w old new) result
 
 -- the same where the devices perhaps don't tell their bytes
 abbrev pub ForestOfSome : {W : Type 0} → (P : ℕ) → (limit : Option ℕ) → (List ℕ → Asked) → Writer W → (old new : W) → Result Summary BatchError → Type 0
-ForestOfSome P limit asked w old new result = JobOfSome P asked (λ file sources. IsForestRun P file sources limit (wrote_by w old new)) (wrote_by w old new) result
+ForestOfSome P limit asked w old new result = JobOfSome P asked (IsForestRun P limit) (wrote_by w old new) result

@@ -1,11 +1,11 @@
 //! A batch of sources.
 ghost use Rattle.std.specs.Prelude.{◌≡◌, ◌≤◌, ℕ, true, List, Some, None, IfSome, IfErr};
 ghost use Rattle.sp_word.specs.Word.{is_layout, max_dist};
-ghost use Rattle.sp_dimacs.specs.Graph.{IsNetwork};
+ghost use Rattle.sp_dimacs.specs.Graph.{IsNetwork, graph_of};
 ghost use Rattle.sp_jobs.specs.Places.{AreNumbered};
 ghost use Rattle.sp_jobs.specs.Answers.{is_early};
-ghost use Rattle.sp_jobs.specs.Answered.{MayFail, MayRead, wrote_by};
-ghost use Rattle.sp_jobs.specs.Listing.{HasLeft, IsNumbered, MayRefuse, asked_in};
+ghost use Rattle.sp_jobs.specs.Answered.{MayFail, wrote_by};
+ghost use Rattle.sp_jobs.specs.Listing.{HasLeft, IsNumbered, MayRead, MayRefuse, asked_in};
 ghost use Rattle.sp_jobs.specs.Batch.{BatchAnswered, BatchOfSome, IsBatch, TreesAnswered, TreesOfSome};
 
 use crate::answering::Asked;
@@ -39,7 +39,8 @@ fn answer_batch<const P: u32, R: TreeCrew<P>, W: Write, L: Listener>(
     requires network { IsNetwork P file }
     requires sources { AreNumbered sources.now }
     requires limit { IfSome limit (λ l. l ≤ max_dist P) }
-    ensures batch { IsBatch P limit file sources.now (wrote_by W.Write out.old out.new) result }
+    ensures batch { IsBatch P limit (wrote_by W.Write out.old out.new)
+        (graph_of file) sources.now result }
     ensures untouched { IfErr result (λ e. is_early e ≡ true → out.new ≡ out.old) }
 {
     if let Some(source) = first_above(sources, file.n) {

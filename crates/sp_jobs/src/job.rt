@@ -2,11 +2,12 @@
 ghost use Rattle.std.specs.Prelude.{◌≡◌, ℕ, true, List, Some, IfOk, IfErr, MatchResult};
 ghost use Rattle.sp_word.specs.Word.{is_layout};
 ghost use Rattle.sp_paths.specs.Bags.{AreSame};
-ghost use Rattle.sp_dimacs.specs.Graph.{IsNetwork, SpellsGraph, graph_of};
+ghost use Rattle.sp_dimacs.specs.Graph.{IsNetwork, graph_of};
 ghost use Rattle.sp_forest.specs.Run.{IsAsked, AreRunWords, IsRunRefusal};
 ghost use Rattle.sp_jobs.specs.Ready.{IsReady};
 ghost use Rattle.sp_jobs.specs.Listing.{HasLeft, IsNumbered, IsReadBy, MayRefuse, AreRefused, asked_in};
-ghost use Rattle.sp_jobs.specs.Answered.{AreRead, IsFileFault, IsGraphFault, IsGraphRefused, IsListFault, MayRead};
+ghost use Rattle.sp_jobs.specs.Network.{IsGraphRefused, MayReadGraph, SpellsNetwork};
+ghost use Rattle.sp_jobs.specs.Answered.{AreRead, IsFileFault, IsGraphFault, IsListFault};
 
 use crate::answers::BatchError;
 use crate::listing::{Listed, Listing};
@@ -31,10 +32,12 @@ impl<const P: u32, L: Listener> Settings<'_, P, L> {
     ) -> Result<GrFile, BatchError>
         requires { is_layout P ≡ true }
         ensures exact { (text : List ℕ) → G.left gr.old ≡ Some text → MatchResult result
-            (SpellsGraph P text) (IsGraphFault (IsGraphRefused P text G.Read gr.new)) }
-        ensures found { IfOk result (λ file. (text : List ℕ) × SpellsGraph P text file) }
+            (λ file. SpellsNetwork P text (graph_of file))
+            (IsGraphFault (IsGraphRefused P text G.Read gr.new)) }
+        ensures found { IfOk result (λ file.
+            (text : List ℕ) × SpellsNetwork P text (graph_of file)) }
         ensures network { IfOk result (IsNetwork P) }
-        ensures may_fail { IfErr result (IsGraphFault (MayRead (G.failing gr.old))) }
+        ensures may_fail { IfErr result (IsGraphFault (MayReadGraph (G.failing gr.old))) }
     {
         match read_gr_by::<P, R, G>(rt, alloc, gr, self.workers) {
             Ok(file) => Ok(file),
@@ -62,7 +65,7 @@ impl<const P: u32, L: Listener> Settings<'_, P, L> {
         ensures network { IfOk result (λ files. IsNetwork P files.0) }
         ensures numbered { IfOk result (λ files. IsReadBy P files.1) }
         ensures may_fail { IfErr result
-            (IsFileFault (MayRead (G.failing gr.old)) (MayRefuse S.Read sources.entry)) }
+            (IsFileFault (MayReadGraph (G.failing gr.old)) (MayRefuse S.Read sources.entry)) }
     {
         let file = self.read_graph::<R, G>(rt, alloc, gr)?;
         match sources.read::<P>(alloc) {

@@ -1,7 +1,7 @@
 //! A matrix of answers: each source with each target.
 ghost use Rattle.std.specs.Prelude.{◌≡◌, ℕ, true, List, Some, IfErr};
 ghost use Rattle.sp_word.specs.Word.{is_layout};
-ghost use Rattle.sp_dimacs.specs.Graph.{IsNetwork};
+ghost use Rattle.sp_dimacs.specs.Graph.{IsNetwork, graph_of};
 ghost use Rattle.sp_jobs.specs.Places.{AreNumbered};
 ghost use Rattle.sp_jobs.specs.Answers.{is_early};
 ghost use Rattle.sp_jobs.specs.Answered.{MayFail, wrote_by};
@@ -37,8 +37,8 @@ fn answer_matrix<const P: u32, R: RowCrew<P>, W: Write, L: Listener>(
     requires network { IsNetwork P file }
     requires sources { AreNumbered sources.now }
     requires targets { AreNumbered targets.now }
-    ensures matrix { IsMatrix P file sources.now targets.now
-        (wrote_by W.Write out.old out.new) result }
+    ensures matrix { IsMatrix P targets.now (wrote_by W.Write out.old out.new)
+        (graph_of file) sources.now result }
     ensures untouched { IfErr result (λ e. is_early e ≡ true → out.new ≡ out.old) }
 {
     if let Some(source) = first_above(sources, file.n) {

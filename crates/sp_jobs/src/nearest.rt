@@ -1,7 +1,7 @@
 //! The forest of the sources of a list.
 ghost use Rattle.std.specs.Prelude.{◌≡◌, ◌≤◌, ℕ, true, List, Some, IfErr, IfSome};
 ghost use Rattle.sp_word.specs.Word.{is_layout, max_dist};
-ghost use Rattle.sp_dimacs.specs.Graph.{IsNetwork};
+ghost use Rattle.sp_dimacs.specs.Graph.{IsNetwork, graph_of};
 ghost use Rattle.sp_jobs.specs.Places.{AreNumbered};
 ghost use Rattle.sp_jobs.specs.Answers.{is_early};
 ghost use Rattle.sp_jobs.specs.Answered.{MayFail, wrote_by};
@@ -40,8 +40,8 @@ fn answer_nearest<const P: u32, R: Crew, W: Write, L: Listener>(
     requires network { IsNetwork P file }
     requires sources { AreNumbered asked.sources.now }
     requires limit { IfSome asked.limit (λ limit. limit ≤ max_dist P) }
-    ensures forest { IsForestRun P file asked.entry.sources.now asked.entry.limit
-        (wrote_by W.Write out.old out.new) result }
+    ensures forest { IsForestRun P asked.entry.limit (wrote_by W.Write out.old out.new)
+        (graph_of file) asked.entry.sources.now result }
     ensures untouched { IfErr result (λ e. is_early e ≡ true → out.new ≡ out.old) }
 {
     if let Some(source) = first_above(asked.sources, file.n) {

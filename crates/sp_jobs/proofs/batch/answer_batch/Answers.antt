@@ -1,14 +1,19 @@
 use Rattle.std.proofs.lemmas.Result.{err_from_is_err_and}
-use Rattle.sp_jobs.proofs.BatchOfFile.{AreSources, of_file, refused_early}
+use Rattle.sp_dimacs.specs.Graph.{graph_of}
+use Rattle.sp_jobs.proofs.SameBatch.{AreSources, batch_of_same, refused_early}
 use Rattle.sp_jobs.proofs.batch.answer_batch.Goals as goal
 
 pub returns-in_err-graph-clause-batch : goal.returns-in_err-graph-clause-batch
 returns-in_err-graph-clause-batch g c =
     let p = err_from_is_err_and c.from_residual.result c.from_residual.ensures.1 in
-    let ok : AreSources g.row.P c.args.limit c.args.file c.args.sources.now = record { layout = c.requires.layout; network = c.requires.network; numbered = c.requires.sources; limit_within = c.requires.limit; within = c.in_default.ensures.none } in
-    rw (p.1, p.2) (refused_early g.row.P c.args.limit c.args.file c.args.sources.now g.W.Write c.args.out.now ok)
+    let graph = graph_of c.args.file in
+    let network = c.requires.network in
+    let ok : AreSources g.row.P c.args.limit graph c.args.sources.now = record { layout = c.requires.layout; most = network.most; arcs = network.arcs; numbered = c.requires.sources; limit_within = c.requires.limit; within = c.in_default.ensures.none } in
+    rw (p.1, p.2) (refused_early g.row.P c.args.limit graph c.args.sources.now g.W.Write ok c.args.out.now)
 
 pub returns-clause-batch : goal.returns-clause-batch
 returns-clause-batch g c =
-    of_file g.row.P c.args.limit c.args.file c.args.sources.now c.in_ok-graph.graph g.W.Write c.args.out.now c.answer_trees.new.out c.answer_trees.result
-    c.in_ok-graph.ensures.arcs (record { layout = c.requires.layout; network = c.requires.network; numbered = c.requires.sources; limit_within = c.requires.limit; within = c.in_default.ensures.none }) (rw c.of-asked.ensures at c.answer_trees.ensures)
+    let network = c.requires.network in
+    batch_of_same g.row.P c.args.limit (graph_of c.args.file) c.args.sources.now g.W.Write
+    (record { layout = c.requires.layout; most = network.most; arcs = network.arcs; numbered = c.requires.sources; limit_within = c.requires.limit; within = c.in_default.ensures.none })
+    c.in_ok-graph.graph c.args.out.now c.answer_trees.new.out c.answer_trees.result c.in_ok-graph.ensures.arcs (rw c.of-asked.ensures at c.answer_trees.ensures)

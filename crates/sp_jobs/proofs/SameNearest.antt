@@ -1,11 +1,9 @@
 -- The answer for a graph whose arcs were put in another order.
-use Rattle.std.proofs.Common.{◌≡◌, ℕ, ◌≤◌, List, Option, Some, None, Result, Ok, Err, refl, subst}
-use Rattle.std.specs.Prelude.{All, IfErr}
+use Rattle.std.proofs.Common.{◌≡◌, ℕ, List, Option, Some, None, Result, Ok, Err, refl, subst}
+use Rattle.std.specs.Prelude.{IfErr}
 use Rattle.sp_word.specs.Word.{max_dist}
 use Rattle.sp_paths.specs.Paths.{Graph}
 use Rattle.sp_paths.specs.Bags.{AreSame}
-use Rattle.sp_dimacs.specs.declared.graphs.GrFile.{GrFile}
-use Rattle.sp_dimacs.specs.Graph.{graph_of}
 use Rattle.sp_device.specs.declared.devices.Write.{Ghosts as Writer}
 use Rattle.sp_answer.specs.declared.answer.RunError.{RunError}
 use Rattle.sp_answer.specs.declared.answer.RunError.TheVariants as run
@@ -34,24 +32,24 @@ same_answer P g h sources limit (ForestOf f) same is = (is.0, same_forest_answer
 same_answer P g h sources None (FarFromAll v) same is = same_far g h same sources (max_dist P) (Some v) is
 same_answer P g h sources (Some limit) (FarFromAll v) same is = absurd is
 
-module _ {W : Type 0} (P : ℕ) (file : GrFile) (sources : List ℕ) (limit : Option ℕ) (device : Writer W) (within : All (λ s. s ≤ file.n) sources) where
-  -- What was written for the rows of a file's graph was written for the file.
-  pub of_file : (graph : Graph) (answer : ForestAnswer) (old new : W) (result : Result Summary BatchError) → AreSame graph (graph_of file) → IsAnswerToAll P graph sources limit answer
-      → IsForestAnswerWritten device answer old result new → IsForestRun P file sources limit (wrote_by device old new) result
-  of_file graph answer old new (Ok summary) same is wrote = (answer, same_answer P graph (graph_of file) sources limit answer same is, wrote.0, wrote.1)
-  of_file graph answer old new (Err Write) same is wrote = ((within, record { answer = answer; is = same_answer P graph (graph_of file) sources limit answer same is; begun = wrote.0 }), wrote.1)
-  of_file graph answer old new (Err Memory) same is wrote = absurd wrote
-  of_file graph answer old new (Err (Gr e)) same is wrote = absurd wrote
-  of_file graph answer old new (Err (Ss e)) same is wrote = absurd wrote
-  of_file graph answer old new (Err (Targets e)) same is wrote = absurd wrote
-  of_file graph answer old new (Err (Pairs e)) same is wrote = absurd wrote
-  of_file graph answer old new (Err (NoSuchVertex v role)) same is wrote = absurd wrote
+module _ {W : Type 0} (P : ℕ) (limit : Option ℕ) (g : Graph) (sources : List ℕ) (device : Writer W) (within : AreVertices g sources) where
+  -- What was written for a graph with the same arcs was written for this one.
+  pub forest_of_same : (graph : Graph) (answer : ForestAnswer) (old new : W) (result : Result Summary BatchError) → AreSame graph g → IsAnswerToAll P graph sources limit answer
+      → IsForestAnswerWritten device answer old result new → IsForestRun P limit (wrote_by device old new) g sources result
+  forest_of_same graph answer old new (Ok summary) same is wrote = (answer, same_answer P graph g sources limit answer same is, wrote.0, wrote.1)
+  forest_of_same graph answer old new (Err Write) same is wrote = ((within, record { answer = answer; is = same_answer P graph g sources limit answer same is; begun = wrote.0 }), wrote.1)
+  forest_of_same graph answer old new (Err Memory) same is wrote = absurd wrote
+  forest_of_same graph answer old new (Err (Gr e)) same is wrote = absurd wrote
+  forest_of_same graph answer old new (Err (Ss e)) same is wrote = absurd wrote
+  forest_of_same graph answer old new (Err (Targets e)) same is wrote = absurd wrote
+  forest_of_same graph answer old new (Err (Pairs e)) same is wrote = absurd wrote
+  forest_of_same graph answer old new (Err (NoSuchVertex v role)) same is wrote = absurd wrote
 
   -- Memory was refused before anything was written.
-  pub refused_early : (old : W) → IsForestRun P file sources limit (wrote_by device old old) (Err Memory)
+  pub refused_early : (old : W) → IsForestRun P limit (wrote_by device old old) g sources (Err Memory)
   refused_early old = (within, refl)
 
--- What was answered for a file is no fault of a text.
-pub forest_late : (P : ℕ) (file : GrFile) (sources : List ℕ) (limit : Option ℕ) (wrote : Wrote) (result : Result Summary BatchError) → IsForestRun P file sources limit wrote result → IsLate result
-forest_late P file sources limit wrote result is =
-    late (IsForestWritten P file sources limit wrote) (IsFirstSource file.n sources) (AreVertices file sources × IsUnwritten wrote) (AreVertices file sources × HasBegunForest P (graph_of file) sources limit wrote.before wrote.after) wrote result is
+-- What was answered for a graph is no fault of a text.
+pub forest_late : (P : ℕ) (limit : Option ℕ) (wrote : Wrote) (graph : Graph) (sources : List ℕ) (result : Result Summary BatchError) → IsForestRun P limit wrote graph sources result → IsLate result
+forest_late P limit wrote graph sources result is =
+    late (IsForestWritten P graph sources limit wrote) (IsFirstSource graph.n sources) (AreVertices graph sources × IsUnwritten wrote) (AreVertices graph sources × HasBegunForest P graph sources limit wrote.before wrote.after) wrote result is
