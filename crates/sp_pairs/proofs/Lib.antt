@@ -1,4 +1,4 @@
 pub mod TextsToPairs
 pub mod SlotSteps
 pub mod PairLines
-pub mod PairsOfFile
+pub mod SamePairs

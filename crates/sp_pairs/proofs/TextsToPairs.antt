@@ -1,48 +1,36 @@
 -- From the two texts to the answers of pairs.
-use Rattle.std.proofs.Common.{ℕ, List, Result, Ok, Err}
-use Rattle.std.specs.Prelude.{IfErr}
+use Rattle.std.proofs.Common.{ℕ, List, Result}
+use Rattle.std.specs.Prelude.{All, IfErr}
 use Rattle.sp_device.specs.Failing.{Failing}
-use Rattle.sp_device.specs.declared.devices.Read.{Ghosts as Reader}
-use Rattle.sp_device.specs.declared.devices.Write.{Ghosts as Writer}
-use Rattle.sp_dimacs.specs.declared.graphs.GrFile.{GrFile}
-use Rattle.sp_dimacs.specs.declared.pairs.PairsFile.{PairsFile}
-use Rattle.sp_dimacs.specs.Graph.{SpellsGraph}
-use Rattle.sp_dimacs.specs.Pairs.{SpellsPairs}
+use Rattle.sp_text.specs.declared.faults.DimacsError.{DimacsError}
+use Rattle.sp_paths.specs.Paths.{Graph}
 use Rattle.sp_jobs.specs.declared.answers.Summary.{Summary}
 use Rattle.sp_jobs.specs.declared.answers.BatchError.{BatchError}
-use Rattle.sp_jobs.specs.declared.answers.BatchError.TheVariants.{Gr, Ss, Targets, Pairs, NoSuchVertex, Memory, Write}
-use Rattle.sp_pairs.specs.Pairs.{ArePairsDone, PairsAnswered, PairsOfSome, MayFail}
+use Rattle.sp_jobs.specs.Network.{GraphFault}
+use Rattle.sp_jobs.specs.Answered.{Wrote, IsUnwritten}
+use Rattle.sp_jobs.specs.PairAnswers.{AreLinesWritten, HasBegunPairs}
+use Rattle.sp_jobs.proofs.Outcomes.{IsLate, by_end, late}
+use Rattle.sp_pairs.specs.Pairs.{IsPairUpTo, IsFirstPairAbove, ArePairsDone, ArePairsOf, PairsTold, PairsOfSome, MayFail}
 
--- What was answered for a graph and pairs is the answer to texts that spell them.
-pub pairs_answered : {G S W : Type 0} (P : ℕ) (gr_text list_text : List ℕ) (g : Reader G) (graph : G) (s : Reader S) (named : S) (w : Writer W) (old new : W) (file : GrFile) (list : PairsFile) (result : Result Summary BatchError)
-    → SpellsGraph P gr_text file → SpellsPairs P list_text list → ArePairsDone P file list w old new result → PairsAnswered P gr_text list_text g graph s named w old new result
-pairs_answered P gr_text list_text g graph s named w old new file list (Ok summary) spelled within is = (file, list, spelled, within, is)
-pairs_answered P gr_text list_text g graph s named w old new file list (Err (NoSuchVertex v role)) spelled within is = (file, list, spelled, within, is)
-pairs_answered P gr_text list_text g graph s named w old new file list (Err Memory) spelled within is = (file, list, spelled, within, is)
-pairs_answered P gr_text list_text g graph s named w old new file list (Err Write) spelled within is = (file, list, spelled, within, is)
-pairs_answered P gr_text list_text g graph s named w old new file list (Err (Gr e)) spelled within is = absurd is
-pairs_answered P gr_text list_text g graph s named w old new file list (Err (Ss e)) spelled within is = absurd is
-pairs_answered P gr_text list_text g graph s named w old new file list (Err (Targets e)) spelled within is = absurd is
-pairs_answered P gr_text list_text g graph s named w old new file list (Err (Pairs e)) spelled within is = absurd is
+-- What was done for a graph and pairs is no fault of a text.
+pub pairs_late : (P : ℕ) (wrote : Wrote) (graph : Graph) (pairs : List (ℕ × ℕ)) (result : Result Summary BatchError) → ArePairsDone P wrote graph pairs result → IsLate result
+pairs_late P wrote graph pairs result is =
+    late (AreLinesWritten P graph pairs wrote) (IsFirstPairAbove graph.n pairs) (All (IsPairUpTo graph.n) pairs × IsUnwritten wrote) (All (IsPairUpTo graph.n) pairs × HasBegunPairs P graph pairs wrote.before wrote.after) wrote result is
 
-pub pairs_of_some : {W : Type 0} (P : ℕ) (gr_text list_text : List ℕ) (w : Writer W) (old new : W) (file : GrFile) (list : PairsFile) (result : Result Summary BatchError)
-    → SpellsGraph P gr_text file → SpellsPairs P list_text list → ArePairsDone P file list w old new result → PairsOfSome P w old new result
-pairs_of_some P gr_text list_text w old new file list (Ok summary) spelled within is = (gr_text, list_text, file, list, spelled, within, is)
-pairs_of_some P gr_text list_text w old new file list (Err (NoSuchVertex v role)) spelled within is = (gr_text, list_text, file, list, spelled, within, is)
-pairs_of_some P gr_text list_text w old new file list (Err Memory) spelled within is = (gr_text, list_text, file, list, spelled, within, is)
-pairs_of_some P gr_text list_text w old new file list (Err Write) spelled within is = (gr_text, list_text, file, list, spelled, within, is)
-pairs_of_some P gr_text list_text w old new file list (Err (Gr e)) spelled within is = absurd is
-pairs_of_some P gr_text list_text w old new file list (Err (Ss e)) spelled within is = absurd is
-pairs_of_some P gr_text list_text w old new file list (Err (Targets e)) spelled within is = absurd is
-pairs_of_some P gr_text list_text w old new file list (Err (Pairs e)) spelled within is = absurd is
+module _ (P : ℕ) (gr_text list_text : List ℕ) (wrote : Wrote) (result : Result Summary BatchError) (are : ArePairsOf P gr_text list_text wrote result) where
+  is_late : IsLate result
+  is_late = pairs_late P wrote are.graph are.list.pairs.items result are.done
 
--- What was answered for a graph and pairs tells of no device.
-pub may_fail : {W : Type 0} (P : ℕ) (gr pairs : Failing) (w : Writer W) (old new : W) (file : GrFile) (list : PairsFile) (result : Result Summary BatchError) → ArePairsDone P file list w old new result → IfErr result (MayFail gr pairs)
-may_fail P gr pairs w old new file list (Ok summary) is = tt
-may_fail P gr pairs w old new file list (Err (NoSuchVertex v role)) is = tt
-may_fail P gr pairs w old new file list (Err Memory) is = tt
-may_fail P gr pairs w old new file list (Err Write) is = tt
-may_fail P gr pairs w old new file list (Err (Gr e)) is = absurd is
-may_fail P gr pairs w old new file list (Err (Ss e)) is = absurd is
-may_fail P gr pairs w old new file list (Err (Targets e)) is = absurd is
-may_fail P gr pairs w old new file list (Err (Pairs e)) is = absurd is
+  -- It is the answer to texts that spell them.
+  pub pairs_told : (NoGraph : GraphFault → Type 0) (NoList : DimacsError → Type 0) → PairsTold P gr_text list_text NoGraph NoList wrote result
+  pairs_told NoGraph NoList =
+      by_end (λ r. ArePairsOf P gr_text list_text wrote r → PairsTold P gr_text list_text NoGraph NoList wrote r) result is_late (λ summary done. done) (λ v role done. done) (λ done. done) (λ done. done) are
+
+  pub pairs_of_some : PairsOfSome P wrote result
+  pairs_of_some =
+      by_end (λ r. ArePairsOf P gr_text list_text wrote r → PairsOfSome P wrote r) result is_late
+      (λ summary done. (gr_text, list_text, done)) (λ v role done. (gr_text, list_text, done)) (λ done. (gr_text, list_text, done)) (λ done. (gr_text, list_text, done)) are
+
+-- It tells of no device.
+pub may_fail : (gr pairs : Failing) (result : Result Summary BatchError) → IsLate result → IfErr result (MayFail gr pairs)
+may_fail gr pairs result is = by_end (λ r. IfErr r (MayFail gr pairs)) result is (λ summary. tt) (λ v role. tt) tt tt

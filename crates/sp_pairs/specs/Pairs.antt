@@ -1,21 +1,20 @@
 -- What is written for a list of pairs, a source and a target each.
-use Rattle.std.specs.Prelude.{◌≡◌, ◌≢◌, ◌<◌, ◌≤◌, ◌⊎◌, ℕ, true, List, slice_get, All, Some, Result, Ok, Err}
-use Rattle.std.specs.Io.KnownBytes.{Appends}
-use Rattle.sp_text.specs.declared.faults.Kind.TheVariants as kind
-use Rattle.sp_device.specs.Failing.{Failing, Never}
+use Rattle.std.specs.Prelude.{◌≡◌, ◌<◌, ◌≤◌, ◌⊎◌, ℕ, List, slice_get, All, Some, Result, Err}
+use Rattle.sp_device.specs.Failing.{Failing}
 use Rattle.sp_device.specs.declared.devices.Read.{Ghosts as Reader}
-use Rattle.sp_device.specs.declared.devices.Write.{Ghosts as Writer}
-use Rattle.sp_paths.specs.Paths.{PairAnswer}
-use Rattle.sp_dimacs.specs.declared.graphs.GrFile.{GrFile}
+use Rattle.sp_text.specs.declared.faults.DimacsError.{DimacsError}
+use Rattle.sp_paths.specs.Paths.{Graph}
 use Rattle.sp_dimacs.specs.declared.pairs.PairsFile.{PairsFile}
-use Rattle.sp_dimacs.specs.Graph.{graph_of, SpellsGraph, GraphRead}
 use Rattle.sp_dimacs.specs.Pairs.{SpellsPairs, PairsRead}
 use Rattle.sp_jobs.specs.declared.answers.Summary.{Summary}
 use Rattle.sp_jobs.specs.declared.answers.Role.{Role}
 use Rattle.sp_jobs.specs.declared.answers.Role.TheVariants.{Source, Target}
 use Rattle.sp_jobs.specs.declared.answers.BatchError.{BatchError}
-use Rattle.sp_jobs.specs.declared.answers.BatchError.TheVariants.{Gr, Ss, Targets, Pairs, NoSuchVertex, Memory, Write}
-use Rattle.sp_jobs.specs.PairAnswers.{ArePairAnswers, pairs_text, IsPairsSummary, HasBegunPairs}
+use Rattle.sp_jobs.specs.declared.answers.BatchError.TheVariants.{Gr, Pairs}
+use Rattle.sp_jobs.specs.Listing.{MayRead}
+use Rattle.sp_jobs.specs.Network.{SpellsNetwork, HoldsGraph, GraphFault, MayReadGraph, IsGraphRefused}
+use Rattle.sp_jobs.specs.Answered.{Wrote, IsUnwritten, IsEnd}
+use Rattle.sp_jobs.specs.PairAnswers.{AreLinesWritten, HasBegunPairs}
 
 -- ## Vertices
 
@@ -39,31 +38,38 @@ pub record IsFirstPairAbove (n : ℕ) (pairs : List (ℕ × ℕ)) (v : ℕ) (rol
 
 -- For the pairs of a graph exactly the text of their answers was written; or a number is no vertex, and nothing was
 -- written; or memory was refused, and nothing was written; or the writer failed, and a beginning of the text stands.
-abbrev pub ArePairsDone : {W : Type 0} → (P : ℕ) → GrFile → PairsFile → Writer W → (old new : W) → Result Summary BatchError → Type 0
-ArePairsDone P file list w old new (Ok summary) = (answers : List PairAnswer) × ArePairAnswers P (graph_of file) list.pairs.items answers × Appends (w.written old) (w.written new) (pairs_text list.pairs.items answers) × IsPairsSummary list.pairs.items answers summary
-ArePairsDone P file list w old new (Err (NoSuchVertex v role)) = IsFirstPairAbove file.n list.pairs.items v role × (w.written new ≡ w.written old)
-ArePairsDone P file list w old new (Err Memory) = All (IsPairUpTo file.n) list.pairs.items × (w.written new ≡ w.written old)
-ArePairsDone P file list w old new (Err Write) = All (IsPairUpTo file.n) list.pairs.items × HasBegunPairs P (graph_of file) list.pairs.items (w.written old) (w.written new) × (w.has_failed new ≡ true)
-ArePairsDone P file list w old new (Err (Gr e)) = ⊥
-ArePairsDone P file list w old new (Err (Ss e)) = ⊥
-ArePairsDone P file list w old new (Err (Targets e)) = ⊥
-ArePairsDone P file list w old new (Err (Pairs e)) = ⊥
+abbrev pub ArePairsDone : (P : ℕ) → Wrote → Graph → (pairs : List (ℕ × ℕ)) → Result Summary BatchError → Type 0
+ArePairsDone P wrote graph pairs result =
+    IsEnd (AreLinesWritten P graph pairs wrote) (IsFirstPairAbove graph.n pairs) (All (IsPairUpTo graph.n) pairs × IsUnwritten wrote) (All (IsPairUpTo graph.n) pairs × HasBegunPairs P graph pairs wrote.before wrote.after) wrote result
 
--- The answer to two texts: a fault of the first, with nothing written; a fault of the second, where the first spells a
+-- One text spells a graph, another one pairs, and for them the job ended so.
+pub record ArePairsOf (P : ℕ) (gr_text list_text : List ℕ) (wrote : Wrote) (result : Result Summary BatchError) : Type 0 where
+  pub graph : Graph
+  pub list : PairsFile
+  pub spells_graph : SpellsNetwork P gr_text graph
+  pub spells_pairs : SpellsPairs P list_text list
+  pub done : ArePairsDone P wrote graph list.pairs.items result
+
+-- The answer to two texts: a refusal of the first, with nothing written; a refusal of the second, where the first spells a
 -- graph, with nothing written; or what the graph and the pairs give that the two texts spell.
-abbrev pub PairsAnswered : {G S W : Type 0} → (P : ℕ) → (gr_text list_text : List ℕ) → Reader G → G → Reader S → S → Writer W → (old new : W) → Result Summary BatchError → Type 0
-PairsAnswered P gr_text list_text g gr s pairs w old new (Err (Gr e)) = GraphRead P gr_text (g.left gr) (g.has_failed gr) (Err e) × (w.written new ≡ w.written old)
-PairsAnswered P gr_text list_text g gr s pairs w old new (Err (Pairs e)) = (file : GrFile) × SpellsGraph P gr_text file × PairsRead P list_text (s.left pairs) (s.has_failed pairs) (Err e) × (w.written new ≡ w.written old)
-PairsAnswered P gr_text list_text g gr s pairs w old new result = (file : GrFile) × (list : PairsFile) × SpellsGraph P gr_text file × SpellsPairs P list_text list × ArePairsDone P file list w old new result
+abbrev pub PairsTold : (P : ℕ) → (gr_text list_text : List ℕ) → (NoGraph : GraphFault → Type 0) → (NoList : DimacsError → Type 0) → Wrote → Result Summary BatchError → Type 0
+PairsTold P gr_text list_text NoGraph NoList wrote (Err (Gr e)) = NoGraph e × IsUnwritten wrote
+PairsTold P gr_text list_text NoGraph NoList wrote (Err (Pairs e)) = HoldsGraph P gr_text × NoList e × IsUnwritten wrote
+PairsTold P gr_text list_text NoGraph NoList wrote result = ArePairsOf P gr_text list_text wrote result
+
+-- The readers leave of the texts what their devices have left.
+abbrev pub PairsAnswered : {G S : Type 0} → (P : ℕ) → (gr_text list_text : List ℕ) → Reader G → G → Reader S → S → Wrote → Result Summary BatchError → Type 0
+PairsAnswered P gr_text list_text g gr s pairs wrote result =
+    PairsTold P gr_text list_text (IsGraphRefused P gr_text g gr) (λ e. PairsRead P list_text (s.left pairs) (s.has_failed pairs) (Err e)) wrote result
 
 -- The same where the devices perhaps don't tell their bytes: some texts spell the graph and the pairs.
-abbrev pub PairsOfSome : {W : Type 0} → (P : ℕ) → Writer W → (old new : W) → Result Summary BatchError → Type 0
-PairsOfSome P w old new (Err (Gr e)) = w.written new ≡ w.written old
-PairsOfSome P w old new (Err (Pairs e)) = w.written new ≡ w.written old
-PairsOfSome P w old new result = (gr_text list_text : List ℕ) × (file : GrFile) × (list : PairsFile) × SpellsGraph P gr_text file × SpellsPairs P list_text list × ArePairsDone P file list w old new result
+abbrev pub PairsOfSome : (P : ℕ) → Wrote → Result Summary BatchError → Type 0
+PairsOfSome P wrote (Err (Gr e)) = IsUnwritten wrote
+PairsOfSome P wrote (Err (Pairs e)) = IsUnwritten wrote
+PairsOfSome P wrote result = (gr_text list_text : List ℕ) × ArePairsOf P gr_text list_text wrote result
 
 -- If the device of the graph or that of the pairs has failed, then it may fail.
 abbrev pub MayFail : (gr pairs : Failing) → BatchError → Type 0
-MayFail gr pairs (Gr e) = e.kind ≡ kind.Read → gr ≢ Never
-MayFail gr pairs (Pairs e) = e.kind ≡ kind.Read → pairs ≢ Never
+MayFail gr pairs (Gr e) = MayReadGraph gr e
+MayFail gr pairs (Pairs e) = MayRead pairs e
 MayFail gr pairs _ = Unit {0}

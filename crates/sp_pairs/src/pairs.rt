@@ -1,9 +1,10 @@
 //! A batch of pairs: a source and a target each.
 ghost use Rattle.std.specs.Prelude.{◌≡◌, ℕ, true, List, All, Some, IfSome, IfNone, IfErr};
 ghost use Rattle.sp_word.specs.Word.{is_layout};
-ghost use Rattle.sp_dimacs.specs.Graph.{IsNetwork};
+ghost use Rattle.sp_dimacs.specs.Graph.{IsNetwork, graph_of};
 ghost use Rattle.sp_dimacs.specs.Pairs.{ArePairsWithin};
 ghost use Rattle.sp_jobs.specs.Answers.{is_early};
+ghost use Rattle.sp_jobs.specs.Answered.{wrote_by};
 ghost use Rattle.sp_pairs.specs.Pairs.{IsPairUpTo, IsFirstPairAbove, ArePairsDone, PairsAnswered, PairsOfSome, MayFail};
 
 use crate::asking::find_answers;
@@ -30,7 +31,7 @@ fn first_pair_above(pairs: &[(u32, u32)], n: u32) -> Option<(u32, Role)>
 }
 
 // Tests the pairs, finds all their answers, and then writes them.
-#[tactic(auto, using(crate::proofs::PairsOfFile::pairs_not_early))]
+#[tactic(auto, using(crate::proofs::SamePairs::pairs_not_early))]
 fn answer_pairs<const P: u32, R: Crew, W: Write, L: Listener>(
     rt: &R,
     alloc: Global,
@@ -42,7 +43,8 @@ fn answer_pairs<const P: u32, R: Crew, W: Write, L: Listener>(
     requires layout { is_layout P ≡ true }
     requires network { IsNetwork P file }
     requires pairs { ArePairsWithin P list.now }
-    ensures done { ArePairsDone P file list.now W.Write out.old out.new result }
+    ensures done { ArePairsDone P (wrote_by W.Write out.old out.new)
+        (graph_of file) list.now.pairs.items result }
     ensures untouched { IfErr result (λ e. is_early e ≡ true → out.new ≡ out.old) }
 {
     if let Some((number, role)) = first_pair_above(&list.pairs, file.n) {
@@ -81,9 +83,9 @@ pub fn run_pairs<const P: u32, R: Crew, G: Read, S: Read, W: Write>(
     ensures exact { (gr_text list_text : List ℕ)
         → G.left gr.old ≡ Some gr_text → S.left pairs.old ≡ Some list_text
         → PairsAnswered P gr_text list_text G.Read gr.new S.Read pairs.new
-        W.Write out.old out.new result }
+        (wrote_by W.Write out.old out.new) result }
     ensures untouched { IfErr result (λ e. is_early e ≡ true → out.new ≡ out.old) }
-    ensures found { PairsOfSome P W.Write out.old out.new result }
+    ensures found { PairsOfSome P (wrote_by W.Write out.old out.new) result }
     ensures may_fail { IfErr result (MayFail (G.failing gr.old) (S.failing pairs.old)) }
 {
     let settings = Settings {
@@ -107,9 +109,9 @@ pub fn run_pairs_told<const P: u32, R: Crew, G: Read, S: Read, W: Write, L: List
     ensures exact { (gr_text list_text : List ℕ)
         → G.left gr.old ≡ Some gr_text → S.left pairs.old ≡ Some list_text
         → PairsAnswered P gr_text list_text G.Read gr.new S.Read pairs.new
-        W.Write out.old out.new result }
+        (wrote_by W.Write out.old out.new) result }
     ensures untouched { IfErr result (λ e. is_early e ≡ true → out.new ≡ out.old) }
-    ensures found { PairsOfSome P W.Write out.old out.new result }
+    ensures found { PairsOfSome P (wrote_by W.Write out.old out.new) result }
     ensures may_fail { IfErr result (MayFail (G.failing gr.old) (S.failing pairs.old)) }
 {
     let file = settings.read_graph::<R, G>(rt, alloc, gr)?;
