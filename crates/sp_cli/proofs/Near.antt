@@ -4,18 +4,15 @@ use Rattle.std.specs.Prelude.{IfOk}
 use Rattle.std.specs.List.{count_by}
 use Rattle.std.proofs.lemmas.List.Sums.{sum_by-cons}
 use Rattle.sp_paths.specs.Paths.{Graph}
-use Rattle.sp_dimacs.specs.declared.graphs.GrFile.{GrFile}
-use Rattle.sp_dimacs.specs.Graph.{graph_of}
 use Rattle.sp_jobs.specs.declared.answers.BatchError.{BatchError}
 use Rattle.sp_jobs.specs.Answered.{Wrote}
 use Rattle.sp_jobs.specs.declared.answers.Summary.{Summary}
-use Rattle.sp_jobs.specs.Batch.{TreeAnswer, TreeOf, FarFrom, AreTreeAnswers, is_far}
-use Rattle.sp_jobs.specs.Nearest.{ForestAnswer as Nearest, ForestOf, FarFromAll, IsAnswerToAll, far_count}
+use Rattle.sp_jobs.specs.Batch.{TreeAnswer, TreeOf, FarFrom, AreTreeAnswers, IsBatch, is_far}
+use Rattle.sp_jobs.specs.Nearest.{ForestAnswer as Nearest, ForestOf, FarFromAll, IsAnswerToAll, IsForestRun, far_count}
 use Rattle.sp_command.specs.declared.faults.Status.{Status}
 use Rattle.sp_command.specs.declared.faults.Status.TheVariants as status
 use Rattle.sp_options.specs.Ends.{end_of, end_after}
 use Rattle.sp_cli.specs.Told.{EndsNear, NoneFar}
-use Rattle.sp_cli.specs.Answers.{TreesDone, ForestDone}
 
 no_tree_far : (P limit : ℕ) (g : Graph) (sources : List ℕ) (answers : List TreeAnswer) → AreTreeAnswers P (Some limit) g sources answers → count_by is_far answers ≡ 0
 no_tree_far P limit g [] [] are = refl
@@ -41,13 +38,13 @@ without_limit status.TooFar = tt
 without_limit _ = tt
 
 -- No vertex is too far in what is done within a limit.
-pub trees_near : (P : ℕ) (limit : Option ℕ) (wrote : Wrote) (file : GrFile) (sources : List ℕ) (summary : Summary) → TreesDone P limit wrote file sources (Ok summary) → NoneFar limit summary
-trees_near P None wrote file sources summary is = tt
-trees_near P (Some limit) wrote file sources summary is = is.3.too_far ∙ no_tree_far P limit (graph_of file) sources is.0 is.1
+pub trees_near : (P : ℕ) (limit : Option ℕ) (wrote : Wrote) (graph : Graph) (sources : List ℕ) (summary : Summary) → IsBatch P limit wrote graph sources (Ok summary) → NoneFar limit summary
+trees_near P None wrote graph sources summary is = tt
+trees_near P (Some limit) wrote graph sources summary is = is.3.too_far ∙ no_tree_far P limit graph sources is.0 is.1
 
-pub forest_near : (P : ℕ) (limit : Option ℕ) (wrote : Wrote) (file : GrFile) (sources : List ℕ) (summary : Summary) → ForestDone P limit wrote file sources (Ok summary) → NoneFar limit summary
-forest_near P None wrote file sources summary is = tt
-forest_near P (Some limit) wrote file sources summary is = is.3.too_far ∙ no_forest_far P limit (graph_of file) sources is.0 is.1
+pub forest_near : (P : ℕ) (limit : Option ℕ) (wrote : Wrote) (graph : Graph) (sources : List ℕ) (summary : Summary) → IsForestRun P limit wrote graph sources (Ok summary) → NoneFar limit summary
+forest_near P None wrote graph sources summary is = tt
+forest_near P (Some limit) wrote graph sources summary is = is.3.too_far ∙ no_forest_far P limit graph sources is.0 is.1
 
 -- So the command ends near them.
 pub ends_near : (far_ok : Bool) (limit : Option ℕ) (answer : Result Summary BatchError) → IfOk answer (NoneFar limit) → EndsNear (end_after far_ok answer) limit

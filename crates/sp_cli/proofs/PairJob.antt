@@ -6,53 +6,50 @@ use Rattle.sp_device.specs.declared.devices.Write.{Ghosts as Writer}
 use Rattle.sp_jobs.specs.declared.answers.Summary.{Summary}
 use Rattle.sp_jobs.specs.declared.answers.BatchError.{BatchError}
 use Rattle.sp_jobs.specs.declared.answers.BatchError.TheVariants.{Gr, Ss, Targets, Pairs, NoSuchVertex, Memory, Write}
-use Rattle.sp_pairs.specs.Pairs.{PairsAnswered, PairsOfSome as PairsOfSomeTexts, MayFail}
+use Rattle.sp_jobs.specs.Answered.{wrote_by}
+use Rattle.sp_pairs.specs.Pairs.{PairsAnswered, PairsOfSome, MayFail}
 use Rattle.sp_command.specs.Causes.{IsBorneOut}
 use Rattle.sp_command.specs.Scene.{Files, IsOpened}
 use Rattle.sp_options.specs.Ends.{fault_of}
 use Rattle.sp_cli.specs.declared.pairs.PairsCommand.{PairsCommand}
 use Rattle.sp_cli.specs.Told.{IsAnswered, NoVertex, scene_by}
 use Rattle.sp_cli.specs.Commands.{paths_in}
-use Rattle.sp_cli.specs.PairsAnswers.{PairsAnswers, PairsOfSome, PairsTold, pairs_paths}
+use Rattle.sp_cli.specs.PairsAnswers.{PairsAnswers, IsOfPairs, IsOfSomePairs, pairs_paths}
 use Rattle.sp_cli.proofs.Jobs.{any_far}
 
 module _ {G W : Type 0} (g : Reader G) (w : Writer W) (P : ℕ) (files : Files) (old new : W) where
-  of_some : (answer : Result Summary BatchError) → PairsOfSomeTexts P w old new answer → PairsOfSome P (scene_by files w old new) answer
-  of_some (Ok summary) (gr, pairs, graph, list, graph_is, list_is, (answers, are, wrote, counts)) =
-      (gr, pairs, (record { graph = graph; list = list; graph_spelled = graph_is; list_spelled = list_is }, record { answers = answers; are = are; wrote = wrote; counts = counts }))
+  of_some : (answer : Result Summary BatchError) → PairsOfSome P (wrote_by w old new) answer → IsOfSomePairs P (scene_by files w old new) answer
+  of_some (Ok summary) is = is
   of_some (Err error) is = tt
 
-  told : (gr_text list_text : List ℕ) (gr pairs : G) (answer : Result Summary BatchError) → PairsAnswered P gr_text list_text g gr g pairs w old new answer → PairsTold P gr_text list_text (scene_by files w old new) answer
-  told gr_text list_text gr pairs (Ok summary) (graph, list, graph_is, list_is, (answers, are, wrote, counts)) =
-      (record { graph = graph; list = list; graph_spelled = graph_is; list_spelled = list_is }, record { answers = answers; are = are; wrote = wrote; counts = counts })
-  told gr_text list_text gr pairs (Err (NoSuchVertex v role)) (graph, list, graph_is, list_is, (first, same)) =
-      (record { graph = graph; list = list; graph_spelled = graph_is; list_spelled = list_is }, first, same)
-  told gr_text list_text gr pairs (Err Memory) (graph, list, graph_is, list_is, (within, same)) =
-      (record { graph = graph; list = list; graph_spelled = graph_is; list_spelled = list_is }, within, same)
-  told gr_text list_text gr pairs (Err Write) (graph, list, graph_is, list_is, (within, begun, failed)) =
-      (failed, (record { graph = graph; list = list; graph_spelled = graph_is; list_spelled = list_is }, within, begun))
+  -- What devices leave of texts that are refused is something.
+  told : (gr_text list_text : List ℕ) (gr pairs : G) (answer : Result Summary BatchError) → PairsAnswered P gr_text list_text g gr g pairs (wrote_by w old new) answer → IsOfPairs P gr_text list_text (scene_by files w old new) answer
+  told gr_text list_text gr pairs (Ok summary) is = is
+  told gr_text list_text gr pairs (Err (NoSuchVertex v role)) is = is
+  told gr_text list_text gr pairs (Err Memory) is = is
+  told gr_text list_text gr pairs (Err Write) is = is
   told gr_text list_text gr pairs (Err (Gr e)) (read, same) = ((g.left gr, g.has_failed gr, read), same)
-  told gr_text list_text gr pairs (Err (Pairs e)) (graph, graph_is, read, same) = ((graph, graph_is), (g.left pairs, g.has_failed pairs, read), same)
-  told gr_text list_text gr pairs (Err (Ss e)) (graph, list, graph_is, list_is, is) = absurd is
-  told gr_text list_text gr pairs (Err (Targets e)) (graph, list, graph_is, list_is, is) = absurd is
+  told gr_text list_text gr pairs (Err (Pairs e)) (holds, read, same) = (holds, (g.left pairs, g.has_failed pairs, read), same)
+  told gr_text list_text gr pairs (Err (Ss e)) is = is
+  told gr_text list_text gr pairs (Err (Targets e)) is = is
 
   -- A fault is borne out by files that were opened.
   borne_out : (graph : List ℕ) (given : PairsCommand) (gr pairs : G) → IsOpened g files graph gr → IsOpened g files given.pairs.now pairs → (answer : Result Summary BatchError)
-      → IfErr answer (MayFail (g.failing gr) (g.failing pairs)) → PairsOfSomeTexts P w old new answer → IfErr answer (λ e. IsBorneOut (paths_in graph (pairs_paths given)) NoVertex (scene_by files w old new) (fault_of e))
+      → IfErr answer (MayFail (g.failing gr) (g.failing pairs)) → PairsOfSome P (wrote_by w old new) answer → IfErr answer (λ e. IsBorneOut (paths_in graph (pairs_paths given)) NoVertex (scene_by files w old new) (fault_of e))
   borne_out graph given gr pairs gr_is pairs_are (Ok summary) may is = tt
   borne_out graph given gr pairs gr_is pairs_are (Err (NoSuchVertex v role)) may is = tt
   borne_out graph given gr pairs gr_is pairs_are (Err Memory) may is = tt
-  borne_out graph given gr pairs gr_is pairs_are (Err Write) may (_, _, _, _, _, _, (within, begun, failed)) = failed
+  borne_out graph given gr pairs gr_is pairs_are (Err Write) may (_, _, are) = are.done.1
   borne_out graph given gr pairs gr_is pairs_are (Err (Gr e)) may is = (graph, refl, λ read never. may read (gr_is.failing ∙ never))
   borne_out graph given gr pairs gr_is pairs_are (Err (Pairs e)) may is = (given.pairs.now, refl, λ read never. may read (pairs_are.failing ∙ never))
-  borne_out graph given gr pairs gr_is pairs_are (Err (Ss e)) may (_, _, _, _, _, _, is) = absurd is
-  borne_out graph given gr pairs gr_is pairs_are (Err (Targets e)) may (_, _, _, _, _, _, is) = absurd is
+  borne_out graph given gr pairs gr_is pairs_are (Err (Ss e)) may (_, _, are) = absurd are.done
+  borne_out graph given gr pairs gr_is pairs_are (Err (Targets e)) may (_, _, are) = absurd are.done
 
 -- What it answers, of what it answers to the devices that it is handed.
 pub of_pairs : {G W : Type 0} {g : Reader G} {files : Files} {graph : List ℕ} {gr pairs : G} (given : PairsCommand) (w : Writer W) (P : ℕ) (old new : W) (gr_left pairs_left : G) (answer : Result Summary BatchError)
     → IsOpened g files graph gr → IsOpened g files given.pairs.now pairs
-    → ((gr_text text : List ℕ) → g.left gr ≡ Some gr_text → g.left pairs ≡ Some text → PairsAnswered P gr_text text g gr_left g pairs_left w old new answer)
-    → PairsOfSomeTexts P w old new answer → IfErr answer (MayFail (g.failing gr) (g.failing pairs))
+    → ((gr_text text : List ℕ) → g.left gr ≡ Some gr_text → g.left pairs ≡ Some text → PairsAnswered P gr_text text g gr_left g pairs_left (wrote_by w old new) answer)
+    → PairsOfSome P (wrote_by w old new) answer → IfErr answer (MayFail (g.failing gr) (g.failing pairs))
     → IsAnswered (paths_in graph (pairs_paths given)) None (PairsAnswers P given graph (scene_by files w old new)) (scene_by files w old new) answer
 of_pairs {g = g} {files = files} {graph = graph} {gr = gr} {pairs = pairs} given w P old new gr_left pairs_left answer gr_is pairs_are exact found may = record {
   answered = (λ gr_text text gr_has text_has. told g w P files old new gr_text text gr_left pairs_left answer (exact gr_text text (gr_is.gives gr_text gr_has) (pairs_are.gives text text_has)), of_some g w P files old new answer found);

@@ -1,8 +1,8 @@
 -- What the jobs of `tree`, `nearest` and `matrix` answer to the texts of their files, and what is written then.
-use Rattle.std.specs.Prelude.{ℕ, List, Option, None, Result, Ok, IfOk}
+use Rattle.std.specs.Prelude.{ℕ, List, None, Result, Ok, IfOk}
 use Rattle.sp_jobs.specs.declared.answers.Summary.{Summary}
 use Rattle.sp_jobs.specs.declared.answers.BatchError.{BatchError}
-use Rattle.sp_jobs.specs.Listing.{Asked}
+use Rattle.sp_jobs.specs.Answered.{JobDone}
 use Rattle.sp_jobs.specs.Batch.{IsBatch}
 use Rattle.sp_jobs.specs.Nearest.{IsForestRun}
 use Rattle.sp_jobs.specs.Matrix.{IsMatrixTo, IsMatrixToSome}
@@ -14,19 +14,19 @@ use Rattle.sp_options.specs.declared.sources.Sources.{Sources}
 use Rattle.sp_options.specs.Sources.{path_of}
 use Rattle.sp_cli.specs.declared.tree.TreeCommand.{TreeCommand}
 use Rattle.sp_cli.specs.declared.nearest.NearestCommand.{NearestCommand}
-use Rattle.sp_cli.specs.Told.{Job, asked_of, HasTextOf, IsAnsweredIn, IsOfSomeIn}
+use Rattle.sp_cli.specs.Told.{asked_of, HasTextOf, IsAnsweredIn, IsOfSomeIn}
 
 -- ## Jobs of a list of sources
 
 -- The answer belongs to the texts of the graph of this path and of the sources, where they are known.
-abbrev pub IsOfTexts : (P : ℕ) → Job → (graph : List ℕ) → Sources → Scene → Result Summary BatchError → Type 0
+abbrev pub IsOfTexts : (P : ℕ) → JobDone → (graph : List ℕ) → Sources → Scene → Result Summary BatchError → Type 0
 IsOfTexts P job graph sources s answer = (gr ss : List ℕ) → HasText s graph gr → HasTextOf s.files sources ss → IsAnsweredIn s P job gr (asked_of sources ss) answer
 
 -- Where all is written, some texts have what was written.
-abbrev pub IsOfSomeTexts : (P : ℕ) → Job → Sources → Scene → Result Summary BatchError → Type 0
+abbrev pub IsOfSomeTexts : (P : ℕ) → JobDone → Sources → Scene → Result Summary BatchError → Type 0
 IsOfSomeTexts P job sources s answer = IfOk answer (λ summary. IsOfSomeIn s P job (asked_of sources) (Ok summary))
 
-abbrev pub IsOfSources : (P : ℕ) → Job → (graph : List ℕ) → Sources → Scene → Result Summary BatchError → Type 0
+abbrev pub IsOfSources : (P : ℕ) → JobDone → (graph : List ℕ) → Sources → Scene → Result Summary BatchError → Type 0
 IsOfSources P job graph sources s answer = IsOfTexts P job graph sources s answer × IsOfSomeTexts P job sources s answer
 
 -- the path of their file
@@ -37,34 +37,21 @@ source_paths sources _ = None
 -- ## tree
 
 -- the trees of sources, up to the limit if there is one
-abbrev pub TreesDone : (P : ℕ) → (limit : Option ℕ) → Job
-TreesDone P limit wrote file sources answer = IsBatch P limit file sources wrote answer
-
 abbrev pub TreeAnswers : (P : ℕ) → TreeCommand → (graph : List ℕ) → Scene → Result Summary BatchError → Type 0
-TreeAnswers P tree graph s answer = IsOfSources P (TreesDone P tree.within.limit) graph tree.sources s answer
+TreeAnswers P tree graph s answer = IsOfSources P (IsBatch P tree.within.limit) graph tree.sources s answer
 
 -- ## nearest
 
 -- the forest of sources, up to the limit if there is one
-abbrev pub ForestDone : (P : ℕ) → (limit : Option ℕ) → Job
-ForestDone P limit wrote file sources answer = IsForestRun P file sources limit wrote answer
-
 abbrev pub NearestAnswers : (P : ℕ) → NearestCommand → (graph : List ℕ) → Scene → Result Summary BatchError → Type 0
-NearestAnswers P near graph s answer = IsOfSources P (ForestDone P near.within.limit) graph near.sources s answer
+NearestAnswers P near graph s answer = IsOfSources P (IsForestRun P near.within.limit) graph near.sources s answer
 
 -- ## matrix
 
--- the lines of each source with each target that is asked for
-abbrev pub MatrixDone : (P : ℕ) → (ends : Asked) → Job
-MatrixDone P ends wrote file sources answer = IsMatrixTo P ends wrote file sources answer
-
--- the same with the targets that are asked for in some text
-abbrev pub SomeMatrixDone : (P : ℕ) → (ends : List ℕ → Asked) → Job
-SomeMatrixDone P ends wrote file sources answer = IsMatrixToSome P ends wrote file sources answer
-
+-- the lines of each source with each target that is asked for; where all is written, with the targets that are asked for in some text
 abbrev pub MatrixAnswers : (P : ℕ) → Lists → (graph : List ℕ) → Scene → Result Summary BatchError → Type 0
-MatrixAnswers P lists graph s answer = ((ends : List ℕ) → HasTextOf s.files lists.targets ends → IsOfTexts P (MatrixDone P (asked_of lists.targets ends)) graph lists.sources s answer)
-    × IsOfSomeTexts P (SomeMatrixDone P (asked_of lists.targets)) lists.sources s answer
+MatrixAnswers P lists graph s answer = ((ends : List ℕ) → HasTextOf s.files lists.targets ends → IsOfTexts P (IsMatrixTo P (asked_of lists.targets ends)) graph lists.sources s answer)
+    × IsOfSomeTexts P (IsMatrixToSome P (asked_of lists.targets)) lists.sources s answer
 
 -- the paths of the two files
 abbrev pub list_paths : Lists → Paths

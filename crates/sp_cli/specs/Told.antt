@@ -5,19 +5,18 @@ use Rattle.sp_device.specs.declared.devices.Read.{Ghosts as Reader}
 use Rattle.sp_device.specs.declared.devices.Write.{Ghosts as Writer}
 use Rattle.sp_text.specs.declared.faults.DimacsError.{DimacsError}
 use Rattle.sp_text.specs.declared.faults.Kind.TheVariants as kind
-use Rattle.sp_dimacs.specs.declared.graphs.GrFile.{GrFile}
 use Rattle.sp_jobs.specs.declared.answers.Summary.{Summary}
 use Rattle.sp_jobs.specs.declared.answers.BatchError.{BatchError}
 use Rattle.sp_jobs.specs.declared.listing.Listing.{Listing}
 use Rattle.sp_jobs.specs.Listing.{Asked, InText, These, AreRefused, HasLeft, IsNumbered, MayRefuse, asked_in}
-use Rattle.sp_jobs.specs.Answered.{Wrote, JobAnswered, JobOfSome}
+use Rattle.sp_jobs.specs.Network.{IsNetworkRefused}
+use Rattle.sp_jobs.specs.Answered.{Wrote, JobDone, JobAnswered, JobOfSome}
 use Rattle.sp_command.specs.declared.faults.Fault.{Fault}
 use Rattle.sp_command.specs.declared.faults.Fault.TheVariants as fault
 use Rattle.sp_command.specs.declared.faults.Status.{Status}
 use Rattle.sp_command.specs.declared.faults.Status.TheVariants as status
 use Rattle.sp_command.specs.Causes.{Paths, IsBorneOut, MayStayClosed}
 use Rattle.sp_command.specs.Scene.{Files, Scene, scene, IsUnwritten}
-use Rattle.sp_tools.specs.Reading.{GraphIn}
 use Rattle.sp_options.specs.declared.sources.Sources.{Sources}
 use Rattle.sp_options.specs.declared.sources.Sources.TheVariants.{File, Part, Given}
 use Rattle.sp_options.specs.Sources.{path_of}
@@ -56,22 +55,18 @@ pub record IsOpenedList {D : Type 0} (device : Reader D) (files : Files) (list :
 abbrev pub scene_by : {W : Type 0} → Files → Writer W → (old new : W) → Scene
 scene_by files w old new = scene files (w.written old) (w.written new) (w.has_failed new)
 
--- what is done for a graph and sources, and what stands written then
-abbrev pub Job : Type 1
-Job = Wrote → GrFile → (sources : List ℕ) → Result Summary BatchError → Type 0
-
 -- what was written in a scene
 abbrev pub wrote_in : Scene → Wrote
 wrote_in s = record { before = s.before; after = s.after; failed = s.failed }
 
 -- In the scene that is the answer of the job to the text of a graph and to what is asked for: a refusal of one of them, with nothing
 -- written, or what is done; whatever a reader leaves of a text that it refuses, and whether its device fails or not.
-abbrev pub IsAnsweredIn : Scene → (P : ℕ) → Job → (gr : List ℕ) → Asked → Result Summary BatchError → Type 0
-IsAnsweredIn s P job gr asked answer = JobAnswered P gr asked (λ e. GraphIn P gr (Err e)) (AreRefused P asked) (job (wrote_in s)) (wrote_in s) answer
+abbrev pub IsAnsweredIn : Scene → (P : ℕ) → JobDone → (gr : List ℕ) → Asked → Result Summary BatchError → Type 0
+IsAnsweredIn s P job gr asked answer = JobAnswered P gr asked (IsNetworkRefused P gr) (AreRefused P asked) job (wrote_in s) answer
 
 -- The same for some text of a graph, and what is asked for in some text.
-abbrev pub IsOfSomeIn : Scene → (P : ℕ) → Job → (List ℕ → Asked) → Result Summary BatchError → Type 0
-IsOfSomeIn s P job asked answer = JobOfSome P asked (job (wrote_in s)) (wrote_in s) answer
+abbrev pub IsOfSomeIn : Scene → (P : ℕ) → JobDone → (List ℕ → Asked) → Result Summary BatchError → Type 0
+IsOfSomeIn s P job asked answer = JobOfSome P asked job (wrote_in s) answer
 
 -- With a limit no vertex is too far.
 abbrev pub NoneFar : (limit : Option ℕ) → Summary → Type 0
