@@ -1,6 +1,7 @@
 -- What a command tells of its job.
 use Rattle.std.proofs.Common.{◌≡◌, ℕ, Bool, Option, Result, Ok, Err, refl, sym, subst}
 use Rattle.std.specs.Prelude.{IfOk, IfErr}
+use Rattle.sp_network.specs.declared.faults.NetworkFault.TheVariants.{Text, Packed}
 use Rattle.sp_jobs.specs.declared.answers.Summary.{Summary}
 use Rattle.sp_jobs.specs.declared.answers.BatchError.{BatchError}
 use Rattle.sp_jobs.specs.declared.answers.BatchError.TheVariants.{Gr, Ss, Targets, Pairs, NoSuchVertex, Memory, Write}
@@ -24,7 +25,8 @@ tells far_ok Answered s (Ok summary) is = (Ok summary, refl, is)
 tells far_ok Answered s (Err (NoSuchVertex v role)) is = (Err (NoSuchVertex v role), refl, is)
 tells far_ok Answered s (Err Memory) is = (Err Memory, refl, is)
 tells far_ok Answered s (Err Write) is = (Err Write, refl, is)
-tells far_ok Answered s (Err (Gr e)) is = (Err (Gr e), refl, is)
+tells far_ok Answered s (Err (Gr (Text e))) is = (Err (Gr (Text e)), refl, is)
+tells far_ok Answered s (Err (Gr (Packed e))) is = (Err (Gr (Packed e)), refl, is)
 tells far_ok Answered s (Err (Ss e)) is = (Err (Ss e), refl, is)
 tells far_ok Answered s (Err (Targets e)) is = (Err (Targets e), refl, is)
 tells far_ok Answered s (Err (Pairs e)) is = (Err (Pairs e), refl, is)
@@ -46,17 +48,19 @@ shut paths files fault.InputTwice is = absurd is
 shut paths files fault.NoPlaces is = absurd is
 shut paths files (fault.CannotOpen kind) is = (kind, refl, is)
 shut paths files (fault.Input kind e) is = absurd is
+shut paths files (fault.Packed e) is = absurd is
 shut paths files (fault.NoSuchVertex v kind) is = absurd is
 shut paths files fault.TooManySteps is = absurd is
+shut paths files fault.ToTerminal is = absurd is
 shut paths files fault.Memory is = absurd is
 shut paths files fault.WriteFailed is = absurd is
 shut paths files fault.CannotWrite is = absurd is
 
 module _ {C : Type 0} (P : ℕ) (within : C → Option ℕ) (placeless : C → Type 0) (answers : Answering C) (given : InGraph C) (s : Scene) (bucket : IsBucket P given.options.width) (in_range : IsLimit P (within given.own)) (places : ¬ (placeless given.own)) where
   -- Its job has answered.
-  pub job_answers : (paths : Paths) (answer : Result Summary BatchError) → IsAnswered paths (within given.own) (answers given.own given.graph.now s) s answer → IsJobAnswer P within placeless answers given s (end_after given.options.far_ok answer)
+  pub job_answers : (paths : Paths) (answer : Result Summary BatchError) → IsAnswered paths (within given.own) (answers given.own given.options.direction given.graph.now s) s answer → IsJobAnswer P within placeless answers given s (end_after given.options.far_ok answer)
   job_answers paths answer is =
-      let Answered = answers given.own given.graph.now s in
+      let Answered = answers given.own given.options.direction given.graph.now s in
       record {
         no_width = λ none. absurd (none bucket);
         no_limit = λ b none. absurd (none in_range);
@@ -90,7 +94,8 @@ job_borne_out P within placeless given far_ok paths s (Ok summary) is = tt
 job_borne_out P within placeless given far_ok paths s (Err (NoSuchVertex v role)) is = tt
 job_borne_out P within placeless given far_ok paths s (Err Memory) is = is
 job_borne_out P within placeless given far_ok paths s (Err Write) is = is
-job_borne_out P within placeless given far_ok paths s (Err (Gr e)) is = is
+job_borne_out P within placeless given far_ok paths s (Err (Gr (Text e))) is = is
+job_borne_out P within placeless given far_ok paths s (Err (Gr (Packed e))) is = is
 job_borne_out P within placeless given far_ok paths s (Err (Ss e)) is = is
 job_borne_out P within placeless given far_ok paths s (Err (Targets e)) is = is
 job_borne_out P within placeless given far_ok paths s (Err (Pairs e)) is = is

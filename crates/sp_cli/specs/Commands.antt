@@ -3,6 +3,7 @@ use Rattle.std.specs.Prelude.{◌≡◌, ◌⊎◌, ℕ, true, List, Option, Som
 use Rattle.clap.specs.Matches.{first_value}
 use Rattle.clap.specs.declared.parser.matches.Found.{Found}
 use Rattle.sp_device.specs.declared.devices.Write.{Ghosts as Writer}
+use Rattle.sp_network.specs.declared.directions.Direction.{Direction}
 use Rattle.sp_jobs.specs.declared.answers.Summary.{Summary}
 use Rattle.sp_jobs.specs.declared.answers.BatchError.{BatchError}
 use Rattle.sp_jobs.specs.Answers.{is_early}
@@ -33,9 +34,9 @@ LacksInGraph lacks found = LacksValue found (codes "GR") ⊎ (LacksOptions found
 
 -- ## Answers
 
--- what a command's job answers, with the graph of this path
+-- what a command's job answers, with the graph of this path, its arcs in this direction
 abbrev pub Answering : Type 0 → Type 1
-Answering C = C → (graph : List ℕ) → Scene → Result Summary BatchError → Type 0
+Answering C = C → Direction → (graph : List ℕ) → Scene → Result Summary BatchError → Type 0
 
 -- What the command answers: where the layout has no such width, or else no such distance as the limit, or else a word for places spells
 -- none, exactly that, with nothing written; else it tells how its job has ended; and if it succeeds, whatever else, its job has.
@@ -44,8 +45,8 @@ pub record IsJobAnswer {C : Type 0} (P : ℕ) (within : C → Option ℕ) (place
   pub no_limit : IsBucket P given.options.width → ¬ (IsLimit P (within given.own)) → (result ≡ Err fault.LimitOutOfRange) × IsUnwritten s
   pub no_places : IsBucket P given.options.width → IsLimit P (within given.own) → placeless given.own → (result ≡ Err fault.NoPlaces) × IsUnwritten s
   pub told : IsBucket P given.options.width → IsLimit P (within given.own) → ¬ (placeless given.own)
-      → IsTold given.options.far_ok (answers given.own given.graph.now s) s result
-  pub of_some : IfOk result (λ status. ¬ (placeless given.own) × IsFinished given.options.far_ok (answers given.own given.graph.now s) status)
+      → IsTold given.options.far_ok (answers given.own given.options.direction given.graph.now s) s result
+  pub of_some : IfOk result (λ status. ¬ (placeless given.own) × IsFinished given.options.far_ok (answers given.own given.options.direction given.graph.now s) status)
   pub near : EndsNear result (within given.own)
 
 -- These are the paths of a command's files, with that of the graph.
@@ -69,8 +70,8 @@ abbrev pub IsPlaced : {F : Type 0} → (P : ℕ) → (within : Option ℕ) → P
 IsPlaced P within place = (place.limit ≡ within) × IsLimit P place.limit
 
 -- In a place a job has answered that, or a file couldn't be opened.
-abbrev pub EndsAt : {F W : Type 0} → (files_of : F → Files) → Paths → (within : Option ℕ) → (Answered : (graph : List ℕ) → Scene → Result Summary BatchError → Type 0) → Place F → Writer W → (old new : W) → Result (Result Summary BatchError) Fault → Type 0
-EndsAt files_of paths within Answered place w old new result = Ends (paths_in place.graph.now paths) within (Answered place.graph.now) (scene_by (files_of place.files.now) w old new) result
+abbrev pub EndsAt : {F W : Type 0} → (files_of : F → Files) → Paths → (within : Option ℕ) → (Answered : Direction → (graph : List ℕ) → Scene → Result Summary BatchError → Type 0) → Place F → Writer W → (old new : W) → Result (Result Summary BatchError) Fault → Type 0
+EndsAt files_of paths within Answered place w old new result = Ends (paths_in place.graph.now paths) within (Answered place.direction place.graph.now) (scene_by (files_of place.files.now) w old new) result
 
 -- Before a fault that comes early nothing is written.
 abbrev pub IsUntouched : {W : Type 0} → (old new : W) → Result (Result Summary BatchError) Fault → Type 0

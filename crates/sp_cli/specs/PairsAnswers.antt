@@ -2,6 +2,7 @@
 use Rattle.std.specs.Prelude.{ℕ, Bool, List, Option, Some, None, Result, Ok, Err, IfOk}
 use Rattle.sp_text.specs.declared.faults.DimacsError.{DimacsError}
 use Rattle.sp_dimacs.specs.Pairs.{PairsRead}
+use Rattle.sp_network.specs.declared.directions.Direction.{Direction}
 use Rattle.sp_jobs.specs.declared.answers.Summary.{Summary}
 use Rattle.sp_jobs.specs.declared.answers.BatchError.{BatchError}
 use Rattle.sp_jobs.specs.Network.{IsNetworkRefused}
@@ -18,16 +19,16 @@ IsPairsRefused P text e = (left : Option (List ℕ)) × (failed : Bool) × Pairs
 
 -- The answer belongs to the texts of a graph and of pairs: the answers of all pairs were written; or nothing, where a text is refused or
 -- a number is no vertex, or memory was refused; or a beginning, where the writer failed.
-abbrev pub IsOfPairs : (P : ℕ) → (gr pairs : List ℕ) → Scene → Result Summary BatchError → Type 0
-IsOfPairs P gr pairs s answer = PairsTold P gr pairs (IsNetworkRefused P gr) (IsPairsRefused P pairs) (wrote_in s) answer
+abbrev pub IsOfPairs : (P : ℕ) → (way : Direction) → (gr pairs : List ℕ) → Scene → Result Summary BatchError → Type 0
+IsOfPairs P way gr pairs s answer = PairsTold P way gr pairs (IsNetworkRefused P way gr) (IsPairsRefused P pairs) (wrote_in s) answer
 
 -- Where all is written, some texts spell a graph and pairs, and exactly the text of their answers was written.
-abbrev pub IsOfSomePairs : (P : ℕ) → Scene → Result Summary BatchError → Type 0
-IsOfSomePairs P s answer = IfOk answer (λ summary. PairsOfSome P (wrote_in s) (Ok summary))
+abbrev pub IsOfSomePairs : (P : ℕ) → (way : Direction) → Scene → Result Summary BatchError → Type 0
+IsOfSomePairs P way s answer = IfOk answer (λ summary. PairsOfSome P way (wrote_in s) (Ok summary))
 
 -- The answer belongs to the texts of the graph of this path and of the pairs, where they are known.
-abbrev pub PairsAnswers : (P : ℕ) → PairsCommand → (graph : List ℕ) → Scene → Result Summary BatchError → Type 0
-PairsAnswers P given graph s answer = ((gr pairs : List ℕ) → HasText s graph gr → HasText s given.pairs.now pairs → IsOfPairs P gr pairs s answer) × IsOfSomePairs P s answer
+abbrev pub PairsAnswers : (P : ℕ) → PairsCommand → Direction → (graph : List ℕ) → Scene → Result Summary BatchError → Type 0
+PairsAnswers P given way graph s answer = ((gr pairs : List ℕ) → HasText s graph gr → HasText s given.pairs.now pairs → IsOfPairs P way gr pairs s answer) × IsOfSomePairs P way s answer
 
 -- the path of the pairs
 abbrev pub pairs_paths : PairsCommand → Paths

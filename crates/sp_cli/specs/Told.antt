@@ -5,6 +5,7 @@ use Rattle.sp_device.specs.declared.devices.Read.{Ghosts as Reader}
 use Rattle.sp_device.specs.declared.devices.Write.{Ghosts as Writer}
 use Rattle.sp_text.specs.declared.faults.DimacsError.{DimacsError}
 use Rattle.sp_text.specs.declared.faults.Kind.TheVariants as kind
+use Rattle.sp_network.specs.declared.directions.Direction.{Direction}
 use Rattle.sp_jobs.specs.declared.answers.Summary.{Summary}
 use Rattle.sp_jobs.specs.declared.answers.BatchError.{BatchError}
 use Rattle.sp_jobs.specs.declared.listing.Listing.{Listing}
@@ -61,12 +62,12 @@ wrote_in s = record { before = s.before; after = s.after; failed = s.failed }
 
 -- In the scene that is the answer of the job to the text of a graph and to what is asked for: a refusal of one of them, with nothing
 -- written, or what is done; whatever a reader leaves of a text that it refuses, and whether its device fails or not.
-abbrev pub IsAnsweredIn : Scene → (P : ℕ) → JobDone → (gr : List ℕ) → Asked → Result Summary BatchError → Type 0
-IsAnsweredIn s P job gr asked answer = JobAnswered P gr asked (IsNetworkRefused P gr) (AreRefused P asked) job (wrote_in s) answer
+abbrev pub IsAnsweredIn : Scene → (P : ℕ) → (way : Direction) → JobDone → (gr : List ℕ) → Asked → Result Summary BatchError → Type 0
+IsAnsweredIn s P way job gr asked answer = JobAnswered P way gr asked (IsNetworkRefused P way gr) (AreRefused P asked) job (wrote_in s) answer
 
 -- The same for some text of a graph, and what is asked for in some text.
-abbrev pub IsOfSomeIn : Scene → (P : ℕ) → JobDone → (List ℕ → Asked) → Result Summary BatchError → Type 0
-IsOfSomeIn s P job asked answer = JobOfSome P asked job (wrote_in s) answer
+abbrev pub IsOfSomeIn : Scene → (P : ℕ) → (way : Direction) → JobDone → (List ℕ → Asked) → Result Summary BatchError → Type 0
+IsOfSomeIn s P way job asked answer = JobOfSome P way asked job (wrote_in s) answer
 
 -- With a limit no vertex is too far.
 abbrev pub NoneFar : (limit : Option ℕ) → Summary → Type 0

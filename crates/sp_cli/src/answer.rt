@@ -2,6 +2,7 @@
 ghost use denote.Param.Send.{IsSync};
 ghost use Rattle.std.specs.Prelude.{◌≡◌, ℕ, true, false, List, Option, Result, Some, IfOk, MatchResult, codes};
 ghost use Rattle.sp_word.specs.Word.{is_layout};
+ghost use Rattle.sp_network.specs.declared.directions.Direction.{Direction};
 ghost use Rattle.sp_jobs.specs.declared.answers.Summary.{Summary};
 ghost use Rattle.sp_jobs.specs.declared.answers.BatchError.{BatchError};
 ghost use Rattle.sp_command.specs.Causes.{Paths};
@@ -29,8 +30,8 @@ pub trait Answer<const P: u32> {
     /// A word for places spells none.
     ghost placeless: { Self → Type 0 };
 
-    /// What its job answers, with the graph of this path.
-    ghost answers: { Self → (graph : List ℕ)
+    /// What its job answers, with the graph of this path, its arcs in this direction.
+    ghost answers: { Self → Direction → (graph : List ℕ)
         → Scene → Result Summary BatchError → Type 0 };
 
     /// Returns the greatest distance that is told, or a fault if words with `P` bits of predecessor have no such distance.

@@ -95,6 +95,7 @@ impl<const P: u32, C: Answer<P>> Run<P> for InGraph<'_, C> {
         let settings = self.options.settings::<P, _>(&teller)?;
         let place = Place {
             graph: self.graph,
+            direction: self.options.direction,
             files,
             teller: &teller,
             limit: self.own.limit()?,

@@ -8,7 +8,7 @@ use crate::nearest::NearestCommand;
 use crate::pairs::PairsCommand;
 use crate::tree::TreeCommand;
 use sp_command::OneOf;
-use sp_tools::{CheckCommand, OffersCommand, ReplayCommand};
+use sp_tools::{CheckCommand, OffersCommand, PackCommand, ReplayCommand};
 
 /// A command of the program, with its options and the paths of its files. The commands stand in the order of the help.
 pub type AnyCommand<'a> = OneOf<
@@ -19,7 +19,10 @@ pub type AnyCommand<'a> = OneOf<
             InGraph<'a, MatrixCommand<'a>>,
             OneOf<
                 InGraph<'a, NearestCommand<'a>>,
-                OneOf<CheckCommand<'a>, OneOf<ReplayCommand<'a>, OffersCommand<'a>>>,
+                OneOf<
+                    CheckCommand<'a>,
+                    OneOf<PackCommand<'a>, OneOf<ReplayCommand<'a>, OffersCommand<'a>>>,
+                >,
             >,
         >,
     >,

@@ -199,7 +199,7 @@ impl<const P: u32> Answer<P> for MatrixCommand<'_> {
             place.now W.Write out.old out.new result }
         ensures untouched { IsUntouched out.old out.new result }
     {
-        let mut gr = place.open(FileKind::Graph, place.graph)?;
+        let mut gr = place.open_graph()?;
         let sources = place.open_list(FileKind::Sources, &self.lists.sources)?;
         let targets = place.open_list(FileKind::Targets, &self.lists.targets)?;
         let settings = place.settings::<P>(width);

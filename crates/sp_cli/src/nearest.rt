@@ -186,7 +186,7 @@ impl<const P: u32> Answer<P> for NearestCommand<'_> {
             place.now W.Write out.old out.new result }
         ensures untouched { IsUntouched out.old out.new result }
     {
-        let mut gr = place.open(FileKind::Graph, place.graph)?;
+        let mut gr = place.open_graph()?;
         let sources = place.open_list(FileKind::Sources, &self.sources)?;
         let settings = place.settings::<P>(width);
         by_crew!(rt, settings, crew => Ok(run_nearest_told(

@@ -55,7 +55,7 @@ output is the same for any delta and any number of workers.";
 
     const AFTER_HELP: &'static str = after_help!(
         "\
-The graph is a .gr file, as described in `spt tree --help`. The pairs are in a
+The graph is a file as described in `spt tree --help`. The pairs are in a
 file of their own, with its fields separated by blanks:
   p pairs K     there are K pairs, at most 1048576; it comes first, and only
                 once
@@ -176,7 +176,7 @@ impl<const P: u32> Answer<P> for PairsCommand<'_> {
             place.now W.Write out.old out.new result }
         ensures untouched { IsUntouched out.old out.new result }
     {
-        let mut gr = place.open(FileKind::Graph, place.graph)?;
+        let mut gr = place.open_graph()?;
         let mut pairs = place.open(FileKind::Pairs, self.pairs)?;
         let settings = place.settings::<P>(width);
         by_crew!(rt, settings, crew => Ok(run_pairs_told(

@@ -9,6 +9,7 @@ ghost use Rattle.sp_cli.specs.Told.{IsOpenedList, LackPlaces};
 use sp_command::{Fault, FileKind, Inputs};
 use sp_device::Read;
 use sp_jobs::{BucketWidth, Listing, Settings};
+use sp_network::{Direction, Peeked};
 use sp_options::{Sources, Teller, Watched};
 use sp_word::Workers;
 
@@ -26,10 +27,11 @@ macro_rules! by_crew {
     }};
 }
 
-/// The files of a command line and the path of the graph, the greatest distance that is told, if there is a limit, the number of
+/// The files of a command line, the path of the graph and the direction of its arcs, the greatest distance that is told, if there is a limit, the number of
 /// threads that may work, and who hears of the progress.
 pub struct Place<'a, F> {
     pub graph: &'a str,
+    pub direction: Direction,
     pub files: &'a F,
     pub teller: &'a Teller<'a, F>,
     pub limit: Option<u64>,
@@ -40,6 +42,7 @@ impl<F> Drop for Place<'_, F> {
     fn drop(self) {
         let Place {
             graph: _,
+            direction: _,
             files: _,
             teller: _,
             limit: _,
@@ -50,8 +53,11 @@ impl<F> Drop for Place<'_, F> {
 
 impl<'a, F: Inputs> Place<'a, F> {
     /// Returns the settings of a job with buckets of this width.
-    pub fn settings<const P: u32>(&self, width: BucketWidth<P>) -> Settings<'a, P, Teller<'a, F>> {
+    pub fn settings<const P: u32>(&self, width: BucketWidth<P>) -> Settings<'a, P, Teller<'a, F>>
+        ensures { result.direction ≡ self.now.direction }
+    {
         Settings {
+            direction: self.direction,
             width,
             workers: self.workers,
             listener: self.teller,
@@ -67,6 +73,17 @@ impl<'a, F: Inputs> Place<'a, F> {
     {
         let file = kind.open(self.files, path)?;
         Ok(Watched::new(file, kind, self.teller))
+    }
+
+    /// Opens the graph at its start, as such a device, whose first byte shows the form of the file.
+    pub fn open_graph(&self) -> Result<Peeked<Watched<'a, 'a, F::File, F>>, Fault>
+        ensures opened { IfOk result
+            (IsOpened ⟦<Peeked<Watched<'static, 'static, F::File, F>> as Read>⟧
+            (F.files self.now.files.now) self.now.graph.now) }
+        ensures closed { IfErr result
+            (StaysClosed (F.files self.now.files.now) FileKind.Graph self.now.graph.now) }
+    {
+        Ok(Peeked::new(self.open(FileKind::Graph, self.graph)?))
     }
 
     /// Opens a list at its start, if it stands in a file.

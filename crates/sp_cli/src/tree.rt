@@ -65,6 +65,8 @@ fields separated by blanks:
   a U V W       an arc from U to V of length W, 1 to 4294967295; there are M of
                 these lines
   c ...         a comment; so is a blank line
+or a packed file (see `spt pack --help`), which is read sooner. With --both-ways
+M is at most 536870912.
 The sources are in a .ss file:
   p aux sp ss K there are K sources, at most 1048576; it comes first, and only
                 once
@@ -84,7 +86,8 @@ or, if a vertex is too far, that is, its distance does not fit (see
 whose distance fits (exit status 4 at the end):
   x S V
 With --within L a block has only the vertices at distances up to L, and there
-are no x lines.
+are no x lines. With --towards D is the length of a shortest walk from V to S,
+and P is the vertex behind V on it.
 
 It takes at most 28 bytes of memory per vertex, 24 per arc and 8 per source,
 plus 4 MB; if several workers run several sources, another 16 bytes per vertex
@@ -115,7 +118,8 @@ and with --within 3 it is
   e 3
 
 An error in a file is reported with its line, as in
-`spt: gr: line 2: 5 OutOfRange V`; FILE is gr or ss:
+`spt: gr: line 2: 5 OutOfRange V`; FILE is gr or ss. One in a packed graph is
+reported with its byte, as `spt pack --help` describes:
 ",
         faults: "  6 TooMany        more than M arcs or K sources
   7 TooFew         fewer than M arcs or K sources
@@ -211,7 +215,7 @@ impl<const P: u32> Answer<P> for TreeCommand<'_> {
             place.now W.Write out.old out.new result }
         ensures untouched { IsUntouched out.old out.new result }
     {
-        let mut gr = place.open(FileKind::Graph, place.graph)?;
+        let mut gr = place.open_graph()?;
         let sources = place.open_list(FileKind::Sources, &self.sources)?;
         let settings = place.settings::<P>(width);
         by_crew!(rt, settings, crew => Ok(run_batch_told(

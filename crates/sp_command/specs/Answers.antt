@@ -2,17 +2,16 @@
 use Rattle.std.specs.Prelude.{◌≡◌, ℕ, true, ◌⊎◌, List, Result, Ok, Err}
 use Rattle.std.specs.Io.KnownBytes.{Appends}
 use Rattle.sp_device.specs.Devices.{IsBegun}
-use Rattle.sp_text.specs.declared.faults.DimacsError.{DimacsError}
-use Rattle.sp_command.specs.declared.faults.FileKind.{FileKind}
 use Rattle.sp_command.specs.declared.faults.Fault.{Fault}
 use Rattle.sp_command.specs.declared.faults.Fault.TheVariants as fault
 use Rattle.sp_command.specs.declared.faults.Status.{Status}
 use Rattle.sp_command.specs.Scene.{Scene, IsUnwritten}
 
--- The fault keeps a command from finding anything: a file couldn't be opened, its text was refused as stated, or there
+-- The fault keeps a command from finding anything: a file couldn't be opened, what it holds was refused as stated, or there
 -- was no memory.
-abbrev pub Hinders : (IsRefused : FileKind → DimacsError → Type 0) → Fault → Type 0
-Hinders IsRefused (fault.Input kind error) = IsRefused kind error
+abbrev pub Hinders : (IsRefused : Fault → Type 0) → Fault → Type 0
+Hinders IsRefused (fault.Input kind error) = IsRefused (fault.Input kind error)
+Hinders IsRefused (fault.Packed error) = IsRefused (fault.Packed error)
 Hinders IsRefused (fault.CannotOpen kind) = Unit {0}
 Hinders IsRefused fault.InputTwice = Unit {0}
 Hinders IsRefused fault.Memory = Unit {0}
@@ -27,6 +26,6 @@ abbrev pub Broke : {V : Type 0} → (IsFound : V → Type 0) → (text_of : V �
 Broke {V} IsFound text_of s why = (why ≡ fault.WriteFailed) × (s.failed ≡ true) × ((v : V) × IsFound v × IsBegun (text_of v) s.before s.after)
 
 -- What was found was written; or the command could find nothing, and nothing was written; or the writer failed.
-abbrev pub Tells : {V : Type 0} → (IsFound : V → Type 0) → (text_of : V → List ℕ) → (status_of : V → Status) → (IsRefused : FileKind → DimacsError → Type 0) → Scene → Result Status Fault → Type 0
+abbrev pub Tells : {V : Type 0} → (IsFound : V → Type 0) → (text_of : V → List ℕ) → (status_of : V → Status) → (IsRefused : Fault → Type 0) → Scene → Result Status Fault → Type 0
 Tells IsFound text_of status_of IsRefused s (Ok status) = Told IsFound text_of status_of s status
 Tells IsFound text_of status_of IsRefused s (Err why) = (Hinders IsRefused why × IsUnwritten s) ⊎ Broke IsFound text_of s why

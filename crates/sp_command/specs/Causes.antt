@@ -3,6 +3,8 @@ use Rattle.std.specs.Prelude.{◌≡◌, ◌≢◌, ◌⊎◌, ℕ, true, false,
 use Rattle.sp_device.specs.Failing.{Never}
 use Rattle.sp_text.specs.declared.faults.DimacsError.{DimacsError}
 use Rattle.sp_text.specs.declared.faults.Kind.TheVariants as kind
+use Rattle.sp_packed.specs.declared.faults.PackedFault.{PackedFault}
+use Rattle.sp_packed.specs.declared.faults.PackedKind.TheVariants as packed
 use Rattle.sp_command.specs.declared.faults.FileKind.{FileKind}
 use Rattle.sp_command.specs.declared.faults.FileKind.TheVariants as role
 use Rattle.sp_command.specs.declared.faults.Fault.{Fault}
@@ -21,6 +23,10 @@ MayStayClosed paths files file = (path : List ℕ) × (paths file ≡ Some path)
 abbrev pub MayBeRefused : Paths → Files → FileKind → DimacsError → Type 0
 MayBeRefused paths files file error = (path : List ℕ) × (paths file ≡ Some path) × (error.kind ≡ kind.Read → files.failing path ≢ Never)
 
+-- The command has a graph. If the fault is that its device failed, then that device may fail.
+abbrev pub MayBeOtherwise : Paths → Files → PackedFault → Type 0
+MayBeOtherwise paths files error = (path : List ℕ) × (paths role.Graph ≡ Some path) × (error.kind ≡ packed.Read → files.failing path ≢ Never)
+
 -- Standard input is named for files of two kinds.
 abbrev pub NamesInputTwice : Paths → Type 0
 NamesInputTwice paths = (one : FileKind) × (other : FileKind) × (one ≢ other) × (paths one ≡ Some (codes "-")) × (paths other ≡ Some (codes "-"))
@@ -31,6 +37,7 @@ NamesInputTwice paths = (one : FileKind) × (other : FileKind) × (one ≢ other
 abbrev pub IsBorneOut : Paths → (own : Fault → Type 0) → Scene → Fault → Type 0
 IsBorneOut paths own s (fault.CannotOpen file) = MayStayClosed paths s.files file
 IsBorneOut paths own s (fault.Input file error) = MayBeRefused paths s.files file error
+IsBorneOut paths own s (fault.Packed error) = MayBeOtherwise paths s.files error
 IsBorneOut paths own s fault.InputTwice = NamesInputTwice paths
 IsBorneOut paths own s fault.WriteFailed = s.failed ≡ true
 IsBorneOut paths own s fault.Memory = Unit {0}

@@ -4,6 +4,8 @@ use Rattle.sp_command.specs.declared.faults.Status.{Status}
 use Rattle.sp_command.specs.declared.faults.Status.TheVariants as status
 use Rattle.sp_command.specs.declared.faults.Fault.{Fault}
 use Rattle.sp_command.specs.declared.faults.Fault.TheVariants as fault
+use Rattle.sp_packed.specs.declared.faults.PackedKind.{PackedKind}
+use Rattle.sp_packed.specs.declared.faults.PackedKind.TheVariants as packed
 use Rattle.sp_text.specs.declared.faults.Kind.{Kind}
 use Rattle.sp_text.specs.declared.faults.Kind.TheVariants as kind
 
@@ -30,6 +32,12 @@ status_of_kind kind.Memory = status.Memory
 status_of_kind kind.Read = status.Failed
 status_of_kind _ = status.Refused
 
+-- The same of a packed graph.
+abbrev pub status_of_word : PackedKind → Status
+status_of_word packed.Memory = status.Memory
+status_of_word packed.Read = status.Failed
+status_of_word _ = status.Refused
+
 abbrev pub status_of : Fault → Status
 status_of (fault.Usage error) = status.Usage
 status_of fault.DeltaOutOfRange = status.Usage
@@ -38,8 +46,10 @@ status_of fault.InputTwice = status.Usage
 status_of fault.NoPlaces = status.Usage
 status_of (fault.CannotOpen file) = status.Failed
 status_of (fault.Input file error) = status_of_kind error.kind
+status_of (fault.Packed error) = status_of_word error.kind
 status_of (fault.NoSuchVertex source kind) = status.Refused
 status_of fault.TooManySteps = status.Refused
+status_of fault.ToTerminal = status.Usage
 status_of fault.Memory = status.Memory
 status_of fault.WriteFailed = status.Failed
 status_of fault.CannotWrite = status.Failed

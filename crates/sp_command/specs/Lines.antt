@@ -8,6 +8,10 @@ use Rattle.sp_device.specs.Devices.{IsBegun}
 use Rattle.sp_text.specs.declared.faults.DimacsError.{DimacsError}
 use Rattle.sp_text.specs.declared.faults.Kind.{Kind}
 use Rattle.sp_text.specs.declared.faults.Kind.TheVariants as kind
+use Rattle.sp_packed.specs.declared.faults.PackedFault.{PackedFault}
+use Rattle.sp_packed.specs.declared.faults.PackedKind.{PackedKind}
+use Rattle.sp_packed.specs.declared.faults.PackedKind.TheVariants as packed
+use Rattle.sp_packed.specs.declared.faults.PackedField.TheVariants as field
 use Rattle.sp_command.specs.declared.faults.FileKind.{FileKind}
 use Rattle.sp_command.specs.declared.faults.FileKind.TheVariants as file
 use Rattle.sp_command.specs.declared.faults.Fault.{Fault}
@@ -59,6 +63,29 @@ letter_of _ = []
 abbrev pub input_line : FileKind → DimacsError → List ℕ
 input_line file error = concat (codes "spt: " ∷ word_of file ∷ codes ": line " ∷ decimal error.line ∷ codes ": " ∷ name_of error.kind ∷ letter_of error.kind ∷ newline ∷ [])
 
+-- These are the number and the name of a fault of a packed graph.
+abbrev pub packed_name_of : PackedKind → List ℕ
+packed_name_of packed.OtherForm = codes "10 OtherForm"
+packed_name_of (packed.OutOfRange field) = codes "5 OutOfRange "
+packed_name_of packed.OtherSum = codes "11 OtherSum"
+packed_name_of packed.TooMany = codes "6 TooMany"
+packed_name_of packed.TooFew = codes "7 TooFew"
+packed_name_of packed.Memory = codes "8 Memory"
+packed_name_of packed.Read = codes "9 Read"
+
+-- This is the letter of the word that is out of range, for a fault that has one.
+abbrev pub packed_letter_of : PackedKind → List ℕ
+packed_letter_of (packed.OutOfRange field.Vertices) = codes "N"
+packed_letter_of (packed.OutOfRange field.Arcs) = codes "M"
+packed_letter_of (packed.OutOfRange field.End) = codes "E"
+packed_letter_of (packed.OutOfRange field.Head) = codes "V"
+packed_letter_of (packed.OutOfRange field.Length) = codes "W"
+packed_letter_of _ = []
+
+-- The line of a fault of a packed graph names the graph, the number of bytes before the word, and what is wrong there.
+abbrev pub packed_line : PackedFault → List ℕ
+packed_line error = concat (codes "spt: gr: byte " ∷ decimal error.at ∷ codes ": " ∷ packed_name_of error.kind ∷ packed_letter_of error.kind ∷ newline ∷ [])
+
 -- This is the line of a fault, if its text is known: that of a fault of the words comes from `clap`.
 abbrev pub line_of : Fault → Option (List ℕ)
 line_of (fault.Usage error) = None
@@ -68,8 +95,10 @@ line_of fault.InputTwice = Some (codes "spt: standard input twice" ++ newline)
 line_of fault.NoPlaces = Some (codes "spt: sources are not A-B" ++ newline)
 line_of (fault.CannotOpen file) = Some (concat (codes "spt: " ∷ word_of file ∷ codes ": cannot open" ∷ newline ∷ []))
 line_of (fault.Input file error) = Some (input_line file error)
+line_of (fault.Packed error) = Some (packed_line error)
 line_of (fault.NoSuchVertex vertex kind) = Some (concat (codes "spt: source " ∷ decimal vertex ∷ codes ": no such vertex" ∷ newline ∷ []))
 line_of fault.TooManySteps = Some (codes "spt: replay: more than 60 steps" ++ newline)
+line_of fault.ToTerminal = Some (codes "spt: output is a terminal" ++ newline)
 line_of fault.Memory = Some (codes "spt: memory" ++ newline)
 line_of fault.WriteFailed = Some (codes "spt: write failed" ++ newline)
 line_of fault.CannotWrite = Some (codes "spt: output: cannot write" ++ newline)

@@ -1,5 +1,5 @@
 -- What a run finds and leaves: files, and an output.
-use Rattle.std.specs.Prelude.{◌≡◌, ℕ, Bool, false, List, Option, Some, None, Result}
+use Rattle.std.specs.Prelude.{◌≡◌, ℕ, Bool, true, false, List, Option, Some, None, Result}
 use Rattle.sp_device.specs.Failing.{Failing, Anytime}
 use Rattle.sp_device.specs.declared.devices.Read.{Ghosts as Reader}
 use Rattle.sp_command.specs.declared.faults.Status.{Status}
@@ -8,15 +8,16 @@ use Rattle.sp_command.specs.declared.faults.Fault.{Fault}
 -- ## Files
 
 -- For each path, the files have the text of its file, if that is known; whether the file is opened for certain; and
--- when its device may fail.
+-- when its device may fail. And the output of a command may go to a terminal, or goes elsewhere for certain.
 pub record Files : Type 0 where
   pub text : List ℕ → Option (List ℕ)
   pub opens : List ℕ → Bool
   pub failing : List ℕ → Failing
+  pub may_show : Bool
 
 -- Of the files of a system nothing is known.
 abbrev pub unknown_files : Files
-unknown_files = record { text = λ path. None; opens = λ path. false; failing = λ path. Anytime }
+unknown_files = record { text = λ path. None; opens = λ path. false; failing = λ path. Anytime; may_show = true }
 
 -- An opened file gives the text of its path, if that text is known. It hasn't failed, and fails only as files of that
 -- path do.

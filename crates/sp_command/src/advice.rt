@@ -50,6 +50,16 @@ pub enum Advice<'a> {
     CutTree,
     /// A source was too far for its layout. This is a layout that reaches farther, if there is one.
     TooFar(Option<PredBits>),
+    /// The greatest numbers of arcs.
+    Arcs,
+    /// The file begins with the byte of a packed graph, and is none.
+    NoPackedGraph,
+    /// The second word of a packed graph is another one.
+    OtherForm,
+    /// A packed graph was cut or changed.
+    Changed,
+    /// A packed graph stands in the place of a file of this kind.
+    Packed(FileKind),
 }
 
 impl fmt::Display for Advice<'_> {
@@ -80,6 +90,12 @@ impl fmt::Display for Advice<'_> {
                 write!(f, "{TOO_FAR}; --pred-bits {pred_bits} reaches farther")
             }
             Advice::TooFar(None) => write!(f, "{TOO_FAR}; no layout reaches farther"),
+            Advice::Packed(file) => write!(
+                f,
+                "{}, but {} is expected",
+                packed(*file),
+                of_kind(*file)
+            ),
             other => f.write_str(other.words()),
         }
     }
@@ -108,6 +124,16 @@ impl Advice<'_> {
             Advice::Rows => "R in the line `e R` must be the number of `v` lines",
             Advice::Blocks => "the file has several blocks; use --all",
             Advice::CutTree => "the file ends before the line `e R`: it is incomplete",
+            Advice::Arcs => "M is a number from 0 to 1073741824; with --both-ways, to 536870912",
+            Advice::NoPackedGraph => {
+                "no packed graph of spt; other binary files begin with the same byte, such as a PNG"
+            }
+            Advice::OtherForm => {
+                "changed by a transfer in text mode, or of a newer form; copy it again in binary mode, or pack it again by spt pack"
+            }
+            Advice::Changed => {
+                "the packed graph was cut or changed; copy it again, or pack it again by spt pack"
+            }
             _ => "vertices are numbered from 1 to N, given in the line `p`",
         }
     }
@@ -122,6 +148,14 @@ fn of_kind(file: FileKind) -> &'static str {
         FileKind::Tree => "a tree file",
         FileKind::Replay => "a replay file",
         FileKind::Offers => "a file of offers",
+    }
+}
+
+// Returns what is said of a packed graph in the place of a file. Two commands have no graph.
+fn packed(file: FileKind) -> &'static str {
+    match file {
+        FileKind::Replay | FileKind::Offers => "a packed graph",
+        _ => "a packed graph, which goes in the place of GR",
     }
 }
 

@@ -8,6 +8,7 @@ ghost use Rattle.sp_command.specs.declared.faults.Fault.TheVariants.{CannotOpen,
 
 use crate::inputs::Inputs;
 use sp_device::WriteFault;
+use sp_packed::{PackedFault, PackedKind};
 use sp_text::{DimacsError, Kind};
 use std::alloc::AllocError;
 use std::fmt;
@@ -147,10 +148,14 @@ pub enum Fault {
     CannotOpen(FileKind),
     /// A file's text has a fault, its device failed, or there was no memory for its values.
     Input { file: FileKind, error: DimacsError },
+    /// A packed graph has a fault, its device failed, or there was no memory for its words.
+    Packed(PackedFault),
     /// A source, or a target, is no vertex of the graph.
     NoSuchVertex(u32, FileKind),
     /// A run has more steps than a picture shows.
     TooManySteps,
+    /// The output would go to a terminal, and isn't text.
+    ToTerminal,
     /// An allocation failed.
     Memory,
     /// The output failed.
@@ -168,11 +173,16 @@ impl Fault {
         match self {
             Fault::Usage(_) => Status::Usage,
             Fault::DeltaOutOfRange | Fault::LimitOutOfRange => Status::Usage,
-            Fault::InputTwice | Fault::NoPlaces => Status::Usage,
+            Fault::InputTwice | Fault::NoPlaces | Fault::ToTerminal => Status::Usage,
             Fault::CannotOpen(_) | Fault::WriteFailed | Fault::CannotWrite => Status::Failed,
             Fault::Input { error, .. } => match error.kind {
                 Kind::Memory => Status::Memory,
                 Kind::Read => Status::Failed,
+                _ => Status::Refused,
+            },
+            Fault::Packed(fault) => match fault.kind {
+                PackedKind::Memory => Status::Memory,
+                PackedKind::Read => Status::Failed,
                 _ => Status::Refused,
             },
             Fault::NoSuchVertex(_, _) => Status::Refused,

@@ -32,5 +32,5 @@ macro_rules! after_help {
     };
 }
 
-/// The graph that `tree`, `pairs` and `check` read.
-pub const GRAPH_FILE: &str = "The graph, a .gr file";
+/// The graph that a command reads.
+pub const GRAPH_FILE: &str = "The graph, a .gr file or a packed one";

@@ -5,6 +5,7 @@ use crate::faults::{Fault, FileKind};
 use crate::inputs::Inputs;
 use crate::layout::PredBits;
 use crate::names::{Quoted, Shown};
+use sp_packed::{PackedFault, PackedField, PackedKind};
 use sp_text::Kind;
 use std::{fmt, io};
 
@@ -121,7 +122,7 @@ pub enum Hint<'a> {
         vertices: u64,
         pred_bits: PredBits,
     },
-    /// Advice about a line of the file with this path.
+    /// Advice about a line, or a word, of the file with this path.
     Advice {
         path: &'a str,
         advice: Advice<'a>,
@@ -292,6 +293,7 @@ pub fn hint_of<'a, C: Commands<'a>, F: Inputs>(
     match fault {
         Fault::CannotOpen(file) => opening_hint(*file, command.path(*file)?, files),
         Fault::Input { file, error } => input_hint(*file, error.kind, command, files),
+        Fault::Packed(error) => packed_hint(*error, command, files),
         Fault::WriteFailed | Fault::CannotWrite => output_hint(output, files),
         _ => None,
     }
@@ -319,6 +321,24 @@ fn input_hint<'a, C: Commands<'a>, F: Inputs>(
             encoding: files.encoding()?,
         }),
     }
+}
+
+// Returns the system's reason for not reading a packed graph, or advice about its words.
+fn packed_hint<'a, C: Commands<'a>, F: Inputs>(
+    error: PackedFault,
+    command: &C,
+    files: &F,
+) -> Option<Hint<'a>> {
+    let path = command.path(FileKind::Graph)?;
+    let advice = match error.kind {
+        PackedKind::Memory | PackedKind::OutOfRange(PackedField::Vertices) => return None,
+        PackedKind::Read => return reason_of(name_of(path), files),
+        PackedKind::OutOfRange(PackedField::Arcs) => Advice::Arcs,
+        PackedKind::OtherForm if error.at == 0 => Advice::NoPackedGraph,
+        PackedKind::OtherForm => Advice::OtherForm,
+        _ => Advice::Changed,
+    };
+    Some(Hint::Advice { path, advice })
 }
 
 // Returns the system's reason for not opening a file, and what a number in the place of a list was meant for.

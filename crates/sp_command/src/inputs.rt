@@ -1,5 +1,5 @@
 //! The files of a command line, and the reports of progress.
-ghost use Rattle.std.specs.Prelude.{◌≡◌, false, IfNone, IfSome};
+ghost use Rattle.std.specs.Prelude.{◌≡◌, true, false, IfNone, IfSome};
 ghost use Rattle.sp_command.specs.Scene.{Files, IsOpened, unknown_files};
 
 use crate::hints::Encoding;
@@ -34,6 +34,13 @@ pub trait Inputs {
     /// Opens a file again, or returns `None` if it can't be read twice, as with standard input or a pipe.
     fn open_again(&self, _path: &str) -> Option<Self::File> {
         None
+    }
+
+    /// Returns whether the output of the command goes to a terminal.
+    fn is_shown(&self) -> bool
+        ensures { result ≡ true → (files self.now).may_show ≡ true }
+    {
+        false
     }
 
     /// Returns the system's last reason for a failure of a file or a stream, if it is known.

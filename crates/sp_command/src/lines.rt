@@ -1,11 +1,12 @@
 //! The lines that tell faults on standard error.
 ghost use Rattle.std.specs.Prelude.{◌≡◌};
-ghost use Rattle.sp_command.specs.Lines.{IsLineWritten, IsWritten, input_line, joined, letter_of, name_of, word_of};
+ghost use Rattle.sp_command.specs.Lines.{IsLineWritten, IsWritten, input_line, joined, letter_of, name_of, packed_letter_of, packed_line, packed_name_of, word_of};
 
 use crate::faults::{Fault, FileKind};
 use crate::text::print;
 use itoa::Buffer;
 use sp_device::{Write, WriteFault, write_all};
+use sp_packed::{PackedFault, PackedField, PackedKind};
 use sp_text::{DimacsError, Kind};
 use std::slice;
 
@@ -30,12 +31,14 @@ impl Fault {
                 )
             }
             Fault::Input { file, error } => write_input_line(out, *file, *error),
+            Fault::Packed(error) => write_packed_line(out, *error),
             Fault::NoSuchVertex(vertex, _) => {
                 let mut digits = Buffer::new();
                 let number = digits.format(*vertex).as_bytes();
                 write_texts(out, &[b"spt: source ", number, b": no such vertex", b"\n"])
             }
             Fault::TooManySteps => write_all(out, b"spt: replay: more than 60 steps\n"),
+            Fault::ToTerminal => write_all(out, b"spt: output is a terminal\n"),
             Fault::Memory => write_all(out, b"spt: memory\n"),
             Fault::WriteFailed => write_all(out, b"spt: write failed\n"),
             Fault::CannotWrite => write_all(out, b"spt: output: cannot write\n"),
@@ -91,6 +94,49 @@ fn letter_of(kind: &Kind) -> &[u8]
     match kind {
         Kind::OutOfRange(letter) => slice::from_ref(letter),
         _ => &[],
+    }
+}
+
+// Writes the line of a fault of a packed graph.
+fn write_packed_line<W: Write>(out: &mut W, error: PackedFault) -> Result<(), WriteFault>
+    ensures { IsWritten W.Write (packed_line error) out.old result out.new }
+{
+    let mut digits = Buffer::new();
+    let number = digits.format(error.at).as_bytes();
+    let name = packed_name_of(&error.kind).as_bytes();
+    let letter = packed_letter_of(&error.kind).as_bytes();
+    write_texts(
+        out,
+        &[b"spt: gr: byte ", number, b": ", name, letter, b"\n"],
+    )
+}
+
+// Returns the number and the name of a fault of a packed graph.
+fn packed_name_of(kind: &PackedKind) -> &'static str
+    ensures { result.now ≡ packed_name_of kind.now }
+{
+    match kind {
+        PackedKind::OtherForm => "10 OtherForm",
+        PackedKind::OutOfRange(_) => "5 OutOfRange ",
+        PackedKind::OtherSum => "11 OtherSum",
+        PackedKind::TooMany => "6 TooMany",
+        PackedKind::TooFew => "7 TooFew",
+        PackedKind::Memory => "8 Memory",
+        PackedKind::Read => "9 Read",
+    }
+}
+
+// Returns the letter of the word that is out of range, if the fault has one.
+fn packed_letter_of(kind: &PackedKind) -> &'static str
+    ensures { result.now ≡ packed_letter_of kind.now }
+{
+    match kind {
+        PackedKind::OutOfRange(PackedField::Vertices) => "N",
+        PackedKind::OutOfRange(PackedField::Arcs) => "M",
+        PackedKind::OutOfRange(PackedField::End) => "E",
+        PackedKind::OutOfRange(PackedField::Head) => "V",
+        PackedKind::OutOfRange(PackedField::Length) => "W",
+        _ => "",
     }
 }
 

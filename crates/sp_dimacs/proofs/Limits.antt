@@ -18,11 +18,11 @@ use Rattle.sp_text.specs.Accepted.{IsAllowed, IsAccepted}
 use Rattle.sp_text.specs.Collecting.{SpelledBy}
 use Rattle.sp_text.specs.Whole.{IsSpelled}
 use Rattle.sp_text.proofs.FaultlessText.{accepted}
-use Rattle.sp_dimacs.specs.Formats.{gr, ss, pairs, arc_line, source_line, pair_line}
+use Rattle.sp_dimacs.specs.Formats.{gr_up_to, ss, pairs, arc_line, source_line, pair_line}
 use Rattle.sp_dimacs.specs.declared.graphs.GrFile.{GrFile}
 use Rattle.sp_dimacs.specs.declared.sources.SsFile.{SsFile}
 use Rattle.sp_dimacs.specs.declared.pairs.PairsFile.{PairsFile}
-use Rattle.sp_dimacs.specs.Graph.{arc_of, IsGraph, IsNetwork}
+use Rattle.sp_dimacs.specs.Graph.{arc_of, IsGraph, IsNetworkUpTo}
 use Rattle.sp_paths.specs.Paths.{IsArc}
 use Rattle.sp_dimacs.specs.Sources.{source_of, AreSources, IsVertex, AreSourcesWithin}
 use Rattle.sp_dimacs.specs.Pairs.{pair_of, ArePairs, IsPairWithin, ArePairsWithin}
@@ -75,14 +75,14 @@ short_list format form ranges ps items one none h =
 
 -- 3. Graphs.
 
-gr_numbers : (P : ℕ) (ps : List ℕ) → length ps ≡ 2 → first_out (ranges_of P) [] gr.problem.fields ps ≡ None → (1 ≤ slice_index ps 0) × (slice_index ps 0 ≤ max_pred P) × (slice_index ps 1 ≤ 1073741824)
-gr_numbers P [] full h = absurd (omega arith)
-gr_numbers P (n ∷ []) full h = absurd (omega arith)
-gr_numbers P (n ∷ m ∷ []) full h =
-    let first = first_in (ranges_of P) [] (field 78 1 Vertex) (field 77 0 (Number 1073741824) ∷ []) n (m ∷ []) h in
-    let second = first_in (ranges_of P) [] (field 77 0 (Number 1073741824)) [] m [] first.2 in
+gr_numbers : (P most : ℕ) (ps : List ℕ) → length ps ≡ 2 → first_out (ranges_of P) [] (gr_up_to most).problem.fields ps ≡ None → (1 ≤ slice_index ps 0) × (slice_index ps 0 ≤ max_pred P) × (slice_index ps 1 ≤ most)
+gr_numbers P most [] full h = absurd (omega arith)
+gr_numbers P most (n ∷ []) full h = absurd (omega arith)
+gr_numbers P most (n ∷ m ∷ []) full h =
+    let first = first_in (ranges_of P) [] (field 78 1 Vertex) (field 77 0 (Number most) ∷ []) n (m ∷ []) h in
+    let second = first_in (ranges_of P) [] (field 77 0 (Number most)) [] m [] first.2 in
     (first.0, first.1, second.1)
-gr_numbers P (n ∷ m ∷ k ∷ ps) full h = absurd (omega arith)
+gr_numbers P most (n ∷ m ∷ k ∷ ps) full h = absurd (omega arith)
 
 arc_numbers : (P : ℕ) (ps ns : List ℕ) → length ns ≡ 3 → first_out (ranges_of P) ps arc_line.fields ns ≡ None → IsArc (slice_index ps 0) (record { tail = slice_index ns 0; head = slice_index ns 1; len = slice_index ns 2 })
 arc_numbers P ps [] full h = absurd (omega arith)
@@ -95,16 +95,16 @@ arc_numbers P ps (u ∷ v ∷ w ∷ []) full h =
     ((tail.0, tail.1), (head.0, head.1), len.0)
 arc_numbers P ps (u ∷ v ∷ w ∷ x ∷ ns) full h = absurd (omega arith)
 
-arc_allowed : (P : ℕ) (ps : List ℕ) (item : Item) → IsAllowed gr (ranges_of P) ps item → IsArc (slice_index ps 0) (arc_of item)
-arc_allowed P ps item h =
-    let is : item.form ≡ arc_line = has_form gr arc_line (ranges_of P) ps item refl h in
+arc_allowed : (P most : ℕ) (ps : List ℕ) (item : Item) → IsAllowed (gr_up_to most) (ranges_of P) ps item → IsArc (slice_index ps 0) (arc_of item)
+arc_allowed P most ps item h =
+    let is : item.form ≡ arc_line = has_form (gr_up_to most) arc_line (ranges_of P) ps item refl h in
     arc_numbers P ps item.numbers (rw is at h.full) (rw is at h.in_range)
 
-network : (P : ℕ) (ps : List ℕ) (items : List Item) (file : GrFile) → IsAccepted gr (ranges_of P) ps items → IsGraph ps items file → IsNetwork P file
-network P ps items file h is =
-    let numbers = gr_numbers P ps h.full h.in_range in
-    let few = short_list gr arc_line (ranges_of P) ps items refl refl h in
-    let within : All (IsArc (slice_index ps 0)) (map arc_of items) = All-map (IsArc (slice_index ps 0)) arc_of items (All-weaker (IsAllowed gr (ranges_of P) ps) (λ (item : Item). IsArc (slice_index ps 0) (arc_of item)) (arc_allowed P ps) items h.allowed) in
+network : (P most : ℕ) (ps : List ℕ) (items : List Item) (file : GrFile) → IsAccepted (gr_up_to most) (ranges_of P) ps items → IsGraph ps items file → IsNetworkUpTo P most file
+network P most ps items file h is =
+    let numbers = gr_numbers P most ps h.full h.in_range in
+    let few = short_list (gr_up_to most) arc_line (ranges_of P) ps items refl refl h in
+    let within : All (IsArc (slice_index ps 0)) (map arc_of items) = All-map (IsArc (slice_index ps 0)) arc_of items (All-weaker (IsAllowed (gr_up_to most) (ranges_of P) ps) (λ (item : Item). IsArc (slice_index ps 0) (arc_of item)) (arc_allowed P most ps) items h.allowed) in
     record {
       least = rw is.0 numbers.0;
       most = rw is.0 numbers.1;
@@ -112,12 +112,12 @@ network P ps items file h is =
       arcs = rw (is.0, is.1) within;
     }
 
-pub graph_within : (P : ℕ) (file : GrFile) → IsSpelled (judge gr (ranges_of P)) (SpelledBy gr IsGraph) file → IsNetwork P file
-graph_within P file (text, clean, (ps, found, is)) =
-    network P ps (items_of gr (lines text)) file (accepted gr (ranges_of P) text ps (items_of gr (lines text)) (record { faultless = clean; problem_line = found; item_lines = refl })) is
+pub graph_within : (P most : ℕ) (file : GrFile) → IsSpelled (judge (gr_up_to most) (ranges_of P)) (SpelledBy (gr_up_to most) IsGraph) file → IsNetworkUpTo P most file
+graph_within P most file (text, clean, (ps, found, is)) =
+    network P most ps (items_of (gr_up_to most) (lines text)) file (accepted (gr_up_to most) (ranges_of P) text ps (items_of (gr_up_to most) (lines text)) (record { faultless = clean; problem_line = found; item_lines = refl })) is
 
-pub graph_read : (P : ℕ) (r : Result GrFile DimacsError) → IfOk r (IsSpelled (judge gr (ranges_of P)) (SpelledBy gr IsGraph)) → IfOk r (IsNetwork P)
-graph_read P r h = if_ok (IsSpelled (judge gr (ranges_of P)) (SpelledBy gr IsGraph)) (IsNetwork P) r (graph_within P) h
+pub graph_read : (P most : ℕ) (r : Result GrFile DimacsError) → IfOk r (IsSpelled (judge (gr_up_to most) (ranges_of P)) (SpelledBy (gr_up_to most) IsGraph)) → IfOk r (IsNetworkUpTo P most)
+graph_read P most r h = if_ok (IsSpelled (judge (gr_up_to most) (ranges_of P)) (SpelledBy (gr_up_to most) IsGraph)) (IsNetworkUpTo P most) r (graph_within P most) h
 
 -- 4. Lists of sources.
 

@@ -14,12 +14,16 @@ line_form words fields limit = record { words = words; fields = fields; fresh = 
 abbrev pub arc_line : LineForm
 arc_line = line_form (codes "a" ∷ []) (field 85 1 (Problem 0) ∷ field 86 1 (Problem 0) ∷ field 87 1 (Number LONGEST_ARC) ∷ []) (Problem 1)
 
-abbrev pub gr : Format
-gr = record {
-  problem = line_form (codes "p" ∷ codes "sp" ∷ []) (field 78 1 Vertex ∷ field 77 0 (Number MOST_ARCS) ∷ []) (Number 1);
+-- where M is at most this
+abbrev pub gr_up_to : ℕ → Format
+gr_up_to most = record {
+  problem = line_form (codes "p" ∷ codes "sp" ∷ []) (field 78 1 Vertex ∷ field 77 0 (Number most) ∷ []) (Number 1);
   items = arc_line ∷ [];
   needed = Problem 1;
 }
+
+abbrev pub gr : Format
+gr = gr_up_to MOST_ARCS
 
 -- A `.ss` file has the problem line `p aux sp ss K`, and K lines `s V`.
 abbrev pub source_line : LineForm

@@ -6,7 +6,7 @@ use Rattle.sp_text.specs.Text.{Item, Spells, judge}
 use Rattle.sp_text.specs.Collecting.{SpelledBy}
 use Rattle.sp_text.specs.Whole.{AllRead}
 use Rattle.sp_dimacs.specs.declared.formats.TheConstants.{MOST_ARCS}
-use Rattle.sp_dimacs.specs.Formats.{gr}
+use Rattle.sp_dimacs.specs.Formats.{gr_up_to}
 use Rattle.sp_paths.specs.declared.arc.Arc.{Arc}
 use Rattle.sp_paths.specs.Paths.{Graph, IsArc}
 use Rattle.sp_text.specs.Formats.{ranges_of}
@@ -20,21 +20,31 @@ arc_of item = record { tail = slice_index item.numbers 0; head = slice_index ite
 abbrev pub IsGraph : List ℕ → List Item → GrFile → Type 0
 IsGraph problem items file = (file.n ≡ slice_index problem 0) × (file.arcs.items ≡ map arc_of items)
 
--- The text has no fault, and spells this graph.
-abbrev pub SpellsGraph : ℕ → List ℕ → GrFile → Type 0
-SpellsGraph P text file = (problem : List ℕ) × (items : List Item) × Spells gr (ranges_of P) text problem items × IsGraph problem items file
+-- The text has no fault, where it may announce so many arcs, and spells this graph.
+abbrev pub SpellsUpTo : (P most : ℕ) → List ℕ → GrFile → Type 0
+SpellsUpTo P most text file = (problem : List ℕ) × (items : List Item) × Spells (gr_up_to most) (ranges_of P) text problem items × IsGraph problem items file
 
--- This is the answer to the whole text of a device, part of which may be left.
+abbrev pub SpellsGraph : ℕ → List ℕ → GrFile → Type 0
+SpellsGraph P text file = SpellsUpTo P MOST_ARCS text file
+
+-- This is the answer to the whole text of a device, part of which may be left, where it may announce so many arcs.
+abbrev pub ReadUpTo : (P most : ℕ) → List ℕ → Option (List ℕ) → Bool → Result GrFile DimacsError → Type 0
+ReadUpTo P most text left has_failed result = AllRead (judge (gr_up_to most) (ranges_of P)) (SpelledBy (gr_up_to most) IsGraph) text left has_failed result
+
 abbrev pub GraphRead : ℕ → List ℕ → Option (List ℕ) → Bool → Result GrFile DimacsError → Type 0
-GraphRead P text left has_failed result = AllRead (judge gr (ranges_of P)) (SpelledBy gr IsGraph) text left has_failed result
+GraphRead P text left has_failed result = ReadUpTo P MOST_ARCS text left has_failed result
 
 -- This is the graph of a file.
 abbrev pub graph_of : GrFile → Graph
 graph_of file = record { n = file.n; arcs = file.arcs.items }
 
--- There is a vertex, there are no more vertices than a word of the layout can name, and the arcs join these vertices.
-pub record IsNetwork (P : ℕ) (file : GrFile) : Type 0 where
+-- There is a vertex, there are no more vertices than a word of the layout can name, and the arcs, at most so many, join these
+-- vertices.
+pub record IsNetworkUpTo (P most_arcs : ℕ) (file : GrFile) : Type 0 where
   pub least : 1 ≤ file.n
   pub most : file.n ≤ max_pred P
-  pub short : length file.arcs.items ≤ MOST_ARCS
+  pub short : length file.arcs.items ≤ most_arcs
   pub arcs : All (IsArc file.n) file.arcs.items
+
+abbrev pub IsNetwork : (P : ℕ) → GrFile → Type 0
+IsNetwork P file = IsNetworkUpTo P MOST_ARCS file

@@ -1,12 +1,16 @@
 //! The line forms of the files, as data.
 ghost use Rattle.std.specs.Prelude.{◌≡◌};
 ghost use Rattle.sp_text.specs.Formats.{format_of};
-ghost use Rattle.sp_dimacs.specs.Formats.{gr, ss, pairs};
+ghost use Rattle.sp_dimacs.specs.Formats.{gr, gr_up_to, ss, pairs};
+ghost use Rattle.sp_dimacs.specs.declared.formats.TheConstants.{MOST_ARCS_BOTH_WAYS};
 
 use sp_text::{Field, FileFormat, Form, Top};
 
 /// The greatest number of arcs of a graph.
 pub const MOST_ARCS: u64 = 1_073_741_824;
+
+/// The greatest number of arcs of a graph each of which is to lead both ways.
+pub const MOST_ARCS_BOTH_WAYS: u64 = 536_870_912;
 
 /// The greatest length of an arc.
 pub const LONGEST_ARC: u64 = 4_294_967_295;
@@ -60,6 +64,29 @@ const GR: FileFormat = FileFormat {
         limit: Top::Problem(1),
     }],
     needed: Top::Problem(1),
+};
+
+// The same for a graph whose arcs are to lead both ways.
+const BOTH_WAYS: FileFormat = FileFormat {
+    problem: Form {
+        words: b"p sp",
+        fields: &[
+            Field {
+                letter: b'N',
+                least: 1,
+                most: Top::Vertex,
+            },
+            Field {
+                letter: b'M',
+                least: 0,
+                most: Top::Number(MOST_ARCS_BOTH_WAYS),
+            },
+        ],
+        fresh: false,
+        group: 0,
+        limit: PROBLEM_LIMIT,
+    },
+    ..GR
 };
 
 const SS: FileFormat = FileFormat {
@@ -126,6 +153,13 @@ pub fn gr_format() -> FileFormat
     ensures { format_of result ≡ gr }
 {
     GR
+}
+
+/// Returns the line forms of a `.gr` file whose arcs are to lead both ways: it announces at most half as many.
+pub fn both_ways_format() -> FileFormat
+    ensures { format_of result ≡ gr_up_to MOST_ARCS_BOTH_WAYS }
+{
+    BOTH_WAYS
 }
 
 /// Returns the line forms of an `.ss` file.

@@ -4,11 +4,13 @@ ghost use Rattle.sp_word.specs.Word.{is_layout, max_pred};
 ghost use Rattle.sp_text.specs.Formats.{ranges_of};
 ghost use Rattle.sp_text.specs.Text.{judge};
 ghost use Rattle.sp_text.specs.Whole.{NeverRead};
-ghost use Rattle.sp_dimacs.specs.Formats.{gr};
+ghost use Rattle.sp_text.specs.Formats.{format_of};
+ghost use Rattle.sp_dimacs.specs.Formats.{gr, gr_up_to};
+ghost use Rattle.sp_dimacs.specs.declared.formats.TheConstants.{MOST_ARCS, MOST_ARCS_BOTH_WAYS};
 ghost use Rattle.sp_dimacs.specs.Reading.{IsBehindText};
-ghost use Rattle.sp_dimacs.specs.Graph.{arc_of, IsGraph, SpellsGraph, GraphRead, IsNetwork};
+ghost use Rattle.sp_dimacs.specs.Graph.{arc_of, IsGraph, SpellsGraph, SpellsUpTo, GraphRead, ReadUpTo, IsNetwork, IsNetworkUpTo};
 
-use crate::formats::gr_format;
+use crate::formats::{both_ways_format, gr_format};
 use crate::readers::TextReader;
 use sp_device::Read;
 use sp_parts::{KeepAcross, SIZES, read_items_by};
@@ -19,6 +21,7 @@ use sp_text::{
 };
 use sp_word::{Crew, Workers};
 use std::alloc::{AllocError, Global};
+use std::marker::PhantomData;
 use std::mem;
 
 /// What a `.gr` file spells: the number of vertices, and the arcs in the order of their lines.
@@ -28,16 +31,48 @@ pub struct GrFile {
     pub arcs: Vec<Arc>,
 }
 
+/// Which ways the arcs of a text are to lead, and so how many arcs it may announce.
+pub trait Ways {
+    ghost most: { ℕ };
+
+    /// Returns the line forms of such a text.
+    fn format() -> FileFormat
+        ensures { format_of result ≡ gr_up_to most };
+}
+
+/// Each arc leads from its tail to its head.
+pub struct OneWay;
+
+impl Ways for OneWay {
+    ghost most = { MOST_ARCS };
+
+    fn format() -> FileFormat {
+        gr_format()
+    }
+}
+
+/// Each arc is to lead both ways.
+pub struct BothWays;
+
+impl Ways for BothWays {
+    ghost most = { MOST_ARCS_BOTH_WAYS };
+
+    fn format() -> FileFormat {
+        both_ways_format()
+    }
+}
+
 /// The arcs that were read so far.
 #[derive(Drop)]
-pub struct ArcKeeper<const P: u32> {
+pub struct ArcKeeper<const P: u32, A: Ways> {
     alloc: Global,
     arcs: Vec<Arc>,
+    ways: PhantomData<A>,
     ghost layout: { is_layout P ≡ true },
     ghost short: { max_pred P < 2 ^ 32 },
 }
 
-impl<const P: u32> ArcKeeper<P> {
+impl<const P: u32, A: Ways> ArcKeeper<P, A> {
     fn new(alloc: Global) -> Self
         requires { is_layout P ≡ true }
         ensures { result.arcs.items ≡ [] }
@@ -45,14 +80,15 @@ impl<const P: u32> ArcKeeper<P> {
         ArcKeeper {
             alloc,
             arcs: Vec::new(alloc),
+            ways: PhantomData,
         }
     }
 }
 
-impl<const P: u32> Keep for ArcKeeper<P> {
+impl<const P: u32, A: Ways> Keep for ArcKeeper<P, A> {
     type Value = GrFile;
 
-    ghost format = { gr };
+    ghost format = { gr_up_to A.most };
 
     ghost ranges = { ranges_of P };
 
@@ -61,7 +97,7 @@ impl<const P: u32> Keep for ArcKeeper<P> {
     ghost Spelled = { λ problem items file. IsGraph problem items file };
 
     fn format(&self) -> FileFormat {
-        gr_format()
+        A::format()
     }
 
     fn ranges(&self) -> Ranges {
@@ -96,11 +132,12 @@ impl<const P: u32> Keep for ArcKeeper<P> {
 // An arc's line has about this many bytes. Room that is missing or left over costs time alone.
 const BYTES_OF_LINE: usize = 16;
 
-impl<const P: u32> KeepParts for ArcKeeper<P> {
+impl<const P: u32, A: Ways> KeepParts for ArcKeeper<P, A> {
     fn fresh(&self, bytes: usize) -> Result<Self, AllocError> {
         Ok(ArcKeeper {
             alloc: self.alloc,
             arcs: Vec::with_capacity(self.alloc, bytes / BYTES_OF_LINE)?,
+            ways: PhantomData,
         })
     }
 
@@ -113,7 +150,7 @@ impl<const P: u32> KeepParts for ArcKeeper<P> {
     }
 }
 
-impl<const P: u32> KeepAcross for ArcKeeper<P> {
+impl<const P: u32, A: Ways> KeepAcross for ArcKeeper<P, A> {
     ghost use Rattle.std.proofs.Props.{props};
     ghost use Rattle.sp_paths.specs.declared.arc.Arc.{Arc};
 
@@ -123,14 +160,15 @@ impl<const P: u32> KeepAcross for ArcKeeper<P> {
 }
 
 /// A reader of a `.gr` text that comes in pieces, for words of `P` bits of predecessor.
-pub type GrReader<const P: u32> = TextReader<Collector<ArcKeeper<P>>>;
+pub type GrReader<const P: u32> = TextReader<Collector<ArcKeeper<P, OneWay>>>;
 
-impl<const P: u32> TextReader<Collector<ArcKeeper<P>>> {
+impl<const P: u32> TextReader<Collector<ArcKeeper<P, OneWay>>> {
     /// Returns a reader that has read no text.
     pub fn new(alloc: Global) -> Self
         requires { is_layout P ≡ true }
         ensures { IsBehindText
-            (judge gr (ranges_of P)) ⟦<Collector<ArcKeeper<P>> as LineTaker>⟧.After [] result }
+            (judge gr (ranges_of P))
+            ⟦<Collector<ArcKeeper<P, OneWay>> as LineTaker>⟧.After [] result }
     {
         TextReader::of_taker(Collector::new(ArcKeeper::new(alloc)))
     }
@@ -151,9 +189,30 @@ pub fn read_gr<const P: u32, R: Read>(alloc: Global, reader: &mut R) -> Result<G
     read_items(reader, GrReader::<P>::new(alloc).into_feeder())
 }
 
+// Reads the rest of a device's bytes by so many workers, this thread among them, where the text may announce as many arcs as
+// these ways allow.
+#[tactic(auto, using(crate::proofs::Limits::graph_read))]
+fn read_ways<const P: u32, A: Ways + Send + Sync, H: Crew, R: Read>(
+    rt: &H,
+    alloc: Global,
+    reader: &mut R,
+    workers: Workers,
+) -> Result<GrFile, DimacsError>
+    requires { is_layout P ≡ true }
+    ensures exact { (text : List ℕ) → R.left reader.old ≡ Some text
+        → ReadUpTo P A.most text (R.left reader.new) (R.has_failed reader.new) result }
+    ensures found { IfOk result (λ file. (text : List ℕ) × SpellsUpTo P A.most text file) }
+    ensures graph { IfOk result (IsNetworkUpTo P A.most) }
+    ensures read { IfErr result (λ e. e.kind ≡ Kind.Read → R.has_failed reader.new ≡ true) }
+    ensures never { NeverRead (R.failing reader.old) result }
+{
+    let taker = Collector::new(ArcKeeper::<P, A>::new(alloc));
+    let feeder = TextReader::of_taker(taker).into_feeder();
+    read_items_by(rt, alloc, reader, feeder, workers, SIZES)
+}
+
 /// Reads the rest of a device's bytes as `read_gr` does, by so many workers, this thread among them. This thread alone reads
 /// the device.
-#[tactic(auto, using(crate::proofs::Limits::graph_read))]
 pub fn read_gr_by<const P: u32, H: Crew, R: Read>(
     rt: &H,
     alloc: Global,
@@ -168,6 +227,26 @@ pub fn read_gr_by<const P: u32, H: Crew, R: Read>(
     ensures read { IfErr result (λ e. e.kind ≡ Kind.Read → R.has_failed reader.new ≡ true) }
     ensures never { NeverRead (R.failing reader.old) result }
 {
-    let feeder = GrReader::<P>::new(alloc).into_feeder();
-    read_items_by(rt, alloc, reader, feeder, workers, SIZES)
+    read_ways::<P, OneWay, H, R>(rt, alloc, reader, workers)
+}
+
+/// Reads the rest of a device's bytes as `read_gr_by` does, of a graph whose arcs are to lead both ways: its text may announce
+/// half as many, and a greater number is out of its range.
+pub fn read_gr_both_ways<const P: u32, H: Crew, R: Read>(
+    rt: &H,
+    alloc: Global,
+    reader: &mut R,
+    workers: Workers,
+) -> Result<GrFile, DimacsError>
+    requires { is_layout P ≡ true }
+    ensures exact { (text : List ℕ) → R.left reader.old ≡ Some text
+        → ReadUpTo P MOST_ARCS_BOTH_WAYS text
+        (R.left reader.new) (R.has_failed reader.new) result }
+    ensures found { IfOk result
+        (λ file. (text : List ℕ) × SpellsUpTo P MOST_ARCS_BOTH_WAYS text file) }
+    ensures graph { IfOk result (IsNetworkUpTo P MOST_ARCS_BOTH_WAYS) }
+    ensures read { IfErr result (λ e. e.kind ≡ Kind.Read → R.has_failed reader.new ≡ true) }
+    ensures never { NeverRead (R.failing reader.old) result }
+{
+    read_ways::<P, BothWays, H, R>(rt, alloc, reader, workers)
 }

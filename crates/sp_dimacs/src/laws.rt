@@ -1,5 +1,6 @@
 //! Laws about the values that texts spell.
-ghost use Rattle.std.specs.Prelude.{ℕ};
+ghost use Rattle.std.specs.Prelude.{◌≡◌, ◌*◌, ◌^◌, ℕ};
+ghost use Rattle.sp_dimacs.specs.declared.formats.TheConstants.{MOST_ARCS, MOST_ARCS_BOTH_WAYS};
 ghost use Rattle.sp_text.specs.Formats.{ranges_of};
 ghost use Rattle.sp_text.specs.Text.{judge};
 ghost use Rattle.sp_text.specs.Collecting.{SpelledBy};
@@ -12,8 +13,13 @@ ghost use Rattle.sp_dimacs.specs.declared.graphs.GrFile.{GrFile};
 ghost use Rattle.sp_dimacs.specs.declared.sources.SsFile.{SsFile};
 ghost use Rattle.sp_dimacs.specs.declared.pairs.PairsFile.{PairsFile};
 
+/// States how many arcs a text may announce: 2^30, and half as many where each is to lead both ways.
+pub fn most_arcs_of_a_text()
+    ensures most { MOST_ARCS ≡ 2 ^ 30 }
+    ensures both_ways { 2 * MOST_ARCS_BOTH_WAYS ≡ MOST_ARCS }
+{}
+
 /// States that a graph which some text spells is within the limits of the layout.
-#[tactic(auto, using(crate::proofs::Limits::graph_within))]
 pub fn spelled_graph_is_within()
     ensures { (P : ℕ) (file : GrFile)
         → IsSpelled (judge gr (ranges_of P)) (SpelledBy gr IsGraph) file → IsNetwork P file }

@@ -11,8 +11,12 @@ mod piece;
 mod readers;
 mod sources;
 
-pub use graphs::{GrFile, GrReader, read_gr, read_gr_by};
-pub use laws::{spelled_graph_is_within, spelled_pairs_are_within, spelled_sources_are_within};
+pub use formats::{MOST_ARCS, MOST_ARCS_BOTH_WAYS};
+pub use graphs::{GrFile, GrReader, read_gr, read_gr_both_ways, read_gr_by};
+pub use laws::{
+    most_arcs_of_a_text, spelled_graph_is_within, spelled_pairs_are_within,
+    spelled_sources_are_within,
+};
 pub use lines::Lines;
 pub use pairs::{PairsFile, PairsReader, read_pairs};
 pub use piece::Piece;

@@ -6,7 +6,7 @@ use either::Either;
 use sp_command::{Encoding, Inputs, Report};
 use sp_device::OfRead;
 use sp_word::Meter;
-use std::io::{Stderr, Stdin};
+use std::io::{IsTerminal, Stderr, Stdin, Stdout};
 use std::process::Process;
 use std::rt::{Clock, Files};
 use std::sync::Wait;
@@ -17,12 +17,15 @@ use std::{fs, io};
 pub struct Disk<'a, R> {
     pub rt: &'a R,
     pub stdin: Stdin,
+    pub stdout: Stdout,
     pub stderr: Stderr,
     /// What tells the number of the process.
     pub process: Process,
     pub notes: &'a Notes,
     /// What was asked of the system last of files of output.
     pub asked: Asked,
+    /// Whether the output was to go to a file in place of standard output.
+    pub has_output: bool,
 }
 
 // The file that standard input is, if it is one.
@@ -64,6 +67,10 @@ impl<'a, R: Files + Eprint + Clock + Wait> Inputs for Disk<'a, R> {
     fn open_again(&self, path: &str) -> Option<Self::File> {
         self.size_of(path)?;
         self.open_input(path)
+    }
+
+    fn is_shown(&self) -> bool {
+        !self.has_output && self.stdout.is_terminal()
     }
 
     fn reason(&self) -> Option<io::Error> {

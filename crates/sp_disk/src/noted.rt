@@ -61,13 +61,18 @@ impl Notes {
     }
 }
 
+// As many bytes as tell how a file is encoded.
+const BEGINNING: usize = 6;
+
 /// A file or a stream of which is noted why it fails, and how it begins.
 #[derive(Drop)]
 pub struct Noted<'a, T> {
     inner: T,
     notes: &'a Notes,
     size: Option<u64>,
-    has_begun: bool,
+    // Its first bytes that have come, and how many they are: a reader may ask for one at first.
+    beginning: [u8; BEGINNING],
+    begun: usize,
 }
 
 impl<'a, T> Noted<'a, T> {
@@ -77,8 +82,26 @@ impl<'a, T> Noted<'a, T> {
             inner,
             notes,
             size,
-            has_begun: false,
+            beginning: [0; BEGINNING],
+            begun: 0,
         }
+    }
+
+    // Notes how the file begins, as long as not all of its beginning has come.
+    fn begin(&mut self, bytes: &[u8]) {
+        if self.begun == BEGINNING {
+            return;
+        }
+        for byte in bytes.iter().take(BEGINNING) {
+            if let Some(place) = self.beginning.get_mut(self.begun) {
+                *place = *byte;
+                self.begun += 1;
+            }
+        }
+        if let Some(beginning) = self.beginning.get(..self.begun) {
+            self.notes.encoding.set(Encoding::of(beginning));
+        }
+        self.notes.size.set(self.size);
     }
 }
 
@@ -86,11 +109,7 @@ impl<T: io::Read> io::Read for Noted<'_, T> {
     fn read(&mut self, buf: &mut [u8]) -> io::Result<usize> {
         match self.inner.read(buf) {
             Ok(n) => {
-                if !self.has_begun {
-                    self.has_begun = true;
-                    self.notes.encoding.set(Encoding::of(&buf[..n]));
-                    self.notes.size.set(self.size);
-                }
+                self.begin(&buf[..n]);
                 Ok(n)
             }
             Err(error) => {

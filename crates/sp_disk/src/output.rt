@@ -93,6 +93,7 @@ impl<'a, R: Files + AllocGlobal + RandomSource + Clock + Eprint + Wait> Outputs 
         alloc: Global,
         path: &str,
     ) -> Result<Option<(Self::Name, Self::Output)>, AllocError> {
+        self.has_output = true;
         let Some(destination) = Destination::of(self.rt, alloc, path)? else {
             return Ok(self.straight(path).map(|output| (None, output)));
         };

@@ -9,6 +9,7 @@ pub mod RowOrder
 pub mod ShortRows
 pub mod Shares
 pub mod Counting
+pub mod Reading
 pub mod Groups
 pub mod Starts
 pub mod Cuts

@@ -6,6 +6,7 @@ pub mod Mean
 pub mod Keys
 pub mod Index
 pub mod Shares
+pub mod Rising
 pub mod Split
 pub mod RowsValue
 pub mod GraphView

@@ -2,11 +2,9 @@
 use Rattle.std.proofs.Common.{◌≡◌, ℕ, Bool, List, Option, Ok, refl}
 use Rattle.sp_text.specs.Text.{items_of}
 use Rattle.sp_text.specs.Lines.{lines}
-use Rattle.sp_dimacs.specs.declared.graphs.GrFile.{GrFile}
 use Rattle.sp_dimacs.specs.declared.sources.SsFile.{SsFile}
 use Rattle.sp_dimacs.specs.declared.pairs.PairsFile.{PairsFile}
-use Rattle.sp_dimacs.specs.Formats.{gr, ss, pairs}
-use Rattle.sp_dimacs.specs.Graph.{graph_of, GraphRead}
+use Rattle.sp_dimacs.specs.Formats.{ss, pairs}
 use Rattle.sp_dimacs.specs.Sources.{SpellsSources, SourcesRead}
 use Rattle.sp_dimacs.specs.Pairs.{SpellsPairs, PairsRead}
 use Rattle.std.specs.Prelude.{IsPermutation}
@@ -14,12 +12,8 @@ use Rattle.std.proofs.lemmas.List.Sorted.{Contains-permutation, IsPermutation-sy
 use Rattle.sp_paths.specs.declared.arc.Arc.{Arc}
 use Rattle.sp_paths.specs.Paths.{Graph}
 use Rattle.sp_paths.specs.Bags.{AreSame}
-use Rattle.sp_jobs.specs.Network.{SpellsNetwork}
 
 -- What was read to its end is spelled.
-pub network_read : (P : ℕ) (text : List ℕ) (left : Option (List ℕ)) (has_failed : Bool) (file : GrFile) → GraphRead P text left has_failed (Ok file) → SpellsNetwork P text (graph_of file)
-network_read P text left has_failed file (_, clean, (ps, found, is)) = (file, (ps, items_of gr (lines text), record { faultless = clean; problem_line = found; item_lines = refl }, is), refl)
-
 pub sources_spelled : (P : ℕ) (text : List ℕ) (left : Option (List ℕ)) (has_failed : Bool) (list : SsFile) → SourcesRead P text left has_failed (Ok list) → SpellsSources P text list
 sources_spelled P text left has_failed list (_, clean, (ps, found, is)) = (ps, items_of ss (lines text), record { faultless = clean; problem_line = found; item_lines = refl }, is)
 
@@ -27,11 +21,11 @@ pub pairs_spelled : (P : ℕ) (text : List ℕ) (left : Option (List ℕ)) (has_
 pairs_spelled P text left has_failed list (_, clean, (ps, found, is)) = (ps, items_of pairs (lines text), record { faultless = clean; problem_line = found; item_lines = refl }, is)
 
 -- The same arcs in another order.
-pub same_graph : (file : GrFile) (graph : Graph) → graph.n ≡ file.n → IsPermutation file.arcs.items graph.arcs → AreSame graph (graph_of file)
-same_graph file graph n arcs = record {
+pub same_graph : (g graph : Graph) → graph.n ≡ g.n → IsPermutation g.arcs graph.arcs → AreSame graph g
+same_graph g graph n arcs = record {
   n = n;
-  there = λ (a : Arc) is. Contains-permutation graph.arcs file.arcs.items a (IsPermutation-sym file.arcs.items graph.arcs arcs) is;
-  back = λ (a : Arc) is. Contains-permutation file.arcs.items graph.arcs a arcs is;
+  there = λ (a : Arc) is. Contains-permutation graph.arcs g.arcs a (IsPermutation-sym g.arcs graph.arcs arcs) is;
+  back = λ (a : Arc) is. Contains-permutation g.arcs graph.arcs a arcs is;
 }
 
 pub itself : (g : Graph) → AreSame g g

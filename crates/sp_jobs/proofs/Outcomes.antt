@@ -6,6 +6,8 @@ use Rattle.sp_text.specs.declared.faults.DimacsError.{DimacsError}
 use Rattle.sp_paths.specs.Paths.{Graph}
 use Rattle.sp_dimacs.specs.declared.graphs.GrFile.{GrFile}
 use Rattle.sp_dimacs.specs.Graph.{graph_of}
+use Rattle.sp_network.specs.Network.{directed}
+use Rattle.sp_network.specs.declared.directions.Direction.{Direction}
 use Rattle.sp_jobs.specs.declared.answers.Role.{Role}
 use Rattle.sp_jobs.specs.declared.answers.Summary.{Summary}
 use Rattle.sp_jobs.specs.declared.answers.BatchError.{BatchError}
@@ -47,18 +49,18 @@ by_end Says (Err (Targets e)) is ok vertex memory write = absurd is
 by_end Says (Err (Pairs e)) is ok vertex memory write = absurd is
 
 -- For what was read that was done.
-pub done_for : {P : ℕ} {gr_text : List ℕ} {asked : Asked} {files : GrFile × Listed} {Done : Graph → List ℕ → Type 0} → AreRead P gr_text asked files → Done (graph_of files.0) (numbers_of files.1) → AreAnswered P gr_text asked Done
-done_for {files = files} read done = record { graph = graph_of files.0; sources = numbers_of files.1; spells_graph = read.spells_graph; are_asked = read.are_asked; done = done }
+pub done_for : {P : ℕ} {way : Direction} {gr_text : List ℕ} {asked : Asked} {files : GrFile × Listed} {Done : Graph → List ℕ → Type 0} → AreRead P way gr_text asked files → Done (directed way (graph_of files.0)) (numbers_of files.1) → AreAnswered P way gr_text asked Done
+done_for {way = way} {files = files} read done = record { graph = directed way (graph_of files.0); sources = numbers_of files.1; spells_graph = read.spells_graph; are_asked = read.are_asked; done = done }
 
-module _ (P : ℕ) (Done : JobDone) (wrote : Wrote) (result : Result Summary BatchError) (is : IsLate result) where
+module _ (P : ℕ) (way : Direction) (Done : JobDone) (wrote : Wrote) (result : Result Summary BatchError) (is : IsLate result) where
   -- It is the answer to a text that spells the graph, and to what asks for the sources.
-  pub answered : (gr_text : List ℕ) (asked : Asked) (NoGraph : GraphFault → Type 0) (NoList : DimacsError → Type 0) → AreAnswered P gr_text asked (λ graph sources. Done wrote graph sources result) → JobAnswered P gr_text asked NoGraph NoList Done wrote result
+  pub answered : (gr_text : List ℕ) (asked : Asked) (NoGraph : GraphFault → Type 0) (NoList : DimacsError → Type 0) → AreAnswered P way gr_text asked (λ graph sources. Done wrote graph sources result) → JobAnswered P way gr_text asked NoGraph NoList Done wrote result
   answered gr_text asked NoGraph NoList =
-      by_end (λ r. AreAnswered P gr_text asked (λ graph sources. Done wrote graph sources r) → JobAnswered P gr_text asked NoGraph NoList Done wrote r) result is (λ summary are. are) (λ v role are. are) (λ are. are) (λ are. are)
+      by_end (λ r. AreAnswered P way gr_text asked (λ graph sources. Done wrote graph sources r) → JobAnswered P way gr_text asked NoGraph NoList Done wrote r) result is (λ summary are. are) (λ v role are. are) (λ are. are) (λ are. are)
 
-  pub of_some : (gr_text ss_text : List ℕ) (asked : List ℕ → Asked) → AreAnswered P gr_text (asked ss_text) (λ graph sources. Done wrote graph sources result) → JobOfSome P asked Done wrote result
+  pub of_some : (gr_text ss_text : List ℕ) (asked : List ℕ → Asked) → AreAnswered P way gr_text (asked ss_text) (λ graph sources. Done wrote graph sources result) → JobOfSome P way asked Done wrote result
   of_some gr_text ss_text asked =
-      by_end (λ r. AreAnswered P gr_text (asked ss_text) (λ graph sources. Done wrote graph sources r) → JobOfSome P asked Done wrote r) result is
+      by_end (λ r. AreAnswered P way gr_text (asked ss_text) (λ graph sources. Done wrote graph sources r) → JobOfSome P way asked Done wrote r) result is
       (λ summary are. (gr_text, ss_text, are)) (λ v role are. (gr_text, ss_text, are)) (λ are. (gr_text, ss_text, are)) (λ are. (gr_text, ss_text, are))
 
 -- What holds of each fault of the graph's text, and of each of the list of the sources, holds of one.
@@ -77,14 +79,14 @@ pub by_graph_fault : (Says : BatchError → Type 0) (OfGraph : GraphFault → Ty
 by_graph_fault Says OfGraph e is graph = by_fault Says OfGraph (λ f. ⊥) e is graph (λ f no. absurd no)
 
 -- A fault of a text is the answer to the texts, where nothing was written.
-pub refused : (P : ℕ) (gr_text : List ℕ) (asked : Asked) (NoGraph : GraphFault → Type 0) (NoList : DimacsError → Type 0) (Done : JobDone) (wrote : Wrote) (e : BatchError)
-    → IsFileFault NoGraph (IsListFault P gr_text NoList) e → IsUnwritten wrote → JobAnswered P gr_text asked NoGraph NoList Done wrote (Err e)
-refused P gr_text asked NoGraph NoList Done wrote e is same =
-    by_fault (λ f. JobAnswered P gr_text asked NoGraph NoList Done wrote (Err f)) NoGraph (IsListFault P gr_text NoList) e is (λ f no. (no, same)) (λ f no. (no.0, no.1, same))
+pub refused : (P : ℕ) (way : Direction) (gr_text : List ℕ) (asked : Asked) (NoGraph : GraphFault → Type 0) (NoList : DimacsError → Type 0) (Done : JobDone) (wrote : Wrote) (e : BatchError)
+    → IsFileFault NoGraph (IsListFault P way gr_text NoList) e → IsUnwritten wrote → JobAnswered P way gr_text asked NoGraph NoList Done wrote (Err e)
+refused P way gr_text asked NoGraph NoList Done wrote e is same =
+    by_fault (λ f. JobAnswered P way gr_text asked NoGraph NoList Done wrote (Err f)) NoGraph (IsListFault P way gr_text NoList) e is (λ f no. (no, same)) (λ f no. (no.0, no.1, same))
 
-pub refused_some : (P : ℕ) (asked : List ℕ → Asked) (Done : JobDone) (OfGraph : GraphFault → Type 0) (OfSources : DimacsError → Type 0) (wrote : Wrote) (e : BatchError)
-    → IsFileFault OfGraph OfSources e → IsUnwritten wrote → JobOfSome P asked Done wrote (Err e)
-refused_some P asked Done OfGraph OfSources wrote e is same = by_fault (λ f. JobOfSome P asked Done wrote (Err f)) OfGraph OfSources e is (λ f no. same) (λ f no. same)
+pub refused_some : (P : ℕ) (way : Direction) (asked : List ℕ → Asked) (Done : JobDone) (OfGraph : GraphFault → Type 0) (OfSources : DimacsError → Type 0) (wrote : Wrote) (e : BatchError)
+    → IsFileFault OfGraph OfSources e → IsUnwritten wrote → JobOfSome P way asked Done wrote (Err e)
+refused_some P way asked Done OfGraph OfSources wrote e is same = by_fault (λ f. JobOfSome P way asked Done wrote (Err f)) OfGraph OfSources e is (λ f no. same) (λ f no. same)
 
 -- A fault of the graph's text is one of the two.
 pub of_graph : (OfGraph : GraphFault → Type 0) (OfSources : DimacsError → Type 0) (e : BatchError) → IsGraphFault OfGraph e → IsFileFault OfGraph OfSources e

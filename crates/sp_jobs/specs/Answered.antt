@@ -7,6 +7,8 @@ use Rattle.sp_text.specs.declared.faults.DimacsError.{DimacsError}
 use Rattle.sp_paths.specs.Paths.{Graph}
 use Rattle.sp_dimacs.specs.declared.graphs.GrFile.{GrFile}
 use Rattle.sp_dimacs.specs.Graph.{graph_of}
+use Rattle.sp_network.specs.Network.{directed}
+use Rattle.sp_network.specs.declared.directions.Direction.{Direction}
 use Rattle.sp_dimacs.specs.Sources.{SourcesRead}
 use Rattle.sp_jobs.specs.declared.answers.Role.{Role}
 use Rattle.sp_jobs.specs.declared.answers.Summary.{Summary}
@@ -14,7 +16,7 @@ use Rattle.sp_jobs.specs.declared.answers.BatchError.{BatchError}
 use Rattle.sp_jobs.specs.declared.answers.BatchError.TheVariants.{Gr, Ss, Targets, Pairs, NoSuchVertex, Memory, Write}
 use Rattle.sp_jobs.specs.declared.listing.Listed.{Listed}
 use Rattle.sp_jobs.specs.Listing.{Asked, AreAsked, numbers_of}
-use Rattle.sp_jobs.specs.Network.{SpellsNetwork, HoldsGraph, GraphFault, MayReadGraph}
+use Rattle.sp_jobs.specs.Network.{SpellsGraph, HoldsGraph, GraphFault, MayReadGraph}
 
 -- ## What is written
 
@@ -47,8 +49,8 @@ abbrev pub IsListRefused : {S : Type 0} → (P : ℕ) → (text : List ℕ) → 
 IsListRefused P text s ss e = SourcesRead P text (s.left ss) (s.has_failed ss) (Err e)
 
 -- What a job has read of its files: a text spells the graph, and the list has the numbers that are asked for.
-pub record AreRead (P : ℕ) (gr_text : List ℕ) (asked : Asked) (files : GrFile × Listed) : Type 0 where
-  pub spells_graph : SpellsNetwork P gr_text (graph_of files.0)
+pub record AreRead (P : ℕ) (way : Direction) (gr_text : List ℕ) (asked : Asked) (files : GrFile × Listed) : Type 0 where
+  pub spells_graph : SpellsGraph P way gr_text (directed way (graph_of files.0))
   pub are_asked : AreAsked P asked (numbers_of files.1)
 
 -- A fault of the text of the graph, or of the list of the sources, of which that holds.
@@ -62,8 +64,8 @@ abbrev pub IsGraphFault : (OfGraph : GraphFault → Type 0) → BatchError → T
 IsGraphFault OfGraph e = IsFileFault OfGraph (λ fault. ⊥) e
 
 -- The list is refused, where a text spells a graph.
-abbrev pub IsListFault : (P : ℕ) → (gr_text : List ℕ) → (NoList : DimacsError → Type 0) → DimacsError → Type 0
-IsListFault P gr_text NoList e = HoldsGraph P gr_text × NoList e
+abbrev pub IsListFault : (P : ℕ) → (way : Direction) → (gr_text : List ℕ) → (NoList : DimacsError → Type 0) → DimacsError → Type 0
+IsListFault P way gr_text NoList e = HoldsGraph P way gr_text × NoList e
 
 -- ## What is answered
 
@@ -72,25 +74,25 @@ abbrev pub JobDone : Type 1
 JobDone = Wrote → Graph → (sources : List ℕ) → Result Summary BatchError → Type 0
 
 -- A text spells a graph, these are the sources that are asked for, and for them that was done.
-pub record AreAnswered (P : ℕ) (gr_text : List ℕ) (asked : Asked) (Done : Graph → (sources : List ℕ) → Type 0) : Type 0 where
+pub record AreAnswered (P : ℕ) (way : Direction) (gr_text : List ℕ) (asked : Asked) (Done : Graph → (sources : List ℕ) → Type 0) : Type 0 where
   pub graph : Graph
   pub sources : List ℕ
-  pub spells_graph : SpellsNetwork P gr_text graph
+  pub spells_graph : SpellsGraph P way gr_text graph
   pub are_asked : AreAsked P asked sources
   pub done : Done graph sources
 
 -- The answer to the text of a graph and to a list: a refusal of the text, or of the list where the text spells a graph, with nothing
 -- written; or what is done for the graph and the sources that are asked for.
-abbrev pub JobAnswered : (P : ℕ) → (gr_text : List ℕ) → Asked → (NoGraph : GraphFault → Type 0) → (NoList : DimacsError → Type 0) → (Done : JobDone) → Wrote → Result Summary BatchError → Type 0
-JobAnswered P gr_text asked NoGraph NoList Done wrote (Err (Gr e)) = NoGraph e × IsUnwritten wrote
-JobAnswered P gr_text asked NoGraph NoList Done wrote (Err (Ss e)) = HoldsGraph P gr_text × NoList e × IsUnwritten wrote
-JobAnswered P gr_text asked NoGraph NoList Done wrote result = AreAnswered P gr_text asked (λ graph sources. Done wrote graph sources result)
+abbrev pub JobAnswered : (P : ℕ) → (way : Direction) → (gr_text : List ℕ) → Asked → (NoGraph : GraphFault → Type 0) → (NoList : DimacsError → Type 0) → (Done : JobDone) → Wrote → Result Summary BatchError → Type 0
+JobAnswered P way gr_text asked NoGraph NoList Done wrote (Err (Gr e)) = NoGraph e × IsUnwritten wrote
+JobAnswered P way gr_text asked NoGraph NoList Done wrote (Err (Ss e)) = HoldsGraph P way gr_text × NoList e × IsUnwritten wrote
+JobAnswered P way gr_text asked NoGraph NoList Done wrote result = AreAnswered P way gr_text asked (λ graph sources. Done wrote graph sources result)
 
 -- The same where the devices perhaps don't tell their bytes: some text spells the graph, and the list is asked for in some text.
-abbrev pub JobOfSome : (P : ℕ) → (List ℕ → Asked) → (Done : JobDone) → Wrote → Result Summary BatchError → Type 0
-JobOfSome P asked Done wrote (Err (Gr e)) = IsUnwritten wrote
-JobOfSome P asked Done wrote (Err (Ss e)) = IsUnwritten wrote
-JobOfSome P asked Done wrote result = (gr_text ss_text : List ℕ) × AreAnswered P gr_text (asked ss_text) (λ graph sources. Done wrote graph sources result)
+abbrev pub JobOfSome : (P : ℕ) → (way : Direction) → (List ℕ → Asked) → (Done : JobDone) → Wrote → Result Summary BatchError → Type 0
+JobOfSome P way asked Done wrote (Err (Gr e)) = IsUnwritten wrote
+JobOfSome P way asked Done wrote (Err (Ss e)) = IsUnwritten wrote
+JobOfSome P way asked Done wrote result = (gr_text ss_text : List ℕ) × AreAnswered P way gr_text (asked ss_text) (λ graph sources. Done wrote graph sources result)
 
 -- If the device of the graph has failed, then it may fail, and a list that is refused may be.
 abbrev pub MayFail : (gr : Failing) → (sources targets : DimacsError → Type 0) → BatchError → Type 0

@@ -8,6 +8,7 @@ use Rattle.sp_answer.specs.Table.{TreeTable, IsTable}
 use Rattle.sp_files.specs.TreeText.{tree_text, far_text}
 use Rattle.sp_answer.specs.Answer.{IsAnswer}
 use Rattle.sp_answer.specs.Within.{IsTreeWithin}
+use Rattle.sp_network.specs.declared.directions.Direction.{Direction}
 use Rattle.sp_jobs.specs.declared.answers.Summary.{Summary}
 use Rattle.sp_jobs.specs.Answers.{IsCount}
 use Rattle.std.specs.Io.KnownBytes.{Appends}
@@ -80,21 +81,21 @@ IsBatch P limit wrote graph sources result =
 
 -- The answer to a text and to what is asked for: a refusal of one of them, with nothing written; or what the graph that the text spells
 -- gives and the sources that are asked for, up to the limit.
-abbrev pub TreesAnswered : {G W : Type 0} → (P : ℕ) → (limit : Option ℕ) → (gr_text : List ℕ) → Asked → Reader G → G → Writer W → (old new : W) → Result Summary BatchError → Type 0
-TreesAnswered P limit gr_text asked g gr w old new result =
-    JobAnswered P gr_text asked (IsGraphRefused P gr_text g gr) (AreRefused P asked) (IsBatch P limit) (wrote_by w old new) result
+abbrev pub TreesAnswered : {G W : Type 0} → (P : ℕ) → (way : Direction) → (limit : Option ℕ) → (gr_text : List ℕ) → Asked → Reader G → G → Writer W → (old new : W) → Result Summary BatchError → Type 0
+TreesAnswered P way limit gr_text asked g gr w old new result =
+    JobAnswered P way gr_text asked (IsGraphRefused P way gr_text g gr) (AreRefused P asked) (IsBatch P limit) (wrote_by w old new) result
 
 -- the same where the devices perhaps don't tell their bytes
-abbrev pub TreesOfSome : {W : Type 0} → (P : ℕ) → (limit : Option ℕ) → (List ℕ → Asked) → Writer W → (old new : W) → Result Summary BatchError → Type 0
-TreesOfSome P limit asked w old new result = JobOfSome P asked (IsBatch P limit) (wrote_by w old new) result
+abbrev pub TreesOfSome : {W : Type 0} → (P : ℕ) → (way : Direction) → (limit : Option ℕ) → (List ℕ → Asked) → Writer W → (old new : W) → Result Summary BatchError → Type 0
+TreesOfSome P way limit asked w old new result = JobOfSome P way asked (IsBatch P limit) (wrote_by w old new) result
 
 -- ## Sources of a text
 
 -- The answer to two texts: that to the first and to the sources at these places of the second, of which the reader leaves what the
 -- device has left.
-abbrev pub BatchAnswered : {G S W : Type 0} → (P : ℕ) → (places : Option (ℕ × ℕ)) → (limit : Option ℕ) → (gr_text ss_text : List ℕ) → Reader G → G → Reader S → S → Writer W → (old new : W) → Result Summary BatchError → Type 0
-BatchAnswered P places limit gr_text ss_text g gr s ss w old new result =
-    JobAnswered P gr_text (InText places ss_text) (IsGraphRefused P gr_text g gr) (IsListRefused P ss_text s ss) (IsBatch P limit) (wrote_by w old new) result
+abbrev pub BatchAnswered : {G S W : Type 0} → (P : ℕ) → (way : Direction) → (places : Option (ℕ × ℕ)) → (limit : Option ℕ) → (gr_text ss_text : List ℕ) → Reader G → G → Reader S → S → Writer W → (old new : W) → Result Summary BatchError → Type 0
+BatchAnswered P way places limit gr_text ss_text g gr s ss w old new result =
+    JobAnswered P way gr_text (InText places ss_text) (IsGraphRefused P way gr_text g gr) (IsListRefused P ss_text s ss) (IsBatch P limit) (wrote_by w old new) result
 
-abbrev pub BatchOfSome : {W : Type 0} → (P : ℕ) → (places : Option (ℕ × ℕ)) → (limit : Option ℕ) → Writer W → (old new : W) → Result Summary BatchError → Type 0
-BatchOfSome P places limit w old new result = TreesOfSome P limit (InText places) w old new result
+abbrev pub BatchOfSome : {W : Type 0} → (P : ℕ) → (way : Direction) → (places : Option (ℕ × ℕ)) → (limit : Option ℕ) → Writer W → (old new : W) → Result Summary BatchError → Type 0
+BatchOfSome P way places limit w old new result = TreesOfSome P way limit (InText places) w old new result

@@ -2,6 +2,7 @@
 use Rattle.std.specs.Prelude.{◌≡◌, ◌≤◌, ◌⊎◌, ℕ, List, map, All, Result, Err}
 use Rattle.std.specs.List.{flat_map}
 use Rattle.sp_paths.specs.Paths.{Graph}
+use Rattle.sp_network.specs.declared.directions.Direction.{Direction}
 use Rattle.sp_jobs.specs.declared.answers.Summary.{Summary}
 use Rattle.sp_jobs.specs.declared.answers.BatchError.{BatchError}
 use Rattle.sp_jobs.specs.declared.answers.Role.{Role}
@@ -56,10 +57,10 @@ IsMatrixToSome P ends wrote graph sources result = (text targets : List ℕ) × 
 
 -- The answer to the text of a graph and to two lists: a fault of a text, where those before it have none, with nothing written; or
 -- what the graph gives that the text spells, and the sources and the targets.
-abbrev pub MatrixAnswered : {G W : Type 0} → (P : ℕ) → (gr_text : List ℕ) → (starts ends : Asked) → Reader G → G → Writer W → (old new : W) → Result Summary BatchError → Type 0
-MatrixAnswered P gr_text starts ends g gr w old new result =
-    JobAnswered P gr_text starts (IsGraphRefused P gr_text g gr) (AreRefused P starts) (IsMatrixTo P ends) (wrote_by w old new) result
+abbrev pub MatrixAnswered : {G W : Type 0} → (P : ℕ) → (way : Direction) → (gr_text : List ℕ) → (starts ends : Asked) → Reader G → G → Writer W → (old new : W) → Result Summary BatchError → Type 0
+MatrixAnswered P way gr_text starts ends g gr w old new result =
+    JobAnswered P way gr_text starts (IsGraphRefused P way gr_text g gr) (AreRefused P starts) (IsMatrixTo P ends) (wrote_by w old new) result
 
 -- The same where the devices perhaps don't tell their bytes: some texts spell the graph, and what the lists ask for in them.
-abbrev pub MatrixOfSome : {W : Type 0} → (P : ℕ) → (starts ends : List ℕ → Asked) → Writer W → (old new : W) → Result Summary BatchError → Type 0
-MatrixOfSome P starts ends w old new result = JobOfSome P starts (IsMatrixToSome P ends) (wrote_by w old new) result
+abbrev pub MatrixOfSome : {W : Type 0} → (P : ℕ) → (way : Direction) → (starts ends : List ℕ → Asked) → Writer W → (old new : W) → Result Summary BatchError → Type 0
+MatrixOfSome P way starts ends w old new result = JobOfSome P way starts (IsMatrixToSome P ends) (wrote_by w old new) result

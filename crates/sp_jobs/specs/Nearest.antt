@@ -8,6 +8,7 @@ use Rattle.sp_forest.specs.Forests.{IsFar}
 use Rattle.sp_forest.specs.ForestTable.{ForestTable, IsForestTable}
 use Rattle.sp_forest.specs.Nearest.{IsForestAnswer}
 use Rattle.sp_files.specs.ForestText.{source_count, forest_text, no_forest_text}
+use Rattle.sp_network.specs.declared.directions.Direction.{Direction}
 use Rattle.sp_jobs.specs.declared.answers.Summary.{Summary}
 use Rattle.sp_jobs.specs.Answers.{IsCount}
 use Rattle.std.specs.Io.KnownBytes.{Appends}
@@ -68,10 +69,10 @@ IsForestRun P limit wrote graph sources result =
 
 -- The answer to a text and to what is asked for: a refusal of one of them, with nothing written; or what the graph that the text spells
 -- gives and the sources that are asked for, up to the limit.
-abbrev pub ForestAnswered : {G W : Type 0} → (P : ℕ) → (limit : Option ℕ) → (gr_text : List ℕ) → Asked → Reader G → G → Writer W → (old new : W) → Result Summary BatchError → Type 0
-ForestAnswered P limit gr_text asked g gr w old new result =
-    JobAnswered P gr_text asked (IsGraphRefused P gr_text g gr) (AreRefused P asked) (IsForestRun P limit) (wrote_by w old new) result
+abbrev pub ForestAnswered : {G W : Type 0} → (P : ℕ) → (way : Direction) → (limit : Option ℕ) → (gr_text : List ℕ) → Asked → Reader G → G → Writer W → (old new : W) → Result Summary BatchError → Type 0
+ForestAnswered P way limit gr_text asked g gr w old new result =
+    JobAnswered P way gr_text asked (IsGraphRefused P way gr_text g gr) (AreRefused P asked) (IsForestRun P limit) (wrote_by w old new) result
 
 -- the same where the devices perhaps don't tell their bytes
-abbrev pub ForestOfSome : {W : Type 0} → (P : ℕ) → (limit : Option ℕ) → (List ℕ → Asked) → Writer W → (old new : W) → Result Summary BatchError → Type 0
-ForestOfSome P limit asked w old new result = JobOfSome P asked (IsForestRun P limit) (wrote_by w old new) result
+abbrev pub ForestOfSome : {W : Type 0} → (P : ℕ) → (way : Direction) → (limit : Option ℕ) → (List ℕ → Asked) → Writer W → (old new : W) → Result Summary BatchError → Type 0
+ForestOfSome P way limit asked w old new result = JobOfSome P way asked (IsForestRun P limit) (wrote_by w old new) result

@@ -3,6 +3,7 @@ ghost use Rattle.std.specs.Prelude.{◌≡◌};
 ghost use Rattle.sp_jobs.specs.declared.answers.BatchError.TheVariants.{Memory, Write};
 
 use sp_dimacs::{DimacsError, WriteFault};
+use sp_network::NetworkFault;
 use std::alloc::AllocError;
 use thiserror::Error;
 
@@ -27,9 +28,9 @@ pub enum Role {
 /// The reason why a batch wasn't written to its end.
 #[derive(Clone, Copy, Debug, PartialEq, Eq, Error)]
 pub enum BatchError {
-    /// The text of the graph has a fault. This is its first one.
+    /// The file of the graph has a fault. This is its first one.
     #[error("gr: {0}")]
-    Gr(DimacsError),
+    Gr(NetworkFault),
     /// The text of the sources has a fault. This is its first one.
     #[error("ss: {0}")]
     Ss(DimacsError),

@@ -1,7 +1,9 @@
 //! A batch of sources.
 ghost use Rattle.std.specs.Prelude.{◌≡◌, ◌≤◌, ℕ, true, List, Some, None, IfSome, IfErr};
 ghost use Rattle.sp_word.specs.Word.{is_layout, max_dist};
-ghost use Rattle.sp_dimacs.specs.Graph.{IsNetwork, graph_of};
+ghost use Rattle.sp_dimacs.specs.Graph.{IsNetworkUpTo, graph_of};
+ghost use Rattle.sp_network.specs.Network.{directed, most_of};
+ghost use Rattle.sp_network.specs.declared.directions.Direction.TheVariants.{AsGiven};
 ghost use Rattle.sp_jobs.specs.Places.{AreNumbered};
 ghost use Rattle.sp_jobs.specs.Answers.{is_early};
 ghost use Rattle.sp_jobs.specs.Answered.{MayFail, wrote_by};
@@ -18,6 +20,7 @@ use crate::settings::{BucketWidth, Settings};
 use crate::tree_crews::TreeCrew;
 use crate::vertices::first_above;
 use sp_dimacs::{GrFile, Read, Write, read_ss};
+use sp_network::{Direction, Peeked};
 use sp_word::{Meter, Workers};
 use std::alloc::Global;
 use std::sync::Wait;
@@ -36,11 +39,11 @@ fn answer_batch<const P: u32, R: TreeCrew<P>, W: Write, L: Listener>(
 ) -> Result<Summary, BatchError>
     requires crew { R.is_shared }
     requires layout { is_layout P ≡ true }
-    requires network { IsNetwork P file }
+    requires network { IsNetworkUpTo P (most_of settings.now.direction) file }
     requires sources { AreNumbered sources.now }
     requires limit { IfSome limit (λ l. l ≤ max_dist P) }
     ensures batch { IsBatch P limit (wrote_by W.Write out.old out.new)
-        (graph_of file) sources.now result }
+        (directed settings.now.direction (graph_of file)) sources.now result }
     ensures untouched { IfErr result (λ e. is_early e ≡ true → out.new ≡ out.old) }
 {
     if let Some(source) = first_above(sources, file.n) {
@@ -69,7 +72,7 @@ fn answer_batch<const P: u32, R: TreeCrew<P>, W: Write, L: Listener>(
 pub fn run_batch<const P: u32, R: Threads + Wait + Sync, G: Read, S: Read, W: Write>(
     rt: &R,
     alloc: Global,
-    gr: &mut G,
+    gr: &mut Peeked<G>,
     ss: &mut S,
     out: &mut W,
     width: BucketWidth<P>,
@@ -77,15 +80,17 @@ pub fn run_batch<const P: u32, R: Threads + Wait + Sync, G: Read, S: Read, W: Wr
 ) -> Result<Summary, BatchError>
     requires layout { is_layout P ≡ true }
     ensures exact { (gr_text ss_text : List ℕ)
-        → G.left gr.old ≡ Some gr_text → S.left ss.old ≡ Some ss_text
-        → BatchAnswered P None None gr_text ss_text G.Read gr.new S.Read ss.new
+        → ⟦<Peeked<G> as Read>⟧.left gr.old ≡ Some gr_text → S.left ss.old ≡ Some ss_text
+        → BatchAnswered P AsGiven None None gr_text ss_text
+        ⟦<Peeked<G> as Read>⟧ gr.new S.Read ss.new
         W.Write out.old out.new result }
     ensures untouched { IfErr result (λ e. is_early e ≡ true → out.new ≡ out.old) }
-    ensures found { BatchOfSome P None None W.Write out.old out.new result }
+    ensures found { BatchOfSome P AsGiven None None W.Write out.old out.new result }
     ensures may_fail { IfErr result
-        (MayFail (G.failing gr.old) (MayRead (S.failing ss.old)) (λ _. ⊥)) }
+        (MayFail (⟦<Peeked<G> as Read>⟧.failing gr.old) (MayRead (S.failing ss.old)) (λ _. ⊥)) }
 {
     let settings = Settings {
+        direction: Direction::AsGiven,
         width,
         workers,
         listener: &Nobody,
@@ -108,7 +113,7 @@ pub fn run_batch<const P: u32, R: Threads + Wait + Sync, G: Read, S: Read, W: Wr
 pub fn run_batch_told<const P: u32, R: TreeCrew<P>, G: Read, S: Read + Drop, W: Write, L: Listener>(
     rt: &R,
     alloc: Global,
-    gr: &mut G,
+    gr: &mut Peeked<G>,
     sources: Listing<'_, S>,
     limit: Option<u64>,
     out: &mut W,
@@ -119,13 +124,14 @@ pub fn run_batch_told<const P: u32, R: TreeCrew<P>, G: Read, S: Read + Drop, W: 
     requires sources { IsNumbered sources }
     requires limit { IfSome limit (λ l. l ≤ max_dist P) }
     ensures exact { (gr_text ss_text : List ℕ)
-        → G.left gr.old ≡ Some gr_text → HasLeft S.Read sources.entry ss_text
-        → TreesAnswered P limit gr_text (asked_in sources.entry ss_text)
-        G.Read gr.new W.Write out.old out.new result }
+        → ⟦<Peeked<G> as Read>⟧.left gr.old ≡ Some gr_text → HasLeft S.Read sources.entry ss_text
+        → TreesAnswered P settings.now.direction limit gr_text (asked_in sources.entry ss_text)
+        ⟦<Peeked<G> as Read>⟧ gr.new W.Write out.old out.new result }
     ensures untouched { IfErr result (λ e. is_early e ≡ true → out.new ≡ out.old) }
-    ensures found { TreesOfSome P limit (asked_in sources.entry) W.Write out.old out.new result }
+    ensures found { TreesOfSome P settings.now.direction limit (asked_in sources.entry)
+        W.Write out.old out.new result }
     ensures may_fail { IfErr result
-        (MayFail (G.failing gr.old) (MayRefuse S.Read sources.entry) (λ _. ⊥)) }
+        (MayFail (⟦<Peeked<G> as Read>⟧.failing gr.old) (MayRefuse S.Read sources.entry) (λ _. ⊥)) }
 {
     let (file, listed) = settings.read::<R, G, S>(rt, alloc, gr, sources)?;
     let sources = listed.numbers::<P>();

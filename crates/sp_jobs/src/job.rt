@@ -1,20 +1,23 @@
 //! A job: how its graph is taken from a file, and what each of its runs takes.
 ghost use Rattle.std.specs.Prelude.{◌≡◌, ℕ, true, List, Some, IfOk, IfErr, MatchResult};
+ghost use Rattle.std.specs.List.Sorted.{IsPermutation};
 ghost use Rattle.sp_word.specs.Word.{is_layout};
 ghost use Rattle.sp_paths.specs.Bags.{AreSame};
-ghost use Rattle.sp_dimacs.specs.Graph.{IsNetwork, graph_of};
+ghost use Rattle.sp_dimacs.specs.Graph.{IsNetworkUpTo, graph_of};
+ghost use Rattle.sp_network.specs.Network.{directed, most_of};
 ghost use Rattle.sp_forest.specs.Run.{IsAsked, AreRunWords, IsRunRefusal};
 ghost use Rattle.sp_jobs.specs.Ready.{IsReady};
 ghost use Rattle.sp_jobs.specs.Listing.{HasLeft, IsNumbered, IsReadBy, MayRefuse, AreRefused, asked_in};
-ghost use Rattle.sp_jobs.specs.Network.{IsGraphRefused, MayReadGraph, SpellsNetwork};
+ghost use Rattle.sp_jobs.specs.Network.{IsGraphRefused, MayReadGraph, SpellsGraph};
 ghost use Rattle.sp_jobs.specs.Answered.{AreRead, IsFileFault, IsGraphFault, IsListFault};
 
 use crate::answers::BatchError;
 use crate::listing::{Listed, Listing};
 use crate::progress::{Listener, Progress};
 use crate::settings::Settings;
-use sp_dimacs::{GrFile, Read, read_gr_by};
+use sp_dimacs::{GrFile, Read};
 use sp_graph::Graph;
+use sp_network::{Peeked, read_network};
 use sp_run::{Run, RunError, RunWords, useful_team, words_of_run};
 use sp_word::{Crew, Meter, Team};
 use std::alloc::{AllocError, Global};
@@ -28,18 +31,23 @@ impl<const P: u32, L: Listener> Settings<'_, P, L> {
         &self,
         rt: &R,
         alloc: Global,
-        gr: &mut G,
+        gr: &mut Peeked<G>,
     ) -> Result<GrFile, BatchError>
         requires { is_layout P ≡ true }
-        ensures exact { (text : List ℕ) → G.left gr.old ≡ Some text → MatchResult result
-            (λ file. SpellsNetwork P text (graph_of file))
-            (IsGraphFault (IsGraphRefused P text G.Read gr.new)) }
-        ensures found { IfOk result (λ file.
-            (text : List ℕ) × SpellsNetwork P text (graph_of file)) }
-        ensures network { IfOk result (IsNetwork P) }
-        ensures may_fail { IfErr result (IsGraphFault (MayReadGraph (G.failing gr.old))) }
+        ensures exact { (text : List ℕ) → ⟦<Peeked<G> as Read>⟧.left gr.old ≡ Some text
+            → MatchResult result
+            (λ file. SpellsGraph P self.now.direction text
+            (directed self.now.direction (graph_of file)))
+            (IsGraphFault (IsGraphRefused P self.now.direction text
+            ⟦<Peeked<G> as Read>⟧ gr.new)) }
+        ensures found { IfOk result (λ file. (text : List ℕ)
+            × SpellsGraph P self.now.direction text
+            (directed self.now.direction (graph_of file))) }
+        ensures network { IfOk result (IsNetworkUpTo P (most_of self.now.direction)) }
+        ensures may_fail { IfErr result
+            (IsGraphFault (MayReadGraph (⟦<Peeked<G> as Read>⟧.failing gr.old))) }
     {
-        match read_gr_by::<P, R, G>(rt, alloc, gr, self.workers) {
+        match read_network::<P, R, G>(rt, alloc, gr, self.workers, self.direction) {
             Ok(file) => Ok(file),
             Err(error) => Err(BatchError::Gr(error)),
         }
@@ -50,22 +58,28 @@ impl<const P: u32, L: Listener> Settings<'_, P, L> {
         &self,
         rt: &R,
         alloc: Global,
-        gr: &mut G,
+        gr: &mut Peeked<G>,
         sources: Listing<'s, S>,
     ) -> Result<(GrFile, Listed<'s>), BatchError>
         requires layout { is_layout P ≡ true }
         requires sources { IsNumbered sources }
         ensures exact { (gr_text ss_text : List ℕ)
-            → G.left gr.old ≡ Some gr_text → HasLeft S.Read sources.entry ss_text
-            → MatchResult result (AreRead P gr_text (asked_in sources.entry ss_text))
-            (IsFileFault (IsGraphRefused P gr_text G.Read gr.new)
-            (IsListFault P gr_text (AreRefused P (asked_in sources.entry ss_text)))) }
+            → ⟦<Peeked<G> as Read>⟧.left gr.old ≡ Some gr_text
+            → HasLeft S.Read sources.entry ss_text
+            → MatchResult result
+            (AreRead P self.now.direction gr_text (asked_in sources.entry ss_text))
+            (IsFileFault (IsGraphRefused P self.now.direction gr_text
+            ⟦<Peeked<G> as Read>⟧ gr.new)
+            (IsListFault P self.now.direction gr_text
+            (AreRefused P (asked_in sources.entry ss_text)))) }
         ensures found { IfOk result (λ files. (gr_text ss_text : List ℕ)
-            × AreRead P gr_text (asked_in sources.entry ss_text) files) }
-        ensures network { IfOk result (λ files. IsNetwork P files.0) }
+            × AreRead P self.now.direction gr_text (asked_in sources.entry ss_text) files) }
+        ensures network { IfOk result
+            (λ files. IsNetworkUpTo P (most_of self.now.direction) files.0) }
         ensures numbered { IfOk result (λ files. IsReadBy P files.1) }
         ensures may_fail { IfErr result
-            (IsFileFault (MayReadGraph (G.failing gr.old)) (MayRefuse S.Read sources.entry)) }
+            (IsFileFault (MayReadGraph (⟦<Peeked<G> as Read>⟧.failing gr.old))
+            (MayRefuse S.Read sources.entry)) }
     {
         let file = self.read_graph::<R, G>(rt, alloc, gr)?;
         match sources.read::<P>(alloc) {
@@ -74,19 +88,23 @@ impl<const P: u32, L: Listener> Settings<'_, P, L> {
         }
     }
 
-    /// Builds the graph of a file that was read, by as many threads as there are workers, and lets the listener hear of it.
-    #[tactic(auto, using(crate::proofs::Files::same_graph))]
+    /// Builds the graph of a file that was read, with its arcs in the direction that is asked for, by as many threads as there are
+    /// workers, and lets the listener hear of it.
     pub fn build<R: Threads + Sync>(
         &self,
         rt: &R,
         alloc: Global,
         file: GrFile,
     ) -> Result<Graph, AllocError>
-        requires { IsNetwork P file }
+        requires { IsNetworkUpTo P (most_of self.now.direction) file }
         ensures n { IfOk result (λ graph. graph.n ≡ file.n) }
-        ensures arcs { IfOk result (λ graph. AreSame graph (graph_of file)) }
+        ensures each { IfOk result (λ graph. IsPermutation
+            (directed self.now.direction (graph_of file)).arcs graph.arcs) }
+        ensures arcs { IfOk result
+            (λ graph. AreSame graph (directed self.now.direction (graph_of file))) }
     {
-        let graph = Graph::from_arcs_by(rt, alloc, file.n, file.arcs, self.workers)?;
+        let made = self.direction.apply(file)?;
+        let graph = Graph::from_arcs_by(rt, alloc, made.n, made.arcs, self.workers)?;
         self.listener.hear(Progress::Graph {
             vertices: graph.n(),
             arcs: graph.m(),

@@ -1,7 +1,8 @@
 //! A matrix of answers: each source with each target.
 ghost use Rattle.std.specs.Prelude.{◌≡◌, ℕ, true, List, Some, IfErr};
 ghost use Rattle.sp_word.specs.Word.{is_layout};
-ghost use Rattle.sp_dimacs.specs.Graph.{IsNetwork, graph_of};
+ghost use Rattle.sp_dimacs.specs.Graph.{IsNetworkUpTo, graph_of};
+ghost use Rattle.sp_network.specs.Network.{directed, most_of};
 ghost use Rattle.sp_jobs.specs.Places.{AreNumbered};
 ghost use Rattle.sp_jobs.specs.Answers.{is_early};
 ghost use Rattle.sp_jobs.specs.Answered.{MayFail, wrote_by};
@@ -18,6 +19,7 @@ use crate::row_crews::RowCrew;
 use crate::settings::Settings;
 use crate::vertices::first_above;
 use sp_dimacs::{GrFile, Read, Write};
+use sp_network::Peeked;
 use sp_word::Meter;
 use std::alloc::Global;
 
@@ -34,11 +36,11 @@ fn answer_matrix<const P: u32, R: RowCrew<P>, W: Write, L: Listener>(
 ) -> Result<Summary, BatchError>
     requires crew { R.is_shared }
     requires layout { is_layout P ≡ true }
-    requires network { IsNetwork P file }
+    requires network { IsNetworkUpTo P (most_of settings.now.direction) file }
     requires sources { AreNumbered sources.now }
     requires targets { AreNumbered targets.now }
     ensures matrix { IsMatrix P targets.now (wrote_by W.Write out.old out.new)
-        (graph_of file) sources.now result }
+        (directed settings.now.direction (graph_of file)) sources.now result }
     ensures untouched { IfErr result (λ e. is_early e ≡ true → out.new ≡ out.old) }
 {
     if let Some(source) = first_above(sources, file.n) {
@@ -90,7 +92,7 @@ pub fn run_matrix_told<
 >(
     rt: &R,
     alloc: Global,
-    gr: &mut G,
+    gr: &mut Peeked<G>,
     sources: Listing<'_, S>,
     targets: Listing<'_, T>,
     out: &mut W,
@@ -101,16 +103,16 @@ pub fn run_matrix_told<
     requires sources { IsNumbered sources }
     requires targets { IsNumbered targets }
     ensures exact { (gr_text sources_text targets_text : List ℕ)
-        → G.left gr.old ≡ Some gr_text
+        → ⟦<Peeked<G> as Read>⟧.left gr.old ≡ Some gr_text
         → HasLeft S.Read sources.entry sources_text → HasLeft T.Read targets.entry targets_text
-        → MatrixAnswered P gr_text
+        → MatrixAnswered P settings.now.direction gr_text
         (asked_in sources.entry sources_text) (asked_in targets.entry targets_text)
-        G.Read gr.new W.Write out.old out.new result }
+        ⟦<Peeked<G> as Read>⟧ gr.new W.Write out.old out.new result }
     ensures untouched { IfErr result (λ e. is_early e ≡ true → out.new ≡ out.old) }
-    ensures found { MatrixOfSome P (asked_in sources.entry) (asked_in targets.entry)
-        W.Write out.old out.new result }
+    ensures found { MatrixOfSome P settings.now.direction
+        (asked_in sources.entry) (asked_in targets.entry) W.Write out.old out.new result }
     ensures may_fail { IfErr result
-        (MayFail (G.failing gr.old)
+        (MayFail (⟦<Peeked<G> as Read>⟧.failing gr.old)
         (MayRefuse S.Read sources.entry) (MayRefuse T.Read targets.entry)) }
 {
     let (file, starts) = settings.read::<R, G, S>(rt, alloc, gr, sources)?;

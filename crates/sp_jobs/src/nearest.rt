@@ -1,7 +1,8 @@
 //! The forest of the sources of a list.
 ghost use Rattle.std.specs.Prelude.{◌≡◌, ◌≤◌, ℕ, true, List, Some, IfErr, IfSome};
 ghost use Rattle.sp_word.specs.Word.{is_layout, max_dist};
-ghost use Rattle.sp_dimacs.specs.Graph.{IsNetwork, graph_of};
+ghost use Rattle.sp_dimacs.specs.Graph.{IsNetworkUpTo, graph_of};
+ghost use Rattle.sp_network.specs.Network.{directed, most_of};
 ghost use Rattle.sp_jobs.specs.Places.{AreNumbered};
 ghost use Rattle.sp_jobs.specs.Answers.{is_early};
 ghost use Rattle.sp_jobs.specs.Answered.{MayFail, wrote_by};
@@ -16,6 +17,7 @@ use crate::progress::{Listener, Progress};
 use crate::settings::Settings;
 use crate::vertices::first_above;
 use sp_dimacs::{GrFile, Read, Write};
+use sp_network::Peeked;
 use sp_run::Nearest;
 use sp_word::{Crew, Meter};
 use std::alloc::Global;
@@ -37,11 +39,11 @@ fn answer_nearest<const P: u32, R: Crew, W: Write, L: Listener>(
     out: &mut W,
 ) -> Result<Summary, BatchError>
     requires layout { is_layout P ≡ true }
-    requires network { IsNetwork P file }
+    requires network { IsNetworkUpTo P (most_of settings.now.direction) file }
     requires sources { AreNumbered asked.sources.now }
     requires limit { IfSome asked.limit (λ limit. limit ≤ max_dist P) }
     ensures forest { IsForestRun P asked.entry.limit (wrote_by W.Write out.old out.new)
-        (graph_of file) asked.entry.sources.now result }
+        (directed settings.now.direction (graph_of file)) asked.entry.sources.now result }
     ensures untouched { IfErr result (λ e. is_early e ≡ true → out.new ≡ out.old) }
 {
     if let Some(source) = first_above(asked.sources, file.n) {
@@ -78,7 +80,7 @@ fn answer_nearest<const P: u32, R: Crew, W: Write, L: Listener>(
 pub fn run_nearest_told<const P: u32, R: Crew, G: Read, S: Read + Drop, W: Write, L: Listener>(
     rt: &R,
     alloc: Global,
-    gr: &mut G,
+    gr: &mut Peeked<G>,
     sources: Listing<'_, S>,
     limit: Option<u64>,
     out: &mut W,
@@ -88,13 +90,14 @@ pub fn run_nearest_told<const P: u32, R: Crew, G: Read, S: Read + Drop, W: Write
     requires sources { IsNumbered sources }
     requires limit { IfSome limit (λ limit. limit ≤ max_dist P) }
     ensures exact { (gr_text ss_text : List ℕ)
-        → G.left gr.old ≡ Some gr_text → HasLeft S.Read sources.entry ss_text
-        → ForestAnswered P limit gr_text (asked_in sources.entry ss_text)
-        G.Read gr.new W.Write out.old out.new result }
+        → ⟦<Peeked<G> as Read>⟧.left gr.old ≡ Some gr_text → HasLeft S.Read sources.entry ss_text
+        → ForestAnswered P settings.now.direction limit gr_text (asked_in sources.entry ss_text)
+        ⟦<Peeked<G> as Read>⟧ gr.new W.Write out.old out.new result }
     ensures untouched { IfErr result (λ e. is_early e ≡ true → out.new ≡ out.old) }
-    ensures found { ForestOfSome P limit (asked_in sources.entry) W.Write out.old out.new result }
+    ensures found { ForestOfSome P settings.now.direction limit (asked_in sources.entry)
+        W.Write out.old out.new result }
     ensures may_fail { IfErr result
-        (MayFail (G.failing gr.old) (MayRefuse S.Read sources.entry) (λ _. ⊥)) }
+        (MayFail (⟦<Peeked<G> as Read>⟧.failing gr.old) (MayRefuse S.Read sources.entry) (λ _. ⊥)) }
 {
     let (file, listed) = settings.read::<R, G, S>(rt, alloc, gr, sources)?;
     let asked = Nearest {

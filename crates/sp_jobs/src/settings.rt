@@ -4,6 +4,7 @@ ghost use Rattle.sp_word.specs.Word.{is_layout};
 ghost use Rattle.sp_jobs.specs.Width.{width_among};
 
 use sp_graph::Graph;
+use sp_network::Direction;
 use sp_word::{Delta, Team, Word, Workers};
 
 /// The width of a bucket of tentative distances, as it is asked for. What a batch answers and writes doesn't depend on it.
@@ -22,6 +23,8 @@ pub enum BucketWidth<const P: u32> {
 /// `Team`, in which the width is a number.
 #[derive(Drop)]
 pub struct Settings<'a, const P: u32, L> {
+    /// The direction in which the arcs of the graph lead, by those of its file.
+    pub direction: Direction,
     /// The width of a bucket.
     pub width: BucketWidth<P>,
     /// The number of threads that may work, the calling one counted.

@@ -5,6 +5,7 @@ use Rattle.sp_jobs.specs.declared.answers.BatchError.{BatchError}
 use Rattle.sp_jobs.specs.declared.answers.BatchError.TheVariants as batch
 use Rattle.sp_jobs.specs.declared.answers.Role.{Role}
 use Rattle.sp_jobs.specs.declared.answers.Role.TheVariants as role
+use Rattle.sp_network.specs.declared.faults.NetworkFault.TheVariants as network
 use Rattle.sp_command.specs.declared.faults.Fault.{Fault}
 use Rattle.sp_command.specs.declared.faults.Fault.TheVariants as fault
 use Rattle.sp_command.specs.declared.faults.FileKind.{FileKind}
@@ -23,7 +24,8 @@ kind_of role.Source = file.Sources
 kind_of role.Target = file.Targets
 
 abbrev pub fault_of : BatchError → Fault
-fault_of (batch.Gr error) = fault.Input file.Graph error
+fault_of (batch.Gr (network.Text error)) = fault.Input file.Graph error
+fault_of (batch.Gr (network.Packed error)) = fault.Packed error
 fault_of (batch.Ss error) = fault.Input file.Sources error
 fault_of (batch.Targets error) = fault.Input file.Targets error
 fault_of (batch.Pairs error) = fault.Input file.Pairs error

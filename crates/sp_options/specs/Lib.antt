@@ -1,3 +1,4 @@
+pub mod Directions
 pub mod Ends
 pub mod Given
 pub mod Lists

@@ -1,10 +1,11 @@
 -- What `clap` reads of the options of commands that run from sources.
-use Rattle.std.specs.Prelude.{ℕ, List, [], ◌∷◌, false, true, Some, pos, codes}
+use Rattle.std.specs.Prelude.{ℕ, List, [], ◌∷◌, ◌++◌, false, true, Some, pos, codes}
 use Rattle.clap.specs.Simple.{new_rule}
 use Rattle.clap.specs.Walk.{Rule}
 use Rattle.clap.specs.declared.builder.action.ArgAction.TheVariants.{Append}
 use Rattle.clap.specs.declared.builder.value_parser.ValueParser.TheVariants as parser
 use Rattle.sp_command.specs.Rules.{flag_rule, valued_rule}
+use Rattle.sp_options.specs.Directions.{direction_rules}
 
 -- ## How runs are made
 
@@ -20,7 +21,7 @@ workers_rule = record (valued_rule (codes "workers")) { defaults = codes "1" ∷
 
 -- The options behind the width.
 abbrev pub running_rules : List Rule
-running_rules = workers_rule ∷ flag_rule (codes "far-ok") ∷ flag_rule (codes "progress") ∷ []
+running_rules = direction_rules ++ workers_rule ∷ flag_rule (codes "far-ok") ∷ flag_rule (codes "progress") ∷ []
 
 abbrev pub within_rule : Rule
 within_rule = valued_rule (codes "within")

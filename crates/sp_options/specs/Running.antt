@@ -4,6 +4,7 @@ use Rattle.clap.specs.Matches.{first_value}
 use Rattle.clap.specs.declared.parser.matches.Found.{Found}
 use Rattle.sp_options.specs.declared.running.RunOptions.{RunOptions}
 use Rattle.sp_options.specs.declared.width.Width.{Width}
+use Rattle.sp_options.specs.Directions.{HasDirection}
 use Rattle.sp_options.specs.Numbers.{IsFlag}
 use Rattle.sp_options.specs.Width.{SpellsWidth}
 use Rattle.sp_options.specs.Workers.{SpellsWorkers}
@@ -28,6 +29,7 @@ LacksWidth found = (word : List ℕ) (width : Width) → first_value found (code
 pub record IsAskedFor (found : Found) (options : RunOptions) : Type 0 where
   pub width : HasWidth found options.width
   pub workers : HasCrew found options.workers
+  pub direction : HasDirection found options.direction
   pub far_ok : IsFlag found (codes "far-ok") options.far_ok
   pub progress : IsFlag found (codes "progress") options.progress
 

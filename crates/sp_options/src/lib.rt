@@ -2,6 +2,8 @@
 //! progress, and the way in which a run from sources ends.
 #![tactic(auto)]
 
+mod directions;
+mod flags;
 mod given;
 mod lists;
 mod places;
@@ -12,10 +14,12 @@ mod width;
 mod within;
 mod workers;
 
+pub use directions::{add_directions, read_direction};
 pub use given::Given;
 pub use lists::Lists;
 pub use reading::Watched;
-pub use running::{RunOptions, Teller};
+pub use running::{RunOptions, Teller, fault_of};
 pub use sources::Sources;
 pub use width::Width;
 pub use within::Within;
+pub use workers::{WORKERS, read_workers, workers_option};

@@ -3,7 +3,6 @@ ghost use Rattle.std.specs.Prelude.{◌≡◌, ◌∷◌, ℕ, true, List, Some,
 ghost use Rattle.sp_word.specs.Word.{is_layout};
 ghost use Rattle.clap.specs.Matches.{found_of};
 ghost use Rattle.sp_options.specs.Ends.{end_after, end_of, fault_of};
-ghost use Rattle.sp_options.specs.Numbers.{IsFlag};
 ghost use Rattle.clap.specs.Walk.{rule_of};
 ghost use Rattle.sp_command.specs.Rules.{AddsRules, flag_rule};
 ghost use Rattle.sp_options.specs.Rules.{mean_rule, running_rules, width_rule};
@@ -11,11 +10,14 @@ ghost use Rattle.sp_options.specs.Running.{IsAskedFor, LacksOptions};
 ghost use Rattle.sp_options.specs.Width.{bucket_of, IsBucket};
 ghost use Rattle.sp_command.specs.declared.faults.Fault.TheVariants.{DeltaOutOfRange};
 
+use crate::directions::{add_directions, read_direction};
+use crate::flags::flag_in;
 use crate::width::Width;
 use crate::workers::{WORKERS, read_workers, workers_option};
 use clap::{Arg, ArgMatches, Command, Error};
 use sp_command::{BuiltCommand, Fault, FileKind, Inputs, Report, Status, flag};
 use sp_jobs::{BatchError, Listener, Progress, Role, Settings, Summary};
+use sp_network::{Direction, NetworkFault};
 use sp_word::{Meter, Workers};
 use std::alloc::Global;
 
@@ -28,6 +30,8 @@ pub struct RunOptions {
     width: Width,
     // The number of threads that may work, the main thread counted.
     workers: Workers,
+    /// The direction in which the arcs of the graph lead, by those of its file.
+    pub direction: Direction,
     /// Whether the exit status is 0 even if a vertex is too far.
     pub far_ok: bool,
     // Whether the progress is to be reported.
@@ -57,7 +61,7 @@ impl RunOptions {
     fn add_rest<'a>(command: Command<'a>, alloc: Global, workers: &'a str) -> BuiltCommand<'a>
         ensures { IfOk result (AddsRules command.entry running_rules) }
     {
-        command
+        add_directions(command, alloc)?
             .arg(workers_option(alloc, workers))?
             .arg(Self::far_ok(alloc))?
             .arg(Self::progress(alloc))
@@ -96,6 +100,7 @@ impl RunOptions {
         Ok(Some(RunOptions {
             width,
             workers,
+            direction: read_direction(given),
             far_ok: flag_in(given, "far-ok"),
             progress: flag_in(given, "progress"),
         }))
@@ -112,12 +117,14 @@ impl RunOptions {
             (λ fault. ¬ (IsBucket P self.now.width) × (fault ≡ DeltaOutOfRange)) }
         ensures width { IfOk result (λ settings. settings.width ≡ bucket_of self.now.width) }
         ensures workers { IfOk result (λ settings. settings.workers ≡ self.now.workers) }
+        ensures direction { IfOk result (λ settings. settings.direction ≡ self.now.direction) }
         ensures listener { IfOk result (λ settings. settings.listener.now ≡ listener.now) }
     {
         let Some(width) = self.width.bucket::<P>() else {
             return Err(Fault::DeltaOutOfRange);
         };
         Ok(Settings {
+            direction: self.direction,
             width,
             workers: self.workers,
             listener,
@@ -126,10 +133,7 @@ impl RunOptions {
 
     /// Returns a teller that reports the progress to the files of the command line, if that was asked for.
     pub fn teller<'f, F: Inputs>(&self, files: &'f F) -> Teller<'f, F> {
-        Teller {
-            files,
-            is_asked: self.progress,
-        }
+        Teller::new(files, self.progress)
     }
 
     /// Returns how a command ends whose batch has answered this.
@@ -141,13 +145,6 @@ impl RunOptions {
             Err(error) => Err(fault_of(error)),
         }
     }
-}
-
-// Returns whether a flag was given.
-fn flag_in(given: &ArgMatches<'_>, name: &str) -> bool
-    ensures { IsFlag (found_of given.now) name.now result }
-{
-    given.get_flag(name)
 }
 
 /// A listener that reports the progress of a run to the files of a command line.
@@ -165,7 +162,12 @@ impl<F> Drop for Teller<'_, F> {
     }
 }
 
-impl<F: Inputs> Teller<'_, F> {
+impl<'f, F: Inputs> Teller<'f, F> {
+    /// Returns a teller that reports the progress to these files, if that is asked for.
+    pub fn new(files: &'f F, is_asked: bool) -> Self {
+        Teller { files, is_asked }
+    }
+
     /// Reports the progress, if that was asked for.
     pub fn tell(&self, report: Report) {
         if self.is_asked {
@@ -228,12 +230,13 @@ fn status_after(summary: Summary, far_ok: bool) -> Status
     }
 }
 
-// Returns the fault that an error of a batch is told as.
-fn fault_of(error: BatchError) -> Fault
+/// Returns the fault that an error of a batch is told as.
+pub fn fault_of(error: BatchError) -> Fault
     ensures { result ≡ fault_of error }
 {
     match error {
-        BatchError::Gr(error) => FileKind::Graph.fault(error),
+        BatchError::Gr(NetworkFault::Text(error)) => FileKind::Graph.fault(error),
+        BatchError::Gr(NetworkFault::Packed(error)) => Fault::Packed(error),
         BatchError::Ss(error) => FileKind::Sources.fault(error),
         BatchError::Targets(error) => FileKind::Targets.fault(error),
         BatchError::Pairs(error) => FileKind::Pairs.fault(error),

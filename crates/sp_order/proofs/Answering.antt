@@ -41,8 +41,10 @@ early fault.InputTwice few = refl
 early fault.NoPlaces few = refl
 early (fault.CannotOpen file) few = refl
 early (fault.Input file error) few = refl
+early (fault.Packed error) few = refl
 early (fault.NoSuchVertex source kind) few = refl
 early fault.TooManySteps few = refl
+early fault.ToTerminal few = refl
 early fault.Memory few = absurd (let no : ⊥ = omega (arith, few) in no)
 early fault.WriteFailed few = absurd (let no : ⊥ = omega (arith, few) in no)
 early fault.CannotWrite few = refl

@@ -4,16 +4,18 @@ ghost use Rattle.sp_command.specs.declared.faults.Fault.TheVariants.{WriteFailed
 ghost use Rattle.sp_order.specs.declared.hints.Telling.TheVariants.{Nothing};
 ghost use Rattle.sp_order.specs.Told.{Tells};
 
+use crate::announced::announced_vertices;
 use crate::fields::Fields;
 use crate::line_hints::{Refused, advice_in, advice_without};
 use crate::usage_hints::{places_hint, usage_hint};
 use crate::vertex_hints::{vertex_hint, vertices_in};
 use crate::words::Order;
 use sp_command::{
-    Commands, Fault, FileKind, Hint, Inputs, PredBits, hint_of, output_hint, print_short,
+    Advice, Commands, Fault, FileKind, Hint, Inputs, PredBits, hint_of, output_hint, print_short,
 };
 use sp_device::{Read, Write};
 use sp_dimacs::Lines;
+use sp_packed::{PackedField, PackedKind};
 use sp_text::{DimacsError, Kind};
 use std::io::ErrorKind;
 
@@ -127,6 +129,12 @@ fn second_line<'a, C: Commands<'a>, T, F: Inputs>(
         Fault::Input { file, error } => input_hint(
             fault, *file, *error, command, *pred_bits, files,
         ),
+        Fault::Packed(error) => match error.kind {
+            PackedKind::OutOfRange(PackedField::Vertices) => {
+                packed_layout_hint(command, *pred_bits, files)
+            }
+            _ => hint_of(fault, command, None, files),
+        },
         _ => hint_of(fault, command, *output, files),
     }
 }
@@ -180,7 +188,32 @@ fn layout_hint<'a, F: Inputs>(
     if file != FileKind::Graph {
         return None;
     }
-    let vertices = vertices_on(files.open_again(path)?, line)?;
+    layout_for(vertices_on(files.open_again(path)?, line)?, path)
+}
+
+// Returns the advice for a packed graph with too many vertices for the layout: another layout, if one holds them.
+fn packed_layout_hint<'a, C: Commands<'a>, F: Inputs>(
+    command: &C,
+    pred_bits: PredBits,
+    files: &F,
+) -> Option<Hint<'a>> {
+    let path = command.path(FileKind::Graph)?;
+    if let Some(file) = files.open_again(path)
+        && let Some(vertices) = announced_vertices(file)
+        && let Some(hint) = layout_for(vertices, path)
+    {
+        return Some(hint);
+    }
+    let advice = Advice::Range {
+        field: b'N',
+        first: 1,
+        last: u64::from(pred_bits.max_pred()),
+    };
+    Some(Hint::Advice { path, advice })
+}
+
+// Returns the advice to take the layout that holds so many vertices, if there is one.
+fn layout_for(vertices: u64, path: &str) -> Option<Hint<'_>> {
     if vertices == 0 {
         return None;
     }

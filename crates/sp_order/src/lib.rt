@@ -4,6 +4,7 @@
 //! read the one that is named, and run it.
 #![tactic(auto)]
 
+mod announced;
 mod fields;
 mod help;
 mod hints;

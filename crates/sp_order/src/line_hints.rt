@@ -86,6 +86,9 @@ fn advice_on<'a>(refused: Refused<'a>, line: &[u8], has_problem: bool) -> Option
 fn advice_on_form<'a>(refused: Refused<'a>, line: &[u8], has_problem: bool) -> Advice<'a> {
     let file = refused.file;
     let fields = Fields::of(line);
+    if file != FileKind::Graph && begins_packed(line) {
+        return Advice::Packed(file);
+    }
     if is_foreign_comment(line) {
         return match file {
             FileKind::Tree => Advice::NoComments(file),
@@ -110,6 +113,14 @@ fn advice_on_form<'a>(refused: Refused<'a>, line: &[u8], has_problem: bool) -> A
     match misspelled(fields, file) {
         Some(place) => advice_on_number(refused, fields, place),
         None => Advice::Lines(file),
+    }
+}
+
+// Returns whether a line has the first word of a packed graph.
+fn begins_packed(line: &[u8]) -> bool {
+    match line {
+        [0x89, b'S', b'P', b'T', ..] => true,
+        _ => false,
     }
 }
 
@@ -227,7 +238,7 @@ fn range_of(refused: Refused<'_>, field: u8) -> Advice<'_> {
         (FileKind::Graph, b'U' | b'V') => return Advice::Vertex(refused.vertices),
         (FileKind::Graph, b'W') | (FileKind::Replay, b'L') => return Advice::Length,
         (FileKind::Graph | FileKind::Tree, b'N') => (1, pred),
-        (FileKind::Graph, b'M') => (0, 1_073_741_824),
+        (FileKind::Graph, b'M') => return Advice::Arcs,
         (FileKind::Sources | FileKind::Targets | FileKind::Pairs, b'K') => (0, 1_048_576),
         (FileKind::Sources | FileKind::Targets | FileKind::Pairs, _) => {
             return Advice::Vertex(Some(pred));

@@ -1,4 +1,5 @@
 //! Finds where a number is given that is no vertex of its graph.
+use crate::announced::announced_vertices;
 use crate::fields::Fields;
 use sp_command::{Commands, FileKind, Hint, Inputs, Naming, option_for};
 use sp_device::Read;
@@ -20,9 +21,19 @@ pub fn vertex_hint<'a, C: Commands<'a>, F: Inputs>(
     }
 }
 
-/// Returns the number of vertices in the line `p sp N M` of a graph, if it can be read again.
+/// Returns the number of vertices of a graph, if it can be read again: that in its line `p sp N M`, or that which it announces
+/// as a packed graph.
 pub fn vertices_in<F: Inputs>(graph: Option<&str>, files: &F) -> Option<u64> {
-    let mut lines = Lines::new(files.open_again(graph?)?);
+    let path = graph?;
+    match announced_vertices(files.open_again(path)?) {
+        Some(vertices) => Some(vertices),
+        None => vertices_of_text(files.open_again(path)?),
+    }
+}
+
+// Returns the number of vertices in the line `p sp N M` of a text.
+fn vertices_of_text<R: Read + Drop>(file: R) -> Option<u64> {
+    let mut lines = Lines::new(file);
     for _ in 0..u64::MAX {
         let fields = Fields::of(lines.next().ok()??);
         match (fields.at(0), fields.at(1)) {

@@ -45,6 +45,15 @@ pub record MayStand (n : ℕ) (arcs : List Arc) (a : Arc) : Type 0 where
   pub long : 1 ≤ a.len
   pub order : 1 ≤ length arcs → IsNoGreater (slice_index_or arcs (length arcs - 1) a) a
 
+-- the tail, and the head behind it
+abbrev pub arc_key : Arc → ℕ
+arc_key a = a.tail * 2 ^ 32 + a.head
+
+-- This is the key of the last arc, if there is one.
+abbrev pub IsLastKey : List Arc → ℕ → Type 0
+IsLastKey arcs key =
+    (d : Arc) → 1 ≤ length arcs → let last = slice_index_or arcs (length arcs - 1) d in (key ≡ arc_key last) × (last.head < 2 ^ 32)
+
 -- the number of words before the head of the arc at index k
 abbrev pub words_to : (n k : ℕ) → ℕ
 words_to n k = 5 + n + 2 * k

@@ -5,7 +5,7 @@ ghost use Rattle.sp_paths.specs.declared.arc.Arc.{Arc};
 ghost use Rattle.sp_graph.specs.Order.{IsNoGreater};
 ghost use Rattle.sp_packed.specs.Packed.{head_words, arcs_words};
 ghost use Rattle.sp_packed.specs.Ends.{AreEnds};
-ghost use Rattle.sp_packed.specs.Rows.{IsInRow, AreRows, IsNextRow, IsNext, MayFollow, MayHead, MayStand, IsArcRefused, IsRefusedIn, IsCutIn, HasRows, words_to};
+ghost use Rattle.sp_packed.specs.Rows.{IsInRow, AreRows, IsNextRow, IsNext, MayFollow, MayHead, MayStand, IsArcRefused, IsRefusedIn, IsCutIn, HasRows, words_to, arc_key, IsLastKey};
 ghost use Rattle.sp_packed.specs.Reading.{ToldBehind};
 
 use crate::blocks::{Block, ROOM};
@@ -110,6 +110,85 @@ fn push_arc(arcs: &mut Vec<Arc>, ends: &[u32], n: u32, arc: Arc) -> Result<(), P
     Ok(())
 }
 
+// Returns the same as `row_of`, where the row of `tail` has this end. Mostly it is that row or the next one: that takes no branch,
+// since a processor can't predict it.
+fn row_by_end(ends: &[u32], n: u32, k: usize, tail: u32, end: u32) -> u32
+    requires ends { AreEnds n (slice_index ends.now n) ends.now }
+    requires within { k < slice_index ends.now n }
+    requires next { IsNextRow n ends.now k tail }
+    requires end { end ≡ slice_index ends.now tail }
+    ensures row { IsInRow ends.now k result }
+    ensures next { IsNextRow n ends.now k result }
+{
+    row_of(ends, n, k, tail + u32::from(end as usize <= k))
+}
+
+// Returns the key of an arc, by which it comes before others: its tail, and its head behind that.
+fn key_of(arc: &Arc) -> u64
+    ensures key { result ≡ arc_key arc.now }
+    ensures fits { arc.now.head < 2 ^ 32 }
+{
+    arc.tail as u64 * 0x1_0000_0000 + arc.head as u64
+}
+
+// Returns the key of the last arc, or 0 where there is none.
+fn last_key(arcs: &[Arc]) -> u64
+    ensures { IsLastKey arcs.now result }
+{
+    let k = arcs.len();
+    if k == 0 {
+        return 0;
+    }
+    key_of(&arcs[k - 1])
+}
+
+// Returns whether an arc may stand behind these, the last of which has this key. Mostly the keys tell.
+fn may_stand_by_key(arcs: &[Arc], last: u64, n: u32, arc: &Arc) -> bool
+    requires { IsLastKey arcs.now last }
+    ensures { result ≡ true → MayStand n arcs.now arc.now }
+{
+    1 <= arc.head && arc.head <= n && 1 <= arc.len && last < key_of(arc) || may_stand(arcs, n, arc)
+}
+
+// Puts the arcs that the numbers spell behind the others up to the first that may not stand there, or none of them where there
+// is no room for all. It returns how many it has put there, and a row for the next one.
+fn push_right(arcs: &mut Vec<Arc>, numbers: &[u32], ends: &[u32], n: u32, tail: u32) -> (usize, u32)
+    requires few { slice_index ends.now n < 2 ^ 32 }
+    requires ends { AreEnds n (slice_index ends.now n) ends.now }
+    requires rows { AreRows n ends.now arcs.old.items }
+    requires next { IsNextRow n ends.now (length arcs.old.items) tail }
+    requires within { 2 * length arcs.old.items + length numbers.now ≤ 2 * slice_index ends.now n }
+    ensures within { result.0 ≤ length numbers.now / 2 }
+    ensures items { (added : List Arc) × (arcs.new.items ≡ arcs.old.items ++ added)
+        × (arcs_words added ≡ take (2 * result.0) numbers.now) × (length added ≡ result.0) }
+    ensures rows { AreRows n ends.now arcs.new.items }
+    ensures next { IsNextRow n ends.now (length arcs.new.items) result.1 }
+{
+    let count = numbers.len() / 2;
+    if arcs.reserve(count).is_err() {
+        return (0, tail);
+    }
+    let mut row = tail;
+    let mut end = ends[row as usize];
+    let mut last = last_key(arcs);
+    for i in 0..count {
+        row = row_by_end(ends, n, arcs.len(), row, end);
+        end = ends[row as usize];
+        let arc = Arc {
+            tail: row,
+            head: numbers[2 * i],
+            len: numbers[2 * i + 1],
+        };
+        let key = key_of(&arc);
+        if !may_stand_by_key(arcs, last, n, &arc) {
+            return (i, row);
+        }
+        arcs.push_reserved(arc);
+        last = key;
+    }
+    (count, row)
+}
+
 // Puts the arcs that the numbers spell behind the others, and returns the row of the last one.
 fn push_arcs(
     arcs: &mut Vec<Arc>,
@@ -131,8 +210,8 @@ fn push_arcs(
     ensures refused { IfErr result (IsRefusedIn n ends.now arcs.old.items numbers.now) }
     ensures fit { (i : ℕ) → slice_index numbers.now i < 2 ^ 32 }
 {
-    let mut row = tail;
-    for i in 0..numbers.len() / 2 {
+    let (right, mut row) = push_right(arcs, numbers, ends, n, tail);
+    for i in right..numbers.len() / 2 {
         row = row_of(ends, n, arcs.len(), row);
         let arc = Arc {
             tail: row,

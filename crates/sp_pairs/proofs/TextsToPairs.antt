@@ -4,6 +4,7 @@ use Rattle.std.specs.Prelude.{All, IfErr}
 use Rattle.sp_device.specs.Failing.{Failing}
 use Rattle.sp_text.specs.declared.faults.DimacsError.{DimacsError}
 use Rattle.sp_paths.specs.Paths.{Graph}
+use Rattle.sp_network.specs.declared.directions.Direction.{Direction}
 use Rattle.sp_jobs.specs.declared.answers.Summary.{Summary}
 use Rattle.sp_jobs.specs.declared.answers.BatchError.{BatchError}
 use Rattle.sp_jobs.specs.Network.{GraphFault}
@@ -17,18 +18,18 @@ pub pairs_late : (P : ℕ) (wrote : Wrote) (graph : Graph) (pairs : List (ℕ ×
 pairs_late P wrote graph pairs result is =
     late (AreLinesWritten P graph pairs wrote) (IsFirstPairAbove graph.n pairs) (All (IsPairUpTo graph.n) pairs × IsUnwritten wrote) (All (IsPairUpTo graph.n) pairs × HasBegunPairs P graph pairs wrote.before wrote.after) wrote result is
 
-module _ (P : ℕ) (gr_text list_text : List ℕ) (wrote : Wrote) (result : Result Summary BatchError) (are : ArePairsOf P gr_text list_text wrote result) where
+module _ (P : ℕ) (way : Direction) (gr_text list_text : List ℕ) (wrote : Wrote) (result : Result Summary BatchError) (are : ArePairsOf P way gr_text list_text wrote result) where
   is_late : IsLate result
   is_late = pairs_late P wrote are.graph are.list.pairs.items result are.done
 
   -- It is the answer to texts that spell them.
-  pub pairs_told : (NoGraph : GraphFault → Type 0) (NoList : DimacsError → Type 0) → PairsTold P gr_text list_text NoGraph NoList wrote result
+  pub pairs_told : (NoGraph : GraphFault → Type 0) (NoList : DimacsError → Type 0) → PairsTold P way gr_text list_text NoGraph NoList wrote result
   pairs_told NoGraph NoList =
-      by_end (λ r. ArePairsOf P gr_text list_text wrote r → PairsTold P gr_text list_text NoGraph NoList wrote r) result is_late (λ summary done. done) (λ v role done. done) (λ done. done) (λ done. done) are
+      by_end (λ r. ArePairsOf P way gr_text list_text wrote r → PairsTold P way gr_text list_text NoGraph NoList wrote r) result is_late (λ summary done. done) (λ v role done. done) (λ done. done) (λ done. done) are
 
-  pub pairs_of_some : PairsOfSome P wrote result
+  pub pairs_of_some : PairsOfSome P way wrote result
   pairs_of_some =
-      by_end (λ r. ArePairsOf P gr_text list_text wrote r → PairsOfSome P wrote r) result is_late
+      by_end (λ r. ArePairsOf P way gr_text list_text wrote r → PairsOfSome P way wrote r) result is_late
       (λ summary done. (gr_text, list_text, done)) (λ v role done. (gr_text, list_text, done)) (λ done. (gr_text, list_text, done)) (λ done. (gr_text, list_text, done)) are
 
 -- It tells of no device.

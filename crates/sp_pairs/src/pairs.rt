@@ -1,7 +1,9 @@
 //! A batch of pairs: a source and a target each.
 ghost use Rattle.std.specs.Prelude.{◌≡◌, ℕ, true, List, All, Some, IfSome, IfNone, IfErr};
 ghost use Rattle.sp_word.specs.Word.{is_layout};
-ghost use Rattle.sp_dimacs.specs.Graph.{IsNetwork, graph_of};
+ghost use Rattle.sp_dimacs.specs.Graph.{IsNetworkUpTo, graph_of};
+ghost use Rattle.sp_network.specs.Network.{directed, most_of};
+ghost use Rattle.sp_network.specs.declared.directions.Direction.TheVariants.{AsGiven};
 ghost use Rattle.sp_dimacs.specs.Pairs.{ArePairsWithin};
 ghost use Rattle.sp_jobs.specs.Answers.{is_early};
 ghost use Rattle.sp_jobs.specs.Answered.{wrote_by};
@@ -11,6 +13,7 @@ use crate::asking::find_answers;
 use crate::pair_lines::write_pairs;
 use sp_dimacs::{GrFile, PairsFile, Read, Write, read_pairs};
 use sp_jobs::{BatchError, BucketWidth, Job, Listener, Nobody, Role, Settings, Summary};
+use sp_network::{Direction, Peeked};
 use sp_word::{Crew, Meter, Workers};
 use std::alloc::Global;
 
@@ -41,10 +44,10 @@ fn answer_pairs<const P: u32, R: Crew, W: Write, L: Listener>(
     out: &mut W,
 ) -> Result<Summary, BatchError>
     requires layout { is_layout P ≡ true }
-    requires network { IsNetwork P file }
+    requires network { IsNetworkUpTo P (most_of settings.now.direction) file }
     requires pairs { ArePairsWithin P list.now }
     ensures done { ArePairsDone P (wrote_by W.Write out.old out.new)
-        (graph_of file) list.now.pairs.items result }
+        (directed settings.now.direction (graph_of file)) list.now.pairs.items result }
     ensures untouched { IfErr result (λ e. is_early e ≡ true → out.new ≡ out.old) }
 {
     if let Some((number, role)) = first_pair_above(&list.pairs, file.n) {
@@ -73,7 +76,7 @@ fn answer_pairs<const P: u32, R: Crew, W: Write, L: Listener>(
 pub fn run_pairs<const P: u32, R: Crew, G: Read, S: Read, W: Write>(
     rt: &R,
     alloc: Global,
-    gr: &mut G,
+    gr: &mut Peeked<G>,
     pairs: &mut S,
     out: &mut W,
     width: BucketWidth<P>,
@@ -81,14 +84,16 @@ pub fn run_pairs<const P: u32, R: Crew, G: Read, S: Read, W: Write>(
 ) -> Result<Summary, BatchError>
     requires layout { is_layout P ≡ true }
     ensures exact { (gr_text list_text : List ℕ)
-        → G.left gr.old ≡ Some gr_text → S.left pairs.old ≡ Some list_text
-        → PairsAnswered P gr_text list_text G.Read gr.new S.Read pairs.new
+        → ⟦<Peeked<G> as Read>⟧.left gr.old ≡ Some gr_text → S.left pairs.old ≡ Some list_text
+        → PairsAnswered P AsGiven gr_text list_text ⟦<Peeked<G> as Read>⟧ gr.new S.Read pairs.new
         (wrote_by W.Write out.old out.new) result }
     ensures untouched { IfErr result (λ e. is_early e ≡ true → out.new ≡ out.old) }
-    ensures found { PairsOfSome P (wrote_by W.Write out.old out.new) result }
-    ensures may_fail { IfErr result (MayFail (G.failing gr.old) (S.failing pairs.old)) }
+    ensures found { PairsOfSome P AsGiven (wrote_by W.Write out.old out.new) result }
+    ensures may_fail { IfErr result
+        (MayFail (⟦<Peeked<G> as Read>⟧.failing gr.old) (S.failing pairs.old)) }
 {
     let settings = Settings {
+        direction: Direction::AsGiven,
         width,
         workers,
         listener: &Nobody,
@@ -100,19 +105,21 @@ pub fn run_pairs<const P: u32, R: Crew, G: Read, S: Read, W: Write>(
 pub fn run_pairs_told<const P: u32, R: Crew, G: Read, S: Read, W: Write, L: Listener>(
     rt: &R,
     alloc: Global,
-    gr: &mut G,
+    gr: &mut Peeked<G>,
     pairs: &mut S,
     out: &mut W,
     settings: &Settings<P, L>,
 ) -> Result<Summary, BatchError>
     requires layout { is_layout P ≡ true }
     ensures exact { (gr_text list_text : List ℕ)
-        → G.left gr.old ≡ Some gr_text → S.left pairs.old ≡ Some list_text
-        → PairsAnswered P gr_text list_text G.Read gr.new S.Read pairs.new
+        → ⟦<Peeked<G> as Read>⟧.left gr.old ≡ Some gr_text → S.left pairs.old ≡ Some list_text
+        → PairsAnswered P settings.now.direction gr_text list_text
+        ⟦<Peeked<G> as Read>⟧ gr.new S.Read pairs.new
         (wrote_by W.Write out.old out.new) result }
     ensures untouched { IfErr result (λ e. is_early e ≡ true → out.new ≡ out.old) }
-    ensures found { PairsOfSome P (wrote_by W.Write out.old out.new) result }
-    ensures may_fail { IfErr result (MayFail (G.failing gr.old) (S.failing pairs.old)) }
+    ensures found { PairsOfSome P settings.now.direction (wrote_by W.Write out.old out.new) result }
+    ensures may_fail { IfErr result
+        (MayFail (⟦<Peeked<G> as Read>⟧.failing gr.old) (S.failing pairs.old)) }
 {
     let file = settings.read_graph::<R, G>(rt, alloc, gr)?;
     let list = match read_pairs::<P, S>(alloc, pairs) {

@@ -1,10 +1,12 @@
 -- Requests that are met, and marks that become true thereby.
-use Rattle.std.proofs.Common.{◌≡◌, ℕ, ◌+◌, ◌<◌, ◌≤◌, inl, inr, Bool, true, false, cond, List, [], ◌∷◌, ◌++◌, length, get_or, take, sym, subst, true≢false}
+use Rattle.std.proofs.Common.{◌≡◌, ℕ, ◌+◌, ◌<◌, ◌≤◌, inl, inr, Bool, true, false, cond, List, [], ◌∷◌, ◌++◌, length, get_or, take, set, map, refl, sym, ap, ◌∙◌, subst, arith, true≢false}
 use Rattle.std.specs.Prelude.{All, Vec}
+use Rattle.std.specs.Int.{from_bool}
 use Rattle.std.specs.declared.alloc.Global.{Global}
-use Rattle.std.proofs.lemmas.List.{take_all}
-use Rattle.std.proofs.lemmas.List.Elements.{All-same, All-nil, All-append, All-push, All-more, All-contains, Contains-get_or, Contains-append_left, Contains-push}
-use Rattle.sp_word.specs.Word.{Word, Unreached, Pair, lesser}
+use Rattle.std.proofs.lemmas.Bool.{cond-false}
+use Rattle.std.proofs.lemmas.List.{take_all, take_more_set, take-set, get_or-set_other, get_or-map, length-map}
+use Rattle.std.proofs.lemmas.List.Elements.{All-same, All-nil, All-append, All-push, All-more, All-contains, Contains-get_or, Contains-append_left, Contains-append_right}
+use Rattle.sp_word.specs.Word.{Word, Unreached, Pair, is_below, lesser}
 use Rattle.sp_word.specs.History.{Table}
 use Rattle.sp_paths.specs.declared.arc.Arc.{Arc}
 use Rattle.sp_paths.specs.Paths.{Graph, IsAtMost}
@@ -16,7 +18,7 @@ use Rattle.sp_offer.specs.Order.{IsNoMore}
 use Rattle.sp_offer.specs.Story.{Story, known_table}
 use Rattle.sp_offer.proofs.Orders.{at_most-refl, at_most-trans}
 use Rattle.sp_team.specs.declared.relax.Request.{Request}
-use Rattle.sp_team.specs.Requests.{Asks}
+use Rattle.sp_team.specs.Requests.{Asks, AsksAll}
 use Rattle.sp_team.specs.Marked.{IsMet, HasFallen, WillBeMet, RowWillBeMet, WillBeTrue, MayNote, AllTrue, AreTrue}
 
 -- ## Words that fall
@@ -49,6 +51,12 @@ offer_meets max t r sum found word fits same is here =
     let left : IsAtMost (lesser found (Pair sum p)) sum p = lesser_of_offer found sum p in
     let at_head : IsAtMost (t r.arc.head) sum p = subst (λ (w : Word). IsAtMost w sum p) (sym here) (subst (λ (w : Word). IsAtMost (lesser found w) sum p) (sym is) left) in
     (fits, subst (λ (d : ℕ). IsAtMost (t r.arc.head) d p) same at_head)
+
+-- a word that isn't greater than the pair needs no offer
+pub found_meets : (max : ℕ) (t : Table) (r : Request) (sum : ℕ) (found word : Word) → r.dist + r.arc.len ≤ max → sum ≡ r.dist + r.arc.len → word ≡ Pair sum r.arc.tail
+    → t r.arc.head ≡ found → is_below word found ≡ false → IsMet max t r
+found_meets max t r sum found word fits same is here above =
+    offer_meets max t r sum found word fits same is (here ∙ sym (cond-false (is_below word found) word found above))
 
 -- requests that are met stay so
 pub met_still : (max : ℕ) (s t : Table) (rs : List Request) → HasFallen s t → All (IsMet max s) rs → All (IsMet max t) rs
@@ -87,23 +95,72 @@ pub marks_along : (max : ℕ) (g : Graph) (s t : Table) (rs ss : List Request) (
     → All (WillBeTrue max g t ss) marks
 marks_along max g s t rs ss marks fell stand will = λ k e low. let m = get_or marks k e in row_along max s t rs ss m.dist (row_of g.arcs m.vertex) fell stand (will k e low)
 
+-- what waited before others were put behind it will be met
+pub waits_before : (max : ℕ) (t : Table) (rs more ss : List Request) → ss ≡ rs ++ more → All (WillBeMet max t ss) rs
+waits_before max t rs more ss is =
+    let now : All (WillBeMet max t (rs ++ more)) rs = λ k e low later fell met. All-contains (IsMet max later) (rs ++ more) (get_or rs k e) met
+    (Contains-append_left rs more (get_or rs k e) (Contains-get_or rs k e low)) in
+    subst (λ xs. All (WillBeMet max t xs) rs) (sym is) now
+
+-- so will be what was put
+pub waits_behind : (max : ℕ) (t : Table) (rs more ss : List Request) → ss ≡ rs ++ more → All (WillBeMet max t ss) more
+waits_behind max t rs more ss is =
+    let now : All (WillBeMet max t (rs ++ more)) more = λ k e low later fell met. All-contains (IsMet max later) (rs ++ more) (get_or more k e) met
+    (Contains-append_right rs more (get_or more k e) (Contains-get_or more k e low)) in
+    subst (λ xs. All (WillBeMet max t xs) more) (sym is) now
+
+-- ## Requests that are dropped where they are met
+
+-- two lists are the same from a place on
+abbrev pub AreSameFrom : (i : ℕ) → (rs qs : List Request) → Type 0
+AreSameFrom i rs qs = (k : ℕ) (e : Request) → i ≤ k → get_or rs k e ≡ get_or qs k e
+
+-- what comes later is the same still, after a request was moved to the front
+pub rest_still : (qs rs : List Request) (kept i : ℕ) (r : Request) → kept ≤ i → AreSameFrom i rs qs → AreSameFrom (i + 1) (set rs kept r) qs
+rest_still qs rs kept i r low same = λ k e behind. get_or-set_other rs kept k r e (λ (is : k ≡ kept). omega (arith, is, low, behind)) ∙ same k e (omega (arith, behind))
+
+-- the request at a place will be met, whether it is kept or met already
+pub one_place_more : (max : ℕ) (s t : Table) (qs rs : List Request) (kept i one : ℕ) (r : Request) (is_kept : Bool) → i < length qs → i < length rs → kept ≤ i
+    → r ≡ get_or rs i r → one ≡ from_bool is_kept → AreSameFrom i rs qs → HasFallen s t → (is_kept ≡ false → IsMet max t r)
+    → All (WillBeMet max s (take kept rs)) (take i qs) → All (WillBeMet max t (take (kept + one) (set rs kept r))) (take (i + 1) qs)
+one_place_more max s t qs rs kept i one r true first second low at is_one same fell met will =
+    let waiting = take (kept + 1) (set rs kept r) in
+    let is : waiting ≡ take kept rs ++ r ∷ [] = take_more_set rs kept r (omega (arith, low, second)) in
+    let stand = waits_before max t (take kept rs) (r ∷ []) waiting is in
+    let here : WillBeMet max t waiting r = waits_behind max t (take kept rs) (r ∷ []) waiting is 0 r (omega arith) in
+    let more : All (WillBeMet max t waiting) (take (i + 1) qs) = All-more (WillBeMet max t waiting) qs i r first (all_along max s t (take kept rs) waiting (take i qs) fell stand will)
+    (subst (WillBeMet max t waiting) (at ∙ same i r (omega arith)) here) in
+    subst (λ n. All (WillBeMet max t (take (kept + n) (set rs kept r))) (take (i + 1) qs)) (sym is_one) more
+one_place_more max s t qs rs kept i one r false first second low at is_one same fell met will =
+    let waiting = take kept rs in
+    let here : WillBeMet max t waiting r = λ later lower rest. relaxed_still max t later r.dist r.arc lower (met refl) in
+    let more : All (WillBeMet max t waiting) (take (i + 1) qs) = All-more (WillBeMet max t waiting) qs i r first (all_along max s t waiting waiting (take i qs) fell (waits max t waiting) will)
+    (subst (WillBeMet max t waiting) (at ∙ same i r (omega arith)) here) in
+    let none : kept + one ≡ kept = omega (arith, is_one) in
+    let is : take (kept + one) (set rs kept r) ≡ waiting = ap (λ n. take n (set rs kept r)) none ∙ take-set rs kept r in
+    subst (λ xs. All (WillBeMet max t xs) (take (i + 1) qs)) (sym is) more
+
+-- those that were dropped are met once those that are left are
+pub dropped_met : (max : ℕ) (s t : Table) (rs qs : List Request) → HasFallen s t → All (IsMet max t) rs → All (WillBeMet max s rs) qs → All (IsMet max t) qs
+dropped_met max s t rs qs fell met will = λ k e low. will k e low t fell met
+
 -- ## A row that is asked for
+
+-- the requests for a row that was asked for at once wait
+pub row_waits : (max : ℕ) (t : Table) (row : List Arc) (d : ℕ) (rs ss : List Request) → AsksAll max row d rs ss → RowWillBeMet max t ss d row
+row_waits max t row d rs ss asks = λ k e low.
+    let f : Arc → Request = λ a. record { arc = a; dist = d } in
+    let all = waits_behind max t rs (map f row) ss asks.1 in
+    subst (WillBeMet max t ss) (get_or-map f row k e (f e) low) (all k (f e) (subst (λ n. k < n) (sym (length-map row f)) low))
 
 -- what waited before an arc was asked for will be met
 pub waited_before : (max : ℕ) (t : Table) (a : Arc) (d : ℕ) (fits : Bool) (rs ss : List Request) → Asks max a d fits rs ss → All (WillBeMet max t ss) rs
-waited_before max t a d true rs ss asks =
-    let r : Request = record { arc = a; dist = d } in
-    let now : All (WillBeMet max t (rs ++ r ∷ [])) rs = λ k e low later fell met. All-contains (IsMet max later) (rs ++ r ∷ []) (get_or rs k e) met
-    (Contains-append_left rs (r ∷ []) (get_or rs k e) (Contains-get_or rs k e low)) in
-    subst (λ xs. All (WillBeMet max t xs) rs) (sym asks.1) now
+waited_before max t a d true rs ss asks = waits_before max t rs (record { arc = a; dist = d } ∷ []) ss asks.1
 waited_before max t a d false rs ss asks = subst (λ xs. All (WillBeMet max t xs) rs) (sym asks.1) (waits max t rs)
 
 -- so will be what the arc asks, if it fits
 waits_too : (max : ℕ) (t : Table) (a : Arc) (d : ℕ) (rs ss : List Request) → Asks max a d true rs ss → WillBeMet max t ss (record { arc = a; dist = d })
-waits_too max t a d rs ss asks =
-    let r : Request = record { arc = a; dist = d } in
-    let now : WillBeMet max t (rs ++ r ∷ []) r = λ later fell met. All-contains (IsMet max later) (rs ++ r ∷ []) r met (Contains-push rs r) in
-    subst (λ xs. WillBeMet max t xs r) (sym asks.1) now
+waits_too max t a d rs ss asks = let r : Request = record { arc = a; dist = d } in waits_behind max t rs (r ∷ []) ss asks.1 0 r (omega arith)
 
 -- one arc more was asked for
 pub one_arc_more : (max : ℕ) (t : Table) (d : ℕ) (row : List Arc) (i : ℕ) (e : Arc) (fits whole : Bool) (rs ss : List Request) → i < length row → Asks max (get_or row i e) d fits rs ss

@@ -1,5 +1,5 @@
 -- What the arcs of vertices that are relaxed ask of their heads.
-use Rattle.std.specs.Prelude.{◌≡◌, ℕ, ◌+◌, ◌<◌, ◌≤◌, Bool, true, false, List, [], ◌∷◌, ◌++◌}
+use Rattle.std.specs.Prelude.{◌≡◌, ℕ, ◌+◌, ◌<◌, ◌≤◌, Bool, true, false, List, [], ◌∷◌, ◌++◌, map, All}
 use Rattle.sp_word.specs.Word.{Word, Pair}
 use Rattle.sp_paths.specs.declared.arc.Arc.{Arc}
 use Rattle.sp_paths.specs.Paths.{IsVertex}
@@ -15,3 +15,7 @@ pub record IsRequest (law : ℕ → Word → Type 0) (max vertices : ℕ) (r : R
 abbrev pub Asks : (max : ℕ) → Arc → (dist : ℕ) → (fits : Bool) → (before after : List Request) → Type 0
 Asks max a dist true before after = (dist + a.len ≤ max) × (after ≡ before ++ record { arc = a; dist = dist } ∷ [])
 Asks max a dist false before after = (max < dist + a.len) × (after ≡ before)
+
+-- all sums are within the greatest distance, and a request for each arc of the row was put behind the others
+abbrev pub AsksAll : (max : ℕ) → (row : List Arc) → (dist : ℕ) → (before after : List Request) → Type 0
+AsksAll max row dist before after = All (λ a. dist + a.len ≤ max) row × (after ≡ before ++ map (λ a. record { arc = a; dist = dist }) row)

@@ -68,9 +68,23 @@ pub(crate) fn count_arcs(graph: &Graph, entries: &[Entry]) -> usize {
     arcs
 }
 
-/// Returns the greatest of the first and last heads of the rows of the entries' vertices, and so reads where all of these rows
-/// begin and end; 0 where they have no arc.
-pub(crate) fn greatest_end(graph: &Graph, entries: &[Entry]) -> u32 {
+// Returns the greatest of the first heads of the rows of the entries' vertices; 0 where they have no arc.
+fn greatest_first(graph: &Graph, entries: &[Entry]) -> u32 {
+    let mut greatest = 0;
+    for entry in entries {
+        if !graph.has_vertex(entry.vertex) {
+            continue;
+        }
+        let row = graph.row(entry.vertex);
+        if !row.is_empty() {
+            greatest = greatest.max(row[0].head);
+        }
+    }
+    greatest
+}
+
+// Returns the greatest of the last heads of the rows of the entries' vertices; 0 where they have no arc.
+fn greatest_last(graph: &Graph, entries: &[Entry]) -> u32 {
     let mut greatest = 0;
     for entry in entries {
         if !graph.has_vertex(entry.vertex) {
@@ -78,8 +92,14 @@ pub(crate) fn greatest_end(graph: &Graph, entries: &[Entry]) -> u32 {
         }
         let row = graph.row(entry.vertex);
         if let Some(last) = row.len().checked_sub(1) {
-            greatest = greatest.max(row[0].head).max(row[last].head);
+            greatest = greatest.max(row[last].head);
         }
     }
     greatest
+}
+
+/// Returns the greatest of the first and last heads of the rows of the entries' vertices, and so reads where all of these rows
+/// begin and end; 0 where they have no arc. The shorter a loop, the more of its reads are on their way at once: so there are two.
+pub(crate) fn greatest_end(graph: &Graph, entries: &[Entry]) -> u32 {
+    greatest_first(graph, entries).max(greatest_last(graph, entries))
 }

@@ -96,11 +96,12 @@ impl<'m> Hands<'m> {
         front
     }
 
-    /// Takes the next entry of the list.
-    pub fn take(&mut self) -> Option<Entry> {
-        let entry = *self.list.get(self.next)?;
-        self.next = self.next.saturating_add(1);
-        Some(entry)
+    /// Replaces what another list has by the next entries of the list, as many as there are up to a number.
+    pub fn take(&mut self, most: usize, taken: &mut Vec<Entry>) -> Result<(), AllocError> {
+        taken.clear();
+        taken.extend_from_slice(self.upcoming(most))?;
+        self.next = self.next.saturating_add(taken.len());
+        Ok(())
     }
 
     // Replaces the list that was worked off by the entries of the bucket that is being emptied. Returns whether there are any.

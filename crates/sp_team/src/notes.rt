@@ -3,7 +3,7 @@ ghost use Rattle.std.specs.Prelude.{◌≡◌, [], IfOk};
 ghost use Rattle.sp_team.specs.Marked.{MayNote};
 
 use crate::common::Common;
-use crate::relax::{MOST, Request};
+use crate::relax::{FEW, MOST, Request};
 use sp_graph::{Graph, Mark};
 use std::alloc::AllocError;
 
@@ -38,7 +38,7 @@ impl Notes {
         ensures { IfOk result (λ notes. notes.marks.items ≡ []) }
     {
         Ok(Notes {
-            requests: Vec::with_capacity(common.alloc, MOST)?,
+            requests: Vec::with_capacity(common.alloc, MOST + FEW)?,
             marks: Vec::new(common.alloc),
             most: most_marks(graph, common),
         })

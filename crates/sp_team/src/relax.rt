@@ -1,11 +1,11 @@
 //! Vertices relaxed, by way of what their arcs ask of their heads.
-ghost use Rattle.std.specs.Prelude.{◌≡◌, ◌≤◌, true, [], All, IfOk, IsTrue, OnOk};
+ghost use Rattle.std.specs.Prelude.{◌≡◌, ◌≤◌, true, false, [], All, IfOk, IsTrue, OnOk};
 ghost use Rattle.sp_word.specs.Word.{is_layout, max_dist};
 ghost use Rattle.sp_paths.specs.Paths.{IsArc};
 ghost use Rattle.sp_offer.specs.Order.{lawful};
 ghost use Rattle.sp_offer.specs.Story.{known_table};
 ghost use Rattle.sp_team.specs.Law.{IsReady, AllowsSum};
-ghost use Rattle.sp_team.specs.Requests.{IsRequest, Asks};
+ghost use Rattle.sp_team.specs.Requests.{IsRequest, Asks, AsksAll};
 ghost use Rattle.sp_team.specs.Later.{IsLater};
 ghost use Rattle.sp_team.specs.Marked.{IsMet, WillBeMet, RowWillBeMet, WillBeTrue};
 
@@ -19,7 +19,10 @@ use sp_word::{Reply, Word};
 use std::alloc::AllocError;
 
 /// So many requests are answered at once, at most.
-pub(crate) const MOST: usize = 256;
+pub(crate) const MOST: usize = 512;
+
+/// A row of so many arcs at most is asked for without a branch for each arc.
+pub(crate) const FEW: usize = 4;
 
 /// An arc of a vertex that is relaxed, which is to offer its head what it makes of the vertex's distance.
 #[derive(Clone, Copy)]
@@ -58,6 +61,24 @@ fn offer_head<L: Lawful, const P: u32>(
     }
 }
 
+// Whether the head's word is greater than what the arc makes of its tail's distance.
+fn is_lower<L: Lawful, const P: u32>(
+    table: &OfferTable<L, P>,
+    request: Request,
+    caller: &mut Caller,
+) -> bool
+    requires layout { is_layout P ≡ true }
+    requires request { IsRequest
+        (lawful P (L.allows table.now.law)) (max_dist P) table.now.vertices request }
+    requires caller { caller.old.table ≡ table.now.id }
+    ensures later { IsLater (lawful P (L.allows table.now.law)) caller.old caller.new }
+    ensures met { result ≡ false → IsMet (max_dist P) (known_table caller.new.story) request }
+{
+    let Request { arc, dist } = request;
+    let word = Word::<P>::pack(dist + u64::from(arc.len), arc.tail);
+    word.is_below(table.read(caller, arc.head))
+}
+
 // Reads the words of the heads, so that they lie in the cache. These reads don't wait for one another, as they would between
 // offers.
 fn warm_heads<L: Lawful, const P: u32>(
@@ -73,6 +94,32 @@ fn warm_heads<L: Lawful, const P: u32>(
     for request in requests {
         let _ = read_dist(table, request.arc.head, caller);
     }
+}
+
+// Drops the requests that are met already, which are most of them. No branch depends on a word.
+fn drop_met<L: Lawful, const P: u32>(
+    table: &OfferTable<L, P>,
+    requests: &mut Vec<Request>,
+    caller: &mut Caller,
+)
+    requires layout { is_layout P ≡ true }
+    requires requests { All (IsRequest (lawful P (L.allows table.now.law)) (max_dist P)
+        table.now.vertices) requests.old.items }
+    requires caller { caller.old.table ≡ table.now.id }
+    ensures later { IsLater (lawful P (L.allows table.now.law)) caller.old caller.new }
+    ensures requests { All (IsRequest (lawful P (L.allows table.now.law)) (max_dist P)
+        table.now.vertices) requests.new.items }
+    ensures met { All (WillBeMet (max_dist P) (known_table caller.new.story)
+        requests.new.items) requests.old.items }
+{
+    let mut kept: usize = 0;
+    for place in 0..requests.len() {
+        let request = requests[place];
+        let is_kept = is_lower(table, request, caller);
+        requests[kept] = request;
+        kept += usize::from(is_kept);
+    }
+    requests.truncate(kept);
 }
 
 // Makes the offers, one after the other.
@@ -113,6 +160,7 @@ pub(crate) fn answer<L: Lawful, const P: u32>(
         (All (IsMet (max_dist P) (known_table caller.new.story)) requests.old.items) }
 {
     warm_heads(table, requests.as_slice(), caller);
+    drop_met(table, requests, caller);
     offer_all(table, requests.as_slice(), caller, bins)?;
     requests.clear();
     Ok(())
@@ -136,9 +184,9 @@ fn ask_arc<const P: u32>(
     Ok(fits)
 }
 
-// Puts requests for the arcs of a row at their tail's distance. Where there are many, they are answered. Tells whether there was
-// one for each arc.
-fn ask_row<L: Lawful, const P: u32>(
+// Puts requests for the arcs of a row, one after the other. Where there are many, they are answered. Tells whether there was one
+// for each arc.
+fn ask_each<L: Lawful, const P: u32>(
     table: &OfferTable<L, P>,
     row: &[Arc],
     dist: u64,
@@ -172,6 +220,77 @@ fn ask_row<L: Lawful, const P: u32>(
         }
     }
     Ok(whole)
+}
+
+// Puts requests for the arcs of a row at their tail's distance, where these are few, there is room, and all sums are within the
+// greatest distance: as many as the longest such row would have, and then without those that there are too many. So no branch
+// depends on how many arcs there are. Tells whether it did.
+fn ask_few<const P: u32>(row: &[Arc], dist: u64, requests: &mut Vec<Request>) -> bool
+    requires layout { is_layout P ≡ true }
+    requires dist { dist ≤ max_dist P }
+    ensures asked { IsTrue result
+        → AsksAll (max_dist P) row.now dist requests.old.items requests.new.items }
+    ensures refused { result ≡ false → requests.new ≡ requests.old }
+{
+    let before = requests.len();
+    let Some(last) = row.len().checked_sub(1) else {
+        return false;
+    };
+    if last >= FEW || requests.capacity().saturating_sub(before) < FEW {
+        return false;
+    }
+    let first = row[0];
+    let second = row[last.min(1)];
+    let third = row[last.min(2)];
+    let fourth = row[last];
+    let longest = first.len.max(second.len).max(third.len).max(fourth.len);
+    if u64::from(longest) > Word::<P>::max_dist() - dist {
+        return false;
+    }
+    requests.push_reserved(Request { arc: first, dist });
+    requests.push_reserved(Request { arc: second, dist });
+    requests.push_reserved(Request { arc: third, dist });
+    requests.push_reserved(Request { arc: fourth, dist });
+    requests.truncate(before + row.len());
+    true
+}
+
+// Puts requests for the arcs of a row at their tail's distance. Where there are many, they are answered. Tells whether there was
+// one for each arc.
+fn ask_row<L: Lawful, const P: u32>(
+    table: &OfferTable<L, P>,
+    row: &[Arc],
+    dist: u64,
+    requests: &mut Vec<Request>,
+    caller: &mut Caller,
+    bins: &mut Bins,
+) -> Result<bool, AllocError>
+    requires layout { is_layout P ≡ true }
+    requires dist { dist ≤ max_dist P }
+    requires arcs { All (IsArc table.now.vertices) row.now }
+    requires allowed { All
+        (AllowsSum (lawful P (L.allows table.now.law)) (max_dist P) dist) row.now }
+    requires requests { All (IsRequest (lawful P (L.allows table.now.law)) (max_dist P)
+        table.now.vertices) requests.old.items }
+    requires caller { caller.old.table ≡ table.now.id }
+    ensures later { IsLater (lawful P (L.allows table.now.law)) caller.old caller.new }
+    ensures requests { OnOk result (All (IsRequest (lawful P (L.allows table.now.law))
+        (max_dist P) table.now.vertices) requests.new.items) }
+    ensures before { OnOk result (All (WillBeMet (max_dist P) (known_table caller.new.story)
+        requests.new.items) requests.old.items) }
+    ensures row { IfOk result (λ whole. IsTrue whole
+        → RowWillBeMet (max_dist P) (known_table caller.new.story)
+        requests.new.items dist row.now) }
+{
+    let is_asked = ask_few::<P>(row, dist, requests);
+    if is_asked {
+        if requests.len() >= MOST {
+            answer(table, requests, caller, bins)?;
+        }
+        Ok(true)
+    } else {
+        ask_each(table, row, dist, requests, caller, bins)
+    }
 }
 
 /// Puts a request for each arc of an entry's vertex, if the vertex still has the entry's distance, and notes its mark, if each

@@ -25,7 +25,7 @@ use std::alloc::{AllocError, Global};
 use std::thread::join;
 
 /// How many entries a worker works off before it looks whether others want some.
-const STRETCH: usize = 32;
+const STRETCH: usize = 64;
 
 /// A worker works off so many stretches at most, which no run comes to: what it has then is lost.
 const STRETCHES: u64 = 1 << 60;
@@ -102,7 +102,8 @@ impl Batch {
     }
 }
 
-// Takes some entries, and leaves those in the list that are within the horizon and whose vertices still have their distances.
+// Takes some entries, and leaves those in the list that are within the horizon and whose vertices still have their distances. No
+// branch depends on a word.
 fn take_live<L: Lawful, const P: u32>(
     graph: &Graph,
     table: &OfferTable<L, P>,
@@ -115,16 +116,15 @@ fn take_live<L: Lawful, const P: u32>(
     requires caller { caller.old.table ≡ table.now.id }
     ensures { IsLater (lawful P (L.allows table.now.law)) caller.old caller.new }
 {
-    live.clear();
-    for _ in 0..STRETCH {
-        let Some(entry) = hands.take() else {
-            return Ok(());
-        };
-        let is_live = is_live(graph, table, entry, caller);
-        if is_live && horizon.reaches(entry.dist) {
-            live.push(entry)?;
-        }
+    hands.take(STRETCH, live)?;
+    let mut kept: usize = 0;
+    for place in 0..live.len() {
+        let entry = live[place];
+        let is_kept = is_live(graph, table, entry, caller) & horizon.reaches(entry.dist);
+        live[kept] = entry;
+        kept += usize::from(is_kept);
     }
+    live.truncate(kept);
     Ok(())
 }
 
@@ -146,11 +146,12 @@ fn relax_live<L: Lawful, const P: u32>(
 {
     let Batch { live, notes } = batch;
     notes.requests.clear();
+    let mut relaxed: usize = 0;
     for entry in live.as_slice() {
-        if ask(graph, table, *entry, notes, caller, hands.bins())? {
-            hands.count(1);
-        }
+        let is_relaxed = ask(graph, table, *entry, notes, caller, hands.bins())?;
+        relaxed = relaxed.wrapping_add(usize::from(is_relaxed));
     }
+    hands.count(relaxed);
     answer(table, &mut notes.requests, caller, hands.bins())
 }
 

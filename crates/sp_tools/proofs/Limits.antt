@@ -9,9 +9,9 @@ use Rattle.sp_tools.specs.CheckAnswers.{GiveTexts, SaysOf, SaysOfSome, IsCheckAn
 
 module _ (P : ℕ) (c : CheckCommand) (limit : Option ℕ) (s : Scene) (result : Result Status Fault) (is : limit ≡ c.within.limit) (low : IsLimit P c.within.limit) where
   -- of the only block, or of each
-  pub says_of : ((gr tree : List ℕ) → GiveTexts s.files.text c gr tree → SaysOf P c.all limit gr tree s result) → IfOk result (SaysOfSome P c.all limit s) → IsCheckAnswer P c s result
+  pub says_of : ((gr tree : List ℕ) → GiveTexts s.files.text c gr tree → SaysOf P c.direction c.all limit gr tree s result) → IfOk result (SaysOfSome P c.direction c.all limit s) → IsCheckAnswer P c s result
   says_of told some = record {
     no_limit = λ none. absurd (none low);
-    told = λ low' gr tree texts. subst (λ l. SaysOf P c.all l gr tree s result) is (told gr tree texts);
-    of_some = subst (λ l. IfOk result (SaysOfSome P c.all l s)) is some;
+    told = λ low' gr tree texts. subst (λ l. SaysOf P c.direction c.all l gr tree s result) is (told gr tree texts);
+    of_some = subst (λ l. IfOk result (SaysOfSome P c.direction c.all l s)) is some;
   }

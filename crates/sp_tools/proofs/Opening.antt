@@ -1,13 +1,14 @@
 -- A fault of opening the files of `check` comes before anything is written.
-use Rattle.std.proofs.Common.{◌≡◌, ◌≢◌, ◌⊎◌, inl, inr, sym, subst, refl, Some, Result, Err, IfErr, codes, rules}
+use Rattle.std.proofs.Common.{◌≡◌, ◌≢◌, ◌⊎◌, ◌∙◌, inl, inr, sym, subst, refl, Some, Result, Err, IfErr, codes, rules}
 use Rattle.sp_command.specs.declared.faults.FileKind.TheVariants as kind
 use Rattle.sp_command.specs.declared.faults.Fault.{Fault}
 use Rattle.sp_command.specs.declared.faults.Fault.TheVariants as fault
 use Rattle.sp_command.specs.Scene.{Files}
-use Rattle.sp_command.specs.Causes.{StaysClosed}
+use Rattle.sp_device.specs.Failing.{Failing}
+use Rattle.sp_command.specs.Causes.{StaysClosed, MayBeRefused}
 use Rattle.sp_tools.specs.declared.check.CheckCommand.{CheckCommand}
 use Rattle.sp_tools.specs.CheckAnswers.{check_paths}
-use Rattle.sp_tools.specs.Early.{IsEarly}
+use Rattle.sp_tools.specs.Early.{IsEarly, IsOfFile}
 
 apart : kind.Graph ≢ kind.Tree
 apart = search rules
@@ -29,3 +30,20 @@ pub early_answer : {T : Type 0} (own : Fault → Type 0) (given : CheckCommand) 
     → (why ≡ fault.InputTwice) ⊎ (StaysClosed files kind.Graph given.graph.now why ⊎ StaysClosed files kind.Tree given.tree.now why)
     → IfErr result (IsEarly (check_paths given) own files)
 early_answer own given files why result is once closed = subst (λ r. IfErr r (IsEarly (check_paths given) own files)) (sym is) (opened_early own given files why once closed)
+
+-- A fault of the trees comes before anything is written.
+pub of_trees_early : (own : Fault → Type 0) (given : CheckCommand) (files : Files) (failing : Failing) → failing ≡ files.failing given.tree.now → (why : Fault) → IsOfFile kind.Tree failing why → IsEarly (check_paths given) own files why
+of_trees_early own given files failing fails (fault.Input k e) (is, may) = subst (λ file. MayBeRefused (check_paths given) files file e) (sym is) (given.tree.now, refl, λ read never. may read (fails ∙ never))
+of_trees_early own given files failing fails fault.Memory is = tt
+of_trees_early own given files failing fails (fault.Usage e) is = absurd is
+of_trees_early own given files failing fails fault.DeltaOutOfRange is = absurd is
+of_trees_early own given files failing fails fault.LimitOutOfRange is = absurd is
+of_trees_early own given files failing fails fault.InputTwice is = absurd is
+of_trees_early own given files failing fails fault.NoPlaces is = absurd is
+of_trees_early own given files failing fails (fault.CannotOpen file) is = absurd is
+of_trees_early own given files failing fails (fault.Packed e) is = absurd is
+of_trees_early own given files failing fails (fault.NoSuchVertex v file) is = absurd is
+of_trees_early own given files failing fails fault.TooManySteps is = absurd is
+of_trees_early own given files failing fails fault.ToTerminal is = absurd is
+of_trees_early own given files failing fails fault.WriteFailed is = absurd is
+of_trees_early own given files failing fails fault.CannotWrite is = absurd is

@@ -10,8 +10,6 @@ use Rattle.sp_paths.specs.declared.arc.Arc.{Arc}
 use Rattle.sp_paths.specs.Paths.{Graph, IsGraph, IsArc, IsVertex, IsNear, IsTreeWord, EndsInTree, Found}
 use Rattle.sp_paths.specs.Bags.{AreSame}
 use Rattle.sp_paths.proofs.SameArcs.{same_arcs_same_answers}
-use Rattle.sp_dimacs.specs.declared.graphs.GrFile.{GrFile}
-use Rattle.sp_dimacs.specs.Graph.{graph_of}
 use Rattle.sp_answer.specs.Table.{TreeTable, table_of}
 use Rattle.sp_forest.specs.ForestTable.{ForestTable, IsForestTable}
 use Rattle.sp_files.specs.declared.either.TreeOrForest.{TreeOrForest}
@@ -28,14 +26,6 @@ use Rattle.sp_tools.specs.declared.check.Verdict.TheVariants.{Yes, No}
 use Rattle.sp_tools.specs.declared.check_all.Judged.{Judged}
 use Rattle.sp_tools.specs.Verdict.{IsVerdict, IsForestVerdict, IsVerdictOn}
 use Rattle.sp_tools.specs.Verdicts.{AreJudged, FileJudged}
-
--- The arcs of a file in another order.
-pub same_graph : (file : GrFile) (graph : Graph) → graph.n ≡ file.n → IsPermutation file.arcs.items graph.arcs → AreSame graph (graph_of file)
-same_graph file graph n arcs = record {
-  n = n;
-  there = λ (a : Arc) is. Contains-permutation graph.arcs file.arcs.items a (IsPermutation-sym file.arcs.items graph.arcs arcs) is;
-  back = λ (a : Arc) is. Contains-permutation file.arcs.items graph.arcs a arcs is;
-}
 
 turned : (g h : Graph) → AreSame g h → AreSame h g
 turned g h same = record { n = sym same.n; there = same.back; back = same.there }

@@ -4,5 +4,6 @@ pub mod Reading
 pub mod CheckAnswers
 pub mod ReplayAnswers
 pub mod OffersAnswers
+pub mod PackAnswers
 pub mod Early
 pub mod Words

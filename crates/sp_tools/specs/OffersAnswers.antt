@@ -11,7 +11,7 @@ use Rattle.sp_replay.specs.ReportText.{words_text}
 use Rattle.sp_replay.specs.Least.{AreLeast}
 use Rattle.sp_command.specs.declared.faults.Fault.{Fault}
 use Rattle.sp_command.specs.declared.faults.Status.{Status}
-use Rattle.sp_command.specs.declared.faults.FileKind.{FileKind}
+use Rattle.sp_command.specs.declared.faults.Fault.TheVariants.{Input}
 use Rattle.sp_command.specs.declared.faults.FileKind.TheVariants as kind
 use Rattle.sp_command.specs.Scene.{Scene, HasText, Meaning}
 use Rattle.sp_command.specs.Causes.{Paths}
@@ -34,9 +34,9 @@ pub record AreLeft (P : ℕ) (text : List ℕ) (words : List Word) : Type 0 wher
   pub least : AreLeast programme words
 
 -- This is the first fault of the text.
-abbrev pub IsOffersRefused : (P : ℕ) → (text : List ℕ) → FileKind → DimacsError → Type 0
-IsOffersRefused P text kind.Offers e = OffersIn {P = P} text (Err e)
-IsOffersRefused P text _ e = ⊥
+abbrev pub IsOffersRefused : (P : ℕ) → (text : List ℕ) → Fault → Type 0
+IsOffersRefused P text (Input kind.Offers e) = OffersIn {P = P} text (Err e)
+IsOffersRefused P text _ = ⊥
 
 abbrev pub TellsWords : (P : ℕ) → (text : List ℕ) → Scene → Result Status Fault → Type 0
 TellsWords P text s result = Tells (AreLeft P text) words_text done (IsOffersRefused P text) s result

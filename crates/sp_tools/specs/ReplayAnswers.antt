@@ -1,7 +1,6 @@
 -- The answer of `replay` to the text of its file.
 use Rattle.std.specs.Prelude.{◌≡◌, ◌<◌, ◌≤◌, ◌⊎◌, ℕ, Bool, true, false, List, length, map, All, Some, None, Result, Ok, Err, IfOk}
 use Rattle.std.specs.String.{string_bytes}
-use Rattle.sp_text.specs.declared.faults.DimacsError.{DimacsError}
 use Rattle.sp_machine.specs.declared.report.Report.{Report}
 use Rattle.sp_machine.specs.Programme.{Programme}
 use Rattle.sp_machine.specs.Run.{opening_machine, run_of}
@@ -12,10 +11,9 @@ use Rattle.sp_picture.specs.declared.picture.Picture.{Picture}
 use Rattle.sp_picture.specs.Marks.{marks_from}
 use Rattle.sp_picture.specs.Ties.{IsTie, lost_from}
 use Rattle.sp_command.specs.declared.faults.Fault.{Fault}
-use Rattle.sp_command.specs.declared.faults.Fault.TheVariants.{TooManySteps}
+use Rattle.sp_command.specs.declared.faults.Fault.TheVariants.{Input, TooManySteps}
 use Rattle.sp_command.specs.declared.faults.Status.{Status}
 use Rattle.sp_command.specs.declared.faults.Status.TheVariants.{Done}
-use Rattle.sp_command.specs.declared.faults.FileKind.{FileKind}
 use Rattle.sp_command.specs.declared.faults.FileKind.TheVariants as kind
 use Rattle.sp_command.specs.Scene.{Scene, HasText, IsUnwritten, Meaning}
 use Rattle.sp_command.specs.Causes.{Paths}
@@ -44,9 +42,9 @@ pub record IsDrawn {P : ℕ} (text : List ℕ) (picture : Picture P) : Type 0 wh
   pub is : IsPictureOf file.programme file.steps.items picture
 
 -- This is the first fault of the text.
-abbrev pub IsReplayRefused : (P : ℕ) → (text : List ℕ) → FileKind → DimacsError → Type 0
-IsReplayRefused P text kind.Replay e = ReplayIn {P = P} text (Err e)
-IsReplayRefused P text _ e = ⊥
+abbrev pub IsReplayRefused : (P : ℕ) → (text : List ℕ) → Fault → Type 0
+IsReplayRefused P text (Input kind.Replay e) = ReplayIn {P = P} text (Err e)
+IsReplayRefused P text _ = ⊥
 
 abbrev pub done : {V : Type 0} → V → Status
 done v = Done

@@ -1,13 +1,16 @@
--- What a command line says of `check`, `replay` and `offers`.
-use Rattle.std.specs.Prelude.{◌≡◌, ◌⊎◌, ℕ, List, [], ◌∷◌, Some, None, codes}
+-- What a command line says of `check`, `pack`, `replay` and `offers`.
+use Rattle.std.specs.Prelude.{◌≡◌, ◌⊎◌, ℕ, List, [], ◌∷◌, ◌++◌, Some, None, codes}
 use Rattle.clap.specs.Matches.{first_value}
 use Rattle.clap.specs.Walk.{Rule}
 use Rattle.clap.specs.declared.parser.matches.Found.{Found}
 use Rattle.sp_command.specs.Rules.{file_rule, flag_rule}
 use Rattle.sp_options.specs.Numbers.{IsFlag}
-use Rattle.sp_options.specs.Rules.{within_rule}
+use Rattle.sp_options.specs.Directions.{HasDirection, direction_rules}
+use Rattle.sp_options.specs.Rules.{within_rule, workers_rule}
+use Rattle.sp_options.specs.Running.{HasCrew, LacksCrew}
 use Rattle.sp_options.specs.Within.{HasLimit, LacksLimit}
 use Rattle.sp_tools.specs.declared.check.CheckCommand.{CheckCommand}
+use Rattle.sp_tools.specs.declared.pack.PackCommand.{PackCommand}
 use Rattle.sp_tools.specs.declared.replay.ReplayCommand.{ReplayCommand}
 use Rattle.sp_tools.specs.declared.offers.OffersCommand.{OffersCommand}
 
@@ -18,16 +21,31 @@ LacksValue found name = first_value found name ≡ None
 -- ## check
 
 abbrev pub check_rules : List Rule
-check_rules = file_rule (codes "GR") ∷ file_rule (codes "TREE") ∷ flag_rule (codes "all") ∷ within_rule ∷ []
+check_rules = file_rule (codes "GR") ∷ file_rule (codes "TREE") ∷ (direction_rules ++ flag_rule (codes "all") ∷ within_rule ∷ [])
 
 pub record IsCheck (found : Found) (command : CheckCommand) : Type 0 where
   pub graph : first_value found (codes "GR") ≡ Some command.graph.now
   pub tree : first_value found (codes "TREE") ≡ Some command.tree.now
+  pub direction : HasDirection found command.direction
   pub all : IsFlag found (codes "all") command.all
   pub within : HasLimit found command.within.limit
 
 abbrev pub LacksCheck : Found → Type 0
 LacksCheck found = LacksValue found (codes "GR") ⊎ (LacksValue found (codes "TREE") ⊎ LacksLimit found)
+
+-- ## pack
+
+abbrev pub pack_rules : List Rule
+pack_rules = file_rule (codes "GR") ∷ (direction_rules ++ workers_rule ∷ flag_rule (codes "progress") ∷ [])
+
+pub record IsPack (found : Found) (command : PackCommand) : Type 0 where
+  pub graph : first_value found (codes "GR") ≡ Some command.graph.now
+  pub direction : HasDirection found command.direction
+  pub workers : HasCrew found command.workers
+  pub progress : IsFlag found (codes "progress") command.progress
+
+abbrev pub LacksPack : Found → Type 0
+LacksPack found = LacksValue found (codes "GR") ⊎ LacksCrew found
 
 -- ## replay
 

@@ -10,7 +10,7 @@ ghost use Rattle.sp_tools.specs.Early.{IsEarly};
 ghost use Rattle.sp_tools.specs.Words.{IsCheck, LacksCheck, check_rules};
 
 use crate::check_all::{find_verdicts, status_of, write_verdicts};
-use crate::graphs::read_graph;
+use crate::graphs::{all_workers, read_graph};
 use clap::{ArgMatches, Error};
 use sp_cert::{CheckError, Rule, check, check_forest, check_within};
 use sp_command::{
@@ -19,7 +19,9 @@ use sp_command::{
 use sp_device::{Printer, Write, WriteFault, finish, print_number, print_text};
 use sp_files::{ForestFile, Tree, TreeOrForest, read_tree_or_forest};
 use sp_graph::Graph;
-use sp_options::Within;
+use sp_jobs::{BucketWidth, Nobody, Settings};
+use sp_network::{Direction, Peeked};
+use sp_options::{Within, add_directions, read_direction};
 use std::alloc::{AllocError, Global};
 use std::sync::Wait;
 use std::thread::Threads;
@@ -31,6 +33,8 @@ pub struct CheckCommand<'a> {
     pub graph: &'a str,
     /// The path of the tree.
     pub tree: &'a str,
+    /// The direction in which the arcs of the graph lead, by those of its file.
+    pub direction: Direction,
     /// Whether the file may have several blocks, each of which is checked.
     pub all: bool,
     /// The limit up to which the tree or the forest is checked, if there is one.
@@ -82,7 +86,7 @@ with its source S.";
 
     const AFTER_HELP: &'static str = after_help!(
         "\
-The graph is a .gr file, as described in `spt tree --help`. The tree file has
+The graph is a file as described in `spt tree --help`. The tree file has
 one block, as `spt tree` writes it for a source, with one space between fields
 and an LF at the end of each line:
   p spt N S, then v V D P in ascending order of V, then e R
@@ -124,9 +128,10 @@ A limit that does not fit (see --pred-bits) is reported before a file is opened.
     }
 
     fn build(alloc: Global) -> BuiltCommand<'a> {
-        clap::Command::new(alloc, "check")
+        let command = clap::Command::new(alloc, "check")
             .arg(file(alloc, "GR", GRAPH_FILE))?
-            .arg(file(alloc, "TREE", "The file of a tree or a forest"))?
+            .arg(file(alloc, "TREE", "The file of a tree or a forest"))?;
+        add_directions(command, alloc)?
             .arg(flag(
                 alloc,
                 "all",
@@ -148,6 +153,7 @@ A limit that does not fit (see --pred-bits) is reported before a file is opened.
         Ok(Some(CheckCommand {
             graph,
             tree,
+            direction: read_direction(given),
             all: given.get_flag("all"),
             within,
         }))
@@ -199,16 +205,23 @@ fn find_verdict<const P: u32, R: Threads + Wait + Sync, F: Inputs>(
     requires layout { is_layout P ≡ true }
     requires limit { IsLimit P limit }
     ensures judged { (gr tree : List ℕ) → GiveTexts (F.files files.now).text given.now gr tree
-        → IfOk result (TreeJudged P limit gr tree) }
+        → IfOk result (TreeJudged P given.now.direction limit gr tree) }
     ensures found { IfOk result
-        (λ verdict. (gr tree : List ℕ) × TreeJudged P limit gr tree verdict) }
+        (λ verdict. (gr tree : List ℕ) × TreeJudged P given.now.direction limit gr tree verdict) }
     ensures refused { (gr tree : List ℕ) → GiveTexts (F.files files.now).text given.now gr tree
-        → IfErr result (Hinders (IsTreeRefused P gr tree)) }
+        → IfErr result (Hinders (IsTreeRefused P given.now.direction gr tree)) }
     ensures early { IfErr result
         (IsEarly (check_paths given.now) (check_faults P given.now) (F.files files.now)) }
 {
-    let (mut gr, mut tree) = FileKind::Tree.open_with_graph(files, given.graph, given.tree)?;
-    let graph = read_graph::<P, R, _>(rt, alloc, &mut gr)?;
+    let (gr, mut tree) = FileKind::Tree.open_with_graph(files, given.graph, given.tree)?;
+    let settings = Settings::<P, Nobody> {
+        direction: given.direction,
+        width: BucketWidth::MeanLength,
+        workers: all_workers(rt),
+        listener: &Nobody,
+    };
+    let mut gr = Peeked::new(gr);
+    let graph = read_graph::<P, R, _, Nobody>(rt, alloc, &mut gr, &settings)?;
     let held = match read_tree_or_forest::<P, _>(alloc, &mut tree) {
         Ok(held) => held,
         Err(error) => return Err(FileKind::Tree.fault(error)),

@@ -11,11 +11,13 @@ ghost use Rattle.sp_tools.specs.CheckAnswers.{TreesJudged, AreTreesRefused, Give
 ghost use Rattle.sp_tools.specs.Early.{IsEarly, IsOfFile};
 
 use crate::check::{CheckCommand, Verdict, judge};
-use crate::graphs::read_graph;
+use crate::graphs::{all_workers, read_graph};
 use sp_command::{Fault, FileKind, Inputs, Status};
 use sp_device::{Printer, Read, Write, WriteFault, finish, print_number, print_text};
 use sp_files::TreeBlocks;
 use sp_graph::Graph;
+use sp_jobs::{BucketWidth, Nobody, Settings};
+use sp_network::Peeked;
 use std::alloc::Global;
 use std::sync::Wait;
 use std::thread::Threads;
@@ -40,16 +42,23 @@ pub fn find_verdicts<const P: u32, R: Threads + Wait + Sync, F: Inputs>(
     requires layout { is_layout P ≡ true }
     requires limit { IsLimit P limit }
     ensures judged { (gr tree : List ℕ) → GiveTexts (F.files files.now).text given.now gr tree
-        → IfOk result (λ all. TreesJudged P limit gr tree all.items) }
+        → IfOk result (λ all. TreesJudged P given.now.direction limit gr tree all.items) }
     ensures found { IfOk result
-        (λ all. (gr trees : List ℕ) × TreesJudged P limit gr trees all.items) }
+        (λ all. (gr trees : List ℕ) × TreesJudged P given.now.direction limit gr trees all.items) }
     ensures refused { (gr tree : List ℕ) → GiveTexts (F.files files.now).text given.now gr tree
-        → IfErr result (Hinders (AreTreesRefused P gr tree)) }
+        → IfErr result (Hinders (AreTreesRefused P given.now.direction gr tree)) }
     ensures early { IfErr result
         (IsEarly (check_paths given.now) (check_faults P given.now) (F.files files.now)) }
 {
-    let (mut gr, mut trees) = FileKind::Tree.open_with_graph(files, given.graph, given.tree)?;
-    let graph = read_graph::<P, R, _>(rt, alloc, &mut gr)?;
+    let (gr, mut trees) = FileKind::Tree.open_with_graph(files, given.graph, given.tree)?;
+    let settings = Settings::<P, Nobody> {
+        direction: given.direction,
+        width: BucketWidth::MeanLength,
+        workers: all_workers(rt),
+        listener: &Nobody,
+    };
+    let mut gr = Peeked::new(gr);
+    let graph = read_graph::<P, R, _, Nobody>(rt, alloc, &mut gr, &settings)?;
     judge_blocks::<P, R, _>(rt, alloc, &graph, limit, &mut trees)
 }
 

@@ -1,5 +1,5 @@
 -- What turning does to a list of arcs, and to a graph.
-use Rattle.std.proofs.Common.{◌≡◌, ℕ, List, [], ◌∷◌, ◌++◌, take, refl, sym, ap, ◌∙◌}
+use Rattle.std.proofs.Common.{◌≡◌, ℕ, zero, suc, ◌+◌, ◌<◌, List, [], ◌∷◌, ◌++◌, length, take, drop, slice_index_or, slice_set, refl, sym, subst, ap, ◌∙◌, arith}
 use Rattle.std.specs.Prelude.{All}
 use Rattle.std.specs.List.Sorted.{IsPermutation}
 use Rattle.std.proofs.lemmas.List.{map-append}
@@ -14,8 +14,21 @@ pub turned_again : (arcs : List Arc) → turned (turned arcs) ≡ arcs
 turned_again [] = refl
 turned_again (a ∷ arcs) = ap (λ rest. a ∷ rest) (turned_again arcs)
 
+-- with one more arc turned in place, one more of them is turned
+turned_next : (i : ℕ) (arcs : List Arc) (a d : Arc) → i < length arcs → a ≡ turned_arc (slice_index_or (turned (take i arcs) ++ drop i arcs) i d)
+    → slice_set (turned (take i arcs) ++ drop i arcs) i a ≡ turned (take (suc i) arcs) ++ drop (suc i) arcs
+turned_next i [] a d within is = absurd (omega (arith, within))
+turned_next zero (x ∷ arcs) a d within is = rw is refl
+turned_next (suc i) (x ∷ arcs) a d within is = ap (λ rest. turned_arc x ∷ rest) (turned_next i arcs a d (omega (arith, within)) is)
+
+pub one_more : (i : ℕ) (arcs : List Arc) (a d : Arc) → i < length arcs → a ≡ turned_arc (slice_index_or (turned (take i arcs) ++ drop i arcs) i d)
+    → slice_set (turned (take i arcs) ++ drop i arcs) i a ≡ turned (take (i + 1) arcs) ++ drop (i + 1) arcs
+one_more i arcs a d within is =
+    let next : suc i ≡ i + 1 = omega arith in
+    subst (λ k. slice_set (turned (take i arcs) ++ drop i arcs) i a ≡ turned (take k arcs) ++ drop k arcs) next (turned_next i arcs a d within is)
+
 -- arcs of a graph are arcs when they are turned
-turned_are_arcs : (n : ℕ) (arcs : List Arc) → All (IsArc n) arcs → All (IsArc n) (turned arcs)
+pub turned_are_arcs : (n : ℕ) (arcs : List Arc) → All (IsArc n) arcs → All (IsArc n) (turned arcs)
 turned_are_arcs n arcs are = All-map (IsArc n) turned_arc arcs (All-weaker (IsArc n) (λ a. IsArc n (turned_arc a)) (λ a is. (is.1, is.0, is.2)) arcs are)
 
 -- so are the first of them
@@ -23,8 +36,8 @@ pub first_are_arcs : (n i : ℕ) (arcs kept : List Arc) → All (IsArc n) arcs �
 first_are_arcs n i arcs kept are is = rw is (turned_are_arcs n (take i arcs) (All-take (IsArc n) i arcs are))
 
 -- and those behind the arcs as they were
-pub both_are_arcs : (n i : ℕ) (arcs kept : List Arc) → All (IsArc n) arcs → kept ≡ arcs ++ turned (take i arcs) → All (IsArc n) kept
-both_are_arcs n i arcs kept are is = rw is (All-append (IsArc n) arcs (turned (take i arcs)) are (first_are_arcs n i arcs (turned (take i arcs)) are refl))
+pub both_are_arcs : (n : ℕ) (arcs kept : List Arc) → All (IsArc n) arcs → kept ≡ arcs ++ turned arcs → All (IsArc n) kept
+both_are_arcs n arcs kept are is = rw is (All-append (IsArc n) arcs (turned arcs) are (turned_are_arcs n arcs are))
 
 -- of two graphs each is the other one turned
 pub turned_back : (g h : Graph) → IsTurned g h → IsTurned h g

@@ -2,13 +2,15 @@
 //! that are given once.
 #![tactic(auto)]
 
+mod arcs;
 mod laws;
 mod turning;
 mod ways;
 
+pub use arcs::{append_turned, turn, turned_arc};
 pub use laws::{both_ways_turned, both_ways_walks, turned_twice, turned_walks};
-pub use turning::turned;
-pub use ways::both_ways;
+pub use turning::{turned, turned_alone};
+pub use ways::{both_ways, both_ways_alone};
 
 #[cfg(test)]
 mod tests;

@@ -2,7 +2,7 @@
 ghost use Rattle.std.specs.Prelude.{◌≡◌, ◌≤◌, All, IfOk, IfSome};
 ghost use Rattle.sp_paths.specs.Paths.{IsArc};
 
-use crate::{both_ways, turned};
+use crate::{both_ways, both_ways_alone, turned, turned_alone};
 use sp_graph::Graph;
 use sp_paths::Arc;
 use sp_word::Workers;
@@ -64,7 +64,10 @@ fn stands<R: Threads + Sync>(
     let workers = Workers::one();
     let other = turned(rt, alloc, &graph, workers)?;
     let wide = both_ways(rt, alloc, &graph, workers)?;
-    Ok(graph.m() == triples.len() && is(&other, n, round) && is(&wide, n, both))
+    let is_so = is(&other, n, round) && is(&wide, n, both);
+    let other = turned_alone(alloc, &graph)?;
+    let wide = both_ways_alone(alloc, &graph)?;
+    Ok(graph.m() == triples.len() && is_so && is(&other, n, round) && is(&wide, n, both))
 }
 
 #[test]

@@ -1,23 +1,26 @@
 //! Graphs whose arcs are turned round.
-ghost use Rattle.std.specs.Prelude.{◌≡◌, IfOk};
+ghost use Rattle.std.specs.Prelude.{◌≡◌, All, IfOk};
+ghost use Rattle.sp_paths.specs.Paths.{IsArc};
 ghost use Rattle.sp_graph.specs.Order.{IsInOrder};
-ghost use Rattle.sp_turned.specs.Turned.{turned_arc, IsTurned};
+ghost use Rattle.sp_turned.specs.Turned.{IsTurned, turned};
 
+use crate::arcs::turned_arc;
 use sp_graph::Graph;
 use sp_paths::Arc;
 use sp_word::Workers;
 use std::alloc::{AllocError, Global};
 use std::thread::Threads;
 
-/// Returns the arc from the head to the tail, of the same length.
-pub(crate) fn turned_arc(arc: &Arc) -> Arc
-    ensures { result ≡ turned_arc arc.now }
+// Returns the arcs of a graph, each turned round.
+fn turned_arcs(alloc: Global, graph: &Graph) -> Result<Vec<Arc>, AllocError>
+    ensures turned { IfOk result (λ arcs. arcs.items ≡ turned graph.now.arcs) }
+    ensures arcs { IfOk result (λ arcs. All (IsArc graph.now.n) arcs.items) }
 {
-    Arc {
-        tail: arc.head,
-        head: arc.tail,
-        len: arc.len,
+    let mut arcs = Vec::with_capacity(alloc, graph.m())?;
+    for arc in graph.arcs() {
+        arcs.push(turned_arc(arc))?;
     }
+    Ok(arcs)
 }
 
 /// Returns the graph with each arc turned round: a walk to `v` in the one is a walk from `v` in the other.
@@ -35,9 +38,16 @@ pub fn turned<R: Threads + Sync>(
     ensures order { IfOk result (λ other. IsInOrder other.arcs) }
 {
     let n = graph.n();
-    let mut arcs = Vec::with_capacity(alloc, graph.m())?;
-    for arc in graph.arcs() {
-        arcs.push(turned_arc(arc))?;
-    }
+    let arcs = turned_arcs(alloc, graph)?;
     Graph::from_arcs_by(rt, alloc, n, arcs, workers)
+}
+
+/// Returns the graph with each arc turned round, as `turned` does, by the calling thread alone.
+pub fn turned_alone(alloc: Global, graph: &Graph) -> Result<Graph, AllocError>
+    ensures turned { IfOk result (λ other. IsTurned graph.now other) }
+    ensures order { IfOk result (λ other. IsInOrder other.arcs) }
+{
+    let n = graph.n();
+    let arcs = turned_arcs(alloc, graph)?;
+    Graph::from_arcs(alloc, n, arcs)
 }

@@ -1,13 +1,31 @@
 //! Graphs whose arcs lead both ways.
-ghost use Rattle.std.specs.Prelude.{◌*◌, ◌<◌, ◌^◌, length, IfOk, OnOk};
+ghost use Rattle.std.specs.Prelude.{◌≡◌, ◌++◌, ◌*◌, ◌<◌, ◌^◌, length, All, IfOk, OnOk};
+ghost use Rattle.sp_paths.specs.Paths.{IsArc};
 ghost use Rattle.sp_graph.specs.Order.{IsInOrder};
-ghost use Rattle.sp_turned.specs.Turned.{IsBothWays};
+ghost use Rattle.sp_turned.specs.Turned.{IsBothWays, turned};
 
-use crate::turning::turned_arc;
+use crate::arcs::append_turned;
 use sp_graph::Graph;
+use sp_paths::Arc;
 use sp_word::Workers;
 use std::alloc::{AllocError, Global};
 use std::thread::Threads;
+
+// Returns the arcs of a graph, and each of them turned round, unless these are 2^32 or more.
+fn both_arcs(alloc: Global, graph: &Graph) -> Result<Vec<Arc>, AllocError>
+    ensures both { IfOk result (λ arcs. arcs.items ≡ graph.now.arcs ++ turned graph.now.arcs) }
+    ensures arcs { IfOk result (λ arcs. All (IsArc graph.now.n) arcs.items) }
+    ensures few { OnOk result (2 * length graph.now.arcs < 2 ^ 32) }
+{
+    let m = graph.m();
+    if m > u32::MAX as usize / 2 {
+        return Err(AllocError);
+    }
+    let mut arcs = Vec::with_capacity(alloc, 2 * m)?;
+    arcs.extend_from_slice(graph.arcs())?;
+    append_turned(&mut arcs)?;
+    Ok(arcs)
+}
 
 /// Returns the graph with the arcs of this one and, for each of them, one from its head to its tail of the same length. Where the
 /// graph has both already, each stands twice afterwards; a loop does so too.
@@ -26,14 +44,17 @@ pub fn both_ways<R: Threads + Sync>(
     ensures few { OnOk result (2 * length graph.now.arcs < 2 ^ 32) }
 {
     let n = graph.n();
-    let m = graph.m();
-    if m > u32::MAX as usize / 2 {
-        return Err(AllocError);
-    }
-    let mut arcs = Vec::with_capacity(alloc, 2 * m)?;
-    arcs.extend_from_slice(graph.arcs())?;
-    for arc in graph.arcs() {
-        arcs.push(turned_arc(arc))?;
-    }
+    let arcs = both_arcs(alloc, graph)?;
     Graph::from_arcs_by(rt, alloc, n, arcs, workers)
+}
+
+/// Returns the graph whose arcs lead both ways, as `both_ways` does, by the calling thread alone.
+pub fn both_ways_alone(alloc: Global, graph: &Graph) -> Result<Graph, AllocError>
+    ensures both { IfOk result (λ other. IsBothWays graph.now other) }
+    ensures order { IfOk result (λ other. IsInOrder other.arcs) }
+    ensures few { OnOk result (2 * length graph.now.arcs < 2 ^ 32) }
+{
+    let n = graph.n();
+    let arcs = both_arcs(alloc, graph)?;
+    Graph::from_arcs(alloc, n, arcs)
 }

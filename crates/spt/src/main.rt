@@ -122,10 +122,12 @@ fn main(rt: HostRuntime) -> ExitCode {
     let mut disk = Disk {
         rt: &rt,
         stdin: rt.stdin(),
+        stdout: rt.stdout(),
         stderr: rt.stderr(),
         process: rt.process(),
         notes: &notes,
         asked: Asked::Nothing,
+        has_output: false,
     };
     let mut out = disk.standard_output(rt.stdout());
     let mut err = OfWrite::new(disk.standard_error());

@@ -12,7 +12,7 @@ use Rattle.spt_c.specs.declared.arcs.SptArc.{SptArc}
 use Rattle.spt_c.specs.declared.answers.SptAnswer.{SptAnswer}
 use Rattle.spt_c.specs.declared.counts.SptCounts.{SptCounts}
 use Rattle.spt_c.specs.declared.making.Made.{Made}
-use Rattle.spt_c.specs.declared.making.Made.TheVariants.{Kept, BadSize, BadArc, Memory}
+use Rattle.spt_c.specs.declared.making.Made.TheVariants.{Kept, BadSize, BadArc, Memory, NoGraph as NoGraphMade}
 use Rattle.spt_c.specs.Arcs.{graph_of}
 use Rattle.spt_c.specs.Asked.{Asked, asked, IsArcOf, IsGood}
 use Rattle.spt_c.specs.Told.{IsRefusal}
@@ -25,6 +25,7 @@ made_of Kept = record { status = 0; vertex = 0; index = 0 }
 made_of BadSize = record { status = 1; vertex = 0; index = 0 }
 made_of (BadArc place) = record { status = 3; vertex = 0; index = place }
 made_of Memory = record { status = 6; vertex = 0; index = 0 }
+made_of NoGraphMade = record { status = 10; vertex = 0; index = 0 }
 
 -- The graph of n vertices with exactly these arcs is kept.
 abbrev pub Keeps : (n : ℕ) → List SptArc → Option Graph → Type 0
@@ -41,6 +42,7 @@ IsMade n arcs old new Kept = HasGraph n arcs × Keeps n arcs new
 IsMade n arcs old new BadSize = (IsCount n → ⊥) × (new ≡ old)
 IsMade n arcs old new (BadArc place) = IsCount n × IsFirstWithout (IsArcOf n) arcs place × (new ≡ old)
 IsMade n arcs old new Memory = HasGraph n arcs × (new ≡ old)
+IsMade n arcs old new made = ⊥
 
 -- The second place keeps what the first keeps, or what it kept before.
 abbrev pub IsShared : (first old new : Option Graph) → Made → Type 0

@@ -10,3 +10,5 @@ pub mod Owners
 pub mod Place
 pub mod Kept
 pub mod KeptLists
+pub mod Packing
+pub mod Turning

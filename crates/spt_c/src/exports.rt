@@ -17,7 +17,12 @@ ghost use Rattle.spt_c.specs.KeptLists.{limit_of, part_of, IsPartOfKept, IsListO
 ghost use Rattle.spt_c.specs.Found.{IsFound, IsFoundOfKept, found_of};
 ghost use Rattle.spt_c.specs.Texts.{IsRead, text_of};
 ghost use Rattle.spt_c.specs.Kept.{made_of, IsMade, IsShared, counts_of, IsToldOfKept};
+ghost use Rattle.sp_turned.specs.Turned.{IsTurned, IsBothWays};
+ghost use Rattle.spt_c.specs.Turning.{IsMadeFrom};
+ghost use Rattle.spt_c.specs.Packing.{IsLoaded, IsSaved, packed_of, saved_of};
 ghost use Rattle.spt_c.specs.declared.making.Made.{Made};
+ghost use Rattle.spt_c.specs.declared.packing.LoadAnswer.{LoadAnswer};
+ghost use Rattle.spt_c.specs.declared.packing.SaveAnswer.{SaveAnswer};
 ghost use Rattle.spt_c.specs.declared.texts.TextAnswer.{TextAnswer};
 
 use crate::answers::{SptAnswer, SptBatch, SptPart};
@@ -27,9 +32,11 @@ use crate::checking::check;
 use crate::counts::{SptCounts, counts};
 use crate::found::{SptFound, find, find_known};
 use crate::kept::of_kept;
-use crate::making::{make, share};
+use crate::making::{Made, make, share};
+use crate::packing::{SaveAnswer, SptPacked, SptSaved, load, save};
 use crate::place::KeptGraph;
 use crate::texts::{SptText, read_graph};
+use crate::turning::{keep_both_ways, keep_turned};
 use sp_lists::{
     Batch, Listed, Near, Part, Told, is_count, list_part, reach, write_forest, write_matrix,
     write_part,
@@ -39,9 +46,9 @@ use std::alloc::Global;
 /// Returns the library's version: ten thousand for each unit of the first part, and a hundred for each of the second.
 #[unsafe(no_mangle)]
 pub extern "C" fn spt_version() -> u32
-    ensures { result ≡ 10300 }
+    ensures { result ≡ 10400 }
 {
-    10_300
+    10_400
 }
 
 /// Returns the greatest distance in a graph of n vertices, or 0 if no graph can have n vertices.
@@ -339,4 +346,56 @@ pub extern "C" fn spt_graph_matrix(
     ensures same { kept graph.new ≡ kept graph.old }
 {
     of_kept!(alloc, graph, held => SptBatch::of(write_matrix(alloc, held.prepared(), sources, targets, delta, dist)), SptBatch::of(Batch::none(Told::NoGraph)))
+}
+
+/// Keeps the graph of the second place with each arc turned round, in place of what was kept; or tells why it can't, and then both
+/// places keep what they kept.
+#[unsafe(no_mangle)]
+pub extern "C" fn spt_graph_turned(
+    alloc: Global,
+    graph: &mut KeptGraph,
+    from: &mut KeptGraph,
+) -> SptAnswer
+    ensures same { kept from.new ≡ kept from.old }
+    ensures made { (made : Made) × (result ≡ made_of made)
+        × IsMadeFrom IsTurned (kept from.old) (kept graph.old) (kept graph.new) made }
+{
+    of_kept!(alloc, from, held => keep_turned(alloc, held.graph(), graph).answer(), Made::NoGraph.answer())
+}
+
+/// Keeps the graph of the second place with each arc leading both ways, in place of what was kept; or tells why it can't, and then
+/// both places keep what they kept.
+#[unsafe(no_mangle)]
+pub extern "C" fn spt_graph_both_ways(
+    alloc: Global,
+    graph: &mut KeptGraph,
+    from: &mut KeptGraph,
+) -> SptAnswer
+    ensures same { kept from.new ≡ kept from.old }
+    ensures made { (made : Made) × (result ≡ made_of made)
+        × IsMadeFrom IsBothWays (kept from.old) (kept graph.old) (kept graph.new) made }
+{
+    of_kept!(alloc, from, held => keep_both_ways(alloc, held.graph(), graph).answer(), Made::NoGraph.answer())
+}
+
+/// Keeps the graph that was packed into these bytes, in place of what was kept; or tells their first fault, and then the place keeps
+/// what it kept.
+#[unsafe(no_mangle)]
+pub extern "C" fn spt_graph_load(alloc: Global, graph: &mut KeptGraph, bytes: &[u8]) -> SptPacked
+    ensures { (loaded : LoadAnswer) × (result ≡ packed_of loaded)
+        × IsLoaded bytes.now (kept graph.old) (kept graph.new) loaded }
+{
+    let loaded = load(alloc, bytes, graph);
+    loaded.told()
+}
+
+/// Writes the packed form of the graph that is kept to the front of the slice. Where the slice has too few places it writes nothing,
+/// and tells how many are needed.
+#[unsafe(no_mangle)]
+pub extern "C" fn spt_graph_save(alloc: Global, graph: &mut KeptGraph, bytes: &mut [u8]) -> SptSaved
+    ensures saved { (saved : SaveAnswer) × (result ≡ saved_of saved)
+        × IsSaved (kept graph.old) bytes.old bytes.new saved }
+    ensures same { kept graph.new ≡ kept graph.old }
+{
+    of_kept!(alloc, graph, held => SptSaved::of(save(alloc, held.graph(), bytes)), SptSaved::of(SaveAnswer::NoGraph))
 }

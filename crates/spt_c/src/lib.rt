@@ -14,15 +14,18 @@ mod found;
 mod kept;
 mod making;
 mod own;
+mod packing;
 mod place;
 mod refusals;
 mod shared;
 mod slot;
 mod texts;
+mod turning;
 
 pub use answers::{SptAnswer, SptBatch, SptPart};
 pub use arcs::SptArc;
 pub use counts::SptCounts;
 pub use found::SptFound;
+pub use packing::{SptPacked, SptSaved};
 pub use place::KeptGraph;
 pub use texts::SptText;

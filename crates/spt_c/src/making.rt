@@ -20,6 +20,8 @@ pub(crate) enum Made {
     BadArc(usize),
     /// An allocation failed.
     Memory,
+    /// The place keeps no graph from which another could be made.
+    NoGraph,
 }
 
 impl Made {
@@ -32,6 +34,7 @@ impl Made {
             Made::BadSize => SptAnswer::of(Told::BadSize),
             Made::BadArc(place) => SptAnswer::of(Told::BadArc(place)),
             Made::Memory => SptAnswer::of(Told::Memory),
+            Made::NoGraph => SptAnswer::of(Told::NoGraph),
         }
     }
 }

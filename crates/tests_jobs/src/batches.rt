@@ -5,6 +5,7 @@ ghost use Rattle.sp_jobs.specs.Listing.{IsNumbered};
 
 use sp_device::{OfRead, UpToWriter};
 use sp_jobs::{BatchError, BucketWidth, Listing, Summary, run_batch};
+use sp_network::Peeked;
 use sp_word::{Delta, Workers};
 use std::alloc::{AllocError, Global};
 use std::collections::VecDeque;
@@ -74,7 +75,7 @@ pub(crate) fn run<const P: u32>(
     let answer = run_batch(
         rt,
         rt.alloc(),
-        &mut OfRead::new(case.gr.as_bytes()),
+        &mut Peeked::new(OfRead::new(case.gr.as_bytes())),
         &mut OfRead::new(case.ss.as_bytes()),
         &mut out,
         width,

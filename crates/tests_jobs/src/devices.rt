@@ -5,6 +5,7 @@ use crate::batches::{Case, crew, run_narrow, summary, width_of};
 use crate::graphs::{ALONE, DIAMOND, ONE, TWO, TWO_TEXT};
 use sp_device::{OfRead, UpTo, UpToWriter};
 use sp_jobs::{BatchError, Summary, run_batch};
+use sp_network::{NetworkFault, Peeked};
 use sp_text::{DimacsError, Kind};
 use std::process::Abort;
 use std::sync::Wait;
@@ -73,7 +74,7 @@ fn writer_of_a_byte_a_call(rt: HostRuntime) -> Result<(), Fail> {
     let answer = run_batch(
         &rt,
         rt.alloc(),
-        &mut OfRead::new(DIAMOND.as_bytes()),
+        &mut Peeked::new(OfRead::new(DIAMOND.as_bytes())),
         &mut OfRead::new(TWO.as_bytes()),
         &mut out,
         width_of(&rt, Some(1)),
@@ -95,13 +96,13 @@ fn is_fault(
     let answer = run_batch(
         rt,
         rt.alloc(),
-        &mut UpTo::failing(text),
+        &mut Peeked::new(UpTo::failing(text)),
         &mut OfRead::new(ONE.as_bytes()),
         &mut out,
         width_of(rt, Some(1)),
         crew(rt, 1),
     );
-    answer == Err(BatchError::Gr(fault)) && out.taken().is_empty()
+    answer == Err(BatchError::Gr(NetworkFault::Text(fault))) && out.taken().is_empty()
 }
 
 #[test]

@@ -1,10 +1,12 @@
-//! Tests of jobs from bytes to bytes, batches, matrices and forests, and of a forest's file, by their public calls.
+//! Tests of jobs from bytes to bytes, batches, matrices, forests and pairs, and of a forest's file, by their public calls.
 #![tactic(auto)]
 
 #[cfg(test)]
 mod batches;
 #[cfg(test)]
 mod devices;
+#[cfg(test)]
+mod directions;
 #[cfg(test)]
 mod files;
 #[cfg(test)]

@@ -5,6 +5,7 @@ use crate::batches::{List, crew, listed, summary, width_of};
 use crate::graphs::{DIAMOND, TWO, WIDE};
 use sp_device::{OfRead, UpToWriter};
 use sp_jobs::{BatchError, Listing, Nobody, Role, Settings, Summary, run_matrix_told};
+use sp_network::{Direction, Peeked};
 use std::process::Abort;
 use std::sync::Wait;
 use std::test::Fail;
@@ -18,6 +19,7 @@ const LINES: &str = "d 1 4 5 2\nd 1 1 0 0\nd 1 4 5 2\nd 4 4 0 0\nn 4 1\nd 4 4 0 
 
 fn settings(rt: &impl Abort, workers: u32) -> Settings<'static, 28, Nobody> {
     Settings {
+        direction: Direction::AsGiven,
         width: width_of(rt, Some(2)),
         workers: crew(rt, workers),
         listener: &Nobody,
@@ -39,7 +41,7 @@ fn is_written(
     let told = run_matrix_told(
         &rt,
         rt.alloc(),
-        &mut OfRead::new(gr.as_bytes()),
+        &mut Peeked::new(OfRead::new(gr.as_bytes())),
         sources,
         targets,
         &mut out,
@@ -80,7 +82,7 @@ fn is_written_of_4(
     let told = run_matrix_told(
         &rt,
         rt.alloc(),
-        &mut OfRead::new(DIAMOND.as_bytes()),
+        &mut Peeked::new(OfRead::new(DIAMOND.as_bytes())),
         sources,
         targets,
         &mut out,

@@ -9,6 +9,7 @@ use sp_device::{OfRead, UpToWriter};
 use sp_jobs::{
     BatchError, BucketWidth, Listing, Nobody, Role, Settings, Summary, run_nearest_told,
 };
+use sp_network::{Direction, Peeked};
 use sp_word::Delta;
 use std::process::Abort;
 use std::sync::Wait;
@@ -36,6 +37,7 @@ fn settings<const P: u32>(rt: &impl Abort, workers: u32) -> Settings<'static, P,
     requires { is_layout P ≡ true }
 {
     Settings {
+        direction: Direction::AsGiven,
         width: BucketWidth::Of(Delta::new(2).expect(rt, "a width in range")),
         workers: crew(rt, workers),
         listener: &Nobody,
@@ -60,7 +62,7 @@ fn is_written_by<const P: u32>(
     let answer = run_nearest_told(
         rt,
         rt.alloc(),
-        &mut OfRead::new(sources.gr.as_bytes()),
+        &mut Peeked::new(OfRead::new(sources.gr.as_bytes())),
         list,
         limit,
         &mut out,
@@ -152,7 +154,7 @@ fn is_written_of(
     let told = run_nearest_told(
         rt,
         rt.alloc(),
-        &mut OfRead::new(DIAMOND.as_bytes()),
+        &mut Peeked::new(OfRead::new(DIAMOND.as_bytes())),
         sources,
         None,
         &mut out,

@@ -13,7 +13,7 @@ text_in (file ∷ more) path = if bytes_eq file.path.now path then Some file.tex
 
 -- Exactly the paths of files are opened. No device fails.
 abbrev pub files_of : List StoredFile → Files
-files_of stored = record { text = text_in stored; opens = λ path. is_some (text_in stored path); failing = λ path. Never }
+files_of stored = record { text = text_in stored; opens = λ path. is_some (text_in stored path); failing = λ path. Never; may_show = false }
 
 abbrev pub kept_of : KeptFile → Kept
 kept_of file = record { path = string_bytes file.path; text = Some file.output.taken.items }

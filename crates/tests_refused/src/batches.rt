@@ -9,6 +9,8 @@ use sp_jobs::{
     BatchError, BucketWidth, Listing, Nobody, Settings, Summary, run_batch, run_matrix_told,
     run_nearest_told,
 };
+use sp_network::{Direction, NetworkFault, Peeked};
+use sp_packed::PackedKind;
 use sp_pairs::run_pairs;
 use sp_text::Kind;
 use sp_word::Workers;
@@ -23,7 +25,8 @@ use tests_samples::FROM_ONE;
 fn is_memory(error: BatchError) -> bool {
     match error {
         BatchError::Memory => true,
-        BatchError::Gr(fault)
+        BatchError::Gr(NetworkFault::Packed(fault)) => matches!(fault.kind, PackedKind::Memory),
+        BatchError::Gr(NetworkFault::Text(fault))
         | BatchError::Ss(fault)
         | BatchError::Targets(fault)
         | BatchError::Pairs(fault) => matches!(fault.kind, Kind::Memory),
@@ -55,7 +58,7 @@ pub fn call_run_batch<R: AllocGlobal + Print + Threads + Wait + Sync, W: Write>(
     sample: Sample,
     workers: Workers,
 ) -> io::Result<Ending> {
-    let mut gr = OfRead::new(sample.gr().as_bytes());
+    let mut gr = Peeked::new(OfRead::new(sample.gr().as_bytes()));
     let mut ss = OfRead::new(FROM_ONE.as_bytes());
     let width = BucketWidth::Of(sample.delta());
     let answer = run_batch::<28, R, _, _, _>(rt, rt.alloc(), &mut gr, &mut ss, out, width, workers);
@@ -69,7 +72,7 @@ pub fn call_run_pairs<R: AllocGlobal + Print + Threads + Wait + Sync, W: Write>(
     sample: Sample,
     workers: Workers,
 ) -> io::Result<Ending> {
-    let mut gr = OfRead::new(sample.gr().as_bytes());
+    let mut gr = Peeked::new(OfRead::new(sample.gr().as_bytes()));
     let mut pairs = OfRead::new(sample.pairs().as_bytes());
     let width = BucketWidth::MeanLength;
     let answer = run_pairs::<28, R, _, _, _>(
@@ -103,6 +106,7 @@ pub fn call_run_matrix<R: AllocGlobal + Print + Threads + Wait + Sync, W: Write>
     workers: Workers,
 ) -> io::Result<Ending> {
     let settings = Settings {
+        direction: Direction::AsGiven,
         width: BucketWidth::MeanLength,
         workers,
         listener: &Nobody,
@@ -116,7 +120,7 @@ pub fn call_run_matrix<R: AllocGlobal + Print + Threads + Wait + Sync, W: Write>
     let answer = run_matrix_told::<28, &R, _, _, _, _, _>(
         &rt,
         rt.alloc(),
-        &mut OfRead::new(sample.gr().as_bytes()),
+        &mut Peeked::new(OfRead::new(sample.gr().as_bytes())),
         sources,
         targets,
         out,
@@ -133,6 +137,7 @@ pub fn call_run_nearest<R: AllocGlobal + Print + Threads + Wait + Sync, W: Write
     workers: Workers,
 ) -> io::Result<Ending> {
     let settings = Settings {
+        direction: Direction::AsGiven,
         width: BucketWidth::MeanLength,
         workers,
         listener: &Nobody,
@@ -143,7 +148,7 @@ pub fn call_run_nearest<R: AllocGlobal + Print + Threads + Wait + Sync, W: Write
     let answer = run_nearest_told::<28, R, _, _, _, _>(
         rt,
         rt.alloc(),
-        &mut OfRead::new(sample.gr().as_bytes()),
+        &mut Peeked::new(OfRead::new(sample.gr().as_bytes())),
         sources,
         None,
         out,

@@ -31,6 +31,7 @@ fn call<R: AllocGlobal + Eprint + Print + Threads + Wait + Sync, W: Write>(
 ) -> io::Result<Ending> {
     match name {
         "read_gr" => reading::call_read_gr(rt, sample),
+        "read_packed" => reading::call_read_packed(rt, sample),
         "read_ss" => reading::call_read_ss(rt, sample),
         "read_pairs" => reading::call_read_pairs(rt, sample),
         "read_tree" => reading::call_read_tree(rt, out, sample),

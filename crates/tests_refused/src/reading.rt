@@ -1,8 +1,9 @@
 //! The readers, over texts in memory.
-use crate::report::{Ending, tell_fault, tell_tree};
+use crate::report::{Ending, tell_fault, tell_packed_fault, tell_tree};
 use crate::sample::Sample;
-use sp_dimacs::{OfRead, Write, read_gr, read_pairs, read_ss};
+use sp_dimacs::{MOST_ARCS, OfRead, Write, read_gr, read_pairs, read_ss};
 use sp_files::read_tree;
+use sp_packed::read_packed;
 use std::io;
 use tests_samples::FROM_ONE;
 
@@ -15,6 +16,23 @@ pub fn call_read_gr<R: AllocGlobal + Eprint + Print>(rt: &R, sample: Sample) -> 
     };
     println!(rt; "p sp {} {}", file.n, file.arcs.len())?;
     for arc in &file.arcs {
+        println!(rt; "a {} {} {}", arc.tail, arc.head, arc.len)?;
+    }
+    Ok(Ending::Answered)
+}
+
+/// Reads the packed graph, and prints its arcs.
+pub fn call_read_packed<R: AllocGlobal + Eprint + Print>(
+    rt: &R,
+    sample: Sample,
+) -> io::Result<Ending> {
+    let mut text = OfRead::new(sample.packed());
+    let graph = match read_packed::<28, _>(rt.alloc(), &mut text, MOST_ARCS as u32) {
+        Ok(graph) => graph,
+        Err(fault) => return tell_packed_fault(rt, fault),
+    };
+    println!(rt; "p sp {} {}", graph.n(), graph.arcs().len())?;
+    for arc in graph.arcs() {
         println!(rt; "a {} {} {}", arc.tail, arc.head, arc.len)?;
     }
     Ok(Ending::Answered)

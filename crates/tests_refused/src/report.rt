@@ -1,6 +1,7 @@
 //! What a call told, on standard output.
 use sp_device::{Write, WriteFault};
 use sp_files::{Tree, write_far, write_tree};
+use sp_packed::{PackedFault, PackedKind};
 use sp_phase::RunError;
 use sp_text::{DimacsError, Kind};
 use std::io;
@@ -17,6 +18,16 @@ pub enum Ending {
 pub fn tell_fault<R: Eprint>(rt: &R, fault: DimacsError) -> io::Result<Ending> {
     eprintln!(rt; "{fault}")?;
     if matches!(fault.kind, Kind::Memory) {
+        Ok(Ending::Memory)
+    } else {
+        Ok(Ending::Wrong)
+    }
+}
+
+/// The same of a packed graph of a sample.
+pub fn tell_packed_fault<R: Eprint>(rt: &R, fault: PackedFault) -> io::Result<Ending> {
+    eprintln!(rt; "{fault}")?;
+    if matches!(fault.kind, PackedKind::Memory) {
         Ok(Ending::Memory)
     } else {
         Ok(Ending::Wrong)

@@ -10,6 +10,32 @@ use tests_samples::{DIAMOND, DIAMOND_GR, DIAMOND_TREE, graph_of, long_path};
 const LONG_GR: &str =
     "p sp 18 17\na 1 2 4294967295\na 2 3 4294967295\na 3 4 4294967295\na 4 5 4294967295\na 5 6 4294967295\na 6 7 4294967295\na 7 8 4294967295\na 8 9 4294967295\na 9 10 4294967295\na 10 11 4294967295\na 11 12 4294967295\na 12 13 4294967295\na 13 14 4294967295\na 14 15 4294967295\na 15 16 4294967295\na 16 17 4294967295\na 17 18 15\n";
 
+// The same graphs packed: numbers of four bytes each, the lowest first. Behind the mark stand the numbers of vertices and arcs, where
+// the rows end, head and length of each arc, and the sum.
+const DIAMOND_PACKED: &[u8] = b"\x89SPT\r\n\x1a\x01\x04\0\0\0\x05\0\0\0\
+\0\0\0\0\x03\0\0\0\x04\0\0\0\x05\0\0\0\
+\x05\0\0\0\x02\0\0\0\x03\0\0\0\x03\0\0\0\
+\x03\0\0\0\x04\0\0\0\x06\0\0\0\x04\0\0\0\
+\x02\0\0\0\x04\0\0\0\x02\0\0\0\xd1\x5d\x6a\x55\
+\0\0\0\0\x2c\xea\xca\x55\x06\0\0\0";
+
+const LONG_PACKED: &[u8] = b"\x89SPT\r\n\x1a\x01\x12\0\0\0\x11\0\0\0\
+\0\0\0\0\x01\0\0\0\x02\0\0\0\x03\0\0\0\
+\x04\0\0\0\x05\0\0\0\x06\0\0\0\x07\0\0\0\
+\x08\0\0\0\x09\0\0\0\x0a\0\0\0\x0b\0\0\0\
+\x0c\0\0\0\x0d\0\0\0\x0e\0\0\0\x0f\0\0\0\
+\x10\0\0\0\x11\0\0\0\x11\0\0\0\x02\0\0\0\
+\xff\xff\xff\xff\x03\0\0\0\xff\xff\xff\xff\x04\0\0\0\
+\xff\xff\xff\xff\x05\0\0\0\xff\xff\xff\xff\x06\0\0\0\
+\xff\xff\xff\xff\x07\0\0\0\xff\xff\xff\xff\x08\0\0\0\
+\xff\xff\xff\xff\x09\0\0\0\xff\xff\xff\xff\x0a\0\0\0\
+\xff\xff\xff\xff\x0b\0\0\0\xff\xff\xff\xff\x0c\0\0\0\
+\xff\xff\xff\xff\x0d\0\0\0\xff\xff\xff\xff\x0e\0\0\0\
+\xff\xff\xff\xff\x0f\0\0\0\xff\xff\xff\xff\x10\0\0\0\
+\xff\xff\xff\xff\x11\0\0\0\xff\xff\xff\xff\x12\0\0\0\
+\x0f\0\0\0\x0c\x5f\x6a\x55\x10\0\0\0\x87\xf6\x94\x03\
+\x33\x01\0\0";
+
 // The rows within the limit.
 const LONG_TREE: &str =
     "p spt 18 1\nv 1 0 0\nv 2 4294967295 1\nv 3 8589934590 2\nv 4 12884901885 3\nv 5 17179869180 4\nv 6 21474836475 5\nv 7 25769803770 6\nv 8 30064771065 7\nv 9 34359738360 8\nv 10 38654705655 9\nv 11 42949672950 10\nv 12 47244640245 11\nv 13 51539607540 12\nv 14 55834574835 13\nv 15 60129542130 14\nv 16 64424509425 15\nv 17 68719476720 16\ne 17\n";
@@ -41,6 +67,14 @@ impl Sample {
         match self {
             Sample::Diamond => DIAMOND_GR,
             Sample::Long => LONG_GR,
+        }
+    }
+
+    /// Its graph's packed text.
+    pub fn packed(self) -> &'static [u8] {
+        match self {
+            Sample::Diamond => DIAMOND_PACKED,
+            Sample::Long => LONG_PACKED,
         }
     }
 

@@ -9,8 +9,8 @@ use Rattle.sp_team.proofs.Later.{later_itself, later_along}
 use Rattle.sp_team.proofs.Marks.{true_will_be, will_be_true}
 use Rattle.sp_team.proofs.team.relax_live.Goals as goal
 
-pub returns-in_err-ask-clause-later : goal.returns-in_err-ask-clause-later
-returns-in_err-ask-clause-later g c = later_along _ _ _ _ c.loop-entry.invariant.later c.ask.ensures.later
+pub returns-in_err-is_relaxed-clause-later : goal.returns-in_err-is_relaxed-clause-later
+returns-in_err-is_relaxed-clause-later g c = later_along _ _ _ _ c.loop-entry.invariant.later c.ask.ensures.later
 
 pub loop-entry-init : goal.loop-entry-init
 loop-entry-init g c =
@@ -26,8 +26,8 @@ loop-entry-init g c =
 pub loop-entry-preserved : goal.loop-entry-preserved
 loop-entry-preserved g c = record {
   later = later_along _ _ _ _ c.loop-entry.invariant.later c.ask.ensures.later;
-  requests = c.in_ok-ask.ensures.requests;
-  marks = c.in_ok-ask.ensures.marks;
+  requests = c.in_ok-is_relaxed.ensures.requests;
+  marks = c.in_ok-is_relaxed.ensures.marks;
 }
 
 pub returns-clause-later : goal.returns-clause-later

@@ -11,6 +11,7 @@ returns c =
     let all : rule_of c.flag.result ≡ flag_rule (codes "all") = search rules in
     let bare : IsBuilt (codes "check") [] c.new.result = new_built _ _ c.new.ensures.app c.new.ensures.local in
     let one = with_arg _ _ _ _ _ _ bare gr refl c.in_ok-arg.ensures in
-    let two = with_arg _ _ _ _ _ _ one tree refl c.in_ok-arg-2.ensures in
-    let three = with_arg _ _ _ _ _ _ two all refl c.in_ok-arg-3.ensures in
-    then_arg _ _ _ _ _ c.arg-4.result three c.option.ensures refl c.arg-4.ensures
+    let two = with_arg _ _ _ _ _ _ one tree refl c.in_ok-command.ensures in
+    let three = c.in_ok-add_directions.ensures _ _ two in
+    let four = with_arg _ _ _ _ _ _ three all refl c.in_ok-arg-2.ensures in
+    then_arg _ _ _ _ _ c.arg-4.result four c.option.ensures refl c.arg-4.ensures

@@ -1,6 +1,6 @@
 use Rattle.std.proofs.Common.{◌≡◌, take}
 use Rattle.sp_turned.specs.Turned.{turned}
-use Rattle.sp_turned.proofs.turning.turned.Given as goal
+use Rattle.sp_turned.proofs.turning.turned_arcs.Given as goal
 
 abbrev pub invariant-loop-arc : goal.invariant-loop-arc
-invariant-loop-arc g l = l.arcs.items ≡ turned (take l.arc-index l.arc-items)
+invariant-loop-arc l = l.arcs.items ≡ turned (take l.arc-index l.arc-items)

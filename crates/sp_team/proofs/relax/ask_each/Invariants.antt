@@ -5,7 +5,7 @@ use Rattle.sp_offer.specs.Story.{known_table}
 use Rattle.sp_team.specs.Later.{IsLater}
 use Rattle.sp_team.specs.Requests.{IsRequest}
 use Rattle.sp_team.specs.Marked.{WillBeMet, RowWillBeMet}
-use Rattle.sp_team.proofs.relax.ask_row.Given as goal
+use Rattle.sp_team.proofs.relax.ask_each.Given as goal
 
 abbrev pub invariant-loop-arc : goal.invariant-loop-arc
 invariant-loop-arc g l =

@@ -1,0 +1,5 @@
+pub mod DirectedArcs
+pub mod LineForm
+pub mod WordForm
+pub mod FailedFirst
+pub mod Peeking

@@ -1,0 +1,48 @@
+//! The direction in which the arcs of a graph lead, by those of its file.
+ghost use Rattle.std.specs.Prelude.{◌≡◌, ℕ, IfOk};
+ghost use Rattle.sp_dimacs.specs.Graph.{IsNetwork, IsNetworkUpTo, graph_of};
+ghost use Rattle.sp_network.specs.Network.{directed, most_of};
+
+use sp_dimacs::{GrFile, MOST_ARCS, MOST_ARCS_BOTH_WAYS};
+use sp_turned::{append_turned, turn};
+use std::alloc::AllocError;
+
+/// The direction in which the arcs of a graph lead, by those of its file.
+#[derive(Clone, Copy, Debug, PartialEq, Eq)]
+pub enum Direction {
+    /// From tail to head.
+    AsGiven,
+    /// From head to tail: a walk from a vertex is one towards it in the graph of the file.
+    Towards,
+    /// From tail to head, and back: each arc of the file stands for two. A loop stands twice.
+    BothWays,
+}
+
+impl Direction {
+    /// Returns how many arcs a text may announce, in either form.
+    pub fn most_arcs(self) -> u32
+        ensures { result ≡ most_of self }
+    {
+        match self {
+            Direction::AsGiven | Direction::Towards => MOST_ARCS as u32,
+            Direction::BothWays => MOST_ARCS_BOTH_WAYS as u32,
+        }
+    }
+
+    /// Returns the network of a file with its arcs in this direction. Arcs are turned in place; the call fails only if there is
+    /// no memory for twice the arcs where they are to lead both ways.
+    pub fn apply(self, file: GrFile) -> Result<GrFile, AllocError>
+        ensures directed { IfOk result
+            (λ made. graph_of made ≡ directed self (graph_of file)) }
+        ensures network { (P : ℕ) → IsNetworkUpTo P (most_of self) file
+            → IfOk result (IsNetwork P) }
+    {
+        let mut file = file;
+        match self {
+            Direction::AsGiven => {}
+            Direction::Towards => turn(&mut file.arcs),
+            Direction::BothWays => append_turned(&mut file.arcs)?,
+        }
+        Ok(file)
+    }
+}

@@ -1,0 +1,213 @@
+//! Each job in each direction of the diamond's arcs, from a packed file and from lines.
+use crate::batches::{crew, listed, summary, width_of};
+use crate::graphs::{DIAMOND, TWO};
+use sp_device::{OfRead, UpToWriter};
+use sp_jobs::{
+    BatchError, Nobody, Settings, Summary, run_batch_told, run_matrix_told, run_nearest_told,
+};
+use sp_network::{Direction, Peeked};
+use sp_pairs::run_pairs_told;
+use std::process::Abort;
+use std::sync::Wait;
+use std::test::Fail;
+use std::thread::Threads;
+
+/// The diamond packed: numbers of four bytes each, the lowest first. Behind the mark stand the numbers of vertices and arcs, where the
+/// rows end, head and length of each arc, and the sum.
+const PACKED: &[u8] = b"\x89SPT\r\n\x1a\x01\x04\0\0\0\x05\0\0\0\
+\0\0\0\0\x03\0\0\0\x04\0\0\0\x05\0\0\0\
+\x05\0\0\0\x02\0\0\0\x03\0\0\0\x03\0\0\0\
+\x03\0\0\0\x04\0\0\0\x06\0\0\0\x04\0\0\0\
+\x02\0\0\0\x04\0\0\0\x02\0\0\0\xd1\x5d\x6a\x55\
+\0\0\0\0\x2c\xea\xca\x55\x06\0\0\0";
+
+/// Each of the sources 1 and 4 with each of them.
+const PAIRS: &str = "p pairs 4\nq 1 1\nq 1 4\nq 4 1\nq 4 4\n";
+
+/// The vertices 2 and 3.
+const MIDDLE: &str = "p aux sp ss 2\ns 2\ns 3\n";
+
+/// What is written where the arcs lead in a direction.
+#[derive(Clone, Copy)]
+struct Wanted {
+    direction: Direction,
+    /// A list of one source.
+    ss: &'static str,
+    /// Its tree.
+    tree: &'static str,
+    /// The lines of `PAIRS`.
+    lines: &'static str,
+    /// The forest of `MIDDLE`.
+    forest: &'static str,
+}
+
+const AS_GIVEN: Wanted = Wanted {
+    direction: Direction::AsGiven,
+    ss: "p aux sp ss 1\ns 1\n",
+    tree: "p spt 4 1\nv 1 0 0\nv 2 3 1\nv 3 3 1\nv 4 5 2\ne 4\n",
+    lines: "d 1 1 0 0\nd 1 4 5 2\nn 4 1\nd 4 4 0 0\n",
+    forest: "p near 4 2\nv 2 0 0 2\nv 3 0 0 3\nv 4 2 2 2\ne 3\n",
+};
+
+const TOWARDS: Wanted = Wanted {
+    direction: Direction::Towards,
+    ss: "p aux sp ss 1\ns 4\n",
+    tree: "p spt 4 4\nv 1 5 2\nv 2 2 4\nv 3 2 4\nv 4 0 0\ne 4\n",
+    lines: "d 1 1 0 0\nn 1 4\nd 4 1 5 2\nd 4 4 0 0\n",
+    forest: "p near 4 2\nv 1 3 2 2\nv 2 0 0 2\nv 3 0 0 3\ne 3\n",
+};
+
+const BOTH_WAYS: Wanted = Wanted {
+    direction: Direction::BothWays,
+    ss: "p aux sp ss 1\ns 2\n",
+    tree: "p spt 4 2\nv 1 3 2\nv 2 0 0\nv 3 4 4\nv 4 2 2\ne 4\n",
+    lines: "d 1 1 0 0\nd 1 4 5 2\nd 4 1 5 2\nd 4 4 0 0\n",
+    forest: "p near 4 2\nv 1 3 2 2\nv 2 0 0 2\nv 3 0 0 3\nv 4 2 2 2\ne 4\n",
+};
+
+/// The bytes of the diamond's file, and the direction and the number of workers of a job.
+#[derive(Clone, Copy)]
+struct Given<'t> {
+    gr: &'t [u8],
+    direction: Direction,
+    workers: u32,
+}
+
+impl<'t> Given<'t> {
+    fn device(self) -> Peeked<OfRead<&'t [u8]>> {
+        Peeked::new(OfRead::new(self.gr))
+    }
+
+    fn settings(self, rt: &impl Abort) -> Settings<'static, 28, Nobody> {
+        Settings {
+            direction: self.direction,
+            width: width_of(rt, None),
+            workers: crew(rt, self.workers),
+            listener: &Nobody,
+        }
+    }
+}
+
+// Whether so many answers were counted and just this text written.
+fn is_whole(answer: Result<Summary, BatchError>, count: u64, out: &UpToWriter, text: &str) -> bool {
+    answer == summary(count, 0, text.len() as u64) && out.taken() == text.as_bytes()
+}
+
+fn has_tree(
+    rt: &(impl Abort + AllocGlobal + Threads + Wait + Sync),
+    given: Given,
+    ss: &str,
+    text: &str,
+) -> bool {
+    let Ok(sources) = listed(rt.alloc(), ss) else {
+        return false;
+    };
+    let mut out = UpToWriter::new(rt.alloc(), 1000, 1000);
+    let answer = run_batch_told(
+        &rt,
+        rt.alloc(),
+        &mut given.device(),
+        sources,
+        None,
+        &mut out,
+        &given.settings(rt),
+    );
+    is_whole(answer, 1, &out, text)
+}
+
+fn has_matrix(
+    rt: &(impl Abort + AllocGlobal + Threads + Wait + Sync),
+    given: Given,
+    text: &str,
+) -> bool {
+    let (Ok(sources), Ok(targets)) = (listed(rt.alloc(), TWO), listed(rt.alloc(), TWO)) else {
+        return false;
+    };
+    let mut out = UpToWriter::new(rt.alloc(), 1000, 1000);
+    let answer = run_matrix_told(
+        &rt,
+        rt.alloc(),
+        &mut given.device(),
+        sources,
+        targets,
+        &mut out,
+        &given.settings(rt),
+    );
+    is_whole(answer, 4, &out, text)
+}
+
+fn has_pairs(
+    rt: &(impl Abort + AllocGlobal + Threads + Wait + Sync),
+    given: Given,
+    text: &str,
+) -> bool {
+    let mut out = UpToWriter::new(rt.alloc(), 1000, 1000);
+    let answer = run_pairs_told(
+        rt,
+        rt.alloc(),
+        &mut given.device(),
+        &mut OfRead::new(PAIRS.as_bytes()),
+        &mut out,
+        &given.settings(rt),
+    );
+    is_whole(answer, 4, &out, text)
+}
+
+fn has_forest(
+    rt: &(impl Abort + AllocGlobal + Threads + Wait + Sync),
+    given: Given,
+    text: &str,
+) -> bool {
+    let Ok(sources) = listed(rt.alloc(), MIDDLE) else {
+        return false;
+    };
+    let mut out = UpToWriter::new(rt.alloc(), 1000, 1000);
+    let answer = run_nearest_told(
+        rt,
+        rt.alloc(),
+        &mut given.device(),
+        sources,
+        None,
+        &mut out,
+        &given.settings(rt),
+    );
+    is_whole(answer, 1, &out, text)
+}
+
+// Whether each job gives just this for the file by so many workers.
+fn is_written_by(
+    rt: &(impl Abort + AllocGlobal + Threads + Wait + Sync),
+    gr: &[u8],
+    wanted: Wanted,
+    workers: u32,
+) -> bool {
+    let given = Given {
+        gr,
+        direction: wanted.direction,
+        workers,
+    };
+    has_tree(rt, given, wanted.ss, wanted.tree)
+        && has_matrix(rt, given, wanted.lines)
+        && has_pairs(rt, given, wanted.lines)
+        && has_forest(rt, given, wanted.forest)
+}
+
+// Whether it does so by any number of workers.
+fn is_written(
+    rt: &(impl Abort + AllocGlobal + Threads + Wait + Sync),
+    gr: &[u8],
+    wanted: Wanted,
+) -> bool {
+    is_written_by(rt, gr, wanted, 1)
+        && is_written_by(rt, gr, wanted, 2)
+        && is_written_by(rt, gr, wanted, 64)
+}
+
+#[test]
+fn jobs_in_each_direction_of_each_form(rt: HostRuntime) -> Result<(), Fail> {
+    for wanted in [AS_GIVEN, TOWARDS, BOTH_WAYS] {
+        assert!(rt; is_written(&rt, PACKED, wanted));
+        assert!(rt; is_written(&rt, DIAMOND.as_bytes(), wanted));
+    }
+    Ok(())
+}
