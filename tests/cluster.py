@@ -3,7 +3,7 @@
 
 Usage: python3 tests/cluster.py
 
-A share of 0 or of no number, and a file of sources that is missing or isn't one, end at once, with a line and status 1 or 2, and write
+Both directions, and packed graphs, go with them. A share of 0 or of no number, and a file of sources that is missing or isn't one, end at once, with a line and status 1 or 2, and write
 nothing.
 
 What isn't installed (Debian: parallel, python3-distributed) is left out, and said so; with SPT_ALL=1 it counts as failed. The last
@@ -45,17 +45,17 @@ def run(words, folder, **known):
     return done.returncode, done.stdout, done.stderr.decode()
 
 
-def by_parallel(folder, program, sources=SOURCES, share=SHARE):
+def by_parallel(folder, program, graph=GRAPH, sources=SOURCES, share=SHARE, direction=""):
     """The trees by GNU parallel, the status, and errors."""
-    words = [os.path.join(CLUSTER, "trees_by_parallel.sh"), GRAPH, sources, str(share), "--jobs", "2"]
-    status, trees, errors = run(words, folder, SPT=program)
+    words = [os.path.join(CLUSTER, "trees_by_parallel.sh"), graph, sources, str(share), "--jobs", "2"]
+    status, trees, errors = run(words, folder, SPT=program, DIRECTION=direction)
     return trees, status, errors
 
 
-def by_dask(python, folder, program, sources=SOURCES, share=SHARE):
+def by_dask(python, folder, program, graph=GRAPH, sources=SOURCES, share=SHARE, direction=""):
     """The trees by Dask, the status, and errors."""
-    words = [python, os.path.join(CLUSTER, "trees_by_dask.py"), GRAPH, sources, "trees", f"--share={share}", "--program", program]
-    status, _, errors = run(words, folder)
+    words = [python, os.path.join(CLUSTER, "trees_by_dask.py"), graph, sources, "trees", f"--share={share}", "--program", program]
+    status, _, errors = run(words + ([f"--{direction}"] if direction else []), folder)
     path = os.path.join(folder, "trees")
     if not os.path.exists(path):
         return b"", status, errors
@@ -82,6 +82,22 @@ def tools():
     }
 
 
+def one_run(folder, *words):
+    """What one run writes."""
+    return subprocess.run([SPT, *words], cwd=folder, stdout=subprocess.PIPE, check=True).stdout
+
+
+def directions(folder, run):
+    """Each direction, of the text and of the packed graph, with whether it has the bytes of one run."""
+    one_run(folder, "pack", GRAPH, "-o", "packed.spt")
+    for direction in ("", "towards", "both-ways"):
+        wanted = one_run(folder, "tree", GRAPH, SOURCES, "--delta", "mean", *([f"--{direction}"] if direction else []))
+        for graph in (GRAPH, "packed.spt"):
+            yield f"{graph} {direction}", run(folder, SPT, graph=graph, direction=direction)[:2] == (wanted, 0)
+    _, status, errors = run(folder, SPT, direction="backwards")
+    yield f"no such direction: {status}, {errors}", status in (1, 2) and "trees_by_" in errors
+
+
 def cases(folder, run, deed, wanted):
     """The name of each case, and whether it holds."""
     names = set(os.listdir(folder))
@@ -94,6 +110,7 @@ def cases(folder, run, deed, wanted):
     trees, status, _ = run(folder, put(f"{folder}/failing", "#!/bin/sh\nexit 2\n", 0o755))
     yield "a program that fails is told", status == 2 and trees in (b"", wanted)
     yield "a list of no source has no tree", run(folder, SPT, sources="empty.ss")[:2] == (b"", 0)
+    yield from directions(folder, run)
 
 
 # files that aren't lists of sources, but for the last

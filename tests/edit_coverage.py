@@ -32,6 +32,7 @@ OF_THE_SYSTEM = "of the files that the system keeps nothing is known, so every b
 OF_TESTS = "it makes what tests run on, which tell whether it is right"
 # by the path of a function, with its crate
 EXCEPTIONS = {
+    "sp_disk::disk::Disk::is_shown": OF_THE_SYSTEM,
     "sp_disk::output::Disk::create": OF_THE_SYSTEM,
     "sp_phase::store::Store::graph": OF_A_FIELD,
     "sp_phase::store::Store::table": OF_A_FIELD,

@@ -4,8 +4,8 @@
 Usage: python3 tests/hints.py [--program PROGRAM]
 
 Files that aren't there, files in other forms than plain text, from a path and from standard input, and what they are told to be read
-by, which is then done where that program is there, whatever their names; graphs with too many vertices for the layout; numbers that are
-no vertices, with their lines; the mistakes that lines have most often; words that name no places, no delta and no limit; a reader that is gone.
+by, which is then done where that program is there, whatever their names; graphs with too many vertices for the layout; packed graphs that
+are changed, cut, or in the place of another file; numbers that are no vertices, with their lines; the mistakes that lines have most often; words that name no places, no delta and no limit; a reader that is gone.
 The last line is 'N passed, M failed'.
 """
 
@@ -63,6 +63,7 @@ COMMENT = "comments begin with `c` and a blank"
 LENGTHS = "lengths are whole numbers from 1 to 4294967295"
 SPELLING = "numbers consist of digits only: no sign, no decimal point, no leading 0"
 FROM_ZERO = "vertices are numbered from 1; if yours start at 0, add 1 to each"
+ARCS = "M is a number from 0 to 1073741824; with --both-ways, to 536870912"
 TOO_FAR = "an x line: a vertex was too far from its source"
 
 
@@ -149,6 +150,67 @@ def layouts(count, program, folder):
     count.of(f"vertices between blanks: {told}", told == (2, "", wanted))
 
 
+# the words of the diamond's packed text, and what is told of other ones
+PACKED = [0x54505389, 0x011A0A0D, 4, 5, 0, 3, 4, 5, 5, 2, 3, 3, 3, 4, 6, 4, 2, 4, 2, 0x556A5DD1, 0, 0x55CAEA2C, 6]
+NONE = "no packed graph of spt; other binary files begin with the same byte, such as a PNG"
+OTHER_FORM = "changed by a transfer in text mode, or of a newer form; copy it again in binary mode, or pack it again by spt pack"
+CHANGED = "the packed graph was cut or changed; copy it again, or pack it again by spt pack"
+RANGE = "N is a number from 1 to 268435454"
+
+
+def packed_text(changes=()):
+    """The diamond's packed text with some words changed, each by its place."""
+    return b"".join(dict(changes).get(place, word).to_bytes(4, "little") for place, word in enumerate(PACKED))
+
+
+# a packed graph: what is wrong, its bytes, its fault, and what is told of that; and what is told where it comes by standard input
+PACKED_GRAPHS = [
+    ("CR LF as LF", packed_text().replace(b"\r\n", b"\n"), "byte 4: 10 OtherForm", OTHER_FORM, OTHER_FORM),
+    ("LF as CR LF", packed_text().replace(b"\n", b"\r\n"), "byte 4: 10 OtherForm", OTHER_FORM, OTHER_FORM),
+    ("a newer form", packed_text([(1, 0x021A0A0D)]), "byte 4: 10 OtherForm", OTHER_FORM, OTHER_FORM),
+    ("a picture", b"\x89PNG\r\n\x1a\n" + bytes(100), "byte 0: 10 OtherForm", NONE, NONE),
+    ("a byte that is no text's", b"\x89", "byte 0: 7 TooFew", CHANGED, CHANGED),
+    ("50 bytes", packed_text()[:50], "byte 48: 7 TooFew", CHANGED, CHANGED),
+    ("a byte behind", packed_text() + b"x", "byte 92: 6 TooMany", CHANGED, CHANGED),
+    ("another sum", packed_text([(19, 0x556A5DD2)]), "byte 76: 11 OtherSum", CHANGED, CHANGED),
+    ("a row's end before the one before", packed_text([(6, 1)]), "byte 24: 5 OutOfRange E", CHANGED, CHANGED),
+    ("a head of 0", packed_text([(9, 0)]), "byte 36: 5 OutOfRange V", CHANGED, CHANGED),
+    ("lengths that fall", packed_text([(5, 0)]), "byte 64: 5 OutOfRange W", CHANGED, CHANGED),
+    ("an arc too many for any graph", packed_text([(3, 1073741825)]), "byte 12: 5 OutOfRange M", ARCS, ARCS),
+    ("no vertices", packed_text([(2, 0)]), "byte 8: 5 OutOfRange N", RANGE, RANGE),
+    ("many vertices", packed_text([(2, 268435455)]), "byte 8: 5 OutOfRange N", "268435455 vertices; use --pred-bits 32", RANGE),
+    ("vertices for no layout", packed_text([(2, 4294967295)]), "byte 8: 5 OutOfRange N", RANGE, RANGE),
+]
+
+# a command, its words before a packed graph and behind it, the name of the file that it takes it for, and what it expects
+PLACES = [
+    ("tree", (GRAPH,), ("--delta", "3"), "ss", ", which goes in the place of GR, but a .ss file"),
+    ("matrix", (GRAPH, SOURCES), (), "targets", ", which goes in the place of GR, but a .ss file"),
+    ("pairs", (GRAPH,), ("--delta", "3"), "pairs", ", which goes in the place of GR, but a file of pairs"),
+    ("check", (GRAPH,), (), "tree", ", which goes in the place of GR, but a tree file"),
+    ("replay", (), (), "replay", ", but a replay file"),
+    ("offers", (), (), "offers", ", but a file of offers"),
+]
+
+
+def packed(count, program, folder):
+    graph = put(f"{folder}/graph", packed_text())
+    told = run(program, "tree", graph, SOURCES, "--delta", "3")
+    count.of(f"the diamond, packed: {told}", told == (0, read_bytes(TREE).decode(), ""))
+    told = run(program, "tree", graph, "--source", "12", "--delta", "3")
+    count.of(f"no vertex of it: {told}", told == (2, "", "spt: source 12: no such vertex\nspt: --source 12: the graph has 4 vertices\n"))
+    for command, before, behind, file, wanted in PLACES:
+        told = run(program, command, *before, graph, *behind)
+        lines = f"spt: {file}: line 1: 2 BadLine\nspt: {graph}: a packed graph{wanted} is expected\n"
+        count.of(f"a packed graph for {command}: {told}", told == (2, "", lines))
+    for name, data, fault, wanted, unread_wanted in PACKED_GRAPHS:
+        graph = put(f"{folder}/graph", data)
+        told = run(program, "tree", graph, SOURCES, "--delta", "3")
+        count.of(f"packed, {name}: {told}", told == (2, "", f"spt: gr: {fault}\nspt: {graph}: {wanted}\n"))
+        told = run(program, "tree", "-", SOURCES, "--delta", "3", given=data)
+        count.of(f"packed, {name}, on standard input: {told}", told == (2, "", f"spt: gr: {fault}\nspt: standard input: {unread_wanted}\n"))
+
+
 # a list of sources or pairs for the diamond, which has 4 vertices: its text, words behind it, the number that is no vertex, and
 # what is told of the place where it stands
 NAMED = [
@@ -228,6 +290,7 @@ GRAPHS = [
     ("two problem lines", "p sp 1 0\np sp 1 0\n", "line 2: 4 SecondProblem", GR, GR),
     ("too few arcs", "p sp 2 2\na 1 2 5\n", "line 3: 7 TooFew", *["M in the line `p sp N M` must be the number of `a` lines"] * 2),
     ("too many arcs", "p sp 2 0\na 1 2 5\n", "line 2: 6 TooMany", *["M in the line `p sp N M` must be the number of `a` lines"] * 2),
+    ("an arc too many for any graph", "p sp 2 1073741825\n", "line 1: 5 OutOfRange M", ARCS, ARCS),
     ("a long line", "c" + 1024 * " ", "line 1: 1 LongLine", *["a line has at most 1024 bytes, and ends with an LF"] * 2),
     ("text that is no UTF-8", "p sp 1 0\n\xff\n", "line 2: 2 BadLine", GR, GR),
     ("a list of sources", "c\np aux sp ss 1\ns 1\n", "line 2: 2 BadLine", "a line of a .ss file, but a .gr file is expected; see spt tree --help", GR),
@@ -382,4 +445,4 @@ def unread(count, program, folder):
 
 
 if __name__ == "__main__":
-    sys.exit(try_all(__doc__, (forms, plain, reasons, layouts, vertices, lines, words, names, unread)))
+    sys.exit(try_all(__doc__, (forms, plain, reasons, layouts, packed, vertices, lines, words, names, unread)))

@@ -36,7 +36,8 @@ BROUGHT = {"SPT_1.0": {"spt_check", "spt_gr", "spt_graph_free", "spt_graph_new",
                        "spt_reach", "spt_tree", "spt_trees"},
            "SPT_1.1": {"spt_graph_counts", "spt_graph_pair", "spt_version"},
            "SPT_1.2": {"spt_graph_matrix", "spt_graph_nearest", "spt_graph_within"},
-           "SPT_1.3": {"spt_graph_part"}}
+           "SPT_1.3": {"spt_graph_part"},
+           "SPT_1.4": {"spt_graph_both_ways", "spt_graph_load", "spt_graph_save", "spt_graph_turned"}}
 # a program that is linked with a library whose symbols have no versions, as that of 1.0.0 was
 OLD = """#include <spt.h>
 int main(void) {
@@ -107,7 +108,7 @@ def great_graph(folder, program):
 
 def try_compiler(count, compiler, prefix, folder, great, wanted):
     static, shared = flags(prefix, True), flags(prefix, False)
-    for name, more in (("refusals", []), ("near", []), ("memory", WRAPPED), ("header", [])):
+    for name, more in (("refusals", []), ("near", []), ("packed", []), ("memory", WRAPPED), ("header", [])):
         program = build(count, compiler, folder, name, static, *SANITIZED, *more)
         if program:
             add_counts(count, f"{compiler} {name}", [program])

@@ -20,7 +20,8 @@ import threading
 import time
 
 sys.dont_write_bytecode = True
-from harness import HOME, SECONDS, put, run, try_all  # noqa: E402
+from cases.shared import FRONT, arcs_of, packed, words as words_of  # noqa: E402
+from harness import HOME, SECONDS, put, read, read_bytes, run, try_all  # noqa: E402
 
 GRAPH, SOURCES, PAIRS = (f"{HOME}/examples/diamond.{ending}" for ending in ("gr", "ss", "pairs"))
 CORNERS = f"{HOME}/examples/corners.ss"
@@ -122,6 +123,22 @@ def last_lines(count, program, folder):
         count.of(f"{name}, on a terminal: {over!r}", bool(shown) and whole)
 
 
+def packing(count, program, folder):
+    """`pack` tells at the end which graph it has, of a text and of a packed graph; its bytes go to a file."""
+    wanted, out = packed(4, arcs_of(read(GRAPH))), f"{folder}/out"
+    last = rf"spt: graph of 4 vertices and 5 arcs, {PASSED}\n"
+    for name, graph in (("a text", GRAPH), ("a packed graph", put(f"{folder}/diamond.packed", wanted))):
+        words = ("pack", graph, "-o", put(out, ""))
+        told = run(program, *words, "--progress")
+        count.of(f"pack of {name}: {told}", told[:2] == (0, "") and re.fullmatch(last, told[2]) is not None and read_bytes(out) == wanted)
+        status, text, over, _ = on_terminal(program, "pack", graph, "-o", put(out, ""), "--progress")
+        shown, rest = lines_over(over)
+        ends = bool(shown) and re.fullmatch(last, shown[-1] + "\n") is not None and rest == "\r\n"
+        count.of(f"pack of {name}, on a terminal: {over!r}", (status, text) == (0, "") and ends and read_bytes(out) == wanted)
+        told = run(program, "pack", graph, "-o", out)
+        count.of(f"pack of {name}, nothing without it: {told}", told == (0, "", ""))
+
+
 def many_sources(count, program, folder):
     """20,000 sources of a tiny graph: a handful of lines."""
     sources = put(f"{folder}/many.ss", "p aux sp ss 20000\n" + "s 1\n" * 20000)
@@ -136,6 +153,29 @@ def many_sources(count, program, folder):
     shown, rest = lines_over(over)
     few = 1 <= len(shown) <= 2 + seconds * 11
     count.of(f"many sources on a terminal: {len(shown)} in {seconds:.1f} s", (status, text) == plain[:2] and few and rest == "\r\n")
+
+
+def long_packed(folder, vertices):
+    """A packed graph of so many vertices and no arc."""
+    words, low = vertices + 5, sum(FRONT) + vertices
+    high = FRONT[0] * words + FRONT[1] * (words - 1) + vertices * (words - 2)
+    return put(
+        f"{folder}/long.packed",
+        words_of(*FRONT, vertices, 0) + bytes(4 * vertices + 4) + low.to_bytes(8, "little") + (high % 2**64).to_bytes(8, "little"),
+    )
+
+
+def reading_packed(count, program, folder):
+    """The same of a packed graph."""
+    path = long_packed(folder, 10_000_000)
+    size = os.path.getsize(path)
+    words = ("-o", "/dev/null", "--progress")
+    with open(path, "rb") as it:
+        told = on_terminal(program, "pack", path, *words), on_terminal(program, "pack", "-", *words, stdin=it)
+    for name, (status, _, over, _) in zip(("a file", "redirected"), told):
+        shown = re.findall(rf"spt: gr: (\d+) bytes read, (\d+) %, {PASSED}", over)
+        true = [int(percent) == int(number) * 100 // size for number, percent in shown]
+        count.of(f"a packed graph, {name}: {shown}", status == 0 and len(shown) > 0 and all(true))
 
 
 def reading(count, program, folder):
@@ -265,5 +305,5 @@ def closed(count, program, folder):
 
 
 if __name__ == "__main__":
-    tests = (last_lines, many_sources, reading, slow_reading, long_tree, long_relaxing, prompt_end, without_thread, faults, closed)
-    sys.exit(try_all(__doc__, tests))
+    tests = (last_lines, packing, many_sources, reading, reading_packed, slow_reading, long_tree, long_relaxing)
+    sys.exit(try_all(__doc__, (*tests, prompt_end, without_thread, faults, closed)))

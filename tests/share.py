@@ -35,6 +35,8 @@ PACKAGE = "lib/python3/dist-packages"
 LIBRARY = ["include/spt.h", "lib/libspt.a", "lib/libspt.so", "lib/libspt.so.1", "lib/pkgconfig/spt.pc"]
 LIBRARY += [f"{PACKAGE}/spt/__init__.py", f"{PACKAGE}/spt/libspt.so"]
 
+COMMANDS = {"tree", "pairs", "matrix", "nearest", "check", "pack", "replay", "offers"}
+
 # where the system's plain commands are
 PLAIN = "/usr/bin:/bin"
 
@@ -61,7 +63,7 @@ def compare_files(count):
 
 def complete_words(count):
     count.of("completion of a command", completed("spt", "tr") == ["tree"])
-    count.of("completion of all commands", {"tree", "pairs", "matrix", "nearest", "check", "replay", "offers"} <= set(completed("spt", "")))
+    count.of("completion of all commands", COMMANDS <= set(completed("spt", "")))
     count.of("completion of an option", completed("spt", "tree", "--wo") == ["--workers"])
     count.of("completion of an option whose value has a hyphen", completed("spt", "tree", "--sources") == ["--sources"])
     count.of("no completion of places", completed("spt", "tree", "--sources", "") == [])
@@ -71,6 +73,12 @@ def complete_words(count):
     count.of("completion of a value", completed("spt", "check", "--pred-bits", "2") == [it for it in LAYOUTS if it.startswith("2")])
     count.of("completion of a word for a value", completed("spt", "tree", "--delta", "m") == ["mean"])
     count.of("completion of a file", completed("spt", "tree", "diamond.g") == ["diamond.gr"])
+    count.of("completion of a file to pack", completed("spt", "pack", "diamond.g") == ["diamond.gr"])
+    for command in ("tree", "pairs", "matrix", "nearest", "check", "pack"):
+        count.of(f"completion of --towards of {command}", completed("spt", command, "--to") == ["--towards"])
+        count.of(f"completion of --both-ways of {command}", completed("spt", command, "--bo") == ["--both-ways"])
+    count.of("completion of a layout to pack", completed("spt", "pack", "--pred-bits", "3") == ["32"])
+    count.of("no completion of another command's option", completed("spt", "pack", "--del") == completed("spt", "replay", "--to") == [])
     count.of("completion of a file of output", completed("spt", "tree", "--output", "diamond.t") == ["diamond.tree"])
 
 

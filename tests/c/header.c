@@ -10,9 +10,9 @@ static void versions(void) {
     snprintf(wanted, sizeof wanted, "%d.%d.%d", SPT_VERSION_MAJOR, SPT_VERSION_MINOR, SPT_VERSION_PATCH);
     count("the parts of the version", !strcmp(wanted, SPT_VERSION));
     int parts = SPT_VERSION_MAJOR * 10000 + SPT_VERSION_MINOR * 100 + SPT_VERSION_PATCH;
-    count("the number of the version", SPT_VERSION_NUMBER == parts && SPT_VERSION_NUMBER >= 10300);
+    count("the number of the version", SPT_VERSION_NUMBER == parts && SPT_VERSION_NUMBER >= 10400);
     count("the library is of this header", spt_version() == SPT_VERSION_NUMBER);
-#if SPT_VERSION_NUMBER < 10300
+#if SPT_VERSION_NUMBER < 10400
     count("the preprocessor reads it", 0);
 #endif
 }

@@ -204,6 +204,41 @@ static uint32_t a_matrix(int *right) {
     return told.status;
 }
 
+static uint8_t packed[4 * (N + 2 * M + 9)], room[sizeof packed];
+
+static uint32_t a_packed_graph(int *right) {
+    spt_graph place = own();
+    memset(room, 7, sizeof room);
+    spt_saved told = spt_graph_save(&place, room, sizeof room);
+    uint8_t first = room[0];
+    *right = told.status == SPT_OK ? told.count == sizeof room && !memcmp(room, packed, sizeof room) : told.count == 0 && first == 7;
+    return freed(&place, told.status);
+}
+
+static uint32_t a_loaded_graph(int *right) {
+    spt_graph place = {0};
+    spt_packed told = spt_graph_load(&place, packed, sizeof packed);
+    spt_counts found = spt_graph_counts(&place);
+    *right = told.status == SPT_OK ? told.m == M && found.m == M : told.m == 0 && told.byte == 0 && found.status == SPT_NO_GRAPH;
+    return freed(&place, told.status);
+}
+
+static uint32_t a_turned_graph(int *right) {
+    spt_graph place = own(), turned = {0};
+    spt_answer told = spt_graph_turned(&turned, &place);
+    *right = (told.status == SPT_OK) == (spt_graph_counts(&turned).m == M);
+    spt_graph_free(&turned);
+    return freed(&place, told.status);
+}
+
+static uint32_t a_graph_both_ways(int *right) {
+    spt_graph place = own(), streets = {0};
+    spt_answer told = spt_graph_both_ways(&streets, &place);
+    *right = (told.status == SPT_OK) == (spt_graph_counts(&streets).m == 2 * M);
+    spt_graph_free(&streets);
+    return freed(&place, told.status);
+}
+
 static void near_calls(void) {
     count("a graph is kept", spt_graph_new(arcs, M, N, &kept).status == SPT_OK);
     spt_answer nearest = spt_graph_nearest(&kept, sources, K, SPT_NO_LIMIT, 50, right_near, N, right_near_pred, N, right_near_root, N);
@@ -279,6 +314,12 @@ int main(void) {
     refuse_each("spt_graph_part", a_list);
     refuse_each("spt_graph_nearest", a_forest);
     refuse_each("spt_graph_matrix", a_matrix);
+    spt_saved saved = spt_graph_save(&kept, packed, sizeof packed);
+    count("packed with ample memory", saved.status == SPT_OK && saved.count == sizeof packed);
+    refuse_each("spt_graph_save", a_packed_graph);
+    refuse_each("spt_graph_load", a_loaded_graph);
+    refuse_each("spt_graph_turned", a_turned_graph);
+    refuse_each("spt_graph_both_ways", a_graph_both_ways);
     spt_graph_free(&kept);
     count("no block is left", blocks == 0);
     return finish();

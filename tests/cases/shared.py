@@ -1,6 +1,7 @@
 """What cases are made of, and the files that several of them use."""
 
 import dataclasses
+import struct
 
 # the greatest distance and the greatest predecessor of a word, by the bits of its predecessor
 GREATEST = {
@@ -73,3 +74,50 @@ def path_tree(end):
     """The tree of its first 17 vertices from the first one, and what follows."""
     rows = "".join(f"v {vertex} {(vertex - 1) * LONGEST} {vertex - 1}\n" for vertex in range(2, 18))
     return f"p spt 18 1\nv 1 0 0\n{rows}{end}"
+
+
+# ## Packed graphs
+
+# The two words with which a packed graph begins.
+FRONT = (0x54505389, 0x011A0A0D)
+
+
+def words(*numbers):
+    """The bytes of words of 32 bits."""
+    return struct.pack(f"<{len(numbers)}I", *numbers)
+
+
+def sum_of(numbers):
+    """The four words of the sum of words."""
+    low = high = 0
+    for number in numbers:
+        low = (low + number) % 2**64
+        high = (high + low) % 2**64
+    return low % 2**32, low >> 32, high % 2**32, high >> 32
+
+
+def summed(*numbers):
+    """The bytes of words and of their sum."""
+    return words(*numbers, *sum_of(numbers))
+
+
+def packed(n, arcs):
+    """The packed form of a graph, of arcs in any order, each a tail, a head and a length."""
+    counts, rows = [0] * (n + 1), []
+    for tail, head, length in sorted(arcs):
+        counts[tail] += 1
+        rows += [head, length]
+    ends = [0] * (n + 1)
+    for vertex in range(1, n + 1):
+        ends[vertex] = ends[vertex - 1] + counts[vertex]
+    return summed(*FRONT, n, len(rows) // 2, *ends, *rows)
+
+
+def turned(arcs):
+    """The arcs with their tails and heads exchanged."""
+    return [(head, tail, length) for tail, head, length in arcs]
+
+
+def arcs_of(text):
+    """The arcs of a graph's text in the usual spelling."""
+    return [tuple(map(int, line.split()[1:])) for line in text.split("\n") if line.startswith("a ")]

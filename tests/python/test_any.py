@@ -2,6 +2,7 @@
 
 import array
 import atexit
+import io
 import math
 import os
 import shutil
@@ -70,6 +71,28 @@ class Answers(unittest.TestCase):
         nearest = [min((tree.distances[it] for tree in trees), default=FAR) for it in range(n)]
         self.assertEqual(list(graph.nearest(sources).distances), nearest)
         self.assertEqual(list(graph.nearest(sources, within=limit).distances), [it if it <= limit else FAR for it in nearest])
+
+    @given(graphs(), draw.data())
+    def test_ways(self, graph, data):
+        n, arcs = graph
+        graph, back, file = spt.Graph(n, arcs), [(head, tail, length) for tail, head, length in arcs], io.BytesIO()
+        graph.save(file)
+        kept, source = spt.Graph.load(io.BytesIO(file.getvalue())), data.draw(draw.integers(1, n))
+        both = spt.Graph.load(io.BytesIO(file.getvalue()), both_ways=True)
+        for told, wanted in ((kept, arcs), (kept.turned(), back), (both, arcs + back)):
+            self.assertEqual(samples.triples(told.arcs.tolist()), sorted(wanted))
+            distances = samples.distances_from(wanted, n, source)
+            self.assertEqual(lists(told.tree(source)), [distances, samples.smallest_predecessors(wanted, source, distances)])
+        tree = kept.tree(source, towards=True)
+        self.assertEqual((lists(tree), kept.check(tree)), (lists(kept.turned().tree(source)), None))
+        lengths = {}
+        for tail, head, length in arcs:
+            lengths[tail, head] = min(length, lengths.get((tail, head), length))
+        for target in range(1, n + 1):
+            path, pair = tree.path(target), kept.pair(source, target, towards=True)
+            self.assertEqual((kept.path(source, target, towards=True), tree.pair(target)), (path, pair))
+            if path is not None:
+                self.assertEqual((path[0], path[-1], sum(map(lengths.get, zip(path, path[1:])))), (target, source, pair.distance))
 
     @given(graphs(), draw.data())
     def test_one_number_changed(self, graph, data):

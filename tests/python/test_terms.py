@@ -452,7 +452,9 @@ class Refusals(unittest.TestCase):
         sys.path.insert(0, f"{samples.HOME}/tests")
         import hints
 
-        texts = [(text.encode("latin-1"), first, told.split("; see spt")[0]) for _, text, first, told, _ in hints.GRAPHS]
+        # but for the page and the flag that only the program has
+        said = [told.split("; see spt")[0].split("; with --both-ways")[0] for _, _, _, told, _ in hints.GRAPHS]
+        texts = [(text.encode("latin-1"), first, told) for (_, text, first, _, _), told in zip(hints.GRAPHS, said)]
         texts.append((b"p sp 4294967295 0\n", "line 1: 5 OutOfRange N", "N is a number from 1 to 4294967294"))
         texts.append((b"p sp 1 1073741825\n", "line 1: 5 OutOfRange M", "M is a number from 0 to 1073741824"))
         for text, first, told in texts:
