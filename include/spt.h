@@ -27,9 +27,9 @@
 #include <stdint.h>
 
 /* The version of this header. SPT_VERSION_NUMBER grows with it; spt_version() returns the version of the library. */
-#define SPT_VERSION "1.3.0"
+#define SPT_VERSION "1.4.0"
 #define SPT_VERSION_MAJOR 1
-#define SPT_VERSION_MINOR 3
+#define SPT_VERSION_MINOR 4
 #define SPT_VERSION_PATCH 0
 #define SPT_VERSION_NUMBER (SPT_VERSION_MAJOR * 10000 + SPT_VERSION_MINOR * 100 + SPT_VERSION_PATCH)
 
@@ -51,7 +51,7 @@ typedef enum spt_status {
     SPT_NO_SUCH_VERTEX = 4, /* sources[index] is 0 or above n; those before it are vertices */
     SPT_TOO_FAR = 5,        /* some least length is above spt_reach(n): vertex is the smallest vertex with such a length */
     SPT_MEMORY = 6,         /* malloc or realloc failed; the call has freed what it had allocated */
-    SPT_BAD_TEXT = 7,       /* the text spells no graph; kind, letter and line describe its first fault */
+    SPT_BAD_TEXT = 7,       /* the text spells no graph; kind, letter, and line or byte describe its first fault */
     SPT_LONG_TEXT = 8,      /* the text has more than 2^62 bytes */
     SPT_WRONG = 9,          /* the lists hold a different tree: vertex is the smallest vertex at which they differ */
     SPT_NO_GRAPH = 10,      /* the place keeps no graph */
@@ -245,6 +245,45 @@ typedef struct spt_counts {
 /* Returns the numbers of vertices and arcs of the graph that is kept. Since 1.1. */
 spt_counts spt_graph_counts(const spt_graph *graph);
 
+/* Keeps in the first place the graph of the second with each arc turned round, in place of what was kept: a walk to v in the one
+ * graph is a walk from v in the other, so a question that starts at v is answered for the ways towards v. The refusals are
+ * SPT_NO_GRAPH (`from` keeps none) and SPT_MEMORY; after a refusal both places keep what they kept. Since 1.4. */
+spt_answer spt_graph_turned(spt_graph *graph, const spt_graph *from);
+
+/* Works like spt_graph_turned, but the first place then keeps the arcs of `from` and, for each of them, one from its head to its
+ * tail of the same length: a loop stands twice, and so does an arc that already had its opposite. SPT_MEMORY is the answer, too, to
+ * a graph of 2147483648 arcs or more. Since 1.4. */
+spt_answer spt_graph_both_ways(spt_graph *graph, const spt_graph *from);
+
+/* What packed bytes are: with SPT_OK the numbers of vertices and arcs of their graph, and with SPT_BAD_TEXT their first fault. A
+ * field that the status doesn't use is 0. Since 1.4. */
+typedef struct spt_packed {
+    uint32_t status, n;
+    uint64_t m;
+    uint32_t kind;   /* 5 OutOfRange, 6 TooMany, 7 TooFew, 10 OtherForm, 11 OtherSum */
+    uint32_t letter; /* the field out of range: 'N' or 'M' a count, 'E' the end of a row, 'V' a head, 'W' a length; otherwise 0 */
+    uint64_t byte;   /* the number of bytes before the word at which the fault is */
+} spt_packed;
+
+/* Keeps the graph that was packed into these bytes (by spt_graph_save or `spt pack`), in place of what was kept. The bytes are
+ * tested whole, so the graph is the one that was packed, or the first fault is reported as `spt` would: SPT_BAD_TEXT. The other
+ * refusals are SPT_LONG_TEXT and SPT_MEMORY; after a refusal the place keeps what it kept. Since 1.4. */
+spt_packed spt_graph_load(spt_graph *graph, const uint8_t *bytes, size_t len);
+
+/* How many bytes a packed graph has: with SPT_OK so many are written, and with SPT_BAD_SIZE so many are needed. With any other
+ * status count is 0. Since 1.4. */
+typedef struct spt_saved {
+    uint32_t status;
+    uint64_t count;
+} spt_saved;
+
+/* Packs the graph that is kept: bytes[0] to bytes[count - 1] become the 4 * (n + 2 * m + 9) bytes that `spt pack` writes, the same
+ * for each order of the arcs. If there is room for fewer, the status is SPT_BAD_SIZE and count says how many are needed, so a call
+ * with room for 0 finds the number. The refusals are SPT_NO_GRAPH, SPT_BAD_SIZE and SPT_MEMORY (the call takes memory for the bytes
+ * once more), tested in this order; a graph of more than 1073741824 arcs can't be packed, and is SPT_BAD_SIZE with count 0. If the
+ * status isn't SPT_OK the bytes are unchanged, and those behind the packed graph are in any case. Since 1.4. */
+spt_saved spt_graph_save(const spt_graph *graph, uint8_t *bytes, size_t room);
+
 /* What a text is: with SPT_OK and SPT_BAD_SIZE the numbers of vertices and arcs of its graph, and with SPT_BAD_TEXT its first
  * fault. A field that the status doesn't use is 0. */
 typedef struct spt_text {
@@ -347,6 +386,16 @@ static inline spt_batch spt_graph_matrix_or_null(const spt_graph *graph, const u
                             dist_places ? dist : &no_dist, dist_places);
 }
 
+static inline spt_packed spt_graph_load_or_null(spt_graph *graph, const uint8_t *bytes, size_t len) {
+    uint8_t no_byte = 0;
+    return spt_graph_load(graph, len ? bytes : &no_byte, len);
+}
+
+static inline spt_saved spt_graph_save_or_null(const spt_graph *graph, uint8_t *bytes, size_t room) {
+    uint8_t no_byte = 0;
+    return spt_graph_save(graph, room ? bytes : &no_byte, room);
+}
+
 static inline spt_text spt_gr_or_null(const uint8_t *text, size_t bytes, spt_arc *arcs, size_t places) {
     uint8_t no_text = 0;
     spt_arc no_arc = {0, 0, 0};
@@ -363,6 +412,8 @@ static inline spt_text spt_gr_or_null(const uint8_t *text, size_t bytes, spt_arc
 #define spt_graph_part spt_graph_part_or_null
 #define spt_graph_nearest spt_graph_nearest_or_null
 #define spt_graph_matrix spt_graph_matrix_or_null
+#define spt_graph_load spt_graph_load_or_null
+#define spt_graph_save spt_graph_save_or_null
 #define spt_gr spt_gr_or_null
 
 #ifdef __cplusplus

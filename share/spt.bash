@@ -2,7 +2,7 @@
 _spt() {
     local words='' word=${COMP_WORDS[COMP_CWORD]}
     if [ "$COMP_CWORD" = 1 ]; then
-        mapfile -t COMPREPLY < <(compgen -W 'tree pairs matrix nearest check replay offers help --help --version' -- "$word")
+        mapfile -t COMPREPLY < <(compgen -W 'tree pairs matrix nearest check pack replay offers help --help --version' -- "$word")
         return
     fi
     case ${COMP_WORDS[COMP_CWORD - 1]} in
@@ -20,11 +20,12 @@ _spt() {
         return
     fi
     case ${COMP_WORDS[1]} in
-        tree) words='--source --sources --within --delta --workers --far-ok --progress --pred-bits --output --help' ;;
-        pairs) words='--delta --workers --far-ok --progress --pred-bits --output --help' ;;
-        matrix) words='--source --target --sources --delta --workers --far-ok --progress --pred-bits --output --help' ;;
-        nearest) words='--source --sources --within --delta --workers --far-ok --progress --pred-bits --output --help' ;;
-        check) words='--all --within --pred-bits --output --help' ;;
+        tree) words='--source --sources --within --delta --towards --both-ways --workers --far-ok --progress --pred-bits --output --help' ;;
+        pairs) words='--delta --towards --both-ways --workers --far-ok --progress --pred-bits --output --help' ;;
+        matrix) words='--source --target --sources --delta --towards --both-ways --workers --far-ok --progress --pred-bits --output --help' ;;
+        nearest) words='--source --sources --within --delta --towards --both-ways --workers --far-ok --progress --pred-bits --output --help' ;;
+        check) words='--towards --both-ways --all --within --pred-bits --output --help' ;;
+        pack) words='--towards --both-ways --workers --progress --pred-bits --output --help' ;;
         replay) words='--svg --pred-bits --output --help' ;;
         offers) words='--pred-bits --output --help' ;;
         *) words='' ;;

@@ -1,10 +1,12 @@
 #!/usr/bin/env python3
 """The trees of a long list of sources by several processes, or on several machines, by Dask: the bytes of one `spt tree`.
 
-    trees_by_dask.py GR SS TREES [--share 16] [--delta mean] [--processes 2 | --scheduler tcp://host:8786] [--program spt]
+    trees_by_dask.py GR SS TREES [--share 16] [--delta mean] [--towards | --both-ways] [--processes 2 | --scheduler tcp://host:8786]
+                     [--program spt]
 
 Each task answers a share of the sources of the file SS. A share whose worker is lost is answered again by another one. Workers have
-the program and both files at the same paths. The blocks are written in the order of the sources, as they come, to a new file that
+the program and both files at the same paths. GR may be packed. With --towards the trees are those towards the sources, with --both-ways
+those where each arc leads both ways. The blocks are written in the order of the sources, as they come, to a new file that
 takes the name TREES once all are there; else TREES stays as it was.
 
 The status is 0 where all trees were written, 2 for a wrong word or a file of sources that isn't one, that of a share where one fails,
@@ -37,9 +39,9 @@ def count_of(path):
     return None
 
 
-def trees_of(places, program, graph, sources, delta):
+def trees_of(places, program, graph, sources, options):
     """The blocks of the sources at these places of the file. A vertex that is too far is no failure here: its line stands there."""
-    words = [program, "tree", graph, sources, "--delta", delta, "--far-ok", "--sources", places]
+    words = [program, "tree", graph, sources, *options, "--far-ok", "--sources", places]
     return subprocess.run(words, stdout=subprocess.PIPE, check=True).stdout
 
 
@@ -97,6 +99,9 @@ def chosen():
     words.add_argument("trees")
     words.add_argument("--share", type=positive, default=16)
     words.add_argument("--delta", default="mean")
+    direction = words.add_mutually_exclusive_group()
+    for flag in ("--towards", "--both-ways"):
+        direction.add_argument(flag, dest="direction", action="append_const", const=flag, default=[])
     words.add_argument("--processes", type=positive, default=2)
     words.add_argument("--scheduler")
     words.add_argument("--program", default="spt")
@@ -110,8 +115,9 @@ def run(given, count):
         where = {"address": given.scheduler}
     else:
         where = {"n_workers": given.processes, "threads_per_worker": 1, "processes": True, "dashboard_address": None}
+    options = ["--delta", given.delta, *given.direction]
     with replacing(given.trees) as out, dask.distributed.Client(**where) as client:
-        for blocks in answers(client, shares, given.program, given.graph, given.sources, given.delta):
+        for blocks in answers(client, shares, given.program, given.graph, given.sources, options):
             out.write(blocks)
 
 

@@ -5,7 +5,8 @@
 #
 # Each process answers SHARE sources of the file SS. A share whose process is lost or fails is answered again, three times at most. The
 # options are GNU parallel's own: --jobs 4 for four processes at once, --sshlogin one,two for two machines, each of which has the
-# program and both files at the same paths. SPT names the program, DELTA the width of a bucket (mean).
+# program and both files at the same paths. GR may be packed. SPT names the program, DELTA the width of a bucket (mean), and DIRECTION
+# how arcs lead where it isn't as given: towards for trees towards the sources, both-ways where each arc leads both ways.
 #
 # The status is 0 where all trees were written, 1 for a wrong word, 2 for a file of sources that isn't one, else that of a share, and of
 # what else GNU parallel tells.
@@ -21,6 +22,11 @@ gr=$1 ss=$2 share=$3
 shift 3
 case $share in
 '' | 0* | *[!0-9]* | ????????*) refuse 1 "SHARE is a number from 1 to 9999999, not '$share'" ;;
+esac
+case ${DIRECTION-} in
+'') direction= ;;
+towards | both-ways) direction=--$DIRECTION ;;
+*) refuse 1 "DIRECTION is towards or both-ways, not '$DIRECTION'" ;;
 esac
 for file in "$gr" "$ss"; do
     case $file in
@@ -49,4 +55,4 @@ places() {
     while echo "$first-$((first + share - 1))" && first=$((first + share)) && [ "$first" -le "$count" ]; do :; done
 }
 places | parallel --quote --keep-order --retries 3 --halt now,fail=1 "$@" \
-    "${SPT:-spt}" tree "$gr" "$ss" --delta "${DELTA:-mean}" --far-ok --sources {}
+    "${SPT:-spt}" tree "$gr" "$ss" ${direction:+"$direction"} --delta "${DELTA:-mean}" --far-ok --sources {}

@@ -14,6 +14,9 @@ several shortest walks, the predecessor is the smallest-numbered vertex before t
 right answer. The distance of an unreachable vertex is UNREACHED, 2^64 - 1, which wraps around in sums (`Tree.masked`,
 `Tree.floats`).
 
+With `towards=True` the walks lead to a source, and with `both_ways=True` each arc of a graph leads back as well. `Graph.save` packs a
+graph into a file, and `Graph.load` reads it.
+
 The library is looked for in $SPT_LIBRARY, then beside this package's files, then by the system's loader.
 """
 
@@ -22,7 +25,7 @@ from ._faults import BadArc, BadDelta, BadLimit, Fault, NoSuchVertex, SptError, 
 from ._graph import BEYOND, UNREACHED, Forest, Graph, Matrix, Pair, Tree
 from ._library import LibraryNotFound, reach
 
-__version__ = "1.3.0"
+__version__ = "1.4.0"
 __all__ = [
     "BEYOND",
     "UNREACHED",

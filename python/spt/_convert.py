@@ -123,11 +123,18 @@ def _numbered(tails: Any, heads: Any) -> tuple[Any, ...]:
     return _by_dict(_listed(tails), _listed(heads))
 
 
-def arcs_of_frame(edges: Any, columns: tuple[Any, Any, Any], unit: Optional[float]) -> tuple[Any, memoryview]:
-    """The names, in the order of their numbers, and the arcs between these."""
-    tails, heads, lengths = (_column(edges, name) for name in columns)
-    if not len(tails) == len(heads) == len(lengths):
-        raise ValueError(f"columns of {len(tails)}, {len(heads)} and {len(lengths)} rows: they must have the same number")
+def arcs_of_frame(edges: Any, columns: Sequence[Any], unit: Optional[float], back: Any = None) -> tuple[Any, memoryview]:
+    """The names, in the order of their numbers, and the arcs between these.
+
+    If there is a column `back`, the arcs of its rows that lead both ways stand behind all, turned round.
+    """
+    wanted = [*columns, *([] if back is None else [back])]
+    found = [_column(edges, name) for name in wanted]
+    rows = [len(it) for it in found]
+    if len(set(rows)) > 1:
+        told = f"{', '.join(map(str, rows[:-1]))} and {rows[-1]}"
+        raise ValueError(f"columns of {told} rows: they must have the same number")
+    tails, heads, lengths = found[:3]
     names, begins, ends = _numbered(tails, heads)
     if 0 in begins or 0 in ends or not hasattr(names, "dtype") and any(map(_is_missing, names)):
         missing = ([_is_missing(it) for it in _listed(column)] for column in (tails, heads))
@@ -136,7 +143,31 @@ def arcs_of_frame(edges: Any, columns: tuple[Any, Any, Any], unit: Optional[floa
     whole = whole_lengths(lengths, unit)
     if whole is None:
         raise _first_length(len(names), list(zip(*map(_listed, (tails, heads, lengths)))), unit)
+    if back is not None:
+        lead_back = _flags(_listed(found[3]), back)
+        turned = [array.array("I", itertools.compress(it, lead_back)) for it in (ends, begins, whole)]
+        begins, ends, whole = (_behind(*both) for both in zip((begins, ends, whole), turned))
     return names, joined(begins, ends, whole)
+
+
+def _behind(numbers: memoryview, more: array.array[int]) -> memoryview:
+    return memoryview(array.array("I", numbers.tobytes()) + more)
+
+
+def _flags(column: list[Any], name: Any) -> list[bool]:
+    """Which rows lead both ways. ValueError: a row doesn't say so by True or False, 1 or 0."""
+    if not set(map(type, column)) <= {bool}:
+        for index, given in enumerate(column):
+            if not _is_flag(given):
+                raise ValueError(f"arc {index} (row {index + 1}): {given!r} in column {name!r} is not True or False, 1 or 0")
+    return list(map(bool, column))
+
+
+def _is_flag(given: Any) -> bool:
+    try:
+        return given in (0, 1)
+    except (TypeError, ValueError):
+        return False
 
 
 def _first_length(n: int, arcs: Sequence[Any], unit: Optional[float]) -> Exception:

@@ -4,7 +4,10 @@ from __future__ import annotations
 
 from typing import Any, Optional
 
-KINDS = ("", "LongLine", "BadLine", "NoProblem", "SecondProblem", "OutOfRange", "TooMany", "TooFew", "Memory")
+KINDS = (
+    "", "LongLine", "BadLine", "NoProblem", "SecondProblem", "OutOfRange", "TooMany", "TooFew", "Memory", "Read", "OtherForm",
+    "OtherSum",
+)
 
 
 class SptError(Exception):
@@ -20,16 +23,28 @@ def _again(kind: type[SptError], told: tuple[Any, ...]) -> SptError:
 
 
 class Fault(SptError, ValueError):
-    """The first error in a text: its line, from 1, its kind, the field that is out of range, if any, and a hint, if there is
-    one.
+    """The first error in a text or a packed graph: where it is, its kind, the field that is out of range, if any, and a hint, if
+    there is one.
 
-    The kinds are those that the program `spt` reports; the fields are 'U' and 'V' (vertices), 'W' (a length), 'N' and 'M' (the
-    numbers of vertices and arcs). The hint, the second line of the message, says why or what to do, like the program's.
+    Of a text `line` is the number of the line, from 1, and `byte` is None; of a packed graph `byte` is the number of bytes before the
+    word, and `line` is None. The kinds are those that the program `spt` reports; the fields are 'U' and 'V' (vertices), 'W' (a
+    length), 'N' and 'M' (the numbers of vertices and arcs), and 'E' (the end of a vertex's row). The hint, the second line of the
+    message, says why or what to do, like the program's.
     """
 
-    def __init__(self, name: str, line: int, number: int, field: Optional[str], hint: Optional[str] = None) -> None:
-        self.line, self.kind, self.number, self.field, self.hint = line, KINDS[number], number, field, hint
-        first = f"{name}: line {line}: {number} {self.kind}{' ' + field if field else ''}"
+    def __init__(
+        self,
+        name: str,
+        line: Optional[int],
+        number: int,
+        field: Optional[str],
+        hint: Optional[str] = None,
+        *,
+        byte: Optional[int] = None,
+    ) -> None:
+        self.line, self.byte, self.kind, self.number, self.field, self.hint = line, byte, KINDS[number], number, field, hint
+        place = f"byte {byte}" if line is None else f"line {line}"
+        first = f"{name}: {place}: {number} {self.kind}{' ' + field if field else ''}"
         super().__init__(f"{first}\n{hint}" if hint else first)
 
 
@@ -73,7 +88,8 @@ class TooFar(SptError, ArithmeticError):
     """The distance of `vertex`, the smallest such vertex, is above `reach(n)`, so this source has no tree. `source` is None for
     the nearest of several sources."""
 
-    def __init__(self, source: Any, vertex: Any, unit: Optional[float] = None) -> None:
+    def __init__(self, source: Any, vertex: Any, unit: Optional[float] = None, towards: bool = False) -> None:
         self.source, self.vertex = source, vertex
         more = "" if unit is None else f": use a larger unit than {unit!r}, or `within`"
-        super().__init__(f"from {'the nearest source' if source is None else source}, vertex {vertex} is too far{more}")
+        way = "towards" if towards else "from"
+        super().__init__(f"{way} {'the nearest source' if source is None else source}, vertex {vertex} is too far{more}")

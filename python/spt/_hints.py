@@ -1,4 +1,4 @@
-"""The second line of a Fault: what the program `spt` says about an invalid line of a graph file."""
+"""The second line of a Fault: what the program `spt` says about an invalid line of a graph file, or word of a packed one."""
 
 from __future__ import annotations
 
@@ -16,6 +16,12 @@ _COMMENT = "comments begin with `c` and a blank"
 _FROM_ZERO = "vertices are numbered from 1; if yours start at 0, add 1 to each"
 _LONG = "a line has at most 1024 bytes, and ends with an LF"
 _MOST_ARCS = 1 << 30
+_NO_PACKED = "no packed graph of spt; other binary files begin with the same byte, such as a PNG"
+_NOT_PACKED = "no packed graph of spt; Graph.read takes the text of a graph, too"
+_OTHER_FORM = "changed by a transfer in text mode, or of a newer form; copy it again in binary mode, or pack it again by spt pack"
+_CHANGED = "the packed graph was cut or changed; copy it again, or pack it again by spt pack"
+# the numbers that are known without the line
+_RANGES = {"N": f"N is a number from 1 to {MOST_VERTICES}", "M": f"M is a number from 0 to {_MOST_ARCS}", "W": _LENGTHS}
 # how files begin that are not plain text, what they are, and how to read them
 _FORMS = (
     (b"\x1f\x8b", "compressed with gzip", "gzip.open(path), or a name that ends in .gz"),
@@ -39,9 +45,9 @@ _OTHERS = (
 
 def second_line(text: bytes, number: int, kind: str, field: Optional[str]) -> Optional[str]:
     """The hint for the line with this number, from 1, of a graph's text that has this fault; None if there is none."""
-    for begin, what, reader in _FORMS:
-        if text.startswith(begin):
-            return f"{what}; give {reader}"
+    other = _other_form(text)
+    if other:
+        return other
     lines = text.split(b"\n", number)
     line = lines[number - 1] if number <= len(lines) else b""
     vertices = next((int(it[1]) for it in (re.match(rb"\s*p\s+sp\s+(\d+)\s", it) for it in lines[: number - 1]) if it), None)
@@ -52,15 +58,33 @@ def second_line(text: bytes, number: int, kind: str, field: Optional[str]) -> Op
     return {"LongLine": _LONG, "SecondProblem": _LINES, "TooMany": _COUNT, "TooFew": _COUNT}.get(kind)
 
 
+def word_line(data: bytes, byte: int, kind: str, field: Optional[str]) -> str:
+    """The hint for the word of a packed graph behind so many bytes, which has this fault."""
+    if not is_packed(data) and data:
+        return _other_form(data) or _NOT_PACKED
+    if kind == "OtherForm":
+        return _OTHER_FORM if byte else _NO_PACKED
+    return _RANGES[field] if field in ("N", "M") else _CHANGED
+
+
+def is_packed(data: bytes) -> bool:
+    """Whether a file that begins like this is packed, as the commands of the program tell."""
+    return data[:1] == b"\x89"
+
+
+def _other_form(data: bytes) -> Optional[str]:
+    """What a file is that is neither plain text nor a packed graph, and how to read it; None if that isn't known."""
+    return next((f"{what}; give {reader}" for begin, what, reader in _FORMS if data.startswith(begin)), None)
+
+
 def _of_vertex(vertices: Optional[int]) -> str:
     return f"vertices are numbered from 1 to {'N, given in the line `p`' if vertices is None else vertices}"
 
 
 def _of_range(line: bytes, field: Optional[str], vertices: Optional[int]) -> Optional[str]:
     """The hint for a number that is out of range."""
-    ranges = {"N": f"N is a number from 1 to {MOST_VERTICES}", "M": f"M is a number from 0 to {_MOST_ARCS}", "W": _LENGTHS}
-    if field in ranges:
-        return ranges[field]
+    if field in _RANGES:
+        return _RANGES[field]
     fields = line.split()
     is_zero = len(fields) == 4 and fields[1 if field == "U" else 2] == b"0"
     return _FROM_ZERO if is_zero else _of_vertex(vertices)

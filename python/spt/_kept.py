@@ -7,13 +7,17 @@ import weakref
 
 from contextlib import contextmanager
 from ctypes import byref
-from typing import Iterator, List, Optional, Sequence, Tuple
+from typing import Any, Callable, Iterator, List, Optional, Sequence, Tuple
 
 from ._buffers import address, in_bytes, zeros
-from ._library import BAD_SIZE, OK, Answer, Batch, Found, Part, Place, library
+from ._faults import SptError
+from ._library import BAD_SIZE, MEMORY, OK, Answer, Batch, Found, Packed, Part, Place, library
+from ._packed import numbers_of
 
 # a list of the vertices of a part, their distances and their predecessors
 Listed = Tuple[memoryview, memoryview, memoryview]
+# the most arcs of a packed graph
+MOST_PACKED = 1 << 30
 
 
 class _Handle:
@@ -35,23 +39,98 @@ def _free(handles: List[_Handle]) -> None:
         library.spt_graph_free(byref(handle.place))
 
 
-class Kept:
-    """A handle that keeps a graph, in the library's own form, until it is released.
+def failure(status: int) -> Exception:
+    """The exception for a status that says nothing about what was given."""
+    if status == MEMORY:
+        return MemoryError("spt: no memory for a graph or a tree")
+    return SptError(f"the library returned status {status}")
 
-    `told` is the result of making it. Several threads may use it: each call has a handle of its own for the same graph, which then
-    waits for the next call, so that near targets and small parts cost what they touch. There are as many as calls at once, and each
-    may hold 8 bytes for each vertex.
+
+class Kept:
+    """A handle that keeps a graph of n vertices and m arcs, in the library's own form, until it is released.
+
+    Several threads may use it: each call has a handle of its own for the same graph, which then waits for the next call, so that near
+    targets and small parts cost what they touch. There are as many as calls at once, and each may hold 8 bytes for each vertex.
     """
 
-    def __init__(self, n: int, arcs: memoryview) -> None:
+    def __init__(self) -> None:
         self._place, self._lock = Place(), threading.Lock()
         self._waiting: List[_Handle] = []
-        self.told = library.spt_graph_new(address(arcs), len(arcs) // 3, n, byref(self._place))
+        # what is made once it is asked for, by one thread alone
+        self._once = threading.Lock()
+        self._numbers: Optional[memoryview] = None
+        self._turned: Optional[Kept] = None
+        weakref.finalize(self, library.spt_graph_free, byref(self._place))
+        weakref.finalize(self, _free, self._waiting)
+        self._has(0, 0)
+
+    def _has(self, n: int, m: int) -> None:
+        self.n, self.m = n, m
         # how many vertices a part in a list may have, and the least limit, if any, that was found to be too great for that
         self._places = n // 64 + 64
         self._large: Optional[int] = None
-        weakref.finalize(self, library.spt_graph_free, byref(self._place))
-        weakref.finalize(self, _free, self._waiting)
+
+    @classmethod
+    def of_arcs(cls, n: int, arcs: memoryview) -> Tuple[Kept, Answer]:
+        """The graph with these arcs, whose numbers it keeps as well, and the result of making it."""
+        kept = cls()
+        told: Answer = library.spt_graph_new(address(arcs), len(arcs) // 3, n, byref(kept._place))
+        kept._has(n, len(arcs) // 3)
+        kept._numbers = arcs
+        return kept, told
+
+    @classmethod
+    def of_packed(cls, data: memoryview) -> Tuple[Kept, Packed]:
+        """The graph that was packed into these bytes, and the result of making it."""
+        kept = cls()
+        told: Packed = library.spt_graph_load(byref(kept._place), address(data), data.nbytes)
+        kept._has(told.n, told.m)
+        return kept, told
+
+    def both_ways(self) -> Kept:
+        """The graph of these arcs and, for each of them, one that leads back."""
+        return self._made(library.spt_graph_both_ways, 2 * self.m)
+
+    def turned(self) -> Kept:
+        """The graph with its arcs turned round. It is made once, and kept as long as this one."""
+        with self._once:
+            if self._turned is None:
+                self._turned = self._made(library.spt_graph_turned, self.m)
+            return self._turned
+
+    def _made(self, call: Callable[[Any, Any], Answer], m: int) -> Kept:
+        made = Kept()
+        with self._shared() as (own, status):
+            if status == OK:
+                status = call(byref(made._place), byref(own.place)).status
+        if status != OK:
+            raise failure(status)
+        made._has(self.n, m)
+        return made
+
+    def packed(self) -> memoryview:
+        """The words of the packed graph."""
+        if self.m > MOST_PACKED:
+            raise SptError(f"a graph of {self.m} arcs can't be packed: a packed graph has at most {MOST_PACKED}")
+        made = zeros("I", self.n + 2 * self.m + 9)
+        with self._shared() as (own, status):
+            if status == OK:
+                status = library.spt_graph_save(byref(own.place), address(made), made.nbytes).status
+        if status != OK:
+            raise failure(status)
+        return made.toreadonly()
+
+    @property
+    def has_numbers(self) -> bool:
+        """Whether the numbers of its arcs are there already."""
+        return self._numbers is not None
+
+    def numbers(self) -> memoryview:
+        """The numbers of its arcs: those that it was made of, else, made once, in the order of the packed graph."""
+        with self._once:
+            if self._numbers is None:
+                self._numbers = numbers_of(self.packed())
+            return self._numbers
 
     def trees(self, sources: memoryview, delta: int, distances: memoryview, predecessors: memoryview) -> Batch:
         """Writes the trees of the sources, up to the first that has none."""

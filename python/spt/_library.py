@@ -40,6 +40,25 @@ class Part(ctypes.Structure):
     _fields_ = [("status", c_uint32), ("count", c_uint64)]
 
 
+class Packed(ctypes.Structure):
+    """spt_packed"""
+
+    _fields_ = [
+        ("status", c_uint32),
+        ("n", c_uint32),
+        ("m", c_uint64),
+        ("kind", c_uint32),
+        ("letter", c_uint32),
+        ("byte", c_uint64),
+    ]
+
+
+class Saved(ctypes.Structure):
+    """spt_saved"""
+
+    _fields_ = [("status", c_uint32), ("count", c_uint64)]
+
+
 class Place(ctypes.Structure):
     """spt_graph"""
 
@@ -69,13 +88,17 @@ _FUNCTIONS = {
     "spt_check": ([*_SLICE, c_uint32, c_uint32, *_SLICE, *_SLICE], Answer),
     "spt_gr": ([*_SLICE, *_SLICE], Text),
 }
-# functions that a library of a version before 1.3 may lack
+# functions that a library of a version before 1.4 may lack
 _LATER = {
     "spt_graph_pair": ([POINTER(Place), c_uint32, c_uint32, c_uint64], Found),
     "spt_graph_within": ([POINTER(Place), c_uint32, c_uint64, c_uint64, *_SLICE, *_SLICE], Answer),
     "spt_graph_part": ([POINTER(Place), c_uint32, c_uint64, *_SLICE, *_SLICE, *_SLICE], Part),
     "spt_graph_nearest": ([POINTER(Place), *_SLICE, c_uint64, c_uint64, *_SLICE, *_SLICE, *_SLICE], Answer),
     "spt_graph_matrix": ([POINTER(Place), *_SLICE, *_SLICE, c_uint64, *_SLICE], Batch),
+    "spt_graph_turned": ([POINTER(Place), POINTER(Place)], Answer),
+    "spt_graph_both_ways": ([POINTER(Place), POINTER(Place)], Answer),
+    "spt_graph_load": ([POINTER(Place), *_SLICE], Packed),
+    "spt_graph_save": ([POINTER(Place), *_SLICE], Saved),
 }
 
 
@@ -101,6 +124,7 @@ library = _load()
 HAS_PAIR = hasattr(library, "spt_graph_pair")
 HAS_NEAR = hasattr(library, "spt_graph_nearest")
 HAS_PART = hasattr(library, "spt_graph_part")
+HAS_PACKED = hasattr(library, "spt_graph_load")
 # what the library takes as no limit
 NO_LIMIT = 2**64 - 1
 

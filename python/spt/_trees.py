@@ -36,6 +36,26 @@ class Pair(NamedTuple):
     predecessor: Any
 
 
+class Onward(Pair):
+    """The distance of a target from which a walk leads towards a source, and the vertex after it, which is the next on that walk.
+
+    It is a Pair, whose `predecessor` is called `next`, too.
+    """
+
+    __slots__ = ()
+
+    @property
+    def next(self) -> Any:
+        return self.predecessor
+
+    def __repr__(self) -> str:
+        return f"Pair(distance={self.distance!r}, next={self.next!r})"
+
+
+def pair_of(distance: int, predecessor: Any, towards: bool) -> Pair:
+    return Onward(distance, predecessor) if towards else Pair(distance, predecessor)
+
+
 def _masked(distances: Any, least: int) -> Any:
     """A NumPy array as a masked array, with everything at or above the least masked."""
     import numpy
@@ -56,6 +76,7 @@ class _Reached:
     distances: memoryview
     predecessors: memoryview
     terms: Optional[Terms]
+    towards: bool
     # the fields, in the order of the constructor, with the format of each list; empty if it is not a list
     _formats: ClassVar[dict[str, str]]
 
@@ -114,11 +135,12 @@ class _Reached:
     def frame(self) -> Any:
         """A pandas frame with a row for each vertex, by name or number, in order.
 
-        Its columns are `distance` (`floats`), `predecessor` and, for a forest, `source`, with missing values where there is none.
-        ImportError: pandas isn't installed.
+        Its columns are `distance` (`floats`), `predecessor` and, for a forest, `source`, with missing values where there is none. If
+        the walks lead towards sources, these columns are `distance`, `next` and `to`. ImportError: pandas isn't installed.
         """
-        index = self._terms.index()
-        lists = {name[:-1]: self._terms.column(getattr(self, name)) for name in ("predecessors", "sources") if name in self._formats}
+        index, titles = self._terms.index(), ("next", "to") if self.towards else ("predecessor", "source")
+        names = zip(titles, ("predecessors", "sources"))
+        lists = {title: self._terms.column(getattr(self, name)) for title, name in names if name in self._formats}
         return want_pandas().DataFrame({"distance": self.floats(), **lists}, index=index)
 
     def _entry(self, number: int) -> Tuple[int, int]:
@@ -128,10 +150,13 @@ class _Reached:
     def pair(self, target: Any) -> Optional[Pair]:
         """The distance and predecessor of a target; None if no walk leads to it."""
         distance, predecessor = self._entry(self._terms.number(target))
-        return None if distance == UNREACHED else Pair(distance, self._terms.name(predecessor))
+        return None if distance == UNREACHED else pair_of(distance, self._terms.name(predecessor), self.towards)
 
-    def walk(self, source: int, target: int) -> Optional[list[Any]]:
-        """The vertices of the walk from a source to a target, both given by number; None if no walk leads to the target."""
+    def _shown_predecessors(self) -> str:
+        return f"{'next' if self.towards else 'predecessors'} {_shown(self.predecessors, {})}"
+
+    def back(self, source: int, target: int) -> Optional[list[int]]:
+        """The numbers of the vertices from a target back to a source, by predecessors; None if no walk leads to the target."""
         if self._entry(target)[0] == UNREACHED:
             return None
         path = [target]
@@ -139,7 +164,12 @@ class _Reached:
             if len(path) == self._terms.n or not path[-1]:
                 raise ValueError("the predecessors do not form a tree")
             path.append(self._entry(path[-1])[1])
-        return [self._terms.name(it) for it in reversed(path)]
+        return path
+
+    def walk(self, source: int, target: int) -> Optional[list[Any]]:
+        """The vertices of the walk between a source and a target, by number, in the order of travel; None if there is none."""
+        path = self.back(source, target)
+        return path and [self._terms.name(it) for it in (path if self.towards else reversed(path))]
 
 
 @dataclass(frozen=True, eq=False, repr=False)
@@ -152,8 +182,11 @@ class Tree(_Reached):
     other lists copies those that are writable. In a graph with names, `source`, `path`, `pair` and `frame` use the names, and
     vertex v of the lists is `graph.names[v - 1]`.
 
-    Trees are equal if their sources, distances, predecessors, names and units are equal. They can be dict keys, and can be pickled
-    and copied.
+    If `towards` is True, each distance is that of a walk from the vertex to the source, and the predecessor of a vertex is the next
+    vertex on that walk. Paths list vertices in the order of travel either way.
+
+    Trees are equal if their sources, distances, predecessors, names, units and directions are equal. They can be dict keys, and can
+    be pickled and copied.
 
     >>> import spt
     >>> tree = spt.Graph(3, [(1, 2, 7)]).tree(1)
@@ -161,22 +194,25 @@ class Tree(_Reached):
     Tree from 1 over 3 vertices: distances 0, 7, unreached; predecessors 0, 1, 0
     >>> tree == spt.Graph(3, [(1, 2, 7), (1, 2, 8)]).tree(1)
     True
+    >>> spt.Graph(3, [(1, 2, 7)]).tree(2, towards=True)
+    Tree towards 2 over 3 vertices: distances 7, 0, unreached; next 2, 0, 0
     """
 
     source: Any
     distances: memoryview
     predecessors: memoryview
     terms: Optional[Terms] = field(default=None, repr=False)
-    _formats = {"source": "", "distances": "Q", "predecessors": "I", "terms": ""}
+    towards: bool = False
+    _formats = {"source": "", "distances": "Q", "predecessors": "I", "terms": "", "towards": ""}
 
     @classmethod
-    def listed(cls, source: Any, part: Tuple[memoryview, memoryview, memoryview], terms: Terms) -> Tree:
+    def listed(cls, source: Any, part: Tuple[memoryview, memoryview, memoryview], terms: Terms, towards: bool) -> Tree:
         """The part of a tree that has these vertices, by rising number, with their distances and predecessors.
 
         The lists with an entry for each vertex are made when they are first asked for.
         """
         tree = cls.__new__(cls)
-        tree.__dict__.update(source=source, terms=terms, _part=part)
+        tree.__dict__.update(source=source, terms=terms, towards=towards, _part=part)
         return tree
 
     def __getattr__(self, name: str) -> Any:
@@ -200,15 +236,18 @@ class Tree(_Reached):
 
     def __repr__(self) -> str:
         distances = _shown(self.distances, {UNREACHED: "unreached"})
-        told = f"distances {distances}; predecessors {_shown(self.predecessors, {})}"
-        return f"Tree from {self.source} over {len(self.distances)} vertices: {told}"
+        told = f"distances {distances}; {self._shown_predecessors()}"
+        return f"Tree {'towards' if self.towards else 'from'} {self.source} over {len(self.distances)} vertices: {told}"
 
     def path(self, target: Any) -> Optional[list[Any]]:
-        """The vertices of the tree's walk from the source to a target; None if no walk leads to it.
+        """The vertices of the tree's walk between the source and a target, in the order of travel; None if there is none.
+
+        The walk leads from the source to the target, or, in a tree that is `towards` its source, from the target to the source.
 
         >>> import spt
-        >>> spt.Graph(3, [(1, 2, 5), (2, 3, 5)]).tree(1).path(3)
-        [1, 2, 3]
+        >>> graph = spt.Graph(3, [(1, 2, 5), (2, 3, 5)])
+        >>> graph.tree(1).path(3), graph.tree(3, towards=True).path(1)
+        ([1, 2, 3], [1, 2, 3])
         """
         return self.walk(self._terms.number(self.source), self._terms.number(target))
 
@@ -220,7 +259,7 @@ class Forest(_Reached):
     `distances`, `predecessors` and `sources` are lists of unsigned numbers, of 64, 32 and 32 bits, with vertex v at index v - 1:
     its least distance from any source, the smallest vertex before it on such a walk, and the source from which it is reached, to
     which the predecessors lead back. They are UNREACHED, 0 and 0 for an unreachable vertex, and 0, 0 and the vertex itself for a
-    source. The lists are like those of a `Tree`.
+    source. The lists are like those of a `Tree`, and so is `towards`: then `sources` has the source to which the walk leads.
 
     >>> import spt
     >>> forest = spt.Graph(4, [(1, 2, 3), (1, 3, 3), (2, 4, 2), (3, 4, 2)]).nearest([3, 1])
@@ -234,20 +273,22 @@ class Forest(_Reached):
     predecessors: memoryview
     sources: memoryview
     terms: Optional[Terms] = field(default=None, repr=False)
-    _formats = {"distances": "Q", "predecessors": "I", "sources": "I", "terms": ""}
+    towards: bool = False
+    _formats = {"distances": "Q", "predecessors": "I", "sources": "I", "terms": "", "towards": ""}
 
     def __repr__(self) -> str:
         distances = _shown(self.distances, {UNREACHED: "unreached"})
-        told = f"distances {distances}; predecessors {_shown(self.predecessors, {})}; sources {_shown(self.sources, {})}"
-        return f"Forest over {len(self.distances)} vertices: {told}"
+        roots = f"{'to' if self.towards else 'sources'} {_shown(self.sources, {})}"
+        told = f"distances {distances}; {self._shown_predecessors()}; {roots}"
+        return f"Forest{' towards its sources' if self.towards else ''} over {len(self.distances)} vertices: {told}"
 
     def source(self, target: Any) -> Any:
-        """The source from which a target is reached; None if no walk leads to it."""
+        """The source from which a target is reached, or to which its walk leads; None if there is no walk."""
         number = self.sources[self._terms.number(target) - 1]
         return self._terms.name(number) if number else None
 
     def path(self, target: Any) -> Optional[list[Any]]:
-        """The vertices of the walk to a target from its source; None if no walk leads to it."""
+        """The vertices of the walk between a target and its source, in the order of travel (`Tree.path`); None if there is none."""
         place = self._terms.number(target)
         return self.walk(self.sources[place - 1], place)
 
@@ -274,6 +315,8 @@ def _of_array(name: str) -> Callable[..., Any]:
 class Matrix:
     """The distances of targets from sources: a row for each source, a column for each target.
 
+    If `towards` is True, each is the distance of a walk from the target to the source.
+
     `distances` has them as whole numbers, in a NumPy array (uint64), or in a `memoryview` if NumPy isn't installed: UNREACHED if
     no walk leads to a target, BEYOND if it is too far. `floats`, `masked` and `frame` have neither, and sums, products and
     quotients of a matrix are those of its `floats`. Otherwise it acts as an array, also for NumPy (`numpy.asarray`): `distances`,
@@ -291,9 +334,11 @@ class Matrix:
     targets: tuple[Any, ...]
     distances: Any
     terms: Terms = field(repr=False)
+    towards: bool = False
 
     def __repr__(self) -> str:
-        return f"Matrix of {len(self.sources)} sources and {len(self.targets)} targets"
+        more = ", towards the sources" if self.towards else ""
+        return f"Matrix of {len(self.sources)} sources and {len(self.targets)} targets{more}"
 
     def masked(self) -> Any:
         """The distances as a NumPy masked array (uint64), without a copy; unreachable and too far targets are masked."""
@@ -313,9 +358,11 @@ class Matrix:
     def frame(self) -> Any:
         """`floats` as a pandas frame, with the sources as rows and the targets as columns.
 
-        ImportError: pandas isn't installed.
+        Rows are named `source` and columns `target`, or, in a matrix that is `towards` its sources, `to` and `from`. ImportError:
+        pandas isn't installed.
         """
-        index = [index_of(it).rename(name) for it, name in ((self.sources, "source"), (self.targets, "target"))]
+        names = ("to", "from") if self.towards else ("source", "target")
+        index = [index_of(it).rename(name) for it, name in zip((self.sources, self.targets), names)]
         return want_pandas().DataFrame(self.floats(), index=index[0], columns=index[1])
 
     @cached_property
@@ -345,7 +392,7 @@ class Matrix:
     def __reduce__(self) -> tuple[Any, ...]:
         # (a memoryview can't be pickled)
         told = self.distances.tobytes() if isinstance(self.distances, memoryview) else self.distances
-        return _matrix_again, (self.sources, self.targets, told, self.terms)
+        return _matrix_again, (self.sources, self.targets, told, self.terms, self.towards)
 
     __hash__ = None  # type: ignore[assignment]
     __eq__, __ne__, __lt__, __le__, __gt__, __ge__ = map(
@@ -366,9 +413,11 @@ def in_rows(distances: memoryview, rows: int, columns: int) -> Any:
     return numpy.asarray(distances).reshape(rows, columns)
 
 
-def _matrix_again(sources: tuple[Any, ...], targets: tuple[Any, ...], told: Any, terms: Terms) -> Matrix:
+def _matrix_again(
+    sources: tuple[Any, ...], targets: tuple[Any, ...], told: Any, terms: Terms, towards: bool = False
+) -> Matrix:
     distances = in_rows(in_bytes(told, "Q"), len(sources), len(targets)) if isinstance(told, bytes) else told
-    return Matrix(sources, targets, distances, terms)
+    return Matrix(sources, targets, distances, terms, towards)
 
 
 def _shown(numbers: memoryview, names: dict[int, str]) -> str:
