@@ -325,7 +325,9 @@ def tried(crate, is_over):
         else:
             tell_doubted(doubted, proved_twins(crate, doubted, kept, kept_whole), shown, said)
     print("\n".join(said[name] for name in said if name not in late), flush=True)
-    return [None if name in late else shown.get(name, False) for name in table_of(crate.folder)]
+    wrong = [name for name in table_of(crate.folder) if name not in late and not shown.get(name)]
+    print("".join(f"failed: the edit {crate.name}/{name}\n" for name in wrong), end="", flush=True)
+    return [None if name in late else name not in wrong for name in table_of(crate.folder)]
 
 
 def tried_together(crate, edits, kept, is_over):

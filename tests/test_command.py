@@ -80,11 +80,14 @@ def run_program(count, home):
     begun = [line for line in told if line.startswith("tests/")]
     count.of(f"program: {status}, {output}, {errors}", status == 0 and begun == ["tests/one.py", "tests/refused.py", "tests/two.py"])
     count.of("refused.py makes no calls", "tried --no-calls" in told and told.count("tried") == 2)
+    count.of("nothing failed", "once more" not in output)
     count.of("what wasn't checked", told[-2].startswith("no proof was checked") and told[-1] == "9 passed, 0 failed")
-    put(f"{home}/tests/two.py", SCRIPT.format(2))
+    put(f"{home}/tests/two.py", SCRIPT.format(2).replace('print("3', 'print("failed: a name")\nprint("3'))
     put(f"{home}/tests/one.py", "raise SystemExit('no count')\n")
     status, output, _ = test("program", home=home)
     count.of(f"some fail: {status}, {output}", status == 1 and output.endswith("\n6 passed, 3 failed\n"))
+    again = output.partition("what failed, once more:\n")[2]
+    count.of(f"what failed is told at the end: {again}", again.startswith("of tests/one.py: 1 failed\nof tests/two.py: 2 failed\nfailed: a name\n"))
     put(f"{home}/crates/spt_c/src/lib.rt", "3")
     status, output, errors = test("program", home=home)
     count.of(f"other sources: {status}, {output}, {errors}", (status, output) == (1, "") and "of these sources" in errors)
