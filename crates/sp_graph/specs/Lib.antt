@@ -5,6 +5,7 @@ pub mod Marks
 pub mod Mean
 pub mod Keys
 pub mod Index
+pub mod RowEnds
 pub mod Shares
 pub mod Rising
 pub mod Split

@@ -1,5 +1,5 @@
 //! Graphs by rows.
-ghost use Rattle.std.specs.Prelude.{◌≡◌, ◌≤◌, ◌↔◌, length, All, IfOk, IsTrue};
+ghost use Rattle.std.specs.Prelude.{◌≡◌, ◌≤◌, ◌<◌, ◌^◌, ◌↔◌, length, All, IfOk, IsTrue};
 ghost use Rattle.std.specs.List.Sorted.{IsPermutation};
 ghost use Rattle.sp_paths.specs.Paths.{IsVertex, IsArc, IsGraph};
 ghost use Rattle.sp_paths.specs.Rows.{row_of};
@@ -7,6 +7,7 @@ ghost use Rattle.sp_graph.specs.Order.{IsInOrder};
 ghost use Rattle.sp_graph.specs.Longest.{IsLongest};
 ghost use Rattle.sp_graph.specs.Mean.{mean_length};
 ghost use Rattle.sp_graph.specs.Index.{IsRowAt};
+ghost use Rattle.sp_graph.specs.RowEnds.{AreRowEnds};
 
 use crate::mean::mean_length;
 use crate::nearness::lead_far;
@@ -30,6 +31,15 @@ pub struct Graph {
     // The row of vertex v ends at the index `ends[v]`, where the next row begins.
     ends: Vec<u32>,
     longest: u32,
+}
+
+/// What is known of arcs in order, of which `Graph::from_rows` makes a graph.
+#[derive(Drop)]
+pub struct RowEnds {
+    /// The row of vertex `v` ends at the index `ends[v]`, where the next row begins; row 0, of no vertex, at 0.
+    pub ends: Vec<u32>,
+    /// The greatest length of an arc, or 0 if there is no arc.
+    pub longest: u32,
 }
 
 impl Model for Graph {
@@ -111,6 +121,24 @@ impl Graph {
             ends: all.rows.ends,
             longest: all.longest,
         })
+    }
+
+    /// Returns the graph of `n` vertices with these arcs, which are in order already, and whose rows end there. Nothing is
+    /// copied, no arc is looked at, and no memory is taken.
+    pub fn from_rows(n: u32, arcs: Vec<Arc>, rows: RowEnds) -> Graph
+        requires some { 1 ≤ n }
+        requires few { length arcs.items < 2 ^ 32 }
+        requires arcs { All (IsArc n) arcs.items }
+        requires rows { AreRowEnds n arcs.items rows }
+        ensures n { result.n ≡ n }
+        ensures arcs { result.arcs ≡ arcs.items }
+    {
+        Graph {
+            n,
+            arcs,
+            ends: rows.ends,
+            longest: rows.longest,
+        }
     }
 
     /// Returns the number of vertices. They are numbered from 1.

@@ -21,7 +21,7 @@ mod sharing_rising;
 mod short_rows;
 mod words;
 
-pub use graph::Graph;
+pub use graph::{Graph, RowEnds};
 pub use marks::Mark;
 pub use rows::Rows;
 pub use words::{left_out, look_up};
