@@ -1,14 +1,17 @@
 -- The arcs of rows, as they come.
-use Rattle.std.proofs.Common.{◌≡◌, ℕ, zero, suc, ◌+◌, ◌-◌, ◌*◌, ◌<◌, ◌≤◌, ◌^◌, ◌⊎◌, List, [], ◌∷◌, ◌++◌, length, get_or, take, refl, sym, ap, subst, inl, inr, ⊎_elim, ◌∙◌, arith, append_assoc, length-append, Option}
+use Rattle.std.proofs.Common.{◌≡◌, ℕ, zero, suc, ◌+◌, ◌-◌, ◌*◌, ◌<◌, ◌≤◌, ◌^◌, ◌⊎◌, List, [], ◌∷◌, ◌++◌, length, get_or, take, drop, max, refl, sym, ap, subst, inl, inr, ⊎_elim, ◌∙◌, arith, append_assoc, length-append, Option}
 use Rattle.std.specs.Prelude.{All}
 use Rattle.std.proofs.KnownBytes.{Consumes-nil}
+use Rattle.std.proofs.Math.Seq.{drop-append_seam}
 use Rattle.std.proofs.lemmas.Bool.{cases_lt}
-use Rattle.std.proofs.lemmas.List.{get_or_append_left, get_or_at, get_or_push, get_or_default, append-nil, take_more}
+use Rattle.std.proofs.lemmas.List.{get_or_append_left, get_or_at, get_or_push, get_or_default, append-nil, take_more, take_all}
 use Rattle.std.proofs.lemmas.List.Concat.{flat_map-append}
 use Rattle.std.proofs.lemmas.List.Elements.{All-push, All-get_or, All-nil, All-head, All-tail}
 use Rattle.sp_paths.specs.declared.arc.Arc.{Arc}
 use Rattle.sp_paths.specs.Paths.{IsArc}
 use Rattle.sp_graph.specs.Order.{IsNoGreater, IsInOrder}
+use Rattle.sp_graph.specs.Longest.{IsLongest}
+use Rattle.sp_graph.proofs.Parts.{longest_both}
 use Rattle.sp_packed.specs.declared.words.Sum.{Sum}
 use Rattle.sp_packed.specs.Words.{sum_on}
 use Rattle.sp_packed.specs.Packed.{arc_words, arcs_words}
@@ -321,3 +324,16 @@ module _ (n m : ℕ) (ends : List ℕ) (some : 1 ≤ n) (are : AreEnds n m ends)
       let rest = fill j (arcs ++ a ∷ []) rows (omega (arith, length-append arcs (a ∷ []), size)) in
       let same : (arcs ++ a ∷ []) ++ rest.0 ≡ arcs ++ (a ∷ rest.0) = append_assoc arcs (a ∷ []) rest.0 in
       (a ∷ rest.0, subst (λ l. AreRows n ends l) same rest.1, ap length (sym same) ∙ rest.2)
+
+-- ## The greatest length, as arcs come
+
+came : (arcs added : List Arc) → take (length (arcs ++ added) - length arcs) (drop (length arcs) (arcs ++ added)) ≡ added
+came arcs added =
+    let behind = drop-append_seam arcs added in
+    take_all (length (arcs ++ added) - length arcs) (drop (length arcs) (arcs ++ added)) (omega (arith, ap length behind, length-append arcs added)) ∙ behind
+
+-- where all are those before and those that came behind the first k
+pub longest_came : (all arcs added : List Arc) (k a b l : ℕ) → all ≡ arcs ++ added → k ≡ length arcs → IsLongest arcs a → IsLongest (take (length all - k) (drop k all)) b → l ≡ max a b → IsLongest (arcs ++ added) l
+longest_came all arcs added k a b l is at before behind greater =
+    let same : take (length all - k) (drop k all) ≡ added = rw is (rw at (came arcs added)) in
+    longest_both arcs added a b l before (subst (λ xs. IsLongest xs b) same behind) greater

@@ -2,7 +2,7 @@
 ghost use Rattle.std.specs.Prelude.{◌≡◌, ◌≢◌, ◌≤◌, ℕ, List, true, Some, IfOk, IfErr};
 ghost use Rattle.sp_device.specs.Failing.{Never};
 ghost use Rattle.sp_word.specs.Word.{is_layout, max_pred};
-ghost use Rattle.sp_graph.specs.Order.{IsInOrder};
+ghost use Rattle.sp_graph.specs.RowEnds.{AreRowEnds};
 ghost use Rattle.sp_packed.specs.Packed.{IsPackable, IsWithin};
 ghost use Rattle.sp_packed.specs.File.{file_graph, PackedFileRead};
 ghost use Rattle.sp_packed.specs.Faults.{PackedRead};
@@ -15,16 +15,18 @@ use crate::faults::{PackedFault, PackedKind};
 use crate::front::read_front;
 use crate::rows::read_rows;
 use sp_device::Read;
-use sp_graph::Graph;
+use sp_graph::{Graph, RowEnds};
 use sp_paths::Arc;
 use sp_word::Word;
 use std::alloc::Global;
 
-/// What a packed text spells: the number of vertices, and the arcs by tail, then by head, then by length.
+/// What a packed text spells: the number of vertices, and the arcs by tail, then by head, then by length, with the ends of
+/// their rows.
 #[derive(Drop)]
 pub struct PackedFile {
     pub n: u32,
     pub arcs: Vec<Arc>,
+    pub rows: RowEnds,
 }
 
 // Reads a text whole.
@@ -37,6 +39,7 @@ fn read_parts<R: Read>(
     requires { 1 ≤ top }
     ensures parts { IfOk result (λ file. HasParts top most_arcs
         (R.left reader.old) (R.left reader.new) file.n file.arcs.items) }
+    ensures rows { IfOk result (λ file. AreRowEnds file.n file.arcs.items file.rows) }
     ensures told { IfErr result (Told top most_arcs
         (R.left reader.old) (R.left reader.new) (R.has_failed reader.new)) }
     ensures never { R.failing reader.old ≡ Never → IfErr result (λ e. e.kind ≢ PackedKind.Read) }
@@ -50,14 +53,19 @@ fn read_parts<R: Read>(
         Ok(ends) => ends,
         Err(fault) => return Err(fault),
     };
-    let arcs = match read_rows(alloc, reader, &mut block, n, &ends) {
-        Ok(arcs) => arcs,
+    let read = match read_rows(alloc, reader, &mut block, n, &ends) {
+        Ok(read) => read,
         Err(fault) => return Err(fault),
     };
     if let Err(fault) = read_sum(reader, &mut block, n, m) {
         return Err(fault);
     }
-    Ok(PackedFile { n, arcs })
+    let longest = read.longest;
+    Ok(PackedFile {
+        n,
+        arcs: read.arcs,
+        rows: RowEnds { ends, longest },
+    })
 }
 
 /// Reads the rest of a device's bytes, and returns the numbers of vertices and arcs whose packed text they are, or their first
@@ -76,7 +84,7 @@ pub fn read_packed_file<const P: u32, R: Read>(
         (R.left reader.new) (R.has_failed reader.new) result }
     ensures packable { IfOk result (λ file. IsPackable (file_graph file)) }
     ensures within { IfOk result (λ file. IsWithin (max_pred P) most_arcs (file_graph file)) }
-    ensures order { IfOk result (λ file. IsInOrder file.arcs.items) }
+    ensures rows { IfOk result (λ file. AreRowEnds file.n file.arcs.items file.rows) }
     ensures read { IfErr result (λ e. e.kind ≡ PackedKind.Read → R.has_failed reader.new ≡ true) }
     ensures never { R.failing reader.old ≡ Never → IfErr result (λ e. e.kind ≢ PackedKind.Read) }
 {
@@ -86,8 +94,7 @@ pub fn read_packed_file<const P: u32, R: Read>(
     }
 }
 
-/// Reads the rest of a device's bytes as `read_packed_file` does, and returns the graph. No memory for the whole graph is told
-/// as Memory at the last word.
+/// Reads the rest of a device's bytes as `read_packed_file` does, and returns the graph.
 pub fn read_packed<const P: u32, R: Read>(
     alloc: Global,
     reader: &mut R,
@@ -106,9 +113,5 @@ pub fn read_packed<const P: u32, R: Read>(
         Ok(file) => file,
         Err(fault) => return Err(fault),
     };
-    let last = 8 + file.n as u64 + 2 * file.arcs.len() as u64;
-    match Graph::from_arcs(alloc, file.n, file.arcs) {
-        Ok(graph) => Ok(graph),
-        Err(_) => Err(PackedFault::behind(last, PackedKind::Memory)),
-    }
+    Ok(Graph::from_rows(file.n, file.arcs, file.rows))
 }

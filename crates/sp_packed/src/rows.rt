@@ -3,6 +3,7 @@ ghost use Rattle.std.specs.Prelude.{◌≡◌, ◌≢◌, ◌+◌, ◌*◌, ◌/
 ghost use Rattle.sp_device.specs.Failing.{Never};
 ghost use Rattle.sp_paths.specs.declared.arc.Arc.{Arc};
 ghost use Rattle.sp_graph.specs.Order.{IsNoGreater};
+ghost use Rattle.sp_graph.specs.Longest.{IsLongest};
 ghost use Rattle.sp_packed.specs.Packed.{head_words, arcs_words};
 ghost use Rattle.sp_packed.specs.Ends.{AreEnds};
 ghost use Rattle.sp_packed.specs.Rows.{IsInRow, AreRows, IsNextRow, IsNext, MayFollow, MayHead, MayStand, IsArcRefused, IsRefusedIn, IsCutIn, HasRows, words_to, arc_key, IsLastKey};
@@ -13,6 +14,13 @@ use crate::faults::{PackedFault, PackedField, PackedKind};
 use sp_device::Read;
 use sp_paths::Arc;
 use std::alloc::Global;
+
+/// The arcs of rows, and their greatest length, or 0 if there is no arc.
+#[derive(Drop)]
+pub struct RowArcs {
+    pub arcs: Vec<Arc>,
+    pub longest: u32,
+}
 
 // Returns in which row the arc at index `k` stands, that of `tail` or a later one.
 fn row_of(ends: &[u32], n: u32, k: usize, tail: u32) -> u32
@@ -256,6 +264,17 @@ fn cut_fault(
     }
 }
 
+// Returns the greatest length of these arcs, or 0 if there is none.
+fn longest_of(arcs: &[Arc]) -> u32
+    ensures { IsLongest arcs.now result }
+{
+    let mut longest: u32 = 0;
+    for arc in arcs {
+        longest = longest.max(arc.len);
+    }
+    longest
+}
+
 /// Reads the arcs of rows that end there.
 pub fn read_rows<R: Read>(
     alloc: Global,
@@ -263,14 +282,15 @@ pub fn read_rows<R: Read>(
     block: &mut Block,
     n: u32,
     ends: &[u32],
-) -> Result<Vec<Arc>, PackedFault>
+) -> Result<RowArcs, PackedFault>
     requires some { 1 ≤ n }
     requires few { slice_index ends.now n < 2 ^ 32 }
     requires ends { AreEnds n (slice_index ends.now n) ends.now }
-    ensures rows { IfOk result (λ arcs. AreRows n ends.now arcs.items) }
-    ensures size { IfOk result (λ arcs. length arcs.items ≡ slice_index ends.now n) }
-    ensures text { IfOk result (λ arcs. HasRows (R.left reader.old) (R.left reader.new)
-        block.old.sum block.new.sum arcs.items) }
+    ensures rows { IfOk result (λ rows. AreRows n ends.now rows.arcs.items) }
+    ensures size { IfOk result (λ rows. length rows.arcs.items ≡ slice_index ends.now n) }
+    ensures longest { IfOk result (λ rows. IsLongest rows.arcs.items rows.longest) }
+    ensures text { IfOk result (λ rows. HasRows (R.left reader.old) (R.left reader.new)
+        block.old.sum block.new.sum rows.arcs.items) }
     ensures told { IfErr result (λ e. let m = slice_index ends.now n in
         ToldBehind (head_words n m ++ ends.now) n m
         (R.left reader.old) (R.left reader.new) (R.has_failed reader.new) e) }
@@ -279,9 +299,11 @@ pub fn read_rows<R: Read>(
 {
     let m = ends[n as usize] as usize;
     let mut arcs = Vec::new(alloc);
+    let mut longest: u32 = 0;
     let mut row = 1;
     while arcs.len() < m {
-        let want = (m - arcs.len()).min(ROOM / 2);
+        let begin = arcs.len();
+        let want = (m - begin).min(ROOM / 2);
         let failed = block.take(reader, 2 * want);
         let numbers = block.numbers();
         match push_arcs(&mut arcs, numbers, ends, n, row) {
@@ -291,6 +313,7 @@ pub fn read_rows<R: Read>(
         if numbers.len() < 2 * want {
             return Err(cut_fault(&arcs, numbers, ends, n, row, failed));
         }
+        longest = longest.max(longest_of(&arcs[begin..]));
     }
-    Ok(arcs)
+    Ok(RowArcs { arcs, longest })
 }

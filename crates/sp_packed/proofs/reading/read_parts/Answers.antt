@@ -1,9 +1,11 @@
-use Rattle.std.proofs.Common.{◌≡◌, ◌++◌, ℕ, List, length, get_or, subst, ap, ◌∙◌}
+use Rattle.std.proofs.Common.{◌≡◌, ◌++◌, ℕ, List, length, get_or, subst, sym, ap, ◌∙◌}
 use Rattle.sp_packed.specs.Words.{sum_on}
 use Rattle.sp_packed.specs.Packed.{head_words, content}
+use Rattle.sp_packed.specs.Ends.{AreEnds}
 use Rattle.sp_packed.specs.Rows.{AreRows}
 use Rattle.sp_packed.specs.Reading.{ToldBehind}
 use Rattle.sp_packed.proofs.Whole.{took_ends, took_rows, sum_rows, has_parts}
+use Rattle.sp_packed.proofs.RowIndex.{index_of_rows}
 use Rattle.sp_packed.proofs.reading.read_parts.Goals as goal
 
 pub returns-in-Err-read_rows-clause-told : goal.returns-in-Err-read_rows-clause-told
@@ -45,7 +47,7 @@ returns-in-Err-read_sum-clause-told g c =
     let are = c.in-Ok-read_ends.ensures.ends in
     let has = c.in-Ok-read_ends.ensures.text in
     let same : c.deref.result.now ≡ ends = c.deref.ensures.value in
-    let arcs = c.in-Ok-read_rows.arcs.items in
+    let arcs = c.in-Ok-read_rows.read.arcs.items in
     let rows : AreRows n ends arcs = subst (λ l. AreRows n l arcs) same c.in-Ok-read_rows.ensures.rows in
     let size : length arcs ≡ m = subst (λ l. length arcs ≡ get_or l n 0) same c.in-Ok-read_rows.ensures.size ∙ are.last in
     let has_rows = c.in-Ok-read_rows.ensures.text in
@@ -72,9 +74,25 @@ returns-clause-parts g c =
     let are = c.in-Ok-read_ends.ensures.ends in
     let has = c.in-Ok-read_ends.ensures.text in
     let same : c.deref.result.now ≡ ends = c.deref.ensures.value in
-    let arcs = c.in-Ok-read_rows.arcs.items in
+    let arcs = c.in-Ok-read_rows.read.arcs.items in
     let rows : AreRows n ends arcs = subst (λ l. AreRows n l arcs) same c.in-Ok-read_rows.ensures.rows in
     let size : length arcs ≡ m = subst (λ l. length arcs ≡ get_or l n 0) same c.in-Ok-read_rows.ensures.size ∙ are.last in
     let has_rows = c.in-Ok-read_rows.ensures.text in
     has_parts c.args.top c.args.most_arcs n m old mid mid2 s t u ends front are has mid3 v arcs rows size has_rows new c.new-block.ensures.sum
     c.in_default.ensures.sum c.in_default.ensures.ended
+
+pub returns-clause-rows : goal.returns-clause-rows
+returns-clause-rows g c =
+    let n = c.in-Ok.front.0 in
+    let ends = c.in-Ok-read_ends.ends.items in
+    let are = c.in-Ok-read_ends.ensures.ends in
+    let same : c.deref.result.now ≡ ends = c.deref.ensures.value in
+    let arcs = c.in-Ok-read_rows.read.arcs.items in
+    let rows : AreRows n ends arcs = subst (λ l. AreRows n l arcs) same c.in-Ok-read_rows.ensures.rows in
+    let size : length arcs ≡ get_or ends n 0 = subst (λ l. length arcs ≡ get_or l n 0) same c.in-Ok-read_rows.ensures.size in
+    let ends_are : AreEnds n (length arcs) ends = subst (λ k. AreEnds n k ends) (sym (size ∙ are.last)) are in
+    record {
+      order = rows.order;
+      index = index_of_rows n arcs rows.arcs_are rows.order ends ends_are rows.rows;
+      longest = c.in-Ok-read_rows.ensures.longest;
+    }

@@ -1,8 +1,10 @@
 use Rattle.std.proofs.Common.{◌≡◌, ◌+◌, ◌*◌, [], ◌++◌, ◌≤◌, ℕ, List, length, length-append, get_or, ap, subst, refl, sym, ◌∙◌, arith}
 use Rattle.sp_paths.specs.declared.arc.Arc.{Arc}
+use Rattle.sp_graph.specs.Longest.{IsLongest}
+use Rattle.sp_graph.proofs.Parts.{longest_none}
 use Rattle.sp_packed.specs.Words.{HasCome, sum_on}
 use Rattle.sp_packed.specs.Rows.{AreRows, IsNextRow, HasRows, IsCutIn}
-use Rattle.sp_packed.proofs.RowSteps.{rows_first, no_rows_yet, first_row}
+use Rattle.sp_packed.proofs.RowSteps.{rows_first, no_rows_yet, first_row, longest_came}
 use Rattle.sp_packed.proofs.RowTelling.{rows_came, arc_refused, arcs_cut}
 use Rattle.sp_packed.proofs.rows.read_rows.Goals as goal
 
@@ -17,6 +19,7 @@ loop-arcs-init g c =
       omega (arith, ap length none),
       refl,
       refl,
+      subst (λ l. IsLongest l 0) (sym none) longest_none,
     )
 
 pub returns-in-Err-clause-told : goal.returns-in-Err-clause-told
@@ -32,7 +35,7 @@ returns-in-Err-clause-told g c =
     let want = c.min-want.result in
     let arcs = c.loop-arcs.arcs.items in
     let came : HasCome (2 * want) mid ns failed new = subst (λ l. HasCome (2 * want) mid l failed new) (sym same) c.take-failed.ensures.came in
-    let room : length arcs + want ≤ get_or c.args.ends.now c.args.n 0 = omega (arith, c.min-want.ensures, before.3, before.4, c.len-in-loop-arcs.ensures) in
+    let room : length arcs + want ≤ get_or c.args.ends.now c.args.n 0 = omega (arith, c.min-want.ensures, before.3, before.4, c.len-begin.ensures) in
     arc_refused c.args.n (get_or c.args.ends.now c.args.n 0) want c.args.ends.now old mid new c.args.block.now.sum c.loop-arcs.block.sum broken failed arcs ns c.requires.ends before.1 c.push_arcs.ensures.fit
     before.0 came room c.in-Err.fault came.within c.in-Err.ensures.refused
 
@@ -49,7 +52,7 @@ returns-then-numbers-want-clause-told g c =
     let want = c.min-want.result in
     let arcs = c.loop-arcs.arcs.items in
     let came : HasCome (2 * want) mid ns failed new = subst (λ l. HasCome (2 * want) mid l failed new) (sym same) c.take-failed.ensures.came in
-    let room : length arcs + want ≤ get_or c.args.ends.now c.args.n 0 = omega (arith, c.min-want.ensures, before.3, before.4, c.len-in-loop-arcs.ensures) in
+    let room : length arcs + want ≤ get_or c.args.ends.now c.args.n 0 = omega (arith, c.min-want.ensures, before.3, before.4, c.len-begin.ensures) in
     let items = c.in-Ok.ensures.items in
     let rows : AreRows c.args.n c.args.ends.now (arcs ++ items.0) = subst (λ l. AreRows c.args.n c.args.ends.now l) items.1 c.in-Ok.ensures.rows in
     let is : c.deref.result.now ≡ arcs ++ items.0 = c.deref.ensures.value ∙ items.1 in
@@ -69,7 +72,7 @@ loop-arcs-preserved g c =
     let want = c.min-want.result in
     let arcs = c.loop-arcs.arcs.items in
     let came : HasCome (2 * want) mid ns failed new = subst (λ l. HasCome (2 * want) mid l failed new) (sym same) c.take-failed.ensures.came in
-    let room : length arcs + want ≤ get_or c.args.ends.now c.args.n 0 = omega (arith, c.min-want.ensures, before.3, before.4, c.len-in-loop-arcs.ensures) in
+    let room : length arcs + want ≤ get_or c.args.ends.now c.args.n 0 = omega (arith, c.min-want.ensures, before.3, before.4, c.len-begin.ensures) in
     let sum = subst (λ l. c.take-failed.new.self.sum ≡ sum_on c.loop-arcs.block.sum l) (sym same) c.take-failed.ensures.sum in
     let items = c.in-Ok.ensures.items in
     let added : List Arc = items.0 in (
@@ -80,4 +83,7 @@ loop-arcs-preserved g c =
       omega (arith, ap length items.1, length-append arcs added, items.3, came.within, room, before.4),
       before.4,
       c.take-failed.ensures.lasting ∙ before.5,
+      subst (λ l. IsLongest l c.max-longest.result) (sym items.1)
+          (longest_came c.deref-in-loop-arcs.result.now arcs added c.len-begin.result c.loop-arcs.longest c.longest_of.result c.max-longest.result
+          (c.deref-in-loop-arcs.ensures.value ∙ items.1) (omega (arith, c.len-begin.ensures)) before.6 c.longest_of.ensures c.max-longest.ensures),
     )
