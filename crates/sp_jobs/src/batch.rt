@@ -19,8 +19,8 @@ use crate::progress::{Listener, Nobody};
 use crate::settings::{BucketWidth, Settings};
 use crate::tree_crews::TreeCrew;
 use crate::vertices::first_above;
-use sp_dimacs::{GrFile, Read, Write, read_ss};
-use sp_network::{Direction, Peeked};
+use sp_dimacs::{Read, Write, read_ss};
+use sp_network::{Direction, Network, Peeked};
 use sp_word::{Meter, Workers};
 use std::alloc::Global;
 use std::sync::Wait;
@@ -31,7 +31,7 @@ use std::thread::Threads;
 fn answer_batch<const P: u32, R: TreeCrew<P>, W: Write, L: Listener>(
     rt: &R,
     alloc: Global,
-    file: GrFile,
+    file: Network,
     sources: &[u32],
     limit: Option<u64>,
     settings: &Settings<P, L>,
@@ -46,7 +46,7 @@ fn answer_batch<const P: u32, R: TreeCrew<P>, W: Write, L: Listener>(
         (directed settings.now.direction (graph_of file)) sources.now result }
     ensures untouched { IfErr result (λ e. is_early e ≡ true → out.new ≡ out.old) }
 {
-    if let Some(source) = first_above(sources, file.n) {
+    if let Some(source) = first_above(sources, file.n()) {
         return Err(BatchError::NoSuchVertex(source, Role::Source));
     }
     let graph = settings.build(rt, alloc, file)?;

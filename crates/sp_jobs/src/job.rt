@@ -15,9 +15,9 @@ use crate::answers::BatchError;
 use crate::listing::{Listed, Listing};
 use crate::progress::{Listener, Progress};
 use crate::settings::Settings;
-use sp_dimacs::{GrFile, Read};
+use sp_dimacs::Read;
 use sp_graph::Graph;
-use sp_network::{Peeked, read_network};
+use sp_network::{Network, Peeked, read_network};
 use sp_run::{Run, RunError, RunWords, useful_team, words_of_run};
 use sp_word::{Crew, Meter, Team};
 use std::alloc::{AllocError, Global};
@@ -32,7 +32,7 @@ impl<const P: u32, L: Listener> Settings<'_, P, L> {
         rt: &R,
         alloc: Global,
         gr: &mut Peeked<G>,
-    ) -> Result<GrFile, BatchError>
+    ) -> Result<Network, BatchError>
         requires { is_layout P ≡ true }
         ensures exact { (text : List ℕ) → ⟦<Peeked<G> as Read>⟧.left gr.old ≡ Some text
             → MatchResult result
@@ -60,7 +60,7 @@ impl<const P: u32, L: Listener> Settings<'_, P, L> {
         alloc: Global,
         gr: &mut Peeked<G>,
         sources: Listing<'s, S>,
-    ) -> Result<(GrFile, Listed<'s>), BatchError>
+    ) -> Result<(Network, Listed<'s>), BatchError>
         requires layout { is_layout P ≡ true }
         requires sources { IsNumbered sources }
         ensures exact { (gr_text ss_text : List ℕ)
@@ -94,7 +94,7 @@ impl<const P: u32, L: Listener> Settings<'_, P, L> {
         &self,
         rt: &R,
         alloc: Global,
-        file: GrFile,
+        file: Network,
     ) -> Result<Graph, AllocError>
         requires { IsNetworkUpTo P (most_of self.now.direction) file }
         ensures n { IfOk result (λ graph. graph.n ≡ file.n) }
@@ -104,7 +104,7 @@ impl<const P: u32, L: Listener> Settings<'_, P, L> {
             (λ graph. AreSame graph (directed self.now.direction (graph_of file))) }
     {
         let made = self.direction.apply(file)?;
-        let graph = Graph::from_arcs_by(rt, alloc, made.n, made.arcs, self.workers)?;
+        let graph = made.build(rt, alloc, self.workers)?;
         self.listener.hear(Progress::Graph {
             vertices: graph.n(),
             arcs: graph.m(),

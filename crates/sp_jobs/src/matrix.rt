@@ -18,8 +18,8 @@ use crate::progress::Listener;
 use crate::row_crews::RowCrew;
 use crate::settings::Settings;
 use crate::vertices::first_above;
-use sp_dimacs::{GrFile, Read, Write};
-use sp_network::Peeked;
+use sp_dimacs::{Read, Write};
+use sp_network::{Network, Peeked};
 use sp_word::Meter;
 use std::alloc::Global;
 
@@ -28,7 +28,7 @@ use std::alloc::Global;
 fn answer_matrix<const P: u32, R: RowCrew<P>, W: Write, L: Listener>(
     rt: &R,
     alloc: Global,
-    file: GrFile,
+    file: Network,
     sources: &[u32],
     targets: &[u32],
     settings: &Settings<P, L>,
@@ -43,10 +43,11 @@ fn answer_matrix<const P: u32, R: RowCrew<P>, W: Write, L: Listener>(
         (directed settings.now.direction (graph_of file)) sources.now result }
     ensures untouched { IfErr result (λ e. is_early e ≡ true → out.new ≡ out.old) }
 {
-    if let Some(source) = first_above(sources, file.n) {
+    let vertices = file.n();
+    if let Some(source) = first_above(sources, vertices) {
         return Err(BatchError::NoSuchVertex(source, Role::Source));
     }
-    if let Some(target) = first_above(targets, file.n) {
+    if let Some(target) = first_above(targets, vertices) {
         return Err(BatchError::NoSuchVertex(target, Role::Target));
     }
     let graph = settings.build(rt, alloc, file)?;

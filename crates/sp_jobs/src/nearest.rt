@@ -16,8 +16,8 @@ use crate::listing::Listing;
 use crate::progress::{Listener, Progress};
 use crate::settings::Settings;
 use crate::vertices::first_above;
-use sp_dimacs::{GrFile, Read, Write};
-use sp_network::Peeked;
+use sp_dimacs::{Read, Write};
+use sp_network::{Network, Peeked};
 use sp_run::Nearest;
 use sp_word::{Crew, Meter};
 use std::alloc::Global;
@@ -33,7 +33,7 @@ const NOTHING: Summary = Summary {
 fn answer_nearest<const P: u32, R: Crew, W: Write, L: Listener>(
     rt: &R,
     alloc: Global,
-    file: GrFile,
+    file: Network,
     asked: Nearest,
     settings: &Settings<P, L>,
     out: &mut W,
@@ -46,7 +46,7 @@ fn answer_nearest<const P: u32, R: Crew, W: Write, L: Listener>(
         (directed settings.now.direction (graph_of file)) asked.entry.sources.now result }
     ensures untouched { IfErr result (λ e. is_early e ≡ true → out.new ≡ out.old) }
 {
-    if let Some(source) = first_above(asked.sources, file.n) {
+    if let Some(source) = first_above(asked.sources, file.n()) {
         return Err(BatchError::NoSuchVertex(source, Role::Source));
     }
     let graph = settings.build(rt, alloc, file)?;

@@ -3,6 +3,7 @@ ghost use Rattle.std.specs.Prelude.{◌≡◌, ℕ, IfOk};
 ghost use Rattle.sp_dimacs.specs.Graph.{IsNetwork, IsNetworkUpTo, graph_of};
 ghost use Rattle.sp_network.specs.Network.{directed, most_of};
 
+use crate::network::Network;
 use sp_dimacs::{GrFile, MOST_ARCS, MOST_ARCS_BOTH_WAYS};
 use sp_turned::{append_turned, turn};
 use std::alloc::AllocError;
@@ -29,9 +30,8 @@ impl Direction {
         }
     }
 
-    /// Returns the network of a file with its arcs in this direction. Arcs are turned in place; the call fails only if there is
-    /// no memory for twice the arcs where they are to lead both ways.
-    pub fn apply(self, file: GrFile) -> Result<GrFile, AllocError>
+    // Returns the file with its arcs in this direction.
+    fn lead(self, file: GrFile) -> Result<GrFile, AllocError>
         ensures directed { IfOk result
             (λ made. graph_of made ≡ directed self (graph_of file)) }
         ensures network { (P : ℕ) → IsNetworkUpTo P (most_of self) file
@@ -44,5 +44,21 @@ impl Direction {
             Direction::BothWays => append_turned(&mut file.arcs)?,
         }
         Ok(file)
+    }
+    /// Returns the network with its arcs in this direction. Arcs are turned in place, and nothing is known of their rows then; the
+    /// call fails only if there is no memory for twice the arcs where they are to lead both ways.
+    pub fn apply(self, network: Network) -> Result<Network, AllocError>
+        ensures directed { IfOk result
+            (λ made. graph_of made ≡ directed self (graph_of network)) }
+        ensures network { (P : ℕ) → IsNetworkUpTo P (most_of self) network
+            → IfOk result (IsNetwork P) }
+    {
+        match self {
+            Direction::AsGiven => Ok(network),
+            Direction::Towards | Direction::BothWays => {
+                let file = self.lead(network.into_file())?;
+                Ok(Network::of_lines(file))
+            }
+        }
     }
 }

@@ -8,6 +8,7 @@ ghost use Rattle.sp_network.specs.Network.{most_of, shows_packed, SpellsNetwork,
 
 use crate::directions::Direction;
 use crate::faults::NetworkFault;
+use crate::network::Network;
 use crate::peeked::Peeked;
 use sp_device::Read;
 use sp_dimacs::{DimacsError, GrFile, Kind, read_gr_both_ways, read_gr_by};
@@ -60,13 +61,13 @@ fn read_lines<const P: u32, H: Crew, R: Read>(
     reader: &mut R,
     workers: Workers,
     direction: Direction,
-) -> Result<GrFile, NetworkFault>
+) -> Result<Network, NetworkFault>
     requires { is_layout P ≡ true }
     ensures { Answered false P (most_of direction) (R.left reader.old) (R.left reader.new)
         (R.has_failed reader.new) (R.failing reader.old) result }
 {
     match read_directed::<P, H, R>(rt, alloc, reader, workers, direction) {
-        Ok(file) => Ok(file),
+        Ok(file) => Ok(Network::of_lines(file)),
         Err(error) => Err(NetworkFault::Text(error)),
     }
 }
@@ -76,16 +77,13 @@ fn read_words<const P: u32, R: Read>(
     alloc: Global,
     reader: &mut R,
     direction: Direction,
-) -> Result<GrFile, NetworkFault>
+) -> Result<Network, NetworkFault>
     requires { is_layout P ≡ true }
     ensures { Answered true P (most_of direction) (R.left reader.old) (R.left reader.new)
         (R.has_failed reader.new) (R.failing reader.old) result }
 {
     match read_packed_file::<P, R>(alloc, reader, direction.most_arcs()) {
-        Ok(file) => Ok(GrFile {
-            n: file.n,
-            arcs: file.arcs,
-        }),
+        Ok(file) => Ok(Network::of_words(file)),
         Err(fault) => Err(NetworkFault::Packed(fault)),
     }
 }
@@ -101,7 +99,7 @@ pub fn read_network<const P: u32, H: Crew, D: Read>(
     reader: &mut Peeked<D>,
     workers: Workers,
     direction: Direction,
-) -> Result<GrFile, NetworkFault>
+) -> Result<Network, NetworkFault>
     requires { is_layout P ≡ true }
     ensures exact { (text : List ℕ) → ⟦<Peeked<D> as Read>⟧.left reader.old ≡ Some text
         → NetworkRead P (most_of direction) text (⟦<Peeked<D> as Read>⟧.left reader.new)

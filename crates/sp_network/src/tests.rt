@@ -1,8 +1,9 @@
 //! The files of one graph, in both forms.
 ghost use Rattle.std.specs.Prelude.{◌≤◌, ◌^◌, length};
 
-use crate::{Direction, GrFile, NetworkFault, Peeked, read_network};
+use crate::{Direction, GrFile, Network, NetworkFault, Peeked, read_network};
 use sp_device::UpTo;
+use sp_graph::Graph;
 use sp_packed::{PackedFault, PackedField, PackedKind};
 use sp_paths::Arc;
 use sp_text::{DimacsError, Kind};
@@ -58,7 +59,7 @@ fn read_directed<R: Threads + Sync>(
     alloc: Global,
     device: UpTo,
     direction: Direction,
-) -> Result<GrFile, NetworkFault> {
+) -> Result<Network, NetworkFault> {
     let mut peeked = Peeked::new(device);
     read_network::<28, _, _>(
         &Alone::new(rt),
@@ -70,7 +71,7 @@ fn read_directed<R: Threads + Sync>(
 }
 
 // The same where they lead one way.
-fn read<R: Threads + Sync>(rt: &R, alloc: Global, device: UpTo) -> Result<GrFile, NetworkFault> {
+fn read<R: Threads + Sync>(rt: &R, alloc: Global, device: UpTo) -> Result<Network, NetworkFault> {
     read_directed(rt, alloc, device, Direction::AsGiven)
 }
 
@@ -80,7 +81,7 @@ fn read_front<R: Threads + Sync>(
     alloc: Global,
     bytes: &[u8],
     count: usize,
-) -> Result<GrFile, NetworkFault>
+) -> Result<Network, NetworkFault>
     requires within { count ≤ length bytes.now }
     requires short { count ≤ 2 ^ 62 }
 {
@@ -88,10 +89,11 @@ fn read_front<R: Threads + Sync>(
 }
 
 // Whether these are the arcs of the graph, in any order.
-fn is_graph(told: Result<GrFile, NetworkFault>) -> bool {
+fn is_graph(told: Result<Network, NetworkFault>) -> bool {
     let arcs = [(1, 2, 3), (1, 3, 3), (2, 4, 2), (3, 4, 2), (1, 4, 6)];
     match told {
-        Ok(file) => {
+        Ok(network) => {
+            let file = network.into_file();
             file.n == 4
                 && file.arcs.len() == 5
                 && arcs.iter().all(|(tail, head, len)| {
@@ -107,14 +109,14 @@ fn is_graph(told: Result<GrFile, NetworkFault>) -> bool {
     }
 }
 
-// The file of a graph of `n` vertices with these arcs.
-fn file_of(alloc: Global, n: u32, triples: &[Triple]) -> Result<GrFile, AllocError> {
+// The network of `n` vertices with these arcs.
+fn network_of(alloc: Global, n: u32, triples: &[Triple]) -> Result<Network, AllocError> {
     let mut arcs = Vec::new(alloc);
     for triple in triples {
         let (tail, head, len) = *triple;
         arcs.push(Arc { tail, head, len })?;
     }
-    Ok(GrFile { n, arcs })
+    Ok(Network::of_lines(GrFile { n, arcs }))
 }
 
 // Whether the file has so many vertices and exactly these arcs, in this order.
@@ -137,8 +139,8 @@ fn leads<R: Threads + Sync>(
     want: &[Triple],
 ) -> bool {
     match read_directed(rt, alloc, device, direction) {
-        Ok(file) => match direction.apply(file) {
-            Ok(made) => has(&made, 4, want),
+        Ok(network) => match direction.apply(network) {
+            Ok(made) => has(&made.into_file(), 4, want),
             Err(_) => false,
         },
         Err(_) => false,
@@ -166,6 +168,50 @@ fn one_graph_in_both_forms(rt: HostRuntime) -> Result<(), Fail> {
         let lines = is_graph(read(&rt, alloc, UpTo::in_pieces(LINES, most)));
         assert!(rt; lines);
     }
+    Ok(())
+}
+
+// The graph of a text, built; None where its network or its memory is refused.
+fn built<R: Threads + Sync>(rt: &R, alloc: Global, device: UpTo) -> Option<Graph> {
+    let mut peeked = Peeked::new(device);
+    let network = read_network::<28, _, _>(
+        &Alone::new(rt),
+        alloc,
+        &mut peeked,
+        Workers::one(),
+        Direction::AsGiven,
+    )
+    .ok()?;
+    network.build(rt, alloc, Workers::one()).ok()
+}
+
+// Whether these are the arcs of the built graph, in order, and 6 is the greatest length.
+fn is_built(graph: Option<Graph>) -> bool {
+    let Some(graph) = graph else {
+        return false;
+    };
+    let arcs = [(1, 2, 3), (1, 3, 3), (1, 4, 6), (2, 4, 2), (3, 4, 2)];
+    graph.n() == 4
+        && graph.m() == 5
+        && graph.longest() == 6
+        && graph
+            .arcs()
+            .iter()
+            .zip(&arcs)
+            .all(|(arc, want)| (arc.tail, arc.head, arc.len) == *want)
+        && graph.row(4).is_empty()
+        && graph.row(1).len() == 3
+}
+
+#[test]
+fn graphs_of_both_forms(rt: HostRuntime) -> Result<(), Fail> {
+    let alloc = rt.alloc();
+    let words = bytes_of(alloc, &WORDS)?;
+    assert!(rt; words.len() == 92);
+    let packed = is_built(built(&rt, alloc, UpTo::whole(&words)));
+    assert!(rt; packed);
+    let lines = is_built(built(&rt, alloc, UpTo::whole(LINES)));
+    assert!(rt; lines);
     Ok(())
 }
 
@@ -221,10 +267,14 @@ fn numbers_of_arcs(rt: HostRuntime) -> Result<(), Fail> {
 fn arcs_in_each_direction(rt: HostRuntime) -> Result<(), Fail> {
     let alloc = rt.alloc();
     let arcs = [(1, 2, 3), (1, 3, 3), (2, 4, 2), (3, 4, 2), (1, 4, 6)];
-    let given = Direction::AsGiven.apply(file_of(alloc, 4, &arcs)?)?;
+    let given = Direction::AsGiven
+        .apply(network_of(alloc, 4, &arcs)?)?
+        .into_file();
     assert!(rt; has(&given, 4, &arcs));
     let round = [(2, 1, 3), (3, 1, 3), (4, 2, 2), (4, 3, 2), (4, 1, 6)];
-    let towards = Direction::Towards.apply(file_of(alloc, 4, &arcs)?)?;
+    let towards = Direction::Towards
+        .apply(network_of(alloc, 4, &arcs)?)?
+        .into_file();
     assert!(rt; has(&towards, 4, &round));
     let all = [
         (1, 2, 3),
@@ -238,7 +288,9 @@ fn arcs_in_each_direction(rt: HostRuntime) -> Result<(), Fail> {
         (4, 3, 2),
         (4, 1, 6),
     ];
-    let both = Direction::BothWays.apply(file_of(alloc, 4, &arcs)?)?;
+    let both = Direction::BothWays
+        .apply(network_of(alloc, 4, &arcs)?)?
+        .into_file();
     assert!(rt; has(&both, 4, &all));
     Ok(())
 }
@@ -246,11 +298,17 @@ fn arcs_in_each_direction(rt: HostRuntime) -> Result<(), Fail> {
 #[test]
 fn loops_and_no_arcs_in_each_direction(rt: HostRuntime) -> Result<(), Fail> {
     let alloc = rt.alloc();
-    let once = Direction::Towards.apply(file_of(alloc, 1, &[(1, 1, 5)])?)?;
+    let once = Direction::Towards
+        .apply(network_of(alloc, 1, &[(1, 1, 5)])?)?
+        .into_file();
     assert!(rt; has(&once, 1, &[(1, 1, 5)]));
-    let twice = Direction::BothWays.apply(file_of(alloc, 1, &[(1, 1, 5)])?)?;
+    let twice = Direction::BothWays
+        .apply(network_of(alloc, 1, &[(1, 1, 5)])?)?
+        .into_file();
     assert!(rt; has(&twice, 1, &[(1, 1, 5), (1, 1, 5)]));
-    let none = Direction::BothWays.apply(file_of(alloc, 1, &[])?)?;
+    let none = Direction::BothWays
+        .apply(network_of(alloc, 1, &[])?)?
+        .into_file();
     assert!(rt; has(&none, 1, &[]));
     Ok(())
 }

@@ -11,9 +11,9 @@ ghost use Rattle.sp_pairs.specs.Pairs.{IsPairUpTo, IsFirstPairAbove, ArePairsDon
 
 use crate::asking::find_answers;
 use crate::pair_lines::write_pairs;
-use sp_dimacs::{GrFile, PairsFile, Read, Write, read_pairs};
+use sp_dimacs::{PairsFile, Read, Write, read_pairs};
 use sp_jobs::{BatchError, BucketWidth, Job, Listener, Nobody, Role, Settings, Summary};
-use sp_network::{Direction, Peeked};
+use sp_network::{Direction, Network, Peeked};
 use sp_word::{Crew, Meter, Workers};
 use std::alloc::Global;
 
@@ -38,7 +38,7 @@ fn first_pair_above(pairs: &[(u32, u32)], n: u32) -> Option<(u32, Role)>
 fn answer_pairs<const P: u32, R: Crew, W: Write, L: Listener>(
     rt: &R,
     alloc: Global,
-    file: GrFile,
+    file: Network,
     list: &PairsFile,
     settings: &Settings<P, L>,
     out: &mut W,
@@ -50,7 +50,7 @@ fn answer_pairs<const P: u32, R: Crew, W: Write, L: Listener>(
         (directed settings.now.direction (graph_of file)) list.now.pairs.items result }
     ensures untouched { IfErr result (λ e. is_early e ≡ true → out.new ≡ out.old) }
 {
-    if let Some((number, role)) = first_pair_above(&list.pairs, file.n) {
+    if let Some((number, role)) = first_pair_above(&list.pairs, file.n()) {
         return Err(BatchError::NoSuchVertex(number, role));
     }
     let graph = settings.build(rt, alloc, file)?;

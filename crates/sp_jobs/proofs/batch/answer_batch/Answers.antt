@@ -10,12 +10,12 @@ returns-in_err-graph-clause-batch g c =
     let p = err_from_is_err_and c.from_residual.result c.from_residual.ensures.1 in
     let graph = directed c.args.settings.now.direction (graph_of c.args.file) in
     let network = c.requires.network in
-    let ok : AreSources g.row.P c.args.limit graph c.args.sources.now = record { layout = c.requires.layout; most = network.most; arcs = are_arcs c.args.settings.now.direction c.args.file.n c.args.file.arcs.items network.arcs; numbered = c.requires.sources; limit_within = c.requires.limit; within = c.in_default.ensures.none } in
+    let ok : AreSources g.row.P c.args.limit graph c.args.sources.now = record { layout = c.requires.layout; most = network.most; arcs = are_arcs c.args.settings.now.direction c.args.file.n c.args.file.arcs.items network.arcs; numbered = c.requires.sources; limit_within = c.requires.limit; within = rw c.n.ensures at c.in_default.ensures.none } in
     rw (p.1, p.2) (refused_early g.row.P c.args.limit graph c.args.sources.now g.W.Write ok c.args.out.now)
 
 pub returns-clause-batch : goal.returns-clause-batch
 returns-clause-batch g c =
     let network = c.requires.network in
     batch_of_same g.row.P c.args.limit (directed c.args.settings.now.direction (graph_of c.args.file)) c.args.sources.now g.W.Write
-    (record { layout = c.requires.layout; most = network.most; arcs = are_arcs c.args.settings.now.direction c.args.file.n c.args.file.arcs.items network.arcs; numbered = c.requires.sources; limit_within = c.requires.limit; within = c.in_default.ensures.none })
+    (record { layout = c.requires.layout; most = network.most; arcs = are_arcs c.args.settings.now.direction c.args.file.n c.args.file.arcs.items network.arcs; numbered = c.requires.sources; limit_within = c.requires.limit; within = rw c.n.ensures at c.in_default.ensures.none })
     c.in_ok-graph.graph c.args.out.now c.answer_trees.new.out c.answer_trees.result c.in_ok-graph.ensures.arcs (rw c.of-asked.ensures at c.answer_trees.ensures)

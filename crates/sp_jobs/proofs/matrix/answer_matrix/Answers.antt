@@ -11,7 +11,7 @@ returns-in_err-graph-clause-matrix g c =
     let graph = directed c.args.settings.now.direction (graph_of c.args.file) in
     let sources = c.args.sources.now in
     let targets = c.args.targets.now in
-    let ok : AreLists graph sources targets = record { arcs = are_arcs c.args.settings.now.direction c.args.file.n c.args.file.arcs.items c.requires.network.arcs; numbered_sources = c.requires.sources; numbered_targets = c.requires.targets; within = record { each_source = c.in_default.ensures.none; each_target = c.in_default-first_above.ensures.none } } in
+    let ok : AreLists graph sources targets = record { arcs = are_arcs c.args.settings.now.direction c.args.file.n c.args.file.arcs.items c.requires.network.arcs; numbered_sources = c.requires.sources; numbered_targets = c.requires.targets; within = record { each_source = rw c.n-vertices.ensures at c.in_default.ensures.none; each_target = rw c.n-vertices.ensures at c.in_default-first_above.ensures.none } } in
     rw (p.1, p.2) (refused_early g.row.P graph sources targets g.W.Write ok c.args.out.now)
 
 pub returns-clause-matrix : goal.returns-clause-matrix
@@ -19,6 +19,6 @@ returns-clause-matrix g c =
     let graph = directed c.args.settings.now.direction (graph_of c.args.file) in
     let sources = c.args.sources.now in
     let targets = c.args.targets.now in
-    let ok : AreLists graph sources targets = record { arcs = are_arcs c.args.settings.now.direction c.args.file.n c.args.file.arcs.items c.requires.network.arcs; numbered_sources = c.requires.sources; numbered_targets = c.requires.targets; within = record { each_source = c.in_default.ensures.none; each_target = c.in_default-first_above.ensures.none } } in
+    let ok : AreLists graph sources targets = record { arcs = are_arcs c.args.settings.now.direction c.args.file.n c.args.file.arcs.items c.requires.network.arcs; numbered_sources = c.requires.sources; numbered_targets = c.requires.targets; within = record { each_source = rw c.n-vertices.ensures at c.in_default.ensures.none; each_target = rw c.n-vertices.ensures at c.in_default-first_above.ensures.none } } in
     matrix_of_same g.row.P graph sources targets g.W.Write ok c.in_ok-graph.graph c.args.out.now c.answer_rows.new.out c.answer_rows.result
     c.in_ok-graph.ensures.arcs (rw c.of-asked.ensures at c.answer_rows.ensures)

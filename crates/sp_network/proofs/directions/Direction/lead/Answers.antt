@@ -3,8 +3,8 @@ use Rattle.std.proofs.lemmas.List.{with_items_is}
 use Rattle.sp_turned.specs.Turned.{turned}
 use Rattle.sp_network.specs.declared.directions.Direction.TheVariants.{AsGiven, Towards, BothWays}
 use Rattle.sp_network.proofs.DirectedArcs.{as_long, directed_network}
-use Rattle.sp_network.proofs.directions.Direction.apply.Goals.{in-AsGiven, in-Towards, in-BothWays+in_ok-append_turned-in-BothWays}
-use Rattle.sp_network.proofs.directions.Direction.apply.Goals as goal
+use Rattle.sp_network.proofs.directions.Direction.lead.Goals.{in-AsGiven, in-Towards, in-BothWays+in_ok-append_turned-in-BothWays}
+use Rattle.sp_network.proofs.directions.Direction.lead.Goals as goal
 
 pub returns-clause-network : goal.returns-clause-network
 returns-clause-network c = λ P within. elim c.match-self.branch [
