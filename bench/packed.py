@@ -2,8 +2,8 @@
 """Times packed graphs beside texts: reading, `spt pack` itself, and questions of the turned graph beside the plain ones.
 
 On a road-like graph whole commands run in turn, as ./spt runs them, several times; of each the median of the time that passed counts, and
-that of the processors' time. (A peak counts what this program took before the start, some 20 MiB.) A pair of neighbours takes nothing but
-reading; so does `pack` into no file, but for the writing. In the same turns a plain Dijkstra in C++ (`bench/dijkstra.cpp`) answers the
+that of the processors' time. (A peak counts what this program took before the start, some 20 MiB.) A list without pairs takes nothing but the
+start and reading; a pair of neighbours the room for pairs too; `pack` into no file the writing. In the same turns a plain Dijkstra in C++ (`bench/dijkstra.cpp`) answers the
 same pair from the text, on one thread. Where a folder has the yardsticks `radix.cpp` and `limit.cpp`, the time in which each of these
 reads the text is told too. What is compared must be the same bytes: the packed graph by any number of workers, from the text and from
 itself, and the answers from both forms.
@@ -37,12 +37,14 @@ SAME = [("text", "packed"), ("text towards", "packed towards"), ("tree", "packed
 Job = collections.namedtuple("Job", "title name words than")
 # the milliseconds that pass, those of all processors, and the MiB at the peak
 Taken = collections.namedtuple("Taken", "passed processors peak")
-Files = collections.namedtuple("Files", "gr packed near ss lines")
+Files = collections.namedtuple("Files", "gr packed none near ss lines")
 
 
 def jobs_of(files, delta):
     near, tree = ["--delta", str(delta)], [files.ss, "--delta", str(delta)]
     return [
+        Job("no pair, of the text", "read", ["pairs", files.gr, files.none, *near], "read"),
+        Job("no pair, packed", "packed read", ["pairs", files.packed, files.none, *near], "read"),
         Job("a near pair, of the text", "text", ["pairs", files.gr, files.near, *near], "text"),
         Job("a near pair, packed", "packed", ["pairs", files.packed, files.near, *near], "text"),
         Job("`pack` of the text", "pack", ["pack", files.gr], "text"),
@@ -69,7 +71,8 @@ def first_arc(gr):
 def make_files(programs, kept, folder, vertices):
     """The files, and what is told of the graph."""
     made, told = whole.files_of(kept, folder, "roads", vertices, 1)
-    files = Files(made.gr, *(os.path.join(folder, name) for name in ("roads.packed", "near.pairs")), made.ss, os.path.join(folder, "lines"))
+    files = Files(made.gr, *(os.path.join(folder, name) for name in ("roads.packed", "none.pairs", "near.pairs")), made.ss, os.path.join(folder, "lines"))
+    pairs.write_pairs(files.none, [])
     pairs.write_pairs(files.near, [first_arc(files.gr)])
     with open(files.packed, "wb") as out:
         subprocess.run(parts.as_users_run(programs.spt, ["pack", files.gr]), check=True, stdout=out)
@@ -192,7 +195,7 @@ def print_anchors(found, reads):
         return
     print("\n| yardstick, its reading of the text | threads | ms | our command, of the text | packed |\n|---|---|---|---|---|")
     for (name, workers), taken in reads.items():
-        ours = [f"{found[job, workers].passed / taken:.2f}" for job in ("text", "packed")]
+        ours = [f"{found[job, workers].passed / taken:.2f}" for job in ("read", "packed read")]
         print(f"| {name} | {workers} | {taken:.0f} | {' | '.join(ours)} |")
 
 
