@@ -14,4 +14,5 @@ pub mod Groups
 pub mod Starts
 pub mod Cuts
 pub mod LeftOut
+pub mod LengthSums
 pub mod Means

@@ -2,18 +2,18 @@
 use Rattle.std.specs.Prelude.{◌^◌, ◌<◌, ◌≤◌, length}
 use Rattle.sp_paths.specs.Paths.{Graph, IsGraph}
 use Rattle.sp_graph.specs.Order.{IsInOrder}
-use Rattle.sp_graph.specs.Longest.{IsLongest}
+use Rattle.sp_graph.specs.Lengths.{AreLengths}
 use Rattle.sp_graph.specs.Index.{IsIndex}
 use Rattle.sp_graph.specs.declared.graph.Graph.TheInside.{Inside}
 
 abbrev pub graph_of : Inside → Graph
 graph_of g = record { n = g.n; arcs = g.arcs.items }
 
--- The graph has fewer than 2^32 arcs, in order; it knows where each row lies, and the greatest length.
+-- The graph has fewer than 2^32 arcs, in order; it knows where each row lies, and the lengths.
 pub record IsStored (g : Inside) : Type 0 where
   pub some : 1 ≤ g.n
   pub few : length g.arcs.items < 2 ^ 32
   pub graph : IsGraph (graph_of g)
   pub order : IsInOrder g.arcs.items
   pub index : IsIndex g.n g.arcs.items g.ends.items
-  pub longest : IsLongest g.arcs.items g.longest
+  pub lengths : AreLengths g.arcs.items g.lengths

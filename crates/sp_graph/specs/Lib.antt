@@ -3,6 +3,7 @@ pub mod Part
 pub mod Longest
 pub mod Marks
 pub mod Mean
+pub mod Lengths
 pub mod Keys
 pub mod Index
 pub mod RowEnds

@@ -9,7 +9,7 @@ ghost use Rattle.sp_graph.specs.Mean.{mean_length};
 ghost use Rattle.sp_graph.specs.Index.{IsRowAt};
 ghost use Rattle.sp_graph.specs.RowEnds.{AreRowEnds};
 
-use crate::mean::mean_length;
+use crate::lengths::Lengths;
 use crate::nearness::lead_far;
 use crate::ordering::put_in_order;
 use crate::sharing::put_in_order_by;
@@ -30,7 +30,7 @@ pub struct Graph {
     arcs: Vec<Arc>,
     // The row of vertex v ends at the index `ends[v]`, where the next row begins.
     ends: Vec<u32>,
-    longest: u32,
+    lengths: Lengths,
 }
 
 /// What is known of arcs in order, of which `Graph::from_rows` makes a graph.
@@ -38,8 +38,8 @@ pub struct Graph {
 pub struct RowEnds {
     /// The row of vertex `v` ends at the index `ends[v]`, where the next row begins; row 0, of no vertex, at 0.
     pub ends: Vec<u32>,
-    /// The greatest length of an arc, or 0 if there is no arc.
-    pub longest: u32,
+    /// The greatest length of an arc, and the sum of all.
+    pub lengths: Lengths,
 }
 
 impl Model for Graph {
@@ -90,7 +90,7 @@ impl Graph {
             n,
             arcs: all.rows.arcs,
             ends: all.rows.ends,
-            longest: all.longest,
+            lengths: all.lengths,
         })
     }
 
@@ -119,7 +119,7 @@ impl Graph {
             n,
             arcs: all.rows.arcs,
             ends: all.rows.ends,
-            longest: all.longest,
+            lengths: all.lengths,
         })
     }
 
@@ -137,7 +137,7 @@ impl Graph {
             n,
             arcs,
             ends: rows.ends,
-            longest: rows.longest,
+            lengths: rows.lengths,
         }
     }
 
@@ -168,16 +168,16 @@ impl Graph {
     pub fn longest(&self) -> u32
         ensures { IsLongest self.now.arcs result }
     {
-        self.longest
+        self.lengths.longest
     }
 
     /// Returns the mean length of an arc: the sum of all lengths divided by their number, rounded down; or 1 if there
-    /// is no arc. It takes linear time.
+    /// is no arc. It takes no time: the sum is known.
     pub fn mean_length(&self) -> u64
         ensures mean { result ≡ mean_length self.now.arcs }
         ensures some { 1 ≤ result }
     {
-        mean_length(&self.arcs)
+        self.lengths.mean(self.arcs.len())
     }
 
     /// Returns whether many arcs lead far away from their tails, so that what is read of one vertex after the other misses

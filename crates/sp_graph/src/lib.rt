@@ -4,8 +4,8 @@
 
 mod graph;
 mod index;
+mod lengths;
 mod marks;
-mod mean;
 mod nearness;
 mod ordering;
 mod placing;
@@ -22,6 +22,7 @@ mod short_rows;
 mod words;
 
 pub use graph::{Graph, RowEnds};
+pub use lengths::Lengths;
 pub use marks::Mark;
 pub use rows::Rows;
 pub use words::{left_out, look_up};
