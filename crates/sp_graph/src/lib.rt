@@ -25,4 +25,5 @@ pub use graph::{Graph, RowEnds};
 pub use lengths::Lengths;
 pub use marks::Mark;
 pub use rows::Rows;
+pub use sharing::useful_workers;
 pub use words::{left_out, look_up};

@@ -103,7 +103,7 @@ impl<const P: u32, L: Listener> Settings<'_, P, L> {
         ensures arcs { IfOk result
             (λ graph. AreSame graph (directed self.now.direction (graph_of file))) }
     {
-        let made = self.direction.apply(file)?;
+        let made = self.direction.apply(rt, file, self.workers)?;
         let graph = made.build(rt, alloc, self.workers)?;
         self.listener.hear(Progress::Graph {
             vertices: graph.n(),

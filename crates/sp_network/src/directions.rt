@@ -5,8 +5,11 @@ ghost use Rattle.sp_network.specs.Network.{directed, most_of};
 
 use crate::network::Network;
 use sp_dimacs::{GrFile, MOST_ARCS, MOST_ARCS_BOTH_WAYS};
-use sp_turned::{append_turned, turn};
+use sp_turned::{append_turned, turn_by};
+use sp_word::Workers;
 use std::alloc::AllocError;
+use std::marker::Sync;
+use std::thread::Threads;
 
 /// The direction in which the arcs of a graph lead, by those of its file.
 #[derive(Clone, Copy, Debug, PartialEq, Eq)]
@@ -31,7 +34,12 @@ impl Direction {
     }
 
     // Returns the file with its arcs in this direction.
-    fn lead(self, file: GrFile) -> Result<GrFile, AllocError>
+    fn lead<R: Threads + Sync>(
+        self,
+        rt: &R,
+        file: GrFile,
+        workers: Workers,
+    ) -> Result<GrFile, AllocError>
         ensures directed { IfOk result
             (λ made. graph_of made ≡ directed self (graph_of file)) }
         ensures network { (P : ℕ) → IsNetworkUpTo P (most_of self) file
@@ -40,14 +48,21 @@ impl Direction {
         let mut file = file;
         match self {
             Direction::AsGiven => {}
-            Direction::Towards => turn(&mut file.arcs),
+            Direction::Towards => turn_by(rt, &mut file.arcs, workers),
             Direction::BothWays => append_turned(&mut file.arcs)?,
         }
         Ok(file)
     }
-    /// Returns the network with its arcs in this direction. Arcs are turned in place, and nothing is known of their rows then; the
-    /// call fails only if there is no memory for twice the arcs where they are to lead both ways.
-    pub fn apply(self, network: Network) -> Result<Network, AllocError>
+
+    /// Returns the network with its arcs in this direction. Arcs are turned in place, by as many threads as there are workers or
+    /// fewer, and nothing is known of their rows then; the call fails only if there is no memory for twice the arcs where they are
+    /// to lead both ways.
+    pub fn apply<R: Threads + Sync>(
+        self,
+        rt: &R,
+        network: Network,
+        workers: Workers,
+    ) -> Result<Network, AllocError>
         ensures directed { IfOk result
             (λ made. graph_of made ≡ directed self (graph_of network)) }
         ensures network { (P : ℕ) → IsNetworkUpTo P (most_of self) network
@@ -56,7 +71,7 @@ impl Direction {
         match self {
             Direction::AsGiven => Ok(network),
             Direction::Towards | Direction::BothWays => {
-                let file = self.lead(network.into_file())?;
+                let file = self.lead(rt, network.into_file(), workers)?;
                 Ok(Network::of_lines(file))
             }
         }

@@ -139,7 +139,7 @@ fn leads<R: Threads + Sync>(
     want: &[Triple],
 ) -> bool {
     match read_directed(rt, alloc, device, direction) {
-        Ok(network) => match direction.apply(network) {
+        Ok(network) => match direction.apply(rt, network, Workers::one()) {
             Ok(made) => has(&made.into_file(), 4, want),
             Err(_) => false,
         },
@@ -268,12 +268,12 @@ fn arcs_in_each_direction(rt: HostRuntime) -> Result<(), Fail> {
     let alloc = rt.alloc();
     let arcs = [(1, 2, 3), (1, 3, 3), (2, 4, 2), (3, 4, 2), (1, 4, 6)];
     let given = Direction::AsGiven
-        .apply(network_of(alloc, 4, &arcs)?)?
+        .apply(&rt, network_of(alloc, 4, &arcs)?, Workers::one())?
         .into_file();
     assert!(rt; has(&given, 4, &arcs));
     let round = [(2, 1, 3), (3, 1, 3), (4, 2, 2), (4, 3, 2), (4, 1, 6)];
     let towards = Direction::Towards
-        .apply(network_of(alloc, 4, &arcs)?)?
+        .apply(&rt, network_of(alloc, 4, &arcs)?, Workers::one())?
         .into_file();
     assert!(rt; has(&towards, 4, &round));
     let all = [
@@ -289,7 +289,7 @@ fn arcs_in_each_direction(rt: HostRuntime) -> Result<(), Fail> {
         (4, 1, 6),
     ];
     let both = Direction::BothWays
-        .apply(network_of(alloc, 4, &arcs)?)?
+        .apply(&rt, network_of(alloc, 4, &arcs)?, Workers::one())?
         .into_file();
     assert!(rt; has(&both, 4, &all));
     Ok(())
@@ -299,15 +299,15 @@ fn arcs_in_each_direction(rt: HostRuntime) -> Result<(), Fail> {
 fn loops_and_no_arcs_in_each_direction(rt: HostRuntime) -> Result<(), Fail> {
     let alloc = rt.alloc();
     let once = Direction::Towards
-        .apply(network_of(alloc, 1, &[(1, 1, 5)])?)?
+        .apply(&rt, network_of(alloc, 1, &[(1, 1, 5)])?, Workers::one())?
         .into_file();
     assert!(rt; has(&once, 1, &[(1, 1, 5)]));
     let twice = Direction::BothWays
-        .apply(network_of(alloc, 1, &[(1, 1, 5)])?)?
+        .apply(&rt, network_of(alloc, 1, &[(1, 1, 5)])?, Workers::one())?
         .into_file();
     assert!(rt; has(&twice, 1, &[(1, 1, 5), (1, 1, 5)]));
     let none = Direction::BothWays
-        .apply(network_of(alloc, 1, &[])?)?
+        .apply(&rt, network_of(alloc, 1, &[])?, Workers::one())?
         .into_file();
     assert!(rt; has(&none, 1, &[]));
     Ok(())

@@ -11,8 +11,8 @@ returns-clause-network c = λ P within. elim c.match-self.branch [
   | in-AsGiven w ↦ directed_network AsGiven P c.args.file c.match-self.file (rw w.file-is refl) (rw w.file-is refl) (rw w.in-AsGiven.is at within)
   | in-Towards w ↦
       let arcs = c.args.file.arcs in
-      let is : w.turn.new.arcs ≡ turned arcs.items = rw w.deref_mut.ensures.value at w.turn.ensures in
-      let long : length w.turn.new.arcs ≡ arcs.len = rw is (as_long arcs.items ∙ (rw w.deref_mut.ensures.value at w.deref_mut.ensures.len)) in
-      directed_network Towards P c.args.file c.match-self.file (rw w.file-is refl) (rw w.file-is (with_items_is arcs w.turn.new.arcs long ∙ is)) (rw w.in-Towards.is at within)
+      let is : w.turn_by.new.arcs ≡ turned arcs.items = rw w.deref_mut.ensures.value at w.turn_by.ensures in
+      let long : length w.turn_by.new.arcs ≡ arcs.len = rw is (as_long arcs.items ∙ (rw w.deref_mut.ensures.value at w.deref_mut.ensures.len)) in
+      directed_network Towards P c.args.file c.match-self.file (rw w.file-is refl) (rw w.file-is (with_items_is arcs w.turn_by.new.arcs long ∙ is)) (rw w.in-Towards.is at within)
   | in-BothWays+in_ok-append_turned-in-BothWays w ↦ directed_network BothWays P c.args.file c.match-self.file (rw w.file-is refl) (rw w.file-is w.in_ok-append_turned-in-BothWays.ensures) (rw w.in-BothWays.is at within)
 ]
