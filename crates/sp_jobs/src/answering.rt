@@ -86,7 +86,7 @@ fn answer_together<Q: Question, R: Threads + Wait + Sync, W: Write>(
     ensures { AreAllAnswered (Q.answers question.now) (source ∷ []) W.Write out.old result out.new }
 {
     match question.find(rt, alloc, workers, source) {
-        Ok(found) => question.write(alloc, &found, out),
+        Ok(found) => question.write_by(rt, alloc, workers, &found, out),
         Err(AllocError) => Err(BatchError::Memory),
     }
 }

@@ -67,4 +67,20 @@ pub trait Question: Sync {
         out: &mut W,
     ) -> Result<Summary, BatchError>
         ensures { AreWritten W.Write (told found.now ∷ []) out.old result out.new };
+
+    /// Writes the answer of the only source as `write` does, while so many workers have nothing else to do. By default this thread does
+    /// so alone.
+    fn write_by<R: Threads + Sync, W: Write>(
+        &self,
+        _rt: &R,
+        alloc: Global,
+        _workers: Workers,
+        found: &Self::Found,
+        out: &mut W,
+    ) -> Result<Summary, BatchError>
+        requires sync { IsSync R.row }
+        ensures { AreWritten W.Write (told found.now ∷ []) out.old result out.new }
+    {
+        self.write(alloc, found, out)
+    }
 }

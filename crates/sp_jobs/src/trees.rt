@@ -11,7 +11,9 @@ use crate::progress::Progress;
 use crate::question::Question;
 use sp_answer::{Tree, WordTree};
 use sp_device::{Write, write_all};
-use sp_files::{text_of, text_of_words, write_far, write_tree_in_pages, write_words_in_pages};
+use sp_files::{
+    text_of, text_of_words, write_far, write_tree_in_pages, write_words_by, write_words_in_pages,
+};
 use sp_graph::Graph;
 use sp_run::{Run, RunError, Until};
 use sp_serial::Rooms;
@@ -227,6 +229,28 @@ impl<'a, const P: u32> Question for TreeQuestion<'a, P> {
                 too_far: 1,
                 bytes: write_far(*source, *vertex, out)?,
             }),
+        }
+    }
+
+    // The lines of a whole tree are made by several workers.
+    fn write_by<R: Threads + Sync, W: Write>(
+        &self,
+        rt: &R,
+        alloc: Global,
+        workers: Workers,
+        found: &SourceAnswer<P>,
+        out: &mut W,
+    ) -> Result<Summary, BatchError>
+        requires sync { IsSync R.row }
+        ensures { AreWritten W.Write (told_by found.now ∷ []) out.old result out.new }
+    {
+        match found {
+            SourceAnswer::Tree(tree) => Ok(Summary {
+                sources: 1,
+                too_far: 0,
+                bytes: write_words_by(rt, alloc, tree, workers, out)?,
+            }),
+            other => self.write(alloc, other, out),
         }
     }
 }
