@@ -158,7 +158,7 @@ window_at : (text : List ℕ) (place i : ℕ) → place + i < 32 → get_or (dro
 window_at text place i below = get_or-drop place (take 32 text) i 0 ∙ (get_or-take 32 text (place + i) 0 below ∙ sym (get_or-drop place text i 0))
 
 -- The digits behind so many bytes.
-pub others_digits : (text : List ℕ) (place end : ℕ) → 32 ≤ length text → end ≡ count_trailing_zeros 64 (others (take 32 text) / 2 ^ place) → end ≤ 7
+pub others_digits : (text : List ℕ) (place end : ℕ) → 32 ≤ length text → end ≡ count_trailing_zeros 64 (others (take 32 text) / 2 ^ place) → end ≤ 8
     → (place + end < 32) × (list_all is_ascii_digit (take end (drop place text)) ≡ true) × (is_ascii_digit (get_or (drop place text) end 0) ≡ false)
 others_digits text place end long is few =
     let all : length (take 32 text) ≡ 32 = length-take-le 32 text long in
@@ -179,7 +179,7 @@ starts_other (d ∷ []) (suc (suc end)) some long other = refl
 starts_other (d ∷ e ∷ digits) (suc (suc end)) some long other = rw (ne_eqb d 48 other) refl
 
 -- The number that they spell.
-pub number_front : (text : List ℕ) (place n end : ℕ) → 40 ≤ length text → end ≡ count_trailing_zeros 64 (others (take 32 text) / 2 ^ place) → end ≢ 0 → end ≤ 7 → get_or text place 0 ≢ 48 → n < 2 ^ 64 → n ≡ value (take end (drop place text))
+pub number_front : (text : List ℕ) (place n end : ℕ) → 40 ≤ length text → end ≡ count_trailing_zeros 64 (others (take 32 text) / 2 ^ place) → end ≢ 0 → end ≤ 8 → get_or text place 0 ≢ 48 → n < 2 ^ 64 → n ≡ value (take end (drop place text))
     → IsFront (drop place text) n end
 number_front text place n end long is other few lead small number =
     let found = others_digits text place end (omega arith) is few in
@@ -207,7 +207,7 @@ value_some (d ∷ digits) zero some long all other = absurd (omega arith)
 value_some (d ∷ digits) (suc end) some long all other = value_after_some (10 * 0 + (d - 48)) (take end digits) (digit_some d (and_parts (is_ascii_digit d) (list_all is_ascii_digit (take end digits)) all).0 other)
 
 -- The number that they spell isn't 0.
-pub number_some : (text : List ℕ) (place n end : ℕ) → 40 ≤ length text → end ≡ count_trailing_zeros 64 (others (take 32 text) / 2 ^ place) → end ≢ 0 → end ≤ 7 → get_or text place 0 ≢ 48 → n ≡ value (take end (drop place text)) → 0 < n
+pub number_some : (text : List ℕ) (place n end : ℕ) → 40 ≤ length text → end ≡ count_trailing_zeros 64 (others (take 32 text) / 2 ^ place) → end ≢ 0 → end ≤ 8 → get_or text place 0 ≢ 48 → n ≡ value (take end (drop place text)) → 0 < n
 number_some text place n end long is other few lead number =
     let found = others_digits text place end (omega arith) is few in
     let rest : length (drop place text) ≡ length text - place = length-drop place text in

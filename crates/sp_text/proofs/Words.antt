@@ -101,9 +101,9 @@ ascii_digit b is = ((omega arith, omega arith), omega arith)
 
 -- By how many digits there are, what moves them to the end of a word.
 abbrev pub shifts : List ℕ
-shifts = 0 ∷ 72057594037927936 ∷ 281474976710656 ∷ 1099511627776 ∷ 4294967296 ∷ 16777216 ∷ 65536 ∷ 256 ∷ []
+shifts = 0 ∷ 72057594037927936 ∷ 281474976710656 ∷ 1099511627776 ∷ 4294967296 ∷ 16777216 ∷ 65536 ∷ 256 ∷ 1 ∷ []
 
-few_summed : (k b0 b1 b2 b3 b4 b5 b6 b7 : ℕ) → 0 < k → k ≤ 7 → ((i : ℕ) → i < k → IsAscii (get_or (b0 ∷ b1 ∷ b2 ∷ b3 ∷ b4 ∷ b5 ∷ b6 ∷ b7 ∷ []) i 0))
+few_summed : (k b0 b1 b2 b3 b4 b5 b6 b7 : ℕ) → 0 < k → k ≤ 8 → ((i : ℕ) → i < k → IsAscii (get_or (b0 ∷ b1 ∷ b2 ∷ b3 ∷ b4 ∷ b5 ∷ b6 ∷ b7 ∷ []) i 0))
     → summed (number_l 256 (b0 ∷ b1 ∷ b2 ∷ b3 ∷ b4 ∷ b5 ∷ b6 ∷ b7 ∷ []) % 2 ^ 64 * get_or shifts k 0 % 2 ^ 64) ≡ value (take k (b0 ∷ b1 ∷ b2 ∷ b3 ∷ b4 ∷ b5 ∷ b6 ∷ b7 ∷ []))
 few_summed zero b0 b1 b2 b3 b4 b5 b6 b7 some few are = absurd (omega arith)
 few_summed (suc zero) b0 b1 b2 b3 b4 b5 b6 b7 some few are =
@@ -183,9 +183,28 @@ few_summed (suc (suc (suc (suc (suc (suc (suc zero))))))) b0 b1 b2 b3 b4 b5 b6 b
     let d6 : IsDigit b6 × (b6 % 2 ^ 4 ≡ b6 - 48) = ascii_digit b6 a6 in
     let shifted : number_l 256 (b0 ∷ b1 ∷ b2 ∷ b3 ∷ b4 ∷ b5 ∷ b6 ∷ b7 ∷ []) % 2 ^ 64 * 256 % 2 ^ 64 ≡ number_l 256 (0 ∷ b0 ∷ b1 ∷ b2 ∷ b3 ∷ b4 ∷ b5 ∷ b6 ∷ []) = omega arith in
     ap summed shifted ∙ (summed_is 0 b0 b1 b2 b3 b4 b5 b6 zero_digit d0.0 d1.0 d2.0 d3.0 d4.0 d5.0 d6.0 ∙ omega (arith, d0.1, d1.1, d2.1, d3.1, d4.1, d5.1, d6.1))
-few_summed (suc (suc (suc (suc (suc (suc (suc (suc k)))))))) b0 b1 b2 b3 b4 b5 b6 b7 some few are = absurd (omega arith)
+few_summed (suc (suc (suc (suc (suc (suc (suc (suc zero)))))))) b0 b1 b2 b3 b4 b5 b6 b7 some few are =
+    let a0 : IsAscii b0 = are 0 (omega arith) in
+    let d0 : IsDigit b0 × (b0 % 2 ^ 4 ≡ b0 - 48) = ascii_digit b0 a0 in
+    let a1 : IsAscii b1 = are 1 (omega arith) in
+    let d1 : IsDigit b1 × (b1 % 2 ^ 4 ≡ b1 - 48) = ascii_digit b1 a1 in
+    let a2 : IsAscii b2 = are 2 (omega arith) in
+    let d2 : IsDigit b2 × (b2 % 2 ^ 4 ≡ b2 - 48) = ascii_digit b2 a2 in
+    let a3 : IsAscii b3 = are 3 (omega arith) in
+    let d3 : IsDigit b3 × (b3 % 2 ^ 4 ≡ b3 - 48) = ascii_digit b3 a3 in
+    let a4 : IsAscii b4 = are 4 (omega arith) in
+    let d4 : IsDigit b4 × (b4 % 2 ^ 4 ≡ b4 - 48) = ascii_digit b4 a4 in
+    let a5 : IsAscii b5 = are 5 (omega arith) in
+    let d5 : IsDigit b5 × (b5 % 2 ^ 4 ≡ b5 - 48) = ascii_digit b5 a5 in
+    let a6 : IsAscii b6 = are 6 (omega arith) in
+    let d6 : IsDigit b6 × (b6 % 2 ^ 4 ≡ b6 - 48) = ascii_digit b6 a6 in
+    let a7 : IsAscii b7 = are 7 (omega arith) in
+    let d7 : IsDigit b7 × (b7 % 2 ^ 4 ≡ b7 - 48) = ascii_digit b7 a7 in
+    let shifted : number_l 256 (b0 ∷ b1 ∷ b2 ∷ b3 ∷ b4 ∷ b5 ∷ b6 ∷ b7 ∷ []) % 2 ^ 64 * 1 % 2 ^ 64 ≡ number_l 256 (b0 ∷ b1 ∷ b2 ∷ b3 ∷ b4 ∷ b5 ∷ b6 ∷ b7 ∷ []) = omega arith in
+    ap summed shifted ∙ (summed_is b0 b1 b2 b3 b4 b5 b6 b7 d0.0 d1.0 d2.0 d3.0 d4.0 d5.0 d6.0 d7.0 ∙ omega (arith, d0.1, d1.1, d2.1, d3.1, d4.1, d5.1, d6.1, d7.1))
+few_summed (suc (suc (suc (suc (suc (suc (suc (suc (suc k))))))))) b0 b1 b2 b3 b4 b5 b6 b7 some few are = absurd (omega arith)
 
-eight_summed : (text : List ℕ) (end : ℕ) → length text ≡ 8 → 0 < end → end ≤ 7 → ((i : ℕ) → i < end → IsAscii (get_or text i 0)) → summed (number_l 256 text % 2 ^ 64 * get_or shifts end 0 % 2 ^ 64) ≡ value (take end text)
+eight_summed : (text : List ℕ) (end : ℕ) → length text ≡ 8 → 0 < end → end ≤ 8 → ((i : ℕ) → i < end → IsAscii (get_or text i 0)) → summed (number_l 256 text % 2 ^ 64 * get_or shifts end 0 % 2 ^ 64) ≡ value (take end text)
 eight_summed [] end long some few are = absurd (omega arith)
 eight_summed (b0 ∷ []) end long some few are = absurd (omega arith)
 eight_summed (b0 ∷ b1 ∷ []) end long some few are = absurd (omega arith)
@@ -198,7 +217,7 @@ eight_summed (b0 ∷ b1 ∷ b2 ∷ b3 ∷ b4 ∷ b5 ∷ b6 ∷ b7 ∷ []) end lo
 eight_summed (b0 ∷ b1 ∷ b2 ∷ b3 ∷ b4 ∷ b5 ∷ b6 ∷ b7 ∷ b8 ∷ text) end long some few are = absurd (omega arith)
 
 -- The digits that a text begins with.
-pub packed_is : (text : List ℕ) (end : ℕ) → 8 ≤ length text → 0 < end → end ≤ 7 → list_all is_ascii_digit (take end text) ≡ true → summed (number_l 256 (take 8 text) % 2 ^ 64 * get_or shifts end 0 % 2 ^ 64) ≡ value (take end text)
+pub packed_is : (text : List ℕ) (end : ℕ) → 8 ≤ length text → 0 < end → end ≤ 8 → list_all is_ascii_digit (take end text) ≡ true → summed (number_l 256 (take 8 text) % 2 ^ 64 * get_or shifts end 0 % 2 ^ 64) ≡ value (take end text)
 packed_is text end long some few all =
     let eight : length (take 8 text) ≡ 8 = length-take-le 8 text long in
     let digits : (i : ℕ) → i < end → IsAscii (get_or (take 8 text) i 0) = λ i below. digit_ascii (get_or (take 8 text) i 0) (rw (get_or-take 8 text i 0 (omega arith)) (digit_at text end i all below (omega arith))) in

@@ -239,7 +239,7 @@ pub(crate) fn spaced_numbers(
 }
 
 /// Returns the numbers that the front of a text spells in the usual way, one for each field: each after one space, in its
-/// range and of at most seven digits; and where they end, which is among the first 32 bytes.
+/// range and of at most eight digits; and where they end, which is among the first 32 bytes.
 #[inline(always)]
 pub(crate) fn front_numbers(
     fields: &[Field],

@@ -15,7 +15,7 @@ const WINDOW: usize = 32;
 pub(crate) const ROOM: usize = 40;
 
 // For each number of digits, what eight bytes are multiplied by, so that the digits are the last ones, after zeros.
-static SHIFTS: [u64; 8] = [
+static SHIFTS: [u64; 9] = [
     0,
     1 << 56,
     1 << 48,
@@ -24,6 +24,7 @@ static SHIFTS: [u64; 8] = [
     1 << 24,
     1 << 16,
     1 << 8,
+    1,
 ];
 
 // Returns the value of the digits at the front, given how many there are.
@@ -31,7 +32,7 @@ static SHIFTS: [u64; 8] = [
 fn packed_value(text: &[u8], count: usize) -> u64
     requires room { 8 ≤ length text.now }
     requires some { 0 < count }
-    requires few { count ≤ 7 }
+    requires few { count ≤ 8 }
     requires digits { list_all is_ascii_digit (take count text.now) ≡ true }
     ensures { result ≡ value (take count text.now) }
 {
@@ -70,7 +71,7 @@ pub(crate) fn other_bytes(text: &[u8]) -> u64
     lanes.simd_gt(u8x32::splat(9)).to_bitmask()
 }
 
-/// Returns the number that the digits from a place on spell, and how many they are, if these are one to seven, begin
+/// Returns the number that the digits from a place on spell, and how many they are, if these are one to eight, begin
 /// with no zero and end among the first 32 bytes. The bits tell which of those bytes are no digits.
 #[inline(always)]
 pub(crate) fn number_at(text: &[u8], bits: u64, place: usize) -> Option<(u64, usize)>
@@ -82,7 +83,7 @@ pub(crate) fn number_at(text: &[u8], bits: u64, place: usize) -> Option<(u64, us
     ensures within { IfSome result (λ x. place + x.1 < WINDOW) }
 {
     let count = (bits >> place).trailing_zeros() as usize;
-    if count == 0 || count > 7 || text[place] == b'0' {
+    if count == 0 || count > 8 || text[place] == b'0' {
         return None;
     }
     let (_, digits) = text.split_at(place);
