@@ -16,7 +16,7 @@ use sp_device::Read;
 impl<K: Keep> Feeder<Collector<K>> {
     // Takes the bytes up to and including the next LF, or all of them, whatever they are, and returns what comes of it and
     // the bytes after them.
-    #[inline(never)]
+    #[inline(always)]
     fn take_other<'a>(&mut self, bytes: &'a [u8]) -> (Result<(), DimacsError>, &'a [u8])
         requires { 0 < length bytes.now }
         ensures taken { OnOk result.0 (HasReadSome (judge K.format K.ranges)
