@@ -32,30 +32,31 @@ fours_are : (p0 p1 p2 p3 : ℕ) → p0 ≤ 99 → p1 ≤ 99 → p2 ≤ 99 → p3
     → number_l 65536 (p0 ∷ p1 ∷ p2 ∷ p3 ∷ []) * 6553601 % 2 ^ 64 / 2 ^ 16 ≡ number_l 4294967296 ((100 * p0 + p1 + 65536 * (100 * p1 + p2)) ∷ (100 * p2 + p3) ∷ [])
 fours_are p0 p1 p2 p3 s0 s1 s2 s3 = omega arith
 
-eight_is : (f0 f1 : ℕ) → f0 ≤ 9999 → f1 ≤ 9999 → number_l 4294967296 (f0 ∷ f1 ∷ []) * 42949672960001 % 2 ^ 64 / 2 ^ 32 ≡ 10000 * f0 + f1
-eight_is f0 f1 s0 s1 = omega arith
-
 low_byte : (p q : ℕ) → p ≤ 99 → (p + 256 * q) % 256 ≡ p
 low_byte p q small = omega arith
 
-low_half : (f g : ℕ) → f ≤ 9999 → (f + 65536 * g) % 65536 ≡ f
-low_half f g small = omega arith
+low_four : (f g h : ℕ) → f ≤ 9999 → number_l 4294967296 ((f + 65536 * g) ∷ h ∷ []) % 2 ^ 16 ≡ f
+low_four f g h small = omega arith
+
+high_four : (f g h : ℕ) → f ≤ 9999 → g ≤ 9999 → number_l 4294967296 ((f + 65536 * g) ∷ h ∷ []) / 2 ^ 32 ≡ h
+high_four f g h small few = omega arith
+
+-- The two fours are the lowest and the third of the 16 bits each.
+abbrev pub of_fours : ℕ → ℕ
+of_fours fours = (bit_and fours 65535 * 10000 % 2 ^ 64 + fours / 2 ^ 32) % 2 ^ 64
 
 -- From the digits on.
 
-fours_summed : (p0 p1 p2 p3 n : ℕ) → p0 ≤ 99 → p1 ≤ 99 → p2 ≤ 99 → p3 ≤ 99 → n ≡ number_l 65536 (p0 ∷ p1 ∷ p2 ∷ p3 ∷ [])
-    → bit_and (n * 6553601 % 2 ^ 64 / 2 ^ 16) 281470681808895 * 42949672960001 % 2 ^ 64 / 2 ^ 32 ≡ 10000 * (100 * p0 + p1) + (100 * p2 + p3)
+fours_summed : (p0 p1 p2 p3 n : ℕ) → p0 ≤ 99 → p1 ≤ 99 → p2 ≤ 99 → p3 ≤ 99 → n ≡ number_l 65536 (p0 ∷ p1 ∷ p2 ∷ p3 ∷ []) → of_fours (n * 6553601 % 2 ^ 64 / 2 ^ 16) ≡ 10000 * (100 * p0 + p1) + (100 * p2 + p3)
 fours_summed p0 p1 p2 p3 n s0 s1 s2 s3 is =
-    let lanes : n * 6553601 % 2 ^ 64 / 2 ^ 16 ≡ number_l 4294967296 ((100 * p0 + p1 + 65536 * (100 * p1 + p2)) ∷ (100 * p2 + p3) ∷ []) = ap (λ (x : ℕ). x * 6553601 % 2 ^ 64 / 2 ^ 16) is ∙ fours_are p0 p1 p2 p3 s0 s1 s2 s3 in
-    let masked : bit_and (number_l 4294967296 ((100 * p0 + p1 + 65536 * (100 * p1 + p2)) ∷ (100 * p2 + p3) ∷ [])) 281470681808895 ≡ number_l 4294967296 ((100 * p0 + p1 + 65536 * (100 * p1 + p2)) % 65536 ∷ (100 * p2 + p3) % 65536 ∷ []) =
-    and_lanes 32 16 (omega arith) ((100 * p0 + p1 + 65536 * (100 * p1 + p2)) ∷ (100 * p2 + p3) ∷ []) (omega arith, (omega arith, tt)) in
-    let first : (100 * p0 + p1 + 65536 * (100 * p1 + p2)) % 65536 ≡ 100 * p0 + p1 = low_half (100 * p0 + p1) (100 * p1 + p2) (omega arith) in
-    let second : (100 * p2 + p3) % 65536 ≡ 100 * p2 + p3 = omega arith in
-    ap (λ (x : ℕ). bit_and x 281470681808895 * 42949672960001 % 2 ^ 64 / 2 ^ 32) lanes
-    ∙ (ap (λ (x : ℕ). x * 42949672960001 % 2 ^ 64 / 2 ^ 32) (masked ∙ rw (first, second) refl) ∙ eight_is (100 * p0 + p1) (100 * p2 + p3) (omega arith) (omega arith))
+    let fours : ℕ = number_l 4294967296 ((100 * p0 + p1 + 65536 * (100 * p1 + p2)) ∷ (100 * p2 + p3) ∷ []) in
+    let lanes : n * 6553601 % 2 ^ 64 / 2 ^ 16 ≡ fours = ap (λ (x : ℕ). x * 6553601 % 2 ^ 64 / 2 ^ 16) is ∙ fours_are p0 p1 p2 p3 s0 s1 s2 s3 in
+    let low : bit_and fours 65535 ≡ 100 * p0 + p1 = and_mask fours 16 ∙ low_four (100 * p0 + p1) (100 * p1 + p2) (100 * p2 + p3) (omega arith) in
+    let high : fours / 2 ^ 32 ≡ 100 * p2 + p3 = high_four (100 * p0 + p1) (100 * p1 + p2) (100 * p2 + p3) (omega arith) (omega arith) in
+    ap of_fours lanes ∙ rw (low, high) (omega arith)
 
 pairs_summed : (e0 e1 e2 e3 e4 e5 e6 e7 n : ℕ) → e0 ≤ 9 → e1 ≤ 9 → e2 ≤ 9 → e3 ≤ 9 → e4 ≤ 9 → e5 ≤ 9 → e6 ≤ 9 → e7 ≤ 9 → n ≡ number_l 256 (e0 ∷ e1 ∷ e2 ∷ e3 ∷ e4 ∷ e5 ∷ e6 ∷ e7 ∷ [])
-    → bit_and (bit_and (n * 2561 % 2 ^ 64 / 2 ^ 8) 71777214294589695 * 6553601 % 2 ^ 64 / 2 ^ 16) 281470681808895 * 42949672960001 % 2 ^ 64 / 2 ^ 32 ≡ 10000 * (100 * (10 * e0 + e1) + (10 * e2 + e3)) + (100 * (10 * e4 + e5) + (10 * e6 + e7))
+    → of_fours (bit_and (n * 2561 % 2 ^ 64 / 2 ^ 8) 71777214294589695 * 6553601 % 2 ^ 64 / 2 ^ 16) ≡ 10000 * (100 * (10 * e0 + e1) + (10 * e2 + e3)) + (100 * (10 * e4 + e5) + (10 * e6 + e7))
 pairs_summed e0 e1 e2 e3 e4 e5 e6 e7 n s0 s1 s2 s3 s4 s5 s6 s7 is =
     let l0 : ℕ = 10 * e0 + e1 + 256 * (10 * e1 + e2) in
     let l1 : ℕ = 10 * e2 + e3 + 256 * (10 * e3 + e4) in
@@ -73,7 +74,7 @@ pairs_summed e0 e1 e2 e3 e4 e5 e6 e7 n s0 s1 s2 s3 s4 s5 s6 s7 is =
 
 -- This is the value of eight digits, of which the first is the lowest byte; the upper halves of the bytes don't count.
 abbrev pub summed : ℕ → ℕ
-summed word = bit_and (bit_and (bit_and word 1085102592571150095 * 2561 % 2 ^ 64 / 2 ^ 8) 71777214294589695 * 6553601 % 2 ^ 64 / 2 ^ 16) 281470681808895 * 42949672960001 % 2 ^ 64 / 2 ^ 32
+summed word = of_fours (bit_and (bit_and word 1085102592571150095 * 2561 % 2 ^ 64 / 2 ^ 8) 71777214294589695 * 6553601 % 2 ^ 64 / 2 ^ 16)
 
 abbrev pub IsDigit : ℕ → Type 0
 IsDigit c = (c < 2 ^ 8) × (c % 2 ^ 4 ≤ 9)

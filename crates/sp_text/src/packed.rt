@@ -39,8 +39,10 @@ fn packed_value(text: &[u8], count: usize) -> u64
     let [bytes] = u64x1::from_le_bytes(u8x8::from_slice(text)).to_array();
     let digits = bytes.wrapping_mul(SHIFTS[count]) & 0x0f0f_0f0f_0f0f_0f0f;
     let pairs = digits.wrapping_mul(2_561) >> 8 & 0x00ff_00ff_00ff_00ff;
-    let fours = pairs.wrapping_mul(6_553_601) >> 16 & 0x0000_ffff_0000_ffff;
-    fours.wrapping_mul(42_949_672_960_001) >> 32
+    let fours = pairs.wrapping_mul(6_553_601) >> 16;
+    (fours & 0xffff)
+        .wrapping_mul(10_000)
+        .wrapping_add(fours >> 32)
 }
 
 /// Returns the number that the digits at the front spell, and where they end, if there are eight bytes and one to seven
