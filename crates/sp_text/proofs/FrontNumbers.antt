@@ -1,7 +1,7 @@
 -- Numbers in the usual spelling at the front of a text that goes on.
 use Rattle.std.proofs.Common.{◌≡◌, ℕ, zero, suc, ◌+◌, ◌-◌, ◌<◌, ◌≤◌, true, false, List, [], ◌∷◌, ◌++◌, length, take, drop, get_or, refl, ap, ◌∙◌, add-zero, arith}
 use Rattle.std.proofs.Math.Seq.{take-add, drop-drop}
-use Rattle.std.proofs.lemmas.Bool.{ne_eqb}
+use Rattle.std.proofs.lemmas.Bool.{ne_eqb, le-leb}
 use Rattle.std.proofs.lemmas.Bool.Decides.{nat_tests}
 use Rattle.std.proofs.lemmas.List.{get_or-take, get_or-drop, length-take, length-drop, drop-take}
 use Rattle.std.specs.List.{list_all, AllByRecursion}
@@ -54,6 +54,16 @@ spaced_on ranges ps fields i d text ns n m end count k most below within space f
 
 pub whole_on : (text : List ℕ) (end count k : ℕ) → take (end + (1 + count) + k) text ≡ take (end + suc (count + k)) text
 whole_on text end count k = ap (λ (j : ℕ). take j text) (omega arith)
+
+-- A number in its range, where the least is 1 or 0.
+pub in_range : (n least most : ℕ) → least ≤ 1 → 0 < n → n ≤ most → numerals.Value n ≡ numeral_within n least most
+in_range n least most low some high = rw (le-leb least n (omega arith), le-leb n most high) refl
+
+-- Behind the first byte.
+pub front_behind : (text : List ℕ) (n end count : ℕ) → IsFront (drop end (drop 1 text)) n count → IsFront (drop (end + 1) text) n count
+front_behind text n end count front =
+    let same : drop end (drop 1 text) ≡ drop (end + 1) text = drop-drop end 1 text ∙ ap (λ (j : ℕ). drop j text) (omega arith) in
+    rw same at front
 
 -- Bytes that are no control characters.
 

@@ -1,18 +1,18 @@
 -- Bytes that are read at once: numbers of few digits, and the first LF.
 use Rattle.std.proofs.Common.{◌≡◌, ◌≢◌, ℕ, zero, suc, ◌+◌, ◌-◌, ◌*◌, ◌/◌, ◌%◌, ◌^◌, ◌<◌, ◌≤◌, Bool, true, false, cond, not, ltb, eqb, List, [], ◌∷◌, length, take, drop, get_or, map, replicate, refl, sym, ap, ◌∙◌, zero-add, add-zero, arith, Fits, w8}
-use Rattle.std.proofs.Math.Nat.{mod-eq_of_lt, div-one, zero-div}
+use Rattle.std.proofs.Math.Nat.{div-one, zero-div}
 use Rattle.std.proofs.lemmas.Nat.{shr-shr}
 use Rattle.std.proofs.lemmas.Bool.{false≢true, ne_eqb}
 use Rattle.std.proofs.lemmas.Bool.Decides.{nat_tests}
 use Rattle.std.proofs.lemmas.List.{get_or-take, get_or-drop, length-map, length-take-le, length-drop}
 use Rattle.std.proofs.lemmas.List.Sums.{prefix_len_passes, prefix_len_stops}
 use Rattle.std.proofs.lemmas.Simd.{zip2_splat, zip2_splat_left, tops_compared, bitmask_splat, mask_l-mod, trailing_mask_l, map-map, run_in_chunk_fails, run_in_chunk_stops}
-use Rattle.std.specs.Simd.Lanes.{zip2, fold_l, mask_l, top}
+use Rattle.std.specs.Simd.Lanes.{zip2, mask_l, top}
 use Rattle.std.specs.Int.Count.{count_trailing_zeros, trailing_of_zero}
 use Rattle.std.specs.List.{list_all, prefix_len}
 use Rattle.std.specs.Char.{is_ascii_digit}
 use Rattle.memchr.specs.Find.{NoneBefore, Passes, is_byte}
-use Rattle.sp_text.specs.Lines.{value}
+use Rattle.sp_text.specs.Lines.{value_after, value}
 use Rattle.sp_text.specs.Numeral.{AreDigits, IsFront, starts_number, others}
 use Rattle.sp_text.proofs.Digits.{and_parts}
 
@@ -22,12 +22,6 @@ lane b = (b + 208) % 256
 
 abbrev pub is_other : ℕ → Bool
 is_other b = ltb 9 (lane b)
-
-lane_digit : (b : ℕ) → is_ascii_digit b ≡ true → lane b + 48 ≡ b
-lane_digit b digit = grind (arith, nat_tests)
-
-lane_small : (b : ℕ) → is_ascii_digit b ≡ true → lane b ≤ 9
-lane_small b digit = grind (arith, nat_tests)
 
 other_is : (b : ℕ) → b < 256 → not (is_other b) ≡ is_ascii_digit b
 other_is b small = grind (arith, nat_tests)
@@ -56,136 +50,17 @@ counted_is text long small few =
     let some = some_mask (mask_l (map is_other text)) (rw (← is) (omega arith)) in
     ap (count_trailing_zeros 64) is ∙ (trailing_mask_l is_other 64 text (omega arith) some ∙ digits_prefix text small)
 
--- Sums of products that fit need no modulus.
-abbrev pub dot : List ℕ → List ℕ → ℕ
-dot [] ws = 0
-dot (l ∷ ls) [] = 0
-dot (l ∷ ls) (w ∷ ws) = l * w + dot ls ws
+-- An ASCII digit, by its number.
+abbrev pub IsAscii : ℕ → Type 0
+IsAscii b = (48 ≤ b) × (b ≤ 57)
 
-sum_is : (a : ℕ) (ls ws : List ℕ) → a + dot ls ws < 2 ^ 32 → fold_l (λ (s x : ℕ). (s + x) % 2 ^ 32) a (zip2 (λ (x y : ℕ). x * y % 2 ^ 32) ls ws) ≡ a + dot ls ws
-sum_is a [] ws fits = omega arith
-sum_is a (l ∷ ls) [] fits = omega arith
-sum_is a (l ∷ ls) (w ∷ ws) fits =
-    let product : l * w % 2 ^ 32 ≡ l * w = mod-eq_of_lt (omega arith) in
-    let sum : (a + l * w) % 2 ^ 32 ≡ a + l * w = mod-eq_of_lt (omega arith) in
-    rw (product, sum) (sum_is (a + l * w) ls ws (omega arith) ∙ omega arith)
-
--- By how many digits there are, what each of them counts.
-abbrev pub weights : List (List ℕ)
-weights =
-    (0 ∷ 0 ∷ 0 ∷ 0 ∷ 0 ∷ 0 ∷ 0 ∷ 0 ∷ []) ∷
-    (1 ∷ 0 ∷ 0 ∷ 0 ∷ 0 ∷ 0 ∷ 0 ∷ 0 ∷ []) ∷
-    (10 ∷ 1 ∷ 0 ∷ 0 ∷ 0 ∷ 0 ∷ 0 ∷ 0 ∷ []) ∷
-    (100 ∷ 10 ∷ 1 ∷ 0 ∷ 0 ∷ 0 ∷ 0 ∷ 0 ∷ []) ∷
-    (1000 ∷ 100 ∷ 10 ∷ 1 ∷ 0 ∷ 0 ∷ 0 ∷ 0 ∷ []) ∷
-    (10000 ∷ 1000 ∷ 100 ∷ 10 ∷ 1 ∷ 0 ∷ 0 ∷ 0 ∷ []) ∷
-    (100000 ∷ 10000 ∷ 1000 ∷ 100 ∷ 10 ∷ 1 ∷ 0 ∷ 0 ∷ []) ∷
-    (1000000 ∷ 100000 ∷ 10000 ∷ 1000 ∷ 100 ∷ 10 ∷ 1 ∷ 0 ∷ []) ∷ []
-
-few_digits : (k l0 l1 l2 l3 l4 l5 l6 l7 b0 b1 b2 b3 b4 b5 b6 b7 : ℕ) → 0 < k → k ≤ 7 → ((i : ℕ) → i < k → get_or (b0 ∷ b1 ∷ b2 ∷ b3 ∷ b4 ∷ b5 ∷ b6 ∷ b7 ∷ []) i 0 - 48 ≡ get_or (l0 ∷ l1 ∷ l2 ∷ l3 ∷ l4 ∷ l5 ∷ l6 ∷ l7 ∷ []) i 0) → ((i : ℕ) → i < k → get_or (l0 ∷ l1 ∷ l2 ∷ l3 ∷ l4 ∷ l5 ∷ l6 ∷ l7 ∷ []) i 0 ≤ 9)
-    → (dot (l0 ∷ l1 ∷ l2 ∷ l3 ∷ l4 ∷ l5 ∷ l6 ∷ l7 ∷ []) (get_or weights k []) ≡ value (take k (b0 ∷ b1 ∷ b2 ∷ b3 ∷ b4 ∷ b5 ∷ b6 ∷ b7 ∷ []))) × (dot (l0 ∷ l1 ∷ l2 ∷ l3 ∷ l4 ∷ l5 ∷ l6 ∷ l7 ∷ []) (get_or weights k []) < 2 ^ 32)
-few_digits zero l0 l1 l2 l3 l4 l5 l6 l7 b0 b1 b2 b3 b4 b5 b6 b7 some few is small = absurd (omega arith)
-few_digits (suc zero) l0 l1 l2 l3 l4 l5 l6 l7 b0 b1 b2 b3 b4 b5 b6 b7 some few is small =
-    let e0 : b0 - 48 ≡ l0 = is 0 (omega arith) in
-    let s0 : l0 ≤ 9 = small 0 (omega arith) in
-    (rw (e0) (omega arith), omega arith)
-few_digits (suc (suc zero)) l0 l1 l2 l3 l4 l5 l6 l7 b0 b1 b2 b3 b4 b5 b6 b7 some few is small =
-    let e0 : b0 - 48 ≡ l0 = is 0 (omega arith) in
-    let e1 : b1 - 48 ≡ l1 = is 1 (omega arith) in
-    let s0 : l0 ≤ 9 = small 0 (omega arith) in
-    let s1 : l1 ≤ 9 = small 1 (omega arith) in
-    (rw (e0, e1) (omega arith), omega arith)
-few_digits (suc (suc (suc zero))) l0 l1 l2 l3 l4 l5 l6 l7 b0 b1 b2 b3 b4 b5 b6 b7 some few is small =
-    let e0 : b0 - 48 ≡ l0 = is 0 (omega arith) in
-    let e1 : b1 - 48 ≡ l1 = is 1 (omega arith) in
-    let e2 : b2 - 48 ≡ l2 = is 2 (omega arith) in
-    let s0 : l0 ≤ 9 = small 0 (omega arith) in
-    let s1 : l1 ≤ 9 = small 1 (omega arith) in
-    let s2 : l2 ≤ 9 = small 2 (omega arith) in
-    (rw (e0, e1, e2) (omega arith), omega arith)
-few_digits (suc (suc (suc (suc zero)))) l0 l1 l2 l3 l4 l5 l6 l7 b0 b1 b2 b3 b4 b5 b6 b7 some few is small =
-    let e0 : b0 - 48 ≡ l0 = is 0 (omega arith) in
-    let e1 : b1 - 48 ≡ l1 = is 1 (omega arith) in
-    let e2 : b2 - 48 ≡ l2 = is 2 (omega arith) in
-    let e3 : b3 - 48 ≡ l3 = is 3 (omega arith) in
-    let s0 : l0 ≤ 9 = small 0 (omega arith) in
-    let s1 : l1 ≤ 9 = small 1 (omega arith) in
-    let s2 : l2 ≤ 9 = small 2 (omega arith) in
-    let s3 : l3 ≤ 9 = small 3 (omega arith) in
-    (rw (e0, e1, e2, e3) (omega arith), omega arith)
-few_digits (suc (suc (suc (suc (suc zero))))) l0 l1 l2 l3 l4 l5 l6 l7 b0 b1 b2 b3 b4 b5 b6 b7 some few is small =
-    let e0 : b0 - 48 ≡ l0 = is 0 (omega arith) in
-    let e1 : b1 - 48 ≡ l1 = is 1 (omega arith) in
-    let e2 : b2 - 48 ≡ l2 = is 2 (omega arith) in
-    let e3 : b3 - 48 ≡ l3 = is 3 (omega arith) in
-    let e4 : b4 - 48 ≡ l4 = is 4 (omega arith) in
-    let s0 : l0 ≤ 9 = small 0 (omega arith) in
-    let s1 : l1 ≤ 9 = small 1 (omega arith) in
-    let s2 : l2 ≤ 9 = small 2 (omega arith) in
-    let s3 : l3 ≤ 9 = small 3 (omega arith) in
-    let s4 : l4 ≤ 9 = small 4 (omega arith) in
-    (rw (e0, e1, e2, e3, e4) (omega arith), omega arith)
-few_digits (suc (suc (suc (suc (suc (suc zero)))))) l0 l1 l2 l3 l4 l5 l6 l7 b0 b1 b2 b3 b4 b5 b6 b7 some few is small =
-    let e0 : b0 - 48 ≡ l0 = is 0 (omega arith) in
-    let e1 : b1 - 48 ≡ l1 = is 1 (omega arith) in
-    let e2 : b2 - 48 ≡ l2 = is 2 (omega arith) in
-    let e3 : b3 - 48 ≡ l3 = is 3 (omega arith) in
-    let e4 : b4 - 48 ≡ l4 = is 4 (omega arith) in
-    let e5 : b5 - 48 ≡ l5 = is 5 (omega arith) in
-    let s0 : l0 ≤ 9 = small 0 (omega arith) in
-    let s1 : l1 ≤ 9 = small 1 (omega arith) in
-    let s2 : l2 ≤ 9 = small 2 (omega arith) in
-    let s3 : l3 ≤ 9 = small 3 (omega arith) in
-    let s4 : l4 ≤ 9 = small 4 (omega arith) in
-    let s5 : l5 ≤ 9 = small 5 (omega arith) in
-    (rw (e0, e1, e2, e3, e4, e5) (omega arith), omega arith)
-few_digits (suc (suc (suc (suc (suc (suc (suc zero))))))) l0 l1 l2 l3 l4 l5 l6 l7 b0 b1 b2 b3 b4 b5 b6 b7 some few is small =
-    let e0 : b0 - 48 ≡ l0 = is 0 (omega arith) in
-    let e1 : b1 - 48 ≡ l1 = is 1 (omega arith) in
-    let e2 : b2 - 48 ≡ l2 = is 2 (omega arith) in
-    let e3 : b3 - 48 ≡ l3 = is 3 (omega arith) in
-    let e4 : b4 - 48 ≡ l4 = is 4 (omega arith) in
-    let e5 : b5 - 48 ≡ l5 = is 5 (omega arith) in
-    let e6 : b6 - 48 ≡ l6 = is 6 (omega arith) in
-    let s0 : l0 ≤ 9 = small 0 (omega arith) in
-    let s1 : l1 ≤ 9 = small 1 (omega arith) in
-    let s2 : l2 ≤ 9 = small 2 (omega arith) in
-    let s3 : l3 ≤ 9 = small 3 (omega arith) in
-    let s4 : l4 ≤ 9 = small 4 (omega arith) in
-    let s5 : l5 ≤ 9 = small 5 (omega arith) in
-    let s6 : l6 ≤ 9 = small 6 (omega arith) in
-    (rw (e0, e1, e2, e3, e4, e5, e6) (omega arith), omega arith)
-few_digits (suc (suc (suc (suc (suc (suc (suc (suc k)))))))) l0 l1 l2 l3 l4 l5 l6 l7 b0 b1 b2 b3 b4 b5 b6 b7 some few is small = absurd (omega arith)
-
-lanes_at : (text : List ℕ) (i : ℕ) → i < length text → is_ascii_digit (get_or text i 0) ≡ true → (get_or text i 0 - 48 ≡ get_or (map lane text) i 0) × (get_or (map lane text) i 0 ≤ 9)
-lanes_at [] i within digit = absurd (omega arith)
-lanes_at (b ∷ text) zero within digit = let e : lane b + 48 ≡ b = lane_digit b digit in (omega arith, lane_small b digit)
-lanes_at (b ∷ text) (suc i) within digit = lanes_at text i (omega arith) digit
+pub digit_ascii : (b : ℕ) → is_ascii_digit b ≡ true → IsAscii b
+digit_ascii b digit = (grind (arith, nat_tests), grind (arith, nat_tests))
 
 all_front : (text : List ℕ) (k : ℕ) → ((i : ℕ) → i < k → is_ascii_digit (get_or text i 0) ≡ true) → list_all is_ascii_digit (take k text) ≡ true
 all_front text zero digits = refl
 all_front [] (suc k) digits = refl
 all_front (b ∷ text) (suc k) digits = let first : is_ascii_digit b ≡ true = digits 0 (omega arith) in rw (first, all_front text k (λ i below. digits (suc i) (omega arith))) refl
-
--- The sum that eight bytes make, of which so many are digits.
-abbrev pub packed : ℕ → List ℕ → ℕ
-packed end text =
-    fold_l (λ (s x : ℕ). (s + x) % 2 ^ 32) 0 (zip2 (λ (x y : ℕ). x * y % 2 ^ 32) (map (λ (a : ℕ). a) (zip2 (λ (a b : ℕ). (a + (2 ^ 8 - b)) % 2 ^ 8) text (replicate 8 48))) (get_or weights end []))
-
-eight_digits : (text : List ℕ) (end : ℕ) → length text ≡ 8 → 0 < end → end ≤ 7 → ((i : ℕ) → i < end → is_ascii_digit (get_or text i 0) ≡ true) → packed end text ≡ value (take end text)
-eight_digits [] end long some few digits = absurd (omega arith)
-eight_digits (b0 ∷ []) end long some few digits = absurd (omega arith)
-eight_digits (b0 ∷ b1 ∷ []) end long some few digits = absurd (omega arith)
-eight_digits (b0 ∷ b1 ∷ b2 ∷ []) end long some few digits = absurd (omega arith)
-eight_digits (b0 ∷ b1 ∷ b2 ∷ b3 ∷ []) end long some few digits = absurd (omega arith)
-eight_digits (b0 ∷ b1 ∷ b2 ∷ b3 ∷ b4 ∷ []) end long some few digits = absurd (omega arith)
-eight_digits (b0 ∷ b1 ∷ b2 ∷ b3 ∷ b4 ∷ b5 ∷ []) end long some few digits = absurd (omega arith)
-eight_digits (b0 ∷ b1 ∷ b2 ∷ b3 ∷ b4 ∷ b5 ∷ b6 ∷ []) end long some few digits = absurd (omega arith)
-eight_digits (b0 ∷ b1 ∷ b2 ∷ b3 ∷ b4 ∷ b5 ∷ b6 ∷ b7 ∷ []) end long some few digits =
-    let text : List ℕ = b0 ∷ b1 ∷ b2 ∷ b3 ∷ b4 ∷ b5 ∷ b6 ∷ b7 ∷ [] in
-    let sums = few_digits end (lane b0) (lane b1) (lane b2) (lane b3) (lane b4) (lane b5) (lane b6) (lane b7) b0 b1 b2 b3 b4 b5 b6 b7 some few (λ i below. (lanes_at text i (omega arith) (digits i below)).0) (λ i below. (lanes_at text i (omega arith) (digits i below)).1) in
-    sum_is 0 (map lane text) (get_or weights end []) (omega (arith, sums.1)) ∙ (zero-add _ ∙ sums.0)
-eight_digits (b0 ∷ b1 ∷ b2 ∷ b3 ∷ b4 ∷ b5 ∷ b6 ∷ b7 ∷ b8 ∷ text) end long some few digits = absurd (omega arith)
 
 pub take_front : (text : List ℕ) (k n : ℕ) → k ≤ n → take k (take n text) ≡ take k text
 take_front text zero n few = refl
@@ -199,10 +74,6 @@ below_take text zero i small = omega arith
 below_take [] (suc n) i small = omega arith
 below_take (b ∷ text) (suc n) zero small = small 0
 below_take (b ∷ text) (suc n) (suc i) small = below_take text n i (λ k. small (suc k))
-
-fold_small : (s : ℕ) (xs : List ℕ) → s < 2 ^ 32 → fold_l (λ (s x : ℕ). (s + x) % 2 ^ 32) s xs < 2 ^ 32
-fold_small s [] small = small
-fold_small s (x ∷ xs) small = fold_small ((s + x) % 2 ^ 32) xs (omega arith)
 
 -- The digits that eight bytes begin with.
 pub counted_digits : (text : List ℕ) (end : ℕ) → 8 ≤ length text → ((i : ℕ) → Fits w8 (get_or text i 0)) → end ≡ counted (take 8 text) → end ≤ 7
@@ -220,21 +91,11 @@ pub packed_digits : (text : List ℕ) (n end : ℕ) → 8 ≤ length text → n 
 packed_digits text n end long small is digits other few =
     record { small = small; some = omega arith; within = omega arith; digits = digits.0; number = is; behind = λ _. digits.1 }
 
-digit_at : (text : List ℕ) (k i : ℕ) → list_all is_ascii_digit (take k text) ≡ true → i < k → i < length text → is_ascii_digit (get_or text i 0) ≡ true
+pub digit_at : (text : List ℕ) (k i : ℕ) → list_all is_ascii_digit (take k text) ≡ true → i < k → i < length text → is_ascii_digit (get_or text i 0) ≡ true
 digit_at [] k i all below within = absurd (omega arith)
 digit_at (b ∷ text) zero i all below within = absurd (omega arith)
 digit_at (b ∷ text) (suc k) zero all below within = (and_parts (is_ascii_digit b) (list_all is_ascii_digit (take k text)) all).0
 digit_at (b ∷ text) (suc k) (suc i) all below within = digit_at text k i (and_parts (is_ascii_digit b) (list_all is_ascii_digit (take k text)) all).1 (omega arith) (omega arith)
-
-pub packed_is : (text : List ℕ) (end : ℕ) → 8 ≤ length text → 0 < end → end ≤ 7 → list_all is_ascii_digit (take end text) ≡ true → packed end (take 8 text) ≡ value (take end text)
-packed_is text end long some few all =
-    let eight : length (take 8 text) ≡ 8 = length-take-le 8 text long in
-    let digits : (i : ℕ) → i < end → is_ascii_digit (get_or (take 8 text) i 0) ≡ true = λ i below. rw (get_or-take 8 text i 0 (omega arith)) (digit_at text end i all below (omega arith)) in
-    eight_digits (take 8 text) end eight some few digits ∙ ap value (take_front text end 8 (omega arith))
-
-pub packed_small : (text : List ℕ) (end : ℕ) → packed end text < 2 ^ 32
-packed_small text end =
-    fold_small 0 (zip2 (λ (x y : ℕ). x * y % 2 ^ 32) (map (λ (a : ℕ). a) (zip2 (λ (a b : ℕ). (a + (2 ^ 8 - b)) % 2 ^ 8) text (replicate 8 48))) (get_or weights end [])) (omega arith)
 
 -- The bits of 32 bytes that are no digits.
 
@@ -297,7 +158,7 @@ window_at : (text : List ℕ) (place i : ℕ) → place + i < 32 → get_or (dro
 window_at text place i below = get_or-drop place (take 32 text) i 0 ∙ (get_or-take 32 text (place + i) 0 below ∙ sym (get_or-drop place text i 0))
 
 -- The digits behind so many bytes.
-pub others_digits : (text : List ℕ) (place end : ℕ) → 32 ≤ length text → end ≡ count_trailing_zeros 64 (others (take 32 text) / 2 ^ place) → end ≤ 7
+pub others_digits : (text : List ℕ) (place end : ℕ) → 32 ≤ length text → end ≡ count_trailing_zeros 64 (others (take 32 text) / 2 ^ place) → end ≤ 8
     → (place + end < 32) × (list_all is_ascii_digit (take end (drop place text)) ≡ true) × (is_ascii_digit (get_or (drop place text) end 0) ≡ false)
 others_digits text place end long is few =
     let all : length (take 32 text) ≡ 32 = length-take-le 32 text long in
@@ -318,7 +179,7 @@ starts_other (d ∷ []) (suc (suc end)) some long other = refl
 starts_other (d ∷ e ∷ digits) (suc (suc end)) some long other = rw (ne_eqb d 48 other) refl
 
 -- The number that they spell.
-pub number_front : (text : List ℕ) (place n end : ℕ) → 40 ≤ length text → end ≡ count_trailing_zeros 64 (others (take 32 text) / 2 ^ place) → end ≢ 0 → end ≤ 7 → get_or text place 0 ≢ 48 → n < 2 ^ 64 → n ≡ value (take end (drop place text))
+pub number_front : (text : List ℕ) (place n end : ℕ) → 40 ≤ length text → end ≡ count_trailing_zeros 64 (others (take 32 text) / 2 ^ place) → end ≢ 0 → end ≤ 8 → get_or text place 0 ≢ 48 → n < 2 ^ 64 → n ≡ value (take end (drop place text))
     → IsFront (drop place text) n end
 number_front text place n end long is other few lead small number =
     let found = others_digits text place end (omega arith) is few in
@@ -331,6 +192,26 @@ number_front text place n end long is other few lead small number =
       behind = λ _. found.2;
       starts = starts_other (drop place text) end (omega arith) (omega (arith, found.0, rest)) (λ zero_is. lead (sym (ap (λ k. get_or text k 0) (add-zero place)) ∙ (sym (get_or-drop place text 0 0) ∙ zero_is)));
     }
+
+value_after_some : (n : ℕ) (ds : List ℕ) → 0 < n → 0 < value_after n ds
+value_after_some n [] some = some
+value_after_some n (d ∷ ds) some = value_after_some (10 * n + (d - 48)) ds (omega arith)
+
+digit_some : (b : ℕ) → is_ascii_digit b ≡ true → b ≢ 48 → 0 < 10 * 0 + (b - 48)
+digit_some b digit other = omega (arith, (digit_ascii b digit).0, other)
+
+-- Digits that don't begin with a zero spell no zero.
+value_some : (digits : List ℕ) (end : ℕ) → 0 < end → 0 < length digits → list_all is_ascii_digit (take end digits) ≡ true → get_or digits 0 0 ≢ 48 → 0 < value (take end digits)
+value_some [] end some long all other = absurd (omega arith)
+value_some (d ∷ digits) zero some long all other = absurd (omega arith)
+value_some (d ∷ digits) (suc end) some long all other = value_after_some (10 * 0 + (d - 48)) (take end digits) (digit_some d (and_parts (is_ascii_digit d) (list_all is_ascii_digit (take end digits)) all).0 other)
+
+-- The number that they spell isn't 0.
+pub number_some : (text : List ℕ) (place n end : ℕ) → 40 ≤ length text → end ≡ count_trailing_zeros 64 (others (take 32 text) / 2 ^ place) → end ≢ 0 → end ≤ 8 → get_or text place 0 ≢ 48 → n ≡ value (take end (drop place text)) → 0 < n
+number_some text place n end long is other few lead number =
+    let found = others_digits text place end (omega arith) is few in
+    let rest : length (drop place text) ≡ length text - place = length-drop place text in
+    rw number (value_some (drop place text) end (omega arith) (omega (arith, found.0, rest)) found.1 (λ zero_is. lead (sym (ap (λ k. get_or text k 0) (add-zero place)) ∙ (sym (get_or-drop place text 0 0) ∙ zero_is))))
 
 -- Where the first LF stands among 32 bytes.
 abbrev pub found_lf : List ℕ → ℕ

@@ -6,6 +6,7 @@ pub mod FieldRuns
 pub mod Quick
 pub mod UsualLines
 pub mod Lanes
+pub mod Words
 pub mod FrontNumbers
 pub mod Forms
 pub mod LineForms

@@ -1,5 +1,5 @@
 //! Reads a text whose lines are items in the usual spelling, for the most part.
-ghost use Rattle.std.specs.Prelude.{◌≡◌, ◌<◌, ℕ, List, [], length, true, false, Some, Err, IfOk, IfErr};
+ghost use Rattle.std.specs.Prelude.{◌≡◌, ◌<◌, ℕ, List, [], length, true, false, Some, Err, IfOk, IfErr, OnOk};
 ghost use Rattle.sp_device.specs.Failing.{Never};
 ghost use Rattle.sp_text.specs.declared.faults.Kind.{Kind};
 ghost use Rattle.sp_text.specs.Text.{judge};
@@ -14,27 +14,43 @@ use crate::whole::PIECE;
 use sp_device::Read;
 
 impl<K: Keep> Feeder<Collector<K>> {
-    // Takes the bytes up to and including the next LF, or all of them, and returns the bytes after them.
+    // Takes the bytes up to and including the next LF, or all of them, whatever they are, and returns what comes of it and
+    // the bytes after them.
     #[inline(always)]
-    fn take_next<'a>(&mut self, bytes: &'a [u8]) -> Result<&'a [u8], DimacsError>
+    fn take_other<'a>(&mut self, bytes: &'a [u8]) -> (Result<(), DimacsError>, &'a [u8])
         requires { 0 < length bytes.now }
-        ensures taken { IfOk result
-            (λ more. HasReadSome (judge K.format K.ranges) ⟦<Collector<K> as LineTaker>⟧.After
-            bytes.now more.now self.old self.new) }
-        ensures refused { IfErr result
+        ensures taken { OnOk result.0 (HasReadSome (judge K.format K.ranges)
+            ⟦<Collector<K> as LineTaker>⟧.After bytes.now result.1.now self.old self.new) }
+        ensures refused { IfErr result.0
+            (λ e. Refuses (judge K.format K.ranges) ⟦<Collector<K> as LineTaker>⟧.After
+            bytes.now self.old e self.new) }
+    {
+        match self.take_run(bytes) {
+            Ok(more) => (Ok(()), more),
+            Err(error) => (Err(error), bytes),
+        }
+    }
+
+    // Does the same, sooner where an item in the usual spelling stands at the front.
+    #[inline(always)]
+    fn take_next<'a>(&mut self, bytes: &'a [u8]) -> (Result<(), DimacsError>, &'a [u8])
+        requires { 0 < length bytes.now }
+        ensures taken { OnOk result.0 (HasReadSome (judge K.format K.ranges)
+            ⟦<Collector<K> as LineTaker>⟧.After bytes.now result.1.now self.old self.new) }
+        ensures refused { IfErr result.0
             (λ e. Refuses (judge K.format K.ranges) ⟦<Collector<K> as LineTaker>⟧.After
             bytes.now self.old e self.new) }
     {
         if !self.room.is_empty() {
-            return self.take_run(bytes);
+            return self.take_other(bytes);
         }
         match self.taker.take_front(bytes) {
             Some((Ok(()), more)) => {
                 self.ends = self.ends.wrapping_add(1);
-                Ok(more)
+                (Ok(()), more)
             }
-            Some((Err(kind), _)) => Err(self.refuse(kind)),
-            None => self.take_run(bytes),
+            Some((Err(kind), more)) => (Err(self.refuse(kind)), more),
+            None => self.take_other(bytes),
         }
     }
 
@@ -47,7 +63,9 @@ impl<K: Keep> Feeder<Collector<K>> {
     {
         let mut rest = piece;
         while !rest.is_empty() {
-            rest = self.take_next(rest)?;
+            let (taken, more) = self.take_next(rest);
+            taken?;
+            rest = more;
         }
         Ok(())
     }

@@ -239,7 +239,7 @@ pub(crate) fn spaced_numbers(
 }
 
 /// Returns the numbers that the front of a text spells in the usual way, one for each field: each after one space, in its
-/// range and of at most seven digits; and where they end, which is among the first 32 bytes.
+/// range and of at most eight digits; and where they end, which is among the first 32 bytes.
 #[inline(always)]
 pub(crate) fn front_numbers(
     fields: &[Field],
@@ -250,21 +250,21 @@ pub(crate) fn front_numbers(
     requires { length fields.now ≤ 4 }
     ensures { IfSome result (λ x. AreInFront ranges.now problem.now fields.now text.now x.0 x.1) }
 {
-    if text.len() < ROOM {
+    if text.len() <= ROOM {
         return None;
     }
-    let others = other_bytes(text);
+    let (_, digits) = text.split_at(1);
+    let others = other_bytes(digits);
     let mut values = Values::new();
     let mut end = 0;
     for (place, field) in fields.iter().enumerate() {
-        if text[end] != b' ' {
+        if field.least > 1 || text[end] != b' ' {
             return None;
         }
-        let (value, count) = number_at(text, others, end + 1)?;
-        let most = greatest(field.most, ranges, problem);
-        let Numeral::Value(value) = ranged(value, field.least, most) else {
+        let (value, count) = number_at(digits, others, end)?;
+        if value > greatest(field.most, ranges, problem) {
             return None;
-        };
+        }
         values.put(place, value);
         end += 1 + count;
     }

@@ -6,7 +6,7 @@ ghost use Rattle.sp_text.specs.Lines.{value};
 ghost use Rattle.sp_text.specs.Numeral.{AreDigits, IsFront, others};
 
 use std::simd::prelude::*;
-use std::simd::{u8x8, u8x32, u32x8};
+use std::simd::{u8x8, u8x32, u64x1};
 
 /// So many bytes are looked at at once, to find where numbers end.
 const WINDOW: usize = 32;
@@ -14,16 +14,17 @@ const WINDOW: usize = 32;
 /// A text needs so many bytes for each number that ends in the window to be read at once.
 pub(crate) const ROOM: usize = 40;
 
-// For each number of digits, the weights of the digits; the bytes after them have weight 0.
-static WEIGHTS: [[u32; 8]; 8] = [
-    [0, 0, 0, 0, 0, 0, 0, 0],
-    [1, 0, 0, 0, 0, 0, 0, 0],
-    [10, 1, 0, 0, 0, 0, 0, 0],
-    [100, 10, 1, 0, 0, 0, 0, 0],
-    [1_000, 100, 10, 1, 0, 0, 0, 0],
-    [10_000, 1_000, 100, 10, 1, 0, 0, 0],
-    [100_000, 10_000, 1_000, 100, 10, 1, 0, 0],
-    [1_000_000, 100_000, 10_000, 1_000, 100, 10, 1, 0],
+// For each number of digits, what eight bytes are multiplied by, so that the digits are the last ones, after zeros.
+static SHIFTS: [u64; 9] = [
+    0,
+    1 << 56,
+    1 << 48,
+    1 << 40,
+    1 << 32,
+    1 << 24,
+    1 << 16,
+    1 << 8,
+    1,
 ];
 
 // Returns the value of the digits at the front, given how many there are.
@@ -31,13 +32,17 @@ static WEIGHTS: [[u32; 8]; 8] = [
 fn packed_value(text: &[u8], count: usize) -> u64
     requires room { 8 ≤ length text.now }
     requires some { 0 < count }
-    requires few { count ≤ 7 }
+    requires few { count ≤ 8 }
     requires digits { list_all is_ascii_digit (take count text.now) ≡ true }
     ensures { result ≡ value (take count text.now) }
 {
-    let lanes = u8x8::from_slice(text) - u8x8::splat(b'0');
-    let value = (lanes.cast::<u32>() * u32x8::from_array(WEIGHTS[count])).reduce_sum();
-    value as u64
+    let [bytes] = u64x1::from_le_bytes(u8x8::from_slice(text)).to_array();
+    let digits = bytes.wrapping_mul(SHIFTS[count]) & 0x0f0f_0f0f_0f0f_0f0f;
+    let pairs = digits.wrapping_mul(2_561) >> 8 & 0x00ff_00ff_00ff_00ff;
+    let fours = pairs.wrapping_mul(6_553_601) >> 16;
+    (fours & 0xffff)
+        .wrapping_mul(10_000)
+        .wrapping_add(fours >> 32)
 }
 
 /// Returns the number that the digits at the front spell, and where they end, if there are eight bytes and one to seven
@@ -68,7 +73,7 @@ pub(crate) fn other_bytes(text: &[u8]) -> u64
     lanes.simd_gt(u8x32::splat(9)).to_bitmask()
 }
 
-/// Returns the number that the digits from a place on spell, and how many they are, if these are one to seven, begin
+/// Returns the number that the digits from a place on spell, and how many they are, if these are one to eight, begin
 /// with no zero and end among the first 32 bytes. The bits tell which of those bytes are no digits.
 #[inline(always)]
 pub(crate) fn number_at(text: &[u8], bits: u64, place: usize) -> Option<(u64, usize)>
@@ -76,10 +81,11 @@ pub(crate) fn number_at(text: &[u8], bits: u64, place: usize) -> Option<(u64, us
     requires bits { bits ≡ others (take WINDOW text.now) }
     requires place { place ≤ WINDOW }
     ensures number { IfSome result (λ x. IsFront (drop place text.now) x.0 x.1) }
+    ensures positive { IfSome result (λ x. 0 < x.0) }
     ensures within { IfSome result (λ x. place + x.1 < WINDOW) }
 {
     let count = (bits >> place).trailing_zeros() as usize;
-    if count == 0 || count > 7 || text[place] == b'0' {
+    if count == 0 || count > 8 || text[place] == b'0' {
         return None;
     }
     let (_, digits) = text.split_at(place);

@@ -91,12 +91,12 @@ pub(crate) fn front_item<'a>(
     if rest[end] != b'\n' || *first < b' ' {
         return None;
     }
-    let (line, after) = text.split_at(end + 1);
+    let (line, _) = text.split_at(end + 1);
     after_letter(form.words, line)?;
     if !starts_otherwise(line, b'c') || !begins_otherwise(format.problem.words, line) {
         return None;
     }
-    let (_, more) = after.split_at(1);
+    let (_, more) = text.split_at(end + 2);
     Some((0, form, values, more))
 }
 

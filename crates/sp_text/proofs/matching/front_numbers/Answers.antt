@@ -2,7 +2,7 @@ use Rattle.std.proofs.Common.{◌≡◌, ◌+◌, ◌<◌, [], ◌∷◌, ◌++�
 use Rattle.std.proofs.lemmas.List.{append-nil, drop_all}
 use Rattle.sp_text.specs.Matching.{AreSpaced}
 use Rattle.sp_text.proofs.UsualLines.{spaced_none}
-use Rattle.sp_text.proofs.FrontNumbers.{spaced_on, plain_on, whole_on}
+use Rattle.sp_text.proofs.FrontNumbers.{in_range, front_behind, spaced_on, plain_on, whole_on}
 use Rattle.sp_text.proofs.matching.front_numbers.Goals as goal
 
 pub loop-place-preserved : goal.loop-place-preserved
@@ -10,9 +10,10 @@ loop-place-preserved c =
     let text = c.args.text.now in
     let values = c.loop-place.values in
     let end = c.loop-place.end in
-    let n = c.in-Value.value in
+    let n = c.in_ok-value.value in
     let count = c.in_ok-value.count in
-    let number = c.in_ok-value.ensures.number in
+    let behind : c.split_at.result.1.now ≡ drop 1 text = c.split_at.ensures.back in
+    let number = front_behind text n end count (rw behind at c.in_ok-value.ensures.number) in
     let before = c.loop-place.invariant in
     let within : c.loop-place.place < length c.args.fields.now = omega arith in
     let goes_on : end < length text = omega (arith, before.within) in
@@ -23,7 +24,8 @@ loop-place-preserved c =
       spaced = λ k ns others.
           rw (c.put.ensures, append_assoc values (n ∷ []) ns, whole_on text end count k)
           (before.spaced _ (n ∷ ns)
-          (spaced_on c.args.ranges.now c.args.problem.now c.args.fields.now c.loop-place.place _ text ns n c.in_ok-value.value end count k _ within goes_on c.if-text-end-ne32.false number c.greatest-most.ensures c.in-Value.ensures others));
+          (spaced_on c.args.ranges.now c.args.problem.now c.args.fields.now c.loop-place.place _ text ns n n end count k _ within goes_on c.if-text-end-ne32.false number c.greatest.ensures
+          (in_range n _ _ c.if-field-gt1.false c.in_ok-value.ensures.positive c.if-value-greatest.false) others));
     }
 
 pub returns : goal.returns

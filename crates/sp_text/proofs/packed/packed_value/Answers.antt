@@ -1,4 +1,4 @@
-use Rattle.sp_text.proofs.Lanes.{packed_is}
+use Rattle.sp_text.proofs.Words.{packed_is}
 use Rattle.sp_text.proofs.packed.packed_value.Goals as goal
 
 pub returns : goal.returns

@@ -13,7 +13,7 @@ short_piece text piece front rest parts small = omega (arith, length-append text
 pub loop-rest-preserved : goal.loop-rest-preserved
 loop-rest-preserved g c =
     let before = c.loop-rest.invariant in
-    let run = c.in_ok-rest.ensures.taken in
+    let run = rw c.in_ok-taken.was at c.take_next-taken.ensures.taken in
     let front = before.0 in (
       front ++ run.front,
       before.1 ∙ (ap (λ t. front ++ t) run.parts ∙ sym (append_assoc front run.front _)),
@@ -21,14 +21,15 @@ loop-rest-preserved g c =
           rw (← append_assoc text front run.front) (run.read (text ++ front) (short_piece text c.args.piece.now front c.loop-rest.rest.now before.1 small) (before.2 text small h)),
     )
 
-pub returns-in_err-rest : goal.returns-in_err-rest
-returns-in_err-rest g c = λ text small h.
+pub returns-in_err-taken : goal.returns-in_err-taken
+returns-in_err-taken g c = λ text small h.
     let before = c.loop-rest.invariant in
     let front = before.0 in
     let rest = c.loop-rest.rest.now in
-    let e = c.in_err-rest.field-0.0 in
+    let e = c.in_err-taken.field-0.0 in
     let rules = judge g.K.Keep.format g.K.Keep.ranges in
-    let told = c.in_err-rest.ensures.refused (text ++ front) (short_piece text c.args.piece.now front rest before.1 small) (before.2 text small h) in
+    let refuses = rw c.in_err-taken.was at c.take_next-taken.ensures.refused in
+    let told = refuses (text ++ front) (short_piece text c.args.piece.now front rest before.1 small) (before.2 text small h) in
     let whole : text ++ front ++ rest ≡ text ++ c.args.piece.now = append_assoc text front rest ∙ ap (λ (t : List ℕ). text ++ t) (sym before.1) in
     let refused : Refused rules (ended text) (text ++ front ++ rest) e = refused_earlier rules (ended text) (ended (text ++ front)) (text ++ front ++ rest) e (more_ended text front) told.1 in
     let p = err_from_is_err_and c.from_residual.result c.from_residual.ensures.1 in

@@ -23,6 +23,6 @@ pub returns-in-Some-Err-default-clause-refused : goal.returns-in-Some-Err-defaul
 returns-in-Some-Err-default-clause-refused g c = λ text small h.
     let took = c.in-Some-Err-default.ensures in (
       c.refuse.ensures.spent,
-      rw c.refuse.ensures.line (front_err (judge g.K.Keep.format g.K.Keep.ranges) (λ c' lines. IsAfter g.K.Keep.format g.K.Keep.Kept lines c'.keep c'.problem c'.counts) text c.args.bytes.now took.0 c.in-Some-Err-default.field-0-1.now c.args.self.now c.in-Some-Err-default.kind
+      rw c.refuse.ensures.line (front_err (judge g.K.Keep.format g.K.Keep.ranges) (λ c' lines. IsAfter g.K.Keep.format g.K.Keep.Kept lines c'.keep c'.problem c'.counts) text c.args.bytes.now took.0 c.in-Some-Err-default.more.now c.args.self.now c.in-Some-Err-default.kind
           took.1.1 took.1.0 took.2 c.if-not-is_empty.ensures refl small h (rw c.in-Some-Err-default.field-0-0-is at (took.3 (ended text) h.taken))),
     )
