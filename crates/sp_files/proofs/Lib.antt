@@ -8,6 +8,7 @@ pub mod Accepts
 pub mod FileEnds
 pub mod TreePieces
 pub mod SentRows
+pub mod PageRounds
 pub mod TreeForms
 pub mod TreeEnds
 pub mod BlockStates

@@ -30,4 +30,5 @@ pub use trees::pages::write_tree_in_pages;
 pub use trees::reading::{TreeReader, read_tree};
 pub use trees::text::text_of;
 pub use trees::word_pages::{text_of_words, write_words_in_pages};
+pub use trees::word_sharing::write_words_by;
 pub use trees::writing::{write_far, write_tree};
