@@ -8,6 +8,7 @@ pub mod Telling
 pub mod FrontSteps
 pub mod EndSteps
 pub mod RowTelling
+mod Batches
 pub mod SumSteps
 pub mod Sending
 pub mod Whole

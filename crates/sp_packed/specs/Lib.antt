@@ -7,3 +7,4 @@ pub mod Faults
 pub mod File
 pub mod Reading
 pub mod BlockView
+pub mod Batches

@@ -197,8 +197,8 @@ fn push_right(arcs: &mut Vec<Arc>, numbers: &[u32], ends: &[u32], n: u32, tail: 
     (count, row)
 }
 
-// Puts the arcs that the numbers spell behind the others, and returns the row of the last one.
-fn push_arcs(
+/// Puts the arcs that the numbers spell behind the others, and returns the row of the last one.
+pub fn push_arcs(
     arcs: &mut Vec<Arc>,
     numbers: &[u32],
     ends: &[u32],
@@ -233,8 +233,8 @@ fn push_arcs(
     Ok(row)
 }
 
-// Returns the fault where the numbers end before all arcs came: that of a head which stands there alone, or of the next word.
-fn cut_fault(
+/// Returns the fault where the numbers end before all arcs came: that of a head which stands there alone, or of the next word.
+pub fn cut_fault(
     arcs: &[Arc],
     numbers: &[u32],
     ends: &[u32],
@@ -264,8 +264,8 @@ fn cut_fault(
     }
 }
 
-// Returns the greatest length of these arcs, or 0 if there is none.
-fn longest_of(arcs: &[Arc]) -> u32
+/// Returns the greatest length of these arcs, or 0 if there is none.
+pub fn longest_of(arcs: &[Arc]) -> u32
     ensures { IsLongest arcs.now result }
 {
     let mut longest: u32 = 0;
