@@ -6,8 +6,7 @@ use Rattle.std.proofs.Math.Seq.{drop-append_seam}
 use Rattle.std.proofs.KnownBytes.{Consumes-trans}
 use Rattle.std.proofs.lemmas.List.{append-nil, length-drop, length-take-le, take-append-le}
 use Rattle.sp_paths.specs.declared.arc.Arc.{Arc}
-use Rattle.sp_graph.specs.Longest.{IsLongest}
-use Rattle.sp_graph.proofs.Parts.{longest_none}
+use Rattle.sp_graph.specs.Lengths.{AreLengths}
 use Rattle.sp_packed.specs.declared.words.Sum.{Sum}
 use Rattle.sp_packed.specs.declared.beside.Tested.{Tested}
 use Rattle.sp_packed.specs.declared.faults.PackedFault.{PackedFault}
@@ -82,12 +81,12 @@ put_part old new at k within size le =
 
 -- ## Arcs
 
-pub first_tested : (n m : ℕ) (ends : List ℕ) (tested : Tested) → tested.arcs.items ≡ [] → tested.longest ≡ 0 → tested.row ≡ 1 → 1 ≤ n → AreEnds n m ends
+pub first_tested : (n m : ℕ) (ends : List ℕ) (tested : Tested) → tested.arcs.items ≡ [] → AreLengths [] tested.lengths → tested.row ≡ 1 → 1 ≤ n → AreEnds n m ends
     → AreTested n ends tested
 first_tested n m ends tested none zero one some are = record {
   rows = subst (λ l. AreRows n ends l) (sym none) (no_rows_yet n ends);
   next = subst (λ (l : List Arc). IsNextRow n ends (length l) tested.row) (sym none) (subst (λ k. IsNextRow n ends 0 k) (sym one) (first_row n m ends some are));
-  longest = subst (λ l. IsLongest l tested.longest) (sym none) (subst (λ k. IsLongest [] k) (sym zero) longest_none);
+  lengths = subst (λ l. AreLengths l tested.lengths) (sym none) zero;
 }
 
 -- Some arcs are tested, and these words came behind theirs.

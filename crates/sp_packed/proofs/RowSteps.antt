@@ -10,8 +10,9 @@ use Rattle.std.proofs.lemmas.List.Elements.{All-push, All-get_or, All-nil, All-h
 use Rattle.sp_paths.specs.declared.arc.Arc.{Arc}
 use Rattle.sp_paths.specs.Paths.{IsArc}
 use Rattle.sp_graph.specs.Order.{IsNoGreater, IsInOrder}
-use Rattle.sp_graph.specs.Longest.{IsLongest}
-use Rattle.sp_graph.proofs.Parts.{longest_both}
+use Rattle.sp_graph.specs.Lengths.{AreLengths, of_both}
+use Rattle.sp_graph.specs.declared.lengths.Lengths.{Lengths}
+use Rattle.sp_graph.proofs.LengthSums.{lengths_both}
 use Rattle.sp_packed.specs.declared.words.Sum.{Sum}
 use Rattle.sp_packed.specs.Words.{sum_on}
 use Rattle.sp_packed.specs.Packed.{arc_words, arcs_words}
@@ -333,7 +334,7 @@ came arcs added =
     take_all (length (arcs ++ added) - length arcs) (drop (length arcs) (arcs ++ added)) (omega (arith, ap length behind, length-append arcs added)) ∙ behind
 
 -- where all are those before and those that came behind the first k
-pub longest_came : (all arcs added : List Arc) (k a b l : ℕ) → all ≡ arcs ++ added → k ≡ length arcs → IsLongest arcs a → IsLongest (take (length all - k) (drop k all)) b → l ≡ max a b → IsLongest (arcs ++ added) l
-longest_came all arcs added k a b l is at before behind greater =
+pub lengths_came : (all arcs added : List Arc) (k : ℕ) (a b l : Lengths) → all ≡ arcs ++ added → k ≡ length arcs → AreLengths arcs a → AreLengths (take (length all - k) (drop k all)) b → l ≡ of_both a b → AreLengths (arcs ++ added) l
+lengths_came all arcs added k a b l is at before behind both =
     let same : take (length all - k) (drop k all) ≡ added = rw is (rw at (came arcs added)) in
-    longest_both arcs added a b l before (subst (λ xs. IsLongest xs b) same behind) greater
+    subst (λ m. AreLengths (arcs ++ added) m) (sym both) (lengths_both arcs added a b before (subst (λ xs. AreLengths xs b) same behind))

@@ -1,7 +1,7 @@
 -- The arcs of rows, as they are tested while the next words are read.
 use Rattle.std.specs.Prelude.{◌≡◌, ℕ, ◌*◌, ◌/◌, ◌≤◌, List, ◌++◌, length, take, Option}
 use Rattle.sp_paths.specs.declared.arc.Arc.{Arc}
-use Rattle.sp_graph.specs.Longest.{IsLongest}
+use Rattle.sp_graph.specs.Lengths.{AreLengths}
 use Rattle.sp_packed.specs.declared.words.Sum.{Sum}
 use Rattle.sp_packed.specs.declared.beside.Tested.{Tested}
 use Rattle.sp_packed.specs.declared.beside.Batch.{Batch}
@@ -9,11 +9,11 @@ use Rattle.sp_packed.specs.Words.{sum_on, HasCome}
 use Rattle.sp_packed.specs.Packed.{arcs_words}
 use Rattle.sp_packed.specs.Rows.{AreRows, IsNextRow}
 
--- These are the first arcs of a graph whose rows end there, with a row for the next one and their greatest length.
+-- These are the first arcs of a graph whose rows end there, with a row for the next one and their lengths.
 pub record AreTested (n : ℕ) (ends : List ℕ) (tested : Tested) : Type 0 where
   pub rows : AreRows n ends tested.arcs.items
   pub next : IsNextRow n ends (length tested.arcs.items) tested.row
-  pub longest : IsLongest tested.arcs.items tested.longest
+  pub lengths : AreLengths tested.arcs.items tested.lengths
 
 -- The arcs that the numbers spell stand behind the others.
 pub record Adds (numbers : List ℕ) (old new : List Arc) : Type 0 where

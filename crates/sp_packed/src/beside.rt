@@ -1,7 +1,7 @@
 //! The arcs of rows, tested by one thread while another reads the next words.
 ghost use Rattle.std.specs.Prelude.{◌≡◌, ◌≢◌, ◌+◌, ◌*◌, ◌^◌, ◌<◌, ◌≤◌, ◌++◌, [], ℕ, true, false, length, slice_index, IfOk, IfErr, OnOk};
 ghost use Rattle.sp_device.specs.Failing.{Never};
-ghost use Rattle.sp_graph.specs.Longest.{IsLongest};
+ghost use Rattle.sp_graph.specs.Lengths.{AreLengths};
 ghost use Rattle.sp_packed.specs.Packed.{head_words};
 ghost use Rattle.sp_packed.specs.Ends.{AreEnds};
 ghost use Rattle.sp_packed.specs.Rows.{AreRows, IsRefusedIn, HasRows};
@@ -10,8 +10,9 @@ ghost use Rattle.sp_packed.specs.Reading.{ToldBehind};
 
 use crate::blocks::Block;
 use crate::faults::{PackedFault, PackedKind};
-use crate::rows::{RowArcs, cut_fault, longest_of, push_arcs, read_rows};
+use crate::rows::{RowArcs, cut_fault, push_arcs, read_rows};
 use sp_device::Read;
+use sp_graph::Lengths;
 use sp_paths::Arc;
 use std::alloc::{AllocError, Global};
 use std::mem;
@@ -23,11 +24,11 @@ const MOST: usize = 65_536;
 /// The fewest arcs that are worth another thread.
 const WORTH: usize = 65_536;
 
-/// The arcs that were tested, their greatest length, or 0 if there is none, and a row for the next one.
+/// The arcs that were tested, their lengths, and a row for the next one.
 #[derive(Drop)]
 pub struct Tested {
     pub arcs: Vec<Arc>,
-    pub longest: u32,
+    pub lengths: Lengths,
     pub row: u32,
 }
 
@@ -35,12 +36,12 @@ impl Tested {
     // Returns no arcs.
     fn new(alloc: Global) -> Tested
         ensures arcs { result.arcs.items ≡ [] }
-        ensures longest { result.longest ≡ 0 }
+        ensures lengths { AreLengths [] result.lengths }
         ensures row { result.row ≡ 1 }
     {
         Tested {
             arcs: Vec::new(alloc),
-            longest: 0,
+            lengths: Lengths::none(),
             row: 1,
         }
     }
@@ -63,7 +64,7 @@ fn test(tested: &mut Tested, numbers: &[u32], ends: &[u32], n: u32) -> Result<()
         Ok(row) => tested.row = row,
         Err(fault) => return Err(fault),
     }
-    tested.longest = tested.longest.max(longest_of(&tested.arcs[begin..]));
+    tested.lengths = tested.lengths.and(Lengths::of(&tested.arcs[begin..]));
     Ok(())
 }
 
@@ -131,7 +132,7 @@ pub fn read_rows_beside<H: Threads, R: Read>(
     requires ends { AreEnds n (slice_index ends.now n) ends.now }
     ensures rows { IfOk result (λ rows. AreRows n ends.now rows.arcs.items) }
     ensures size { IfOk result (λ rows. length rows.arcs.items ≡ slice_index ends.now n) }
-    ensures longest { IfOk result (λ rows. IsLongest rows.arcs.items rows.longest) }
+    ensures lengths { IfOk result (λ rows. AreLengths rows.arcs.items rows.lengths) }
     ensures text { IfOk result (λ rows. HasRows (R.left reader.old) (R.left reader.new)
         block.old.sum block.new.sum rows.arcs.items) }
     ensures told { IfErr result (λ e. let m = slice_index ends.now n in
@@ -193,6 +194,6 @@ pub fn read_rows_beside<H: Threads, R: Read>(
     }
     Ok(RowArcs {
         arcs: tested.arcs,
-        longest: tested.longest,
+        lengths: tested.lengths,
     })
 }

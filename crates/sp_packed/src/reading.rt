@@ -3,7 +3,7 @@ ghost use Rattle.std.specs.Prelude.{◌≡◌, ◌≢◌, ◌≤◌, ◌^◌, �
 ghost use Rattle.sp_device.specs.Failing.{Never};
 ghost use Rattle.sp_word.specs.Word.{is_layout, max_pred};
 ghost use Rattle.sp_graph.specs.RowEnds.{AreRowEnds};
-ghost use Rattle.sp_graph.specs.Longest.{IsLongest};
+ghost use Rattle.sp_graph.specs.Lengths.{AreLengths};
 ghost use Rattle.sp_packed.specs.Packed.{head_words, IsPackable, IsWithin};
 ghost use Rattle.sp_packed.specs.Ends.{AreEnds};
 ghost use Rattle.sp_packed.specs.Rows.{AreRows, HasRows};
@@ -50,7 +50,7 @@ trait RowReader {
         requires ends { AreEnds n (slice_index ends.now n) ends.now }
         ensures rows { IfOk result (λ rows. AreRows n ends.now rows.arcs.items) }
         ensures size { IfOk result (λ rows. length rows.arcs.items ≡ slice_index ends.now n) }
-        ensures longest { IfOk result (λ rows. IsLongest rows.arcs.items rows.longest) }
+        ensures lengths { IfOk result (λ rows. AreLengths rows.arcs.items rows.lengths) }
         ensures text { IfOk result (λ rows. HasRows (R.left reader.old) (R.left reader.new)
             block.old.sum block.new.sum rows.arcs.items) }
         ensures told { IfErr result (λ e. let m = slice_index ends.now n in
@@ -129,11 +129,11 @@ fn read_parts<W: RowReader, R: Read>(
     if let Err(fault) = read_sum(reader, &mut block, n, m) {
         return Err(fault);
     }
-    let longest = read.longest;
+    let lengths = read.lengths;
     Ok(PackedFile {
         n,
         arcs: read.arcs,
-        rows: RowEnds { ends, longest },
+        rows: RowEnds { ends, lengths },
     })
 }
 

@@ -3,7 +3,7 @@ ghost use Rattle.std.specs.Prelude.{◌≡◌, ◌≢◌, ◌+◌, ◌*◌, ◌/
 ghost use Rattle.sp_device.specs.Failing.{Never};
 ghost use Rattle.sp_paths.specs.declared.arc.Arc.{Arc};
 ghost use Rattle.sp_graph.specs.Order.{IsNoGreater};
-ghost use Rattle.sp_graph.specs.Longest.{IsLongest};
+ghost use Rattle.sp_graph.specs.Lengths.{AreLengths};
 ghost use Rattle.sp_packed.specs.Packed.{head_words, arcs_words};
 ghost use Rattle.sp_packed.specs.Ends.{AreEnds};
 ghost use Rattle.sp_packed.specs.Rows.{IsInRow, AreRows, IsNextRow, IsNext, MayFollow, MayHead, MayStand, IsArcRefused, IsRefusedIn, IsCutIn, HasRows, words_to, arc_key, IsLastKey};
@@ -12,14 +12,15 @@ ghost use Rattle.sp_packed.specs.Reading.{ToldBehind};
 use crate::blocks::{Block, ROOM};
 use crate::faults::{PackedFault, PackedField, PackedKind};
 use sp_device::Read;
+use sp_graph::Lengths;
 use sp_paths::Arc;
 use std::alloc::Global;
 
-/// The arcs of rows, and their greatest length, or 0 if there is no arc.
+/// The arcs of rows, and their lengths.
 #[derive(Drop)]
 pub struct RowArcs {
     pub arcs: Vec<Arc>,
-    pub longest: u32,
+    pub lengths: Lengths,
 }
 
 // Returns in which row the arc at index `k` stands, that of `tail` or a later one.
@@ -264,17 +265,6 @@ pub fn cut_fault(
     }
 }
 
-/// Returns the greatest length of these arcs, or 0 if there is none.
-pub fn longest_of(arcs: &[Arc]) -> u32
-    ensures { IsLongest arcs.now result }
-{
-    let mut longest: u32 = 0;
-    for arc in arcs {
-        longest = longest.max(arc.len);
-    }
-    longest
-}
-
 /// Reads the arcs of rows that end there.
 pub fn read_rows<R: Read>(
     alloc: Global,
@@ -288,7 +278,7 @@ pub fn read_rows<R: Read>(
     requires ends { AreEnds n (slice_index ends.now n) ends.now }
     ensures rows { IfOk result (λ rows. AreRows n ends.now rows.arcs.items) }
     ensures size { IfOk result (λ rows. length rows.arcs.items ≡ slice_index ends.now n) }
-    ensures longest { IfOk result (λ rows. IsLongest rows.arcs.items rows.longest) }
+    ensures lengths { IfOk result (λ rows. AreLengths rows.arcs.items rows.lengths) }
     ensures text { IfOk result (λ rows. HasRows (R.left reader.old) (R.left reader.new)
         block.old.sum block.new.sum rows.arcs.items) }
     ensures told { IfErr result (λ e. let m = slice_index ends.now n in
@@ -299,7 +289,7 @@ pub fn read_rows<R: Read>(
 {
     let m = ends[n as usize] as usize;
     let mut arcs = Vec::new(alloc);
-    let mut longest: u32 = 0;
+    let mut lengths = Lengths::none();
     let mut row = 1;
     while arcs.len() < m {
         let begin = arcs.len();
@@ -313,7 +303,7 @@ pub fn read_rows<R: Read>(
         if numbers.len() < 2 * want {
             return Err(cut_fault(&arcs, numbers, ends, n, row, failed));
         }
-        longest = longest.max(longest_of(&arcs[begin..]));
+        lengths = lengths.and(Lengths::of(&arcs[begin..]));
     }
-    Ok(RowArcs { arcs, longest })
+    Ok(RowArcs { arcs, lengths })
 }

@@ -18,7 +18,7 @@ loop-n-init g c =
     let batch = c.take.new.self in (
       subst (λ l. Pending old now s u l (numbers_of batch) batch.want batch.failed) (sym none)
           (first_pending old now s u (numbers_of batch) batch.want batch.failed c.take.ensures.batch.came c.take.ensures.batch.sum),
-      first_tested c.args.n _ c.args.ends.now c.new-tested.result none c.new-tested.ensures.longest c.new-tested.ensures.row c.requires.some c.requires.ends,
+      first_tested c.args.n _ c.args.ends.now c.new-tested.result none c.new-tested.ensures.lengths c.new-tested.ensures.row c.requires.some c.requires.ends,
       omega (arith, ap length none, c.take.ensures.want, c.min.ensures),
       λ lt. omega (arith, ap length none, c.take.ensures.want, c.min.ensures, lt),
       refl,

@@ -94,5 +94,5 @@ returns-clause-rows g c =
     record {
       order = rows.order;
       index = index_of_rows n arcs rows.arcs_are rows.order ends ends_are rows.rows;
-      longest = c.in-Ok-read_rows.ensures.longest;
+      lengths = c.in-Ok-read_rows.ensures.lengths;
     }

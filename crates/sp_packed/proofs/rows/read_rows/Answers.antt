@@ -1,10 +1,9 @@
 use Rattle.std.proofs.Common.{◌≡◌, ◌+◌, ◌*◌, [], ◌++◌, ◌≤◌, ℕ, List, length, length-append, get_or, ap, subst, refl, sym, ◌∙◌, arith}
 use Rattle.sp_paths.specs.declared.arc.Arc.{Arc}
-use Rattle.sp_graph.specs.Longest.{IsLongest}
-use Rattle.sp_graph.proofs.Parts.{longest_none}
+use Rattle.sp_graph.specs.Lengths.{AreLengths}
 use Rattle.sp_packed.specs.Words.{HasCome, sum_on}
 use Rattle.sp_packed.specs.Rows.{AreRows, IsNextRow, HasRows, IsCutIn}
-use Rattle.sp_packed.proofs.RowSteps.{rows_first, no_rows_yet, first_row, longest_came}
+use Rattle.sp_packed.proofs.RowSteps.{rows_first, no_rows_yet, first_row, lengths_came}
 use Rattle.sp_packed.proofs.RowTelling.{rows_came, arc_refused, arcs_cut}
 use Rattle.sp_packed.proofs.rows.read_rows.Goals as goal
 
@@ -19,7 +18,7 @@ loop-arcs-init g c =
       omega (arith, ap length none),
       refl,
       refl,
-      subst (λ l. IsLongest l 0) (sym none) longest_none,
+      subst (λ l. AreLengths l c.none-lengths.result) (sym none) c.none-lengths.ensures,
     )
 
 pub returns-in-Err-clause-told : goal.returns-in-Err-clause-told
@@ -83,7 +82,7 @@ loop-arcs-preserved g c =
       omega (arith, ap length items.1, length-append arcs added, items.3, came.within, room, before.4),
       before.4,
       c.take-failed.ensures.lasting ∙ before.5,
-      subst (λ l. IsLongest l c.max-longest.result) (sym items.1)
-          (longest_came c.deref-in-loop-arcs.result.now arcs added c.len-begin.result c.loop-arcs.longest c.longest_of.result c.max-longest.result
-          (c.deref-in-loop-arcs.ensures.value ∙ items.1) (omega (arith, c.len-begin.ensures)) before.6 c.longest_of.ensures c.max-longest.ensures),
+      subst (λ l. AreLengths l c.and-lengths.result) (sym items.1)
+          (lengths_came c.deref-in-loop-arcs.result.now arcs added c.len-begin.result c.loop-arcs.lengths c.of.result c.and-lengths.result
+          (c.deref-in-loop-arcs.ensures.value ∙ items.1) (omega (arith, c.len-begin.ensures)) before.6 c.of.ensures c.and-lengths.ensures),
     )

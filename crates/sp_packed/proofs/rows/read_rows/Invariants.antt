@@ -1,5 +1,5 @@
 use Rattle.std.proofs.Common.{◌≡◌, ◌-◌, ◌≤◌, length, get_or}
-use Rattle.sp_graph.specs.Longest.{IsLongest}
+use Rattle.sp_graph.specs.Lengths.{AreLengths}
 use Rattle.sp_packed.specs.Rows.{AreRows, IsNextRow, HasRows}
 use Rattle.sp_packed.proofs.rows.read_rows.Given as goal
 
@@ -9,7 +9,7 @@ invariant-loop-arcs g l =
     × AreRows l.n l.ends l.arcs.items × IsNextRow l.n l.ends (length l.arcs.items) l.row
     × (length l.arcs.items ≤ l.m) × (l.m ≡ get_or l.ends l.n 0)
     × (g.R.Read.failing l.reader ≡ g.R.Read.failing l.fn.reader)
-    × IsLongest l.arcs.items l.longest
+    × AreLengths l.arcs.items l.lengths
 
 abbrev pub decreases-loop-arcs : goal.decreases-loop-arcs
 decreases-loop-arcs g l = l.m - length l.arcs.items
