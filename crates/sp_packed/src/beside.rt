@@ -18,8 +18,8 @@ use std::alloc::{AllocError, Global};
 use std::mem;
 use std::thread::{Threads, join_mut};
 
-/// The greatest number of arcs whose words are read at a time.
-const MOST: usize = 65_536;
+/// The greatest number of arcs whose words are read at a time. A thread is started for each such part.
+const MOST: usize = 131_072;
 
 /// The fewest arcs that are worth another thread.
 const WORTH: usize = 65_536;

@@ -10,7 +10,7 @@ invariant-loop-n g l =
     × AreTested l.n l.ends l.tested
     × (length l.tested.arcs.items + l.here.want ≤ l.m) × (length l.tested.arcs.items < l.m → 1 ≤ l.here.want) × (l.m ≡ get_or l.ends l.n 0)
     × (g.R.Read.failing l.reader ≡ g.R.Read.failing l.fn.reader)
-    × (l.here.len ≤ length l.here.numbers.items) × (length l.here.numbers.items ≡ 131072) × (length l.next.numbers.items ≡ 131072)
+    × (l.here.len ≤ length l.here.numbers.items) × (length l.here.numbers.items ≡ 262144) × (length l.next.numbers.items ≡ 262144)
     × (l.here.failed ≡ true → g.R.Read.has_failed l.reader ≡ true) × (g.R.Read.failing l.fn.reader ≡ Never → l.here.failed ≡ false)
 
 abbrev pub decreases-loop-n : goal.decreases-loop-n
