@@ -73,18 +73,16 @@ fn read_lines<const P: u32, H: Crew, R: Read>(
 }
 
 // Reads the rest of a device's bytes as a packed text.
-fn read_words<const P: u32, H: Crew, R: Read>(
-    rt: &H,
+fn read_words<const P: u32, R: Read>(
     alloc: Global,
     reader: &mut R,
-    workers: Workers,
     direction: Direction,
 ) -> Result<Network, NetworkFault>
     requires { is_layout P ≡ true }
     ensures { Answered true P (most_of direction) (R.left reader.old) (R.left reader.new)
         (R.has_failed reader.new) (R.failing reader.old) result }
 {
-    match read_packed_file::<P, H, R>(rt, alloc, reader, workers, direction.most_arcs()) {
+    match read_packed_file::<P, R>(alloc, reader, direction.most_arcs()) {
         Ok(file) => Ok(Network::of_words(file)),
         Err(fault) => Err(NetworkFault::Packed(fault)),
     }
@@ -93,7 +91,7 @@ fn read_words<const P: u32, H: Crew, R: Read>(
 /// Reads the rest of a device's bytes, and returns the network that they spell, or their first fault. A text whose first byte
 /// is 0x89 is packed, every other one has lines. In both forms it may announce as many arcs as this direction allows.
 ///
-/// A text is read by so many workers, this thread among them; this thread alone reads the device. An empty text has no
+/// A text of lines is read by so many workers, this thread among them; this thread alone reads the device. An empty text has no
 /// problem line. A device that fails before the first byte is told as Read at line 1.
 pub fn read_network<const P: u32, H: Crew, D: Read>(
     rt: &H,
@@ -124,7 +122,7 @@ pub fn read_network<const P: u32, H: Crew, D: Read>(
         }
     };
     if is_marked(next) {
-        read_words::<P, H, Peeked<D>>(rt, alloc, reader, workers, direction)
+        read_words::<P, Peeked<D>>(alloc, reader, direction)
     } else {
         read_lines::<P, H, Peeked<D>>(rt, alloc, reader, workers, direction)
     }

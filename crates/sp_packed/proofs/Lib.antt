@@ -8,7 +8,6 @@ pub mod Telling
 pub mod FrontSteps
 pub mod EndSteps
 pub mod RowTelling
-mod Batches
 pub mod SumSteps
 pub mod Sending
 pub mod Whole

@@ -1,6 +1,6 @@
 -- What is told where arcs come.
-use Rattle.std.proofs.Common.{◌≡◌, ℕ, ◌+◌, ◌-◌, ◌*◌, ◌/◌, ◌%◌, ◌<◌, ◌≤◌, ◌^◌, ◌⊎◌, Bool, true, false, List, [], ◌∷◌, ◌++◌, length, get_or, take, refl, sym, ap, subst, ⊎_elim, ◌∙◌, arith, append_assoc, length-append, Option}
-use Rattle.std.specs.Io.KnownBytes.{Consumes, IsAtEnd}
+use Rattle.std.proofs.Common.{◌≡◌, ℕ, ◌+◌, ◌-◌, ◌*◌, ◌/◌, ◌%◌, ◌<◌, ◌≤◌, ◌^◌, ◌⊎◌, Bool, true, List, [], ◌∷◌, ◌++◌, length, get_or, take, refl, sym, ap, subst, ⊎_elim, ◌∙◌, arith, append_assoc, length-append, Option}
+use Rattle.std.specs.Io.KnownBytes.{Consumes}
 use Rattle.std.proofs.KnownBytes.{Consumes-trans}
 use Rattle.std.proofs.Math.Seq.{take-append-add}
 use Rattle.std.proofs.lemmas.List.{append-nil, take_all, take_more}
@@ -44,19 +44,19 @@ head_of_stand n arcs a h = record { some = h.some; within = h.within; order = λ
 
 module _ (n m want : ℕ) (ends : List ℕ) (old mid new : Option (List ℕ)) (s t : Sum) (has_failed failed : Bool) (arcs : List Arc) (ns : List ℕ)
     (are : AreEnds n m ends) (rows : AreRows n ends arcs) (ns_fits : (i : ℕ) → get_or ns i 0 < 2 ^ 32) (h : HasRows old mid s t arcs)
-    (part : List ℕ) (behind : Consumes mid new (words ns ++ part)) (room : length arcs + want ≤ m) where
+    (come : HasCome (2 * want) mid ns failed new) (room : length arcs + want ≤ m) where
   length-head : length (head_words n m) ≡ 4
   unfolding head_words
   length-head = refl
 
-  took : (start : Option (List ℕ)) → Consumes start old (words (head_words n m ++ ends)) → Consumes start new (words (head_words n m ++ (ends ++ (arcs_words arcs ++ ns))) ++ part)
+  took : (start : Option (List ℕ)) → Consumes start old (words (head_words n m ++ ends)) → Consumes start new (words (head_words n m ++ (ends ++ (arcs_words arcs ++ ns))) ++ come.part)
   took start first =
       let front = head_words n m ++ ends in
       let both : Consumes start mid (words (front ++ arcs_words arcs))
       = subst (λ l. Consumes start mid l) (sym (words-append front (arcs_words arcs))) (Consumes-trans start old mid (words front) (words (arcs_words arcs)) first h.took) in
       let same : (front ++ arcs_words arcs) ++ ns ≡ head_words n m ++ (ends ++ (arcs_words arcs ++ ns))
       = append_assoc front (arcs_words arcs) ns ∙ append_assoc (head_words n m) ends (arcs_words arcs ++ ns) in
-      subst (λ l. Consumes start new (words l ++ part)) same (took_on start mid new (front ++ arcs_words arcs) ns part both behind)
+      subst (λ l. Consumes start new (words l ++ come.part)) same (took_on start mid new (front ++ arcs_words arcs) ns come.part both come.took)
 
   all_fit : n < 2 ^ 32 → m < 2 ^ 32 → (i : ℕ) → get_or (head_words n m ++ (ends ++ (arcs_words arcs ++ ns))) i 0 < 2 ^ 32
   all_fit small fits =
@@ -98,7 +98,7 @@ module _ (n m want : ℕ) (ends : List ℕ) (old mid new : Option (List ℕ)) (s
         let whole = head_words n m ++ (ends ++ (arcs_words arcs ++ ns)) in
         let front = head_words n m ++ (ends ++ arcs_words done) in
         let b : Begun top most front = rows_begun top most n m counts ends done are right (omega arith) in
-        told_other top most start new has_failed whole part (took start first) word (OutOfRange Head) front (head_words n m ++ (ends ++ (arcs_words done ++ (a.head ∷ []))))
+        told_other top most start new has_failed whole come.part (took start first) word (OutOfRange Head) front (head_words n m ++ (ends ++ (arcs_words done ++ (a.head ∷ []))))
         tt (all_fit counts.n_fits counts.m_fits) (omega (arith, all_long, ap length e))
         (all_taken word 0 (omega arith) ∙ ap (λ l. head_words n m ++ (ends ++ l)) (append-nil (arcs_words done)))
         (all_taken (word + 1) 1 (omega arith) ∙ ap (λ l. head_words n m ++ (ends ++ (arcs_words done ++ take 1 l))) e)
@@ -112,7 +112,7 @@ module _ (n m want : ℕ) (ends : List ℕ) (old mid new : Option (List ℕ)) (s
         let whole = head_words n m ++ (ends ++ (arcs_words arcs ++ ns)) in
         let behind = ends ++ (arcs_words done ++ (a.head ∷ [])) in
         let b : Begun top most (head_words n m ++ behind) = head_begun top most n m counts ends done a are right lt next may in
-        told_other top most start new has_failed whole part (took start first) word (OutOfRange Length) (head_words n m ++ behind) (head_words n m ++ (ends ++ (arcs_words done ++ (a.head ∷ a.len ∷ []))))
+        told_other top most start new has_failed whole come.part (took start first) word (OutOfRange Length) (head_words n m ++ behind) (head_words n m ++ (ends ++ (arcs_words done ++ (a.head ∷ a.len ∷ []))))
         tt (all_fit counts.n_fits counts.m_fits) (omega (arith, all_long, ap length e))
         (all_taken word 1 (omega arith) ∙ ap (λ l. head_words n m ++ (ends ++ (arcs_words done ++ take 1 l))) e)
         (all_taken (word + 1) 2 (omega arith) ∙ ap (λ l. head_words n m ++ (ends ++ (arcs_words done ++ take 2 l))) e)
@@ -124,21 +124,21 @@ module _ (n m want : ℕ) (ends : List ℕ) (old mid new : Option (List ℕ)) (s
     no_room a rest e right lt next may top most start counts first =
         let word = words_to n (length done) in
         let whole = head_words n m ++ (ends ++ (arcs_words arcs ++ ns)) in
-        told_memory top most start new has_failed whole part (took start first) word (head_words n m ++ (ends ++ (arcs_words done ++ (a.head ∷ []))))
+        told_memory top most start new has_failed whole come.part (took start first) word (head_words n m ++ (ends ++ (arcs_words done ++ (a.head ∷ []))))
         (omega (arith, all_long, ap length e)) (all_taken (word + 1) 1 (omega arith) ∙ ap (λ l. head_words n m ++ (ends ++ (arcs_words done ++ take 1 l))) e)
         (head_begun top most n m counts ends done a are right lt next may)
 
     -- no more words came whole
     pub cut_behind : (k : ℕ) (e : PackedFault) → k ≡ words_to n (length done) + length others → (length others < 2) → length done < m → IsCutAt k failed e
         → ((top most : ℕ) → AreCounts top most n m → Begun top most (head_words n m ++ (ends ++ (arcs_words done ++ others))))
-        → length part < 4 → (failed ≡ false → IsAtEnd new) → (failed ≡ true → has_failed ≡ true) → ToldBehind (head_words n m ++ ends) n m old new has_failed e
-    cut_behind k e long few lt cut begun tail_short ended broken top most start counts first =
+        → length ns < 2 * want → (failed ≡ true → has_failed ≡ true) → ToldBehind (head_words n m ++ ends) n m old new has_failed e
+    cut_behind k e long few lt cut begun short broken top most start counts first =
         let whole = head_words n m ++ (ends ++ (arcs_words arcs ++ ns)) in
         let behind = ends ++ (arcs_words arcs ++ ns) in
         let b : Begun top most (head_words n m ++ behind) = subst (Begun top most) (sym all_is) (begun top most counts) in
         subst (λ x. Told top most start new has_failed (record { at = x; kind = e.kind })) (sym cut.at)
-        (told_cut top most start new has_failed whole part (took start first) k e.kind failed cut.few cut.read (omega (arith, all_long, long)) tail_short
-        b (omega (arith, long, few, lt, n_told top most n m behind b, m_told top most n m behind b)) ended broken)
+        (told_cut top most start new has_failed whole come.part (took start first) k e.kind failed cut.few cut.read (omega (arith, all_long, long)) come.short
+        b (omega (arith, long, few, lt, n_told top most n m behind b, m_told top most n m behind b)) (λ is_false. come.ended short is_false) broken)
 
   pub arc_refused : (e : PackedFault) → length ns ≤ 2 * want → IsRefusedIn n ends arcs ns e → ToldBehind (head_words n m ++ ends) n m old new has_failed e
   arc_refused e within h =
@@ -177,9 +177,9 @@ module _ (n m want : ℕ) (ends : List ℕ) (old mid new : Option (List ℕ)) (s
           )
 
   pub arcs_cut : (added : List Arc) (e : PackedFault) → arcs_words added ≡ take (2 * (length ns / 2)) ns → length added ≡ length ns / 2 → AreRows n ends (arcs ++ added)
-      → length ns < 2 * want → length part < 4 → (failed ≡ false → IsAtEnd new) → (failed ≡ true → has_failed ≡ true) → IsCutIn n ends (arcs ++ added) ns failed e
+      → length ns < 2 * want → (failed ≡ true → has_failed ≡ true) → IsCutIn n ends (arcs ++ added) ns failed e
       → ToldBehind (head_words n m ++ ends) n m old new has_failed e
-  arcs_cut added e spelled size right short tail_short ended broken h = ⊎_elim even odd h
+  arcs_cut added e spelled size right short broken h = ⊎_elim even odd h
     where
       done : List Arc
       done = arcs ++ added
@@ -194,7 +194,7 @@ module _ (n m want : ℕ) (ends : List ℕ) (old mid new : Option (List ℕ)) (s
           = ap (λ l. arcs_words arcs ++ l) (sym whole) ∙ sym (arcs_words-append arcs added) ∙ sym (append-nil (arcs_words (arcs ++ added))) in
           cut_behind done [] is (words_to n (length done)) e (omega arith) (omega arith) lt cut
           (λ top most counts. subst (λ l. Begun top most (head_words n m ++ (ends ++ l))) (sym (append-nil (arcs_words done))) (rows_begun top most n m counts ends done are right (omega (arith, lt))))
-          tail_short ended broken
+          short broken
 
       odd : (a : Arc) × (length ns % 2 ≡ 1) × (a.head ≡ get_or ns (length ns - 1) 0) × IsNext n ends (arcs ++ added) a
           × (((e ≡ record { at = 4 * words_to n (length (arcs ++ added)); kind = OutOfRange Head }) × (MayHead n (arcs ++ added) a → ⊥))
@@ -211,5 +211,5 @@ module _ (n m want : ℕ) (ends : List ℕ) (old mid new : Option (List ℕ)) (s
           ⊎_elim
           (λ wrong. subst (ToldBehind (head_words n m ++ ends) n m old new has_failed) (sym wrong.0) (head_wrong done (a.head ∷ []) is a [] refl right lt next wrong.1))
           (λ cut. cut_behind done (a.head ∷ []) is (words_to n (length done) + 1) e (omega arith) (omega arith) lt cut.1
-          (λ top most counts. head_begun top most n m counts ends done a are right lt next cut.0) tail_short ended broken)
+          (λ top most counts. head_begun top most n m counts ends done a are right lt next cut.0) short broken)
           which

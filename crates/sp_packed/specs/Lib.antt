@@ -7,4 +7,3 @@ pub mod Faults
 pub mod File
 pub mod Reading
 pub mod BlockView
-pub mod Batches

@@ -1,5 +1,5 @@
 //! Words that come of a device, block after block.
-ghost use Rattle.std.specs.Prelude.{◌≡◌, ◌≤◌, ◌<◌, ◌*◌, ◌^◌, true, false, [], length, take};
+ghost use Rattle.std.specs.Prelude.{◌≡◌, ◌≤◌, ◌<◌, ◌*◌, true, false, [], length, take};
 ghost use Rattle.std.specs.Io.KnownBytes.{Consumes, IsAtEnd};
 ghost use Rattle.sp_device.specs.Failing.{Never};
 ghost use Rattle.sp_packed.specs.Words.{sum_on, no_sum, HasCome};
@@ -77,37 +77,6 @@ fn take_words<R: Read>(
     (len, failed)
 }
 
-// Reads words in place of the numbers, as many as there are, or all that are left, by some bytes at a time. It returns how many
-// came, and whether the device failed.
-fn take_many<R: Read>(
-    reader: &mut R,
-    bytes: &mut [u8],
-    numbers: &mut [u32],
-    sum: &mut Sum,
-) -> (usize, bool)
-    requires bytes { 4 * ROOM ≤ length bytes.old }
-    requires few { length numbers.old < 2 ^ 32 }
-    ensures within { result.0 ≤ length numbers.new }
-    ensures came { HasCome (length numbers.old) (R.left reader.old) (take result.0 numbers.new)
-        result.1 (R.left reader.new) }
-    ensures sum { sum.new ≡ sum_on sum.old (take result.0 numbers.new) }
-    ensures failed { result.1 ≡ true → R.has_failed reader.new ≡ true }
-    ensures never { R.failing reader.old ≡ Never → result.1 ≡ false }
-    ensures lasting { R.failing reader.new ≡ R.failing reader.old }
-{
-    let mut at = 0;
-    while at < numbers.len() {
-        let want = (numbers.len() - at).min(ROOM);
-        let (len, failed) = take_words(reader, bytes, &mut numbers[at..], want);
-        *sum = sum.on(&numbers[at..at + len]);
-        at += len;
-        if len < want {
-            return (at, failed);
-        }
-    }
-    (at, false)
-}
-
 impl Block {
     /// Returns a block to which nothing has come.
     pub fn new() -> Block
@@ -137,32 +106,6 @@ impl Block {
         self.sum = self.sum.on(&self.numbers[..len]);
         self.len = len;
         failed
-    }
-
-    /// Takes so many words of a device in place of the first of these numbers, or fewer where the text is shorter or the device
-    /// fails. It returns how many came, and whether the device failed.
-    pub fn take_into<R: Read>(
-        &mut self,
-        reader: &mut R,
-        numbers: &mut [u32],
-        count: usize,
-    ) -> (usize, bool)
-        requires few { length numbers.old < 2 ^ 32 }
-        requires room { count ≤ length numbers.old }
-        ensures within { result.0 ≤ count }
-        ensures came { HasCome count (R.left reader.old) (take result.0 numbers.new)
-            result.1 (R.left reader.new) }
-        ensures sum { self.new.sum ≡ sum_on self.old.sum (take result.0 numbers.new) }
-        ensures failed { result.1 ≡ true → R.has_failed reader.new ≡ true }
-        ensures never { R.failing reader.old ≡ Never → result.1 ≡ false }
-        ensures lasting { R.failing reader.new ≡ R.failing reader.old }
-    {
-        take_many(
-            reader,
-            &mut self.bytes,
-            &mut numbers[..count],
-            &mut self.sum,
-        )
     }
 
     /// Returns the words that came last.

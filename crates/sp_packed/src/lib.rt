@@ -1,7 +1,6 @@
 //! Packed graphs: each graph has one text of words of 32 bits, which is written and read.
 #![tactic(auto)]
 
-mod beside;
 mod blocks;
 mod ending;
 mod ends;

@@ -198,8 +198,8 @@ fn push_right(arcs: &mut Vec<Arc>, numbers: &[u32], ends: &[u32], n: u32, tail: 
     (count, row)
 }
 
-/// Puts the arcs that the numbers spell behind the others, and returns the row of the last one.
-pub fn push_arcs(
+// Puts the arcs that the numbers spell behind the others, and returns the row of the last one.
+fn push_arcs(
     arcs: &mut Vec<Arc>,
     numbers: &[u32],
     ends: &[u32],
@@ -234,8 +234,8 @@ pub fn push_arcs(
     Ok(row)
 }
 
-/// Returns the fault where the numbers end before all arcs came: that of a head which stands there alone, or of the next word.
-pub fn cut_fault(
+// Returns the fault where the numbers end before all arcs came: that of a head which stands there alone, or of the next word.
+fn cut_fault(
     arcs: &[Arc],
     numbers: &[u32],
     ends: &[u32],

@@ -36,7 +36,7 @@ returns-in-Err-clause-told g c =
     let came : HasCome (2 * want) mid ns failed new = subst (λ l. HasCome (2 * want) mid l failed new) (sym same) c.take-failed.ensures.came in
     let room : length arcs + want ≤ get_or c.args.ends.now c.args.n 0 = omega (arith, c.min-want.ensures, before.3, before.4, c.len-begin.ensures) in
     arc_refused c.args.n (get_or c.args.ends.now c.args.n 0) want c.args.ends.now old mid new c.args.block.now.sum c.loop-arcs.block.sum broken failed arcs ns c.requires.ends before.1 c.push_arcs.ensures.fit
-    before.0 came.part came.took room c.in-Err.fault came.within c.in-Err.ensures.refused
+    before.0 came room c.in-Err.fault came.within c.in-Err.ensures.refused
 
 pub returns-then-numbers-want-clause-told : goal.returns-then-numbers-want-clause-told
 returns-then-numbers-want-clause-told g c =
@@ -57,7 +57,7 @@ returns-then-numbers-want-clause-told g c =
     let is : c.deref.result.now ≡ arcs ++ items.0 = c.deref.ensures.value ∙ items.1 in
     let cut = subst (λ l. IsCutIn c.args.n c.args.ends.now l ns failed c.cut_fault.result) is c.cut_fault.ensures in
     arcs_cut c.args.n (get_or c.args.ends.now c.args.n 0) want c.args.ends.now old mid new c.args.block.now.sum c.loop-arcs.block.sum broken failed arcs ns c.requires.ends before.1 c.push_arcs.ensures.fit
-    before.0 came.part came.took room items.0 c.cut_fault.result items.2 items.3 rows c.if-numbers-want.true came.short (λ is. came.ended c.if-numbers-want.true is) c.take-failed.ensures.failed cut
+    before.0 came room items.0 c.cut_fault.result items.2 items.3 rows c.if-numbers-want.true c.take-failed.ensures.failed cut
 
 pub loop-arcs-preserved : goal.loop-arcs-preserved
 loop-arcs-preserved g c =

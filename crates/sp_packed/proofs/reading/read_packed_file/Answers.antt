@@ -2,7 +2,7 @@ use Rattle.std.proofs.Common.{subst}
 use Rattle.sp_word.specs.Word.{max_pred}
 use Rattle.sp_packed.specs.Reading.{Told}
 use Rattle.sp_packed.proofs.Whole.{read_text, told_of}
-use Rattle.sp_packed.proofs.reading.read_file.Goals as goal
+use Rattle.sp_packed.proofs.reading.read_packed_file.Goals as goal
 
 pub returns-in-Ok-clause-exact : goal.returns-in-Ok-clause-exact
 returns-in-Ok-clause-exact g c text e =
