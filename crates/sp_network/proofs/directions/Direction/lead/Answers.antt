@@ -7,7 +7,7 @@ use Rattle.sp_network.proofs.directions.Direction.lead.Goals.{in-AsGiven, in-Tow
 use Rattle.sp_network.proofs.directions.Direction.lead.Goals as goal
 
 pub returns-clause-network : goal.returns-clause-network
-returns-clause-network c = λ P within. elim c.match-self.branch [
+returns-clause-network g c = λ P within. elim c.match-self.branch [
   | in-AsGiven w ↦ directed_network AsGiven P c.args.file c.match-self.file (rw w.file-is refl) (rw w.file-is refl) (rw w.in-AsGiven.is at within)
   | in-Towards w ↦
       let arcs = c.args.file.arcs in
