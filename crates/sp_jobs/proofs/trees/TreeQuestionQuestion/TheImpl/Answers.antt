@@ -5,3 +5,6 @@ find-asks g c = record { source = c.requires.source; sync = record { shared = c.
 
 pub find_alone-asks : goal.find_alone-asks
 find_alone-asks g c = record { source = c.requires.source; sync = record { shared = c.requires.sync.shared } }
+
+pub write_by-asks : goal.write_by-asks
+write_by-asks g c = record { sync = record { shared = c.requires.sync.shared } }
