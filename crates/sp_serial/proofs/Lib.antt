@@ -5,3 +5,4 @@ pub mod Refusals
 pub mod Touching
 pub mod PartRows
 pub mod RootedRows
+pub mod Kept

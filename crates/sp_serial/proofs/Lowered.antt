@@ -1,7 +1,7 @@
 -- Words that arcs lower.
 use Rattle.std.proofs.Common.{◌≡◌, ℕ, ◌-◌, ◌<◌, List, [], ◌∷◌, ◌++◌, length, get_or, set, sym, subst}
 use Rattle.std.specs.Prelude.{All, Contains}
-use Rattle.std.proofs.lemmas.List.Elements.{Contains-get_or, All-contains, All-push}
+use Rattle.std.proofs.lemmas.List.Elements.{Contains-get_or, All-contains, All-append, All-push}
 use Rattle.sp_word.specs.Word.{Word}
 use Rattle.sp_paths.specs.declared.arc.Arc.{Arc}
 use Rattle.sp_paths.specs.Paths.{Graph, IsGraph, IsArc}
@@ -33,8 +33,18 @@ lowered_among max arcs all here before after h = (h.0, steps_among max arcs all 
 pub all_ends : (g : Graph) → IsGraph g → (n : ℕ) → n ≡ g.n → (arcs : List Arc) → All (Contains g.arcs) arcs → All (IsArc n) arcs
 all_ends g fine n size arcs here = λ k none low. subst (λ m. IsArc m (get_or arcs k none)) (sym size) (All-contains (IsArc g.n) g.arcs (get_or arcs k none) fine (here k none low))
 
+-- so does one at a place among them
+pub arc_at : (g : Graph) → IsGraph g → (n : ℕ) → n ≡ g.n → (arcs : List Arc) (i : ℕ) (arc : Arc) → i < length arcs → arc ≡ get_or arcs i arc → All (Contains g.arcs) arcs → IsArc n arc
+arc_at g fine n size arcs i arc low is here = subst (IsArc n) (sym is) (all_ends g fine n size arcs here i arc low)
+
 -- an arc of a row stands behind arcs of the graph
 pub row_more : (g : Graph) (v : ℕ) (row : List Arc) (i : ℕ) (none : Arc) (arcs : List Arc) → row ≡ row_of g.arcs v → i < length row → All (Contains g.arcs) arcs → All (Contains g.arcs) (arcs ++ get_or row i none ∷ [])
 row_more g v row i none arcs is low here =
     let in' = in_row g.arcs v (get_or row i none) (subst (λ xs. Contains xs (get_or row i none)) is (Contains-get_or row i none low)) in
     All-push (Contains g.arcs) arcs (get_or row i none) here in'.0
+
+-- so do those of a row
+pub row_behind : (g : Graph) (v : ℕ) (row arcs after : List Arc) → row ≡ row_of g.arcs v → All (Contains g.arcs) arcs → after ≡ arcs ++ row → All (Contains g.arcs) after
+row_behind g v row arcs after is here put =
+    let all : All (Contains g.arcs) row = λ k none low. (in_row g.arcs v (get_or row k none) (subst (λ xs. Contains xs (get_or row k none)) is (Contains-get_or row k none low))).0 in
+    subst (All (Contains g.arcs)) (sym put) (All-append (Contains g.arcs) arcs row here all)

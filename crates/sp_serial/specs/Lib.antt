@@ -3,3 +3,4 @@ pub mod Bearing
 pub mod Touched
 pub mod Part
 pub mod Rooted
+pub mod Live

@@ -3,12 +3,13 @@
 //! One after the other, each entry would wait for its words, its row and the words of its heads, since what is done depends on them.
 //! So many entries are gone over in several passes, each of which reads for all of them what the pass before has told the places
 //! of.
-ghost use Rattle.std.specs.Prelude.{◌≡◌, ◌≤◌, true, length, All, Contains, OnOk};
+ghost use Rattle.std.specs.Prelude.{◌≡◌, ◌<◌, ◌≤◌, ◌++◌, true, false, length, vec_len, All, Contains, IsTrue, OnOk};
 ghost use Rattle.sp_word.specs.Word.{is_layout, max_dist, max_pred};
 ghost use Rattle.sp_paths.specs.Paths.{IsArc, IsVertex};
 ghost use Rattle.sp_plain.specs.Lowering.{IsLowered};
+ghost use Rattle.sp_serial.specs.Live.{IsTail};
 
-use crate::live::{count_arcs, count_live, greatest_end, take_live};
+use crate::live::{count_live, greatest_end, take_live};
 use crate::table::Table;
 use crate::touched::is_arc_relaxed;
 use sp_bins::{Bins, Entry};
@@ -18,7 +19,7 @@ use sp_word::Word;
 use std::alloc::{AllocError, Global};
 
 // So many entries are worked off at once, at most.
-const STRETCH: usize = 32;
+const STRETCH: usize = 64;
 
 // Fewer entries than these are worked off one after the other.
 const FEW: usize = 8;
@@ -30,11 +31,14 @@ const FAR: usize = 131_072;
 // So many arcs are relaxed at once, at most.
 const MOST: usize = 256;
 
+// A row of so many arcs at most is put among those to be relaxed without a branch for each arc.
+const FEW_ARCS: usize = 4;
+
 /// Room for what is worked off at once.
 #[derive(Drop)]
 pub(crate) struct Batch {
-    // vertices that still have their entry's distance
-    live: Vec<u32>,
+    // room for the vertices that still have their entry's distance
+    vertices: Vec<u32>,
     // arcs of these that are to be relaxed
     arcs: Vec<Arc>,
 }
@@ -43,25 +47,31 @@ impl Batch {
     /// Makes room that grows as it is used.
     pub(crate) fn new(alloc: Global) -> Batch {
         Batch {
-            live: Vec::new(alloc),
+            vertices: Vec::new(alloc),
             arcs: Vec::new(alloc),
         }
     }
 }
 
-// Returns how many of the arcs aren't relaxed, and so reads the words of all heads. No branch depends on one of these, so the
-// reads don't wait for one another.
-fn count_open<const P: u32>(words: &[Word<P>], arcs: &[Arc]) -> usize
+// Drops the arcs that are relaxed, which are most of them, and so reads the words of all heads. No branch depends on one of these,
+// so the reads don't wait for one another.
+fn drop_relaxed<const P: u32>(graph: &Graph, words: &[Word<P>], arcs: &mut Vec<Arc>)
     requires layout { is_layout P ≡ true }
-    requires most { length words.now ≤ max_pred P }
-    requires arcs { All (IsArc (length words.now)) arcs.now }
+    requires room { graph.now.n ≤ max_pred P }
+    requires size { length words.now ≡ graph.now.n }
+    requires arcs { All (Contains graph.now.arcs) arcs.old.items }
+    ensures { All (Contains graph.now.arcs) arcs.new.items }
 {
-    let mut open: usize = 0;
-    for arc in arcs {
-        let is_open = !is_arc_relaxed(words, *arc, look_up(words, arc.tail));
-        open = open.wrapping_add(usize::from(is_open));
+    // The graph's arcs lead from vertices to vertices.
+    let _ = graph.n();
+    let mut kept: usize = 0;
+    for place in 0..arcs.len() {
+        let arc = arcs[place];
+        let is_kept = !is_arc_relaxed(words, arc, look_up(words, arc.tail));
+        arcs[kept] = arc;
+        kept += usize::from(is_kept);
     }
-    open
+    arcs.truncate(kept);
 }
 
 // Relaxes arcs, one after the other. Heads that came nearer are put into buckets.
@@ -79,9 +89,6 @@ fn relax_arcs<T: Table<P>, const P: u32>(
         (T.labels table.old) (T.labels table.new) }
     ensures kept { T.IsKept table.new }
 {
-    if count_open(table.words(), arcs) == 0 {
-        return Ok(());
-    }
     for arc in arcs {
         if let Some(dist) = table.lower(*arc)? {
             let head = Entry {
@@ -114,6 +121,7 @@ fn relax_waiting<T: Table<P>, const P: u32>(
 {
     // The graph's arcs lead from vertices to vertices.
     let _ = graph.n();
+    drop_relaxed(graph, table.words(), arcs);
     relax_arcs(arcs, table, bins)?;
     arcs.clear();
     Ok(())
@@ -143,8 +151,28 @@ fn relax_full<T: Table<P>, const P: u32>(
     relax_waiting(graph, arcs, table, bins)
 }
 
-// Lets the arcs of a vertex wait behind others.
-fn put_row<T: Table<P>, const P: u32>(
+// Puts the arcs of a row behind others, where these are few and there is room: as many as the longest such row has, and then
+// without those that there are too many. So no branch depends on how many arcs there are. Tells whether it did.
+fn put_few(row: &[Arc], arcs: &mut Vec<Arc>) -> bool
+    requires { 0 < length row.now }
+    ensures put { IsTrue result → arcs.new.items ≡ arcs.old.items ++ row.now }
+    ensures refused { result ≡ false → arcs.new ≡ arcs.old }
+{
+    let before = arcs.len();
+    let last = row.len() - 1;
+    if last >= FEW_ARCS || arcs.capacity().saturating_sub(before) < FEW_ARCS {
+        return false;
+    }
+    arcs.push_reserved(row[0]);
+    arcs.push_reserved(row[last.min(1)]);
+    arcs.push_reserved(row[last.min(2)]);
+    arcs.push_reserved(row[last]);
+    arcs.truncate(before + row.len());
+    true
+}
+
+// Lets the arcs of a vertex wait behind others, one after the other.
+fn put_each<T: Table<P>, const P: u32>(
     graph: &Graph,
     vertex: u32,
     arcs: &mut Vec<Arc>,
@@ -170,6 +198,34 @@ fn put_row<T: Table<P>, const P: u32>(
     Ok(())
 }
 
+// Lets the arcs of a vertex wait behind others.
+fn put_row<T: Table<P>, const P: u32>(
+    graph: &Graph,
+    vertex: u32,
+    arcs: &mut Vec<Arc>,
+    table: &mut T,
+    bins: &mut Bins,
+) -> Result<(), AllocError>
+    requires layout { is_layout P ≡ true }
+    requires room { graph.now.n ≤ max_pred P }
+    requires tail { IsTail graph.now vertex }
+    requires size { length (T.labels table.old) ≡ graph.now.n }
+    requires kept { T.IsKept table.old }
+    requires arcs { All (Contains graph.now.arcs) arcs.old.items }
+    ensures size { length (T.labels table.new) ≡ graph.now.n }
+    ensures lowered { IsLowered (max_dist P) graph.now.arcs
+        (T.labels table.old) (T.labels table.new) }
+    ensures kept { T.IsKept table.new }
+    ensures arcs { OnOk result (All (Contains graph.now.arcs) arcs.new.items) }
+{
+    let is_put = put_few(graph.row(vertex), arcs);
+    if is_put {
+        relax_full(graph, arcs, table, bins)
+    } else {
+        put_each(graph, vertex, arcs, table, bins)
+    }
+}
+
 // Relaxes the arcs of the vertices.
 fn relax_live<T: Table<P>, const P: u32>(
     graph: &Graph,
@@ -180,7 +236,7 @@ fn relax_live<T: Table<P>, const P: u32>(
 ) -> Result<(), AllocError>
     requires layout { is_layout P ≡ true }
     requires room { graph.now.n ≤ max_pred P }
-    requires vertices { All (IsVertex graph.now.n) vertices.now }
+    requires vertices { All (IsTail graph.now) vertices.now }
     requires size { length (T.labels table.old) ≡ graph.now.n }
     requires kept { T.IsKept table.old }
     ensures size { length (T.labels table.new) ≡ graph.now.n }
@@ -189,6 +245,7 @@ fn relax_live<T: Table<P>, const P: u32>(
     ensures kept { T.IsKept table.new }
 {
     arcs.clear();
+    arcs.reserve(MOST + FEW_ARCS)?;
     for vertex in vertices {
         put_row(graph, *vertex, arcs, table, bins)?;
     }
@@ -252,6 +309,16 @@ fn relax_each<T: Table<P>, const P: u32>(
     Ok(())
 }
 
+// Makes a list as long as this, where it is shorter.
+fn make_room(vertices: &mut Vec<u32>, count: usize) -> Result<(), AllocError>
+    ensures { OnOk result (count ≤ vec_len vertices.new) }
+{
+    if vertices.len() < count {
+        vertices.resize(count, 0)?;
+    }
+    Ok(())
+}
+
 // Relaxes the arcs of those vertices that still have their entry's distance.
 fn relax_some<T: Table<P>, const P: u32>(
     graph: &Graph,
@@ -275,9 +342,11 @@ fn relax_some<T: Table<P>, const P: u32>(
     if count_live(graph, table.words(), entries) == 0 {
         return Ok(());
     }
-    let Batch { live, arcs } = batch;
-    take_live(graph, table.words(), entries, live)?;
-    if count_arcs(graph, live) == 0 || greatest_end(graph, live) == 0 {
+    let Batch { vertices, arcs } = batch;
+    make_room(vertices, entries.len())?;
+    let live = take_live(graph, table.words(), entries, vertices);
+    let live = &vertices[..live];
+    if greatest_end(graph, live) == 0 {
         return Ok(());
     }
     relax_live(graph, live, arcs, table, bins)

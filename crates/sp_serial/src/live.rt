@@ -1,23 +1,29 @@
 //! Entries whose vertices still have their distances, and what is read for these before their arcs are relaxed.
-ghost use Rattle.std.specs.Prelude.{◌≡◌, length, All, OnOk};
+//!
+//! No branch of these passes depends on a word, nor on where a row begins and ends, so their reads don't wait for one another.
+ghost use Rattle.std.specs.Prelude.{◌≡◌, ◌≤◌, length, take, All};
 ghost use Rattle.std.specs.Bool.{OnTrue};
-ghost use Rattle.sp_paths.specs.Paths.{IsVertex};
+ghost use Rattle.sp_serial.specs.Live.{IsTail};
 
 use sp_bins::Entry;
 use sp_graph::{Graph, look_up};
 use sp_word::Word;
-use std::alloc::AllocError;
 
-// Whether the vertex of an entry still has the entry's distance.
+// Whether the vertex of an entry has arcs, and still has the entry's distance.
 fn is_live<const P: u32>(graph: &Graph, words: &[Word<P>], entry: Entry) -> bool
     requires { length words.now ≡ graph.now.n }
-    ensures { OnTrue result (IsVertex graph.now.n entry.vertex) }
+    ensures { OnTrue result (IsTail graph.now entry.vertex) }
 {
-    graph.has_vertex(entry.vertex) && look_up(words, entry.vertex).dist() == Some(entry.dist)
+    let vertex = entry.vertex;
+    if !graph.has_vertex(vertex) {
+        return false;
+    }
+    let has_dist = look_up(words, vertex).dist() == Some(entry.dist);
+    has_dist & !graph.row(vertex).is_empty()
 }
 
-/// Returns how many of the entries have a vertex that still has the entry's distance, and so reads the words of all of them. No
-/// branch depends on a word, so these reads don't wait for one another.
+/// Returns how many of the entries have a vertex that has arcs and still has the entry's distance, and so reads for all of them
+/// the vertex's word and where its row begins and ends.
 pub(crate) fn count_live<const P: u32>(graph: &Graph, words: &[Word<P>], entries: &[Entry]) -> usize
     requires { length words.now ≡ graph.now.n }
 {
@@ -28,47 +34,54 @@ pub(crate) fn count_live<const P: u32>(graph: &Graph, words: &[Word<P>], entries
     live
 }
 
-/// Replaces a list by the vertices that still have their entry's distance.
+/// Writes the vertices that have arcs and still have their entry's distance to the front of a list, and returns how many these
+/// are. Behind them the list has others.
 pub(crate) fn take_live<const P: u32>(
     graph: &Graph,
     words: &[Word<P>],
     entries: &[Entry],
-    live: &mut Vec<u32>,
-) -> Result<(), AllocError>
-    requires { length words.now ≡ graph.now.n }
-    ensures { OnOk result (All (IsVertex graph.now.n) live.new.items) }
+    vertices: &mut [u32],
+) -> usize
+    requires words { length words.now ≡ graph.now.n }
+    requires room { length entries.now ≤ length vertices.old }
+    ensures count { result ≤ length vertices.new }
+    ensures tails { All (IsTail graph.now) (take result vertices.new) }
 {
-    live.clear();
+    let mut live: usize = 0;
     for entry in entries {
-        if is_live(graph, words, *entry) {
-            live.push(entry.vertex)?;
-        }
+        vertices[live] = entry.vertex;
+        live += usize::from(is_live(graph, words, *entry));
     }
-    Ok(())
+    live
 }
 
-/// Returns how many arcs leave the vertices, and so reads for all of them where their rows begin and end.
-pub(crate) fn count_arcs(graph: &Graph, vertices: &[u32]) -> usize
-    requires { All (IsVertex graph.now.n) vertices.now }
+// Returns the greatest of the first heads of the vertices' rows; 0 where there is no vertex.
+fn greatest_first(graph: &Graph, vertices: &[u32]) -> u32
+    requires { All (IsTail graph.now) vertices.now }
 {
-    let mut arcs: usize = 0;
+    let mut greatest = 0;
     for vertex in vertices {
-        arcs = arcs.saturating_add(graph.row(*vertex).len());
+        greatest = greatest.max(graph.row(*vertex)[0].head);
     }
-    arcs
+    greatest
 }
 
-/// Returns the greatest of the first and last heads of the vertices' rows, and so reads where all of these rows begin and end; 0
-/// where they have no arc.
-pub(crate) fn greatest_end(graph: &Graph, vertices: &[u32]) -> u32
-    requires { All (IsVertex graph.now.n) vertices.now }
+// Returns the greatest of the last heads of the vertices' rows; 0 where there is no vertex.
+fn greatest_last(graph: &Graph, vertices: &[u32]) -> u32
+    requires { All (IsTail graph.now) vertices.now }
 {
     let mut greatest = 0;
     for vertex in vertices {
         let row = graph.row(*vertex);
-        if let Some(last) = row.len().checked_sub(1) {
-            greatest = greatest.max(row[0].head).max(row[last].head);
-        }
+        greatest = greatest.max(row[row.len() - 1].head);
     }
     greatest
+}
+
+/// Returns the greatest of the first and last heads of the vertices' rows, and so reads where all of these rows begin and end; 0
+/// where there is no vertex. The shorter a loop, the more of its reads are on their way at once: so there are two.
+pub(crate) fn greatest_end(graph: &Graph, vertices: &[u32]) -> u32
+    requires { All (IsTail graph.now) vertices.now }
+{
+    greatest_first(graph, vertices).max(greatest_last(graph, vertices))
 }

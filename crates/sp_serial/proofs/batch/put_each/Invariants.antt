@@ -2,7 +2,7 @@ use Rattle.std.proofs.Common.{◌≡◌, length}
 use Rattle.std.specs.Prelude.{All, Contains}
 use Rattle.sp_word.specs.Word.{max_dist}
 use Rattle.sp_plain.specs.Lowering.{IsLowered}
-use Rattle.sp_serial.proofs.batch.put_row.Given as goal
+use Rattle.sp_serial.proofs.batch.put_each.Given as goal
 
 abbrev pub invariant-loop-arc : goal.invariant-loop-arc
 invariant-loop-arc g l =

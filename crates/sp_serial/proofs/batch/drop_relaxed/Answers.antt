@@ -1,0 +1,37 @@
+use Rattle.std.proofs.Common.{◌<◌, ◌∙◌, sym, subst, arith, rules, length}
+use Rattle.std.specs.Prelude.{All, Contains}
+use Rattle.std.proofs.lemmas.List.{length-set}
+use Rattle.std.proofs.lemmas.List.Elements.{All-set, All-take}
+use Rattle.sp_paths.specs.Paths.{IsArc}
+use Rattle.sp_serial.proofs.Lowered.{arc_at}
+use Rattle.sp_serial.proofs.Kept.{kept_within}
+use Rattle.sp_serial.proofs.batch.drop_relaxed.Goals as goal
+
+pub look_up-requires : goal.look_up-requires
+look_up-requires g c =
+    let arcs = c.loop-place.arcs.items in
+    let low : c.loop-place.place < length arcs = omega arith in
+    let at : IsArc (length c.args.words.now) c.index-arc.result.now = arc_at c.args.graph.now c.n.ensures.graph (length c.args.words.now) c.requires.size arcs c.loop-place.place c.index-arc.result.now low c.index-arc.ensures c.loop-place.invariant.arcs in
+    search rules
+
+pub is_arc_relaxed-is_kept-requires : goal.is_arc_relaxed-is_kept-requires
+is_arc_relaxed-is_kept-requires g c =
+    let arcs = c.loop-place.arcs.items in
+    let low : c.loop-place.place < length arcs = omega arith in
+    let at : IsArc (length c.args.words.now) c.index-arc.result.now = arc_at c.args.graph.now c.n.ensures.graph (length c.args.words.now) c.requires.size arcs c.loop-place.place c.index-arc.result.now low c.index-arc.ensures c.loop-place.invariant.arcs in
+    search rules
+
+pub loop-place-preserved : goal.loop-place-preserved
+loop-place-preserved g c =
+    let so_far = c.loop-place.invariant in
+    let P = Contains c.args.graph.now.arcs in
+    let arcs = c.loop-place.arcs.items in
+    let low : c.loop-place.place < length arcs = omega arith in
+    let arc = c.index-arc.result.now in record {
+      length = length-set arcs c.loop-place.kept arc ∙ so_far.length;
+      kept = kept_within c.loop-place.kept c.loop-place.place c.from-kept.result _ so_far.kept c.from-kept.ensures;
+      arcs = All-set P arcs c.loop-place.kept arc (subst P (sym c.index-arc.ensures) (so_far.arcs c.loop-place.place arc low)) so_far.arcs;
+    }
+
+pub returns : goal.returns
+returns g c = subst (All (Contains c.args.graph.now.arcs)) (sym c.truncate.ensures.items) (All-take (Contains c.args.graph.now.arcs) c.loop-place.kept c.loop-place.arcs.items c.loop-place.invariant.arcs)
