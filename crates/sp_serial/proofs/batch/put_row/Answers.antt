@@ -1,5 +1,3 @@
-use Rattle.std.proofs.Common.{ap, subst, sym}
-use Rattle.std.specs.Prelude.{All, Contains}
 use Rattle.sp_serial.proofs.Lowered.{row_behind}
 use Rattle.sp_serial.proofs.batch.put_row.Goals as goal
 

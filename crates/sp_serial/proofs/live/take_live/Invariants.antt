@@ -1,4 +1,4 @@
-use Rattle.std.proofs.Common.{◌≤◌, take, length}
+use Rattle.std.proofs.Common.{◌≤◌, take}
 use Rattle.std.specs.Prelude.{All}
 use Rattle.sp_serial.specs.Live.{IsTail}
 use Rattle.sp_serial.proofs.live.take_live.Given as goal
