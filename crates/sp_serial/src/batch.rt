@@ -53,8 +53,19 @@ impl Batch {
     }
 }
 
-// Drops the arcs that are relaxed, which are most of them, and so reads the words of all heads. No branch depends on one of these,
-// so the reads don't wait for one another.
+// Whether all arcs lead to sources, which none of them lowers. So it reads the words of all heads: the shorter a loop, the more of
+// its reads are on their way at once.
+fn lead_to_sources<const P: u32>(words: &[Word<P>], arcs: &[Arc]) -> bool
+    requires { All (IsArc (length words.now)) arcs.now }
+{
+    let mut bits: u64 = 0;
+    for arc in arcs {
+        bits |= look_up(words, arc.head).bits();
+    }
+    bits == 0
+}
+
+// Drops the arcs that are relaxed, which are most of them. No branch depends on a head's word.
 fn drop_relaxed<const P: u32>(graph: &Graph, words: &[Word<P>], arcs: &mut Vec<Arc>)
     requires layout { is_layout P ≡ true }
     requires room { graph.now.n ≤ max_pred P }
@@ -64,6 +75,10 @@ fn drop_relaxed<const P: u32>(graph: &Graph, words: &[Word<P>], arcs: &mut Vec<A
 {
     // The graph's arcs lead from vertices to vertices.
     let _ = graph.n();
+    if lead_to_sources(words, arcs) {
+        arcs.clear();
+        return;
+    }
     let mut kept: usize = 0;
     for place in 0..arcs.len() {
         let arc = arcs[place];

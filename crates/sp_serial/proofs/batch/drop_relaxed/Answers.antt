@@ -3,9 +3,15 @@ use Rattle.std.specs.Prelude.{All, Contains}
 use Rattle.std.proofs.lemmas.List.{length-set}
 use Rattle.std.proofs.lemmas.List.Elements.{All-set, All-take}
 use Rattle.sp_paths.specs.Paths.{IsArc}
-use Rattle.sp_serial.proofs.Lowered.{arc_at}
+use Rattle.sp_serial.proofs.Lowered.{all_ends, arc_at}
 use Rattle.sp_serial.proofs.Kept.{kept_within}
 use Rattle.sp_serial.proofs.batch.drop_relaxed.Goals as goal
+
+pub lead_to_sources-requires : goal.lead_to_sources-requires
+lead_to_sources-requires g c =
+    let here : All (Contains c.args.graph.now.arcs) c.deref.result.now = subst (All (Contains c.args.graph.now.arcs)) (sym c.deref.ensures.value) c.requires.arcs in
+    let ends : All (IsArc (length c.args.words.now)) c.deref.result.now = all_ends c.args.graph.now c.n.ensures.graph (length c.args.words.now) c.requires.size c.deref.result.now here in
+    search rules
 
 pub look_up-requires : goal.look_up-requires
 look_up-requires g c =
