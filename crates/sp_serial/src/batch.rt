@@ -9,7 +9,7 @@ ghost use Rattle.sp_paths.specs.Paths.{IsArc, IsVertex};
 ghost use Rattle.sp_plain.specs.Lowering.{IsLowered};
 ghost use Rattle.sp_serial.specs.Live.{IsTail};
 
-use crate::live::{count_live, greatest_end, take_live};
+use crate::live::{count_live, end_bits, take_live};
 use crate::table::Table;
 use crate::touched::is_arc_relaxed;
 use sp_bins::{Bins, Entry};
@@ -361,7 +361,7 @@ fn relax_some<T: Table<P>, const P: u32>(
     make_room(vertices, entries.len())?;
     let live = take_live(graph, table.words(), entries, vertices);
     let live = &vertices[..live];
-    if greatest_end(graph, live) == 0 {
+    if end_bits(graph, live) == 0 {
         return Ok(());
     }
     relax_live(graph, live, arcs, table, bins)

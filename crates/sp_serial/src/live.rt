@@ -55,33 +55,33 @@ pub(crate) fn take_live<const P: u32>(
     live
 }
 
-// Returns the greatest of the first heads of the vertices' rows; 0 where there is no vertex.
-fn greatest_first(graph: &Graph, vertices: &[u32]) -> u32
+// Returns the bits that the first heads of the vertices' rows have; 0 where there is no vertex.
+fn first_bits(graph: &Graph, vertices: &[u32]) -> u32
     requires { All (IsTail graph.now) vertices.now }
 {
-    let mut greatest = 0;
+    let mut bits = 0;
     for vertex in vertices {
-        greatest = greatest.max(graph.row(*vertex)[0].head);
+        bits |= graph.row(*vertex)[0].head;
     }
-    greatest
+    bits
 }
 
-// Returns the greatest of the last heads of the vertices' rows; 0 where there is no vertex.
-fn greatest_last(graph: &Graph, vertices: &[u32]) -> u32
+// Returns the bits that the last heads of the vertices' rows have; 0 where there is no vertex.
+fn last_bits(graph: &Graph, vertices: &[u32]) -> u32
     requires { All (IsTail graph.now) vertices.now }
 {
-    let mut greatest = 0;
+    let mut bits = 0;
     for vertex in vertices {
         let row = graph.row(*vertex);
-        greatest = greatest.max(row[row.len() - 1].head);
+        bits |= row[row.len() - 1].head;
     }
-    greatest
+    bits
 }
 
-/// Returns the greatest of the first and last heads of the vertices' rows, and so reads where all of these rows begin and end; 0
+/// Returns the bits that the first and last heads of the vertices' rows have, and so reads where all of these rows begin and end; 0
 /// where there is no vertex. The shorter a loop, the more of its reads are on their way at once: so there are two.
-pub(crate) fn greatest_end(graph: &Graph, vertices: &[u32]) -> u32
+pub(crate) fn end_bits(graph: &Graph, vertices: &[u32]) -> u32
     requires { All (IsTail graph.now) vertices.now }
 {
-    greatest_first(graph, vertices).max(greatest_last(graph, vertices))
+    first_bits(graph, vertices) | last_bits(graph, vertices)
 }
