@@ -1,6 +1,7 @@
 //! Entries by bucket, with no promise about their order.
-ghost use Rattle.std.specs.Prelude.{◌≡◌, ◌<◌, vec_len, IfOk, IfSome};
+ghost use Rattle.std.specs.Prelude.{◌≡◌, ◌<◌, vec_len, IfSome};
 
+use crate::chunks::{Chain, Chunks};
 use crate::entry::Entry;
 use std::alloc::{AllocError, Global};
 use std::mem;
@@ -21,9 +22,6 @@ const LOT: u64 = 256;
 // The widest buckets are 2 to this power wide.
 const WIDEST: u32 = 40;
 
-// A list with room for this many entries at most is left in the slot whose list is taken for it.
-const SMALL: usize = 4;
-
 /// Entries by bucket, in hierarchical wheels like those in which G. Varghese and T. Lauck keep timers ("Hashed and
 /// hierarchical timing wheels", 1987).
 ///
@@ -35,6 +33,10 @@ const SMALL: usize = 4;
 /// The buckets find their width as they are worked off. Where many heads fall into their tail's bucket, its vertices are
 /// relaxed in too free an order, and many of them several times: then all buckets become narrower. Where hardly any do,
 /// they become wider.
+///
+/// Entries lie in chunks of 64, of which one at most is partly filled in each slot, and which are used again before memory is
+/// asked for. So there are chunks for as many entries as waited at a time, and for 63 more for each slot that had one. They
+/// lie in one list, which doubles as it grows and is given back with the bins.
 #[derive(Drop)]
 pub struct Bins {
     alloc: Global,
@@ -42,8 +44,9 @@ pub struct Bins {
     shift: u32,
     // The bucket that is being emptied.
     lowest: u64,
-    // The slots of all wheels, with the first wheel's first.
-    slots: Vec<Vec<Entry>>,
+    // The slots of all wheels, with the first wheel's first, and the chunks that their entries lie in.
+    slots: Vec<Chain>,
+    chunks: Chunks,
     // A bit for each slot, which is set where the slot has an entry.
     marks: Vec<u64>,
     // How many entries of heads were put since the width was last looked at, and how many of them into their tail's bucket.
@@ -56,20 +59,18 @@ pub struct Bins {
     ghost marked: { vec_len marks ≡ 32 },
 }
 
-fn empty_slots(alloc: Global) -> Result<Vec<Vec<Entry>>, AllocError>
-    ensures { IfOk result (λ slots. vec_len slots ≡ 2048) }
-{
-    let mut slots = Vec::with_capacity(alloc, SLOTS * WHEELS)?;
-    for place in 0..SLOTS * WHEELS {
-        let _ = place;
-        slots.push(Vec::new(alloc))?;
-    }
-    Ok(slots)
-}
-
 // Returns the bit of a slot in its word of the marks.
 fn bit_of(place: usize) -> u64 {
     1 << (place % MARKED)
+}
+
+// Returns the least distance of entries, or the distance itself where it is less.
+fn least_of(entries: &[Entry], dist: u64) -> u64 {
+    let mut least = dist;
+    for entry in entries {
+        least = least.min(entry.dist);
+    }
+    least
 }
 
 impl Bins {
@@ -79,7 +80,8 @@ impl Bins {
             alloc,
             shift: shift.min(WIDEST),
             lowest: 0,
-            slots: empty_slots(alloc)?,
+            slots: vec![in alloc; Chain::EMPTY; SLOTS * WHEELS]?,
+            chunks: Chunks::new(alloc),
             marks: vec![in alloc; 0; MARKS]?,
             put: 0,
             near: 0,
@@ -112,11 +114,26 @@ impl Bins {
         wheel as usize * SLOTS + slot as usize
     }
 
+    // Lays an entry into a slot whose chunks are full, or that has none yet.
+    #[cold]
+    #[inline(never)]
+    fn lay_further(&mut self, place: usize, entry: Entry) -> Result<(), AllocError>
+        requires { place < 2048 }
+    {
+        self.slots[place] = self.chunks.put_further(self.slots[place], entry)?;
+        self.marks[place / MARKED] |= bit_of(place);
+        Ok(())
+    }
+
     // Lays an entry into the slot of its bucket.
+    #[inline]
     fn lay(&mut self, entry: Entry) -> Result<(), AllocError> {
         let place = self.place_of(self.bucket_of(entry.dist));
-        self.slots[place].push(entry)?;
-        self.marks[place / MARKED] |= bit_of(place);
+        let slot = self.slots[place];
+        if slot.is_full() {
+            return self.lay_further(place, entry);
+        }
+        self.slots[place] = self.chunks.put(slot, entry);
         Ok(())
     }
 
@@ -128,10 +145,10 @@ impl Bins {
     /// Puts the entry of a head into its bucket, and takes note of its tail's distance: where both often lie in one bucket,
     /// buckets are too wide.
     pub fn put_head(&mut self, entry: Entry, tail_dist: u64) -> Result<(), AllocError> {
-        self.put = self.put.saturating_add(1);
-        if self.bucket_of(entry.dist) == self.bucket_of(tail_dist) {
-            self.near = self.near.saturating_add(1);
-        }
+        // (a sum in place of a branch, which would often be mispredicted; neither number comes near 2^64)
+        let is_near = self.bucket_of(entry.dist) == self.bucket_of(tail_dist);
+        self.put = self.put.wrapping_add(1);
+        self.near = self.near.wrapping_add(u64::from(is_near));
         self.lay(entry)
     }
 
@@ -139,14 +156,12 @@ impl Bins {
     fn empty(&mut self, place: usize, list: &mut Vec<Entry>) -> Result<(), AllocError>
         requires { place < 2048 }
     {
-        if list.is_empty() && list.capacity() <= SMALL {
-            // (where a bucket has an entry or two, no memory is asked for)
-            mem::swap(list, &mut self.slots[place]);
-        } else if list.is_empty() {
-            *list = mem::replace(&mut self.slots[place], Vec::new(self.alloc));
-        } else {
-            list.extend_from_slice(&self.slots[place])?;
-            self.slots[place].clear();
+        for _ in 0..self.chunks.len() {
+            let slot = self.slots[place];
+            if slot.is_empty() {
+                break;
+            }
+            self.slots[place] = self.chunks.move_last(slot, list)?;
         }
         self.marks[place / MARKED] &= !bit_of(place);
         Ok(())
@@ -181,16 +196,33 @@ impl Bins {
         None
     }
 
-    // Returns the lowest bucket of the entries, if there are any.
-    fn lowest_of(&self, entries: &[Entry]) -> Option<u64> {
-        let mut least = None;
-        for entry in entries {
-            least = match least {
-                Some(dist) if dist < entry.dist => least,
-                _ => Some(entry.dist),
-            };
+    // Returns the least distance of the entries of a list that isn't empty.
+    fn least_in(&self, list: Chain) -> u64 {
+        let mut least = u64::MAX;
+        let mut left = list;
+        for _ in 0..self.chunks.len() {
+            if left.is_empty() {
+                break;
+            }
+            least = least_of(self.chunks.last(left), least);
+            left = self.chunks.rest(left);
         }
-        Some(self.bucket_of(least?))
+        least
+    }
+
+    // Lays the entries of a list that is in no slot any more into the slots of their buckets.
+    fn lay_chain(&mut self, list: Chain) -> Result<(), AllocError> {
+        let mut entries = Vec::new(self.alloc);
+        let mut left = list;
+        for _ in 0..self.chunks.len() {
+            if left.is_empty() {
+                break;
+            }
+            left = self.chunks.move_last(left, &mut entries)?;
+            self.lay_all(&entries)?;
+            entries.clear();
+        }
+        Ok(())
     }
 
     // Deals the entries of a slot to the wheels below. The lowest of their buckets is the one that is emptied from then
@@ -198,12 +230,12 @@ impl Bins {
     fn deal(&mut self, place: usize) -> Result<(), AllocError>
         requires { place < 2048 }
     {
-        let entries = mem::replace(&mut self.slots[place], Vec::new(self.alloc));
+        let list = mem::replace(&mut self.slots[place], Chain::EMPTY);
         self.marks[place / MARKED] &= !bit_of(place);
-        if let Some(bucket) = self.lowest_of(&entries) {
-            self.lowest = bucket;
+        if !list.is_empty() {
+            self.lowest = self.bucket_of(self.least_in(list));
         }
-        self.lay_all(&entries)
+        self.lay_chain(list)
     }
 
     // Lays entries into the slots of their buckets.
@@ -246,10 +278,7 @@ impl Bins {
         requires { shift < 64 }
     {
         let entries = self.take_all()?;
-        let mut start = self.start();
-        for entry in &entries {
-            start = start.min(entry.dist);
-        }
+        let start = least_of(&entries, self.start());
         self.shift = shift;
         self.lowest = self.bucket_of(start);
         self.moved = entries.len() as u64;

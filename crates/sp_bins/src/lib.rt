@@ -2,6 +2,7 @@
 #![tactic(auto)]
 
 mod bins;
+mod chunks;
 mod entry;
 
 pub use bins::Bins;

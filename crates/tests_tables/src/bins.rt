@@ -128,6 +128,25 @@ fn neighbouring_and_far_buckets(rt: HostRuntime) -> Result<(), Fail> {
     Ok(())
 }
 
+// A thousand distances in the first bucket of width 8, a thousand in one of the next wheel, and some between them.
+fn crowded_dists(alloc: Global) -> Result<Vec<u64>, AllocError> {
+    let mut dists = Vec::new(alloc);
+    for place in 0..1000u64 {
+        dists.push(place % 8)?;
+        dists.push(8000 + place % 8)?;
+        dists.push(7 * place)?;
+    }
+    Ok(dists)
+}
+
+// Many more entries than a chunk has lie in one slot, of the first wheel and of the second.
+#[test]
+fn crowded_buckets(rt: HostRuntime) -> Result<(), Fail> {
+    let dists = crowded_dists(rt.alloc())?;
+    assert!(rt; drains(rt.alloc(), 3, &dists)?);
+    Ok(())
+}
+
 // Puts an entry below the lowest bucket, and one above it. It tells which buckets come, and what the first of them gives.
 fn take_below_the_lowest(alloc: Global) -> Result<([Option<u64>; 2], Vec<Entry>), AllocError> {
     let mut bins = Bins::new(alloc, 0)?;
