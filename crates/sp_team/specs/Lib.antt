@@ -1,4 +1,5 @@
 pub mod Law
 pub mod Later
+pub mod Live
 pub mod Marked
 pub mod Requests

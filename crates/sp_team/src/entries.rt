@@ -1,10 +1,11 @@
 //! Entries whose vertices still have their distances, and what is read for these before they are relaxed.
-ghost use Rattle.std.specs.Prelude.{◌≡◌, ℕ, IfSome};
+ghost use Rattle.std.specs.Prelude.{◌≡◌, ℕ, All, IfSome, IsTrue};
 ghost use Rattle.sp_word.specs.Word.{Pair};
 ghost use Rattle.sp_paths.specs.Paths.{IsVertex};
 ghost use Rattle.sp_offer.specs.Order.{lawful};
 ghost use Rattle.sp_team.specs.Law.{IsReady};
 ghost use Rattle.sp_team.specs.Later.{IsLater};
+ghost use Rattle.sp_team.specs.Live.{LeadsOn, MayHave};
 
 use sp_bins::Entry;
 use sp_graph::Graph;
@@ -34,72 +35,69 @@ pub(crate) fn is_live<L: Lawful, const P: u32>(
 ) -> bool
     requires ready { IsReady P (lawful P (L.allows table.now.law)) table.now.vertices graph.now }
     requires caller { caller.old.table ≡ table.now.id }
-    ensures { IsLater (lawful P (L.allows table.now.law)) caller.old caller.new }
+    ensures later { IsLater (lawful P (L.allows table.now.law)) caller.old caller.new }
+    ensures dist { IsTrue result
+        → MayHave (lawful P (L.allows table.now.law)) entry }
 {
     graph.has_vertex(entry.vertex) && read_dist(table, entry.vertex, caller) == Some(entry.dist)
 }
 
-/// Reads the words of the entries' vertices, so that they lie in the cache. These reads don't wait for one another.
-pub(crate) fn warm_words<L: Lawful, const P: u32>(
+/// Whether the vertex of an entry has an arc.
+pub(crate) fn leads_on(graph: &Graph, entry: Entry) -> bool
+    ensures { IsTrue result → LeadsOn graph.now entry }
+{
+    graph.has_vertex(entry.vertex) && !graph.row(entry.vertex).is_empty()
+}
+
+/// Reads the words of the entries' vertices, and where their rows begin and end, so that both lie in the cache. These reads don't
+/// wait for one another. Returns how many arcs the vertices have.
+pub(crate) fn warm_vertices<L: Lawful, const P: u32>(
     graph: &Graph,
     table: &OfferTable<L, P>,
     entries: &[Entry],
     caller: &mut Caller,
-)
+) -> usize
     requires ready { IsReady P (lawful P (L.allows table.now.law)) table.now.vertices graph.now }
     requires caller { caller.old.table ≡ table.now.id }
     ensures { IsLater (lawful P (L.allows table.now.law)) caller.old caller.new }
 {
-    for entry in entries {
-        if graph.has_vertex(entry.vertex) {
-            let _ = read_dist(table, entry.vertex, caller);
-        }
-    }
-}
-
-/// Returns how many arcs the entries' vertices have, and so reads for all of them where their rows begin and end.
-pub(crate) fn count_arcs(graph: &Graph, entries: &[Entry]) -> usize {
     let mut arcs: usize = 0;
     for entry in entries {
         if graph.has_vertex(entry.vertex) {
+            let _ = read_dist(table, entry.vertex, caller);
             arcs = arcs.wrapping_add(graph.row(entry.vertex).len());
         }
     }
     arcs
 }
 
-// Returns the greatest of the first heads of the rows of the entries' vertices; 0 where they have no arc.
-fn greatest_first(graph: &Graph, entries: &[Entry]) -> u32 {
+// Returns the greatest of the first heads of the rows of the entries' vertices.
+fn greatest_first(graph: &Graph, entries: &[Entry]) -> u32
+    requires { All (LeadsOn graph.now) entries.now }
+{
     let mut greatest = 0;
     for entry in entries {
-        if !graph.has_vertex(entry.vertex) {
-            continue;
-        }
-        let row = graph.row(entry.vertex);
-        if !row.is_empty() {
-            greatest = greatest.max(row[0].head);
-        }
+        greatest = greatest.max(graph.row(entry.vertex)[0].head);
     }
     greatest
 }
 
-// Returns the greatest of the last heads of the rows of the entries' vertices; 0 where they have no arc.
-fn greatest_last(graph: &Graph, entries: &[Entry]) -> u32 {
+// Returns the greatest of the last heads of the rows of the entries' vertices.
+fn greatest_last(graph: &Graph, entries: &[Entry]) -> u32
+    requires { All (LeadsOn graph.now) entries.now }
+{
     let mut greatest = 0;
     for entry in entries {
-        if !graph.has_vertex(entry.vertex) {
-            continue;
-        }
         let row = graph.row(entry.vertex);
-        if let Some(last) = row.len().checked_sub(1) {
-            greatest = greatest.max(row[last].head);
-        }
+        greatest = greatest.max(row[row.len() - 1].head);
     }
     greatest
 }
 
 /// Returns the greatest of the first and last heads of the rows of the entries' vertices, and so reads where all of these rows
-/// begin and end; 0 where they have no arc. The shorter a loop, the more of its reads are on their way at once: so there are two.
-pub(crate) fn greatest_end(graph: &Graph, entries: &[Entry]) -> u32 {
+/// begin and end; 0 where there is no entry. The shorter a loop, the more of its reads are on their way at once: so there are two.
+pub(crate) fn greatest_end(graph: &Graph, entries: &[Entry]) -> u32
+    requires { All (LeadsOn graph.now) entries.now }
+{
     greatest_first(graph, entries).max(greatest_last(graph, entries))
 }

@@ -12,9 +12,9 @@ const FEWEST_MARKS: usize = 256;
 
 /// What a worker notes of the vertices that it relaxes.
 #[derive(Drop)]
-pub struct Notes {
+pub struct Notes<const P: u32> {
     /// What their arcs ask, and wasn't answered yet.
-    pub requests: Vec<Request>,
+    pub requests: Vec<Request<P>>,
     /// Their marks, which are true once all requests are answered.
     pub marks: Vec<Mark>,
     // how many marks are kept at most
@@ -32,9 +32,9 @@ fn most_marks(graph: &Graph, common: &Common) -> usize {
     (2 * share).max(FEWEST_MARKS)
 }
 
-impl Notes {
+impl<const P: u32> Notes<P> {
     /// Makes the empty notes of one of these workers.
-    pub(crate) fn new(graph: &Graph, common: &Common) -> Result<Notes, AllocError>
+    pub(crate) fn new(graph: &Graph, common: &Common) -> Result<Notes<P>, AllocError>
         ensures { IfOk result (λ notes. notes.marks.items ≡ []) }
     {
         Ok(Notes {

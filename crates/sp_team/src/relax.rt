@@ -1,12 +1,13 @@
 //! Vertices relaxed, by way of what their arcs ask of their heads.
-ghost use Rattle.std.specs.Prelude.{◌≡◌, ◌≤◌, true, false, [], All, IfOk, IsTrue, OnOk};
+ghost use Rattle.std.specs.Prelude.{◌≡◌, ◌+◌, ◌≤◌, true, false, [], All, IfOk, IsTrue, OnOk};
 ghost use Rattle.sp_word.specs.Word.{is_layout, max_dist};
 ghost use Rattle.sp_paths.specs.Paths.{IsArc};
 ghost use Rattle.sp_offer.specs.Order.{lawful};
 ghost use Rattle.sp_offer.specs.Story.{known_table};
 ghost use Rattle.sp_team.specs.Law.{IsReady, AllowsSum};
-ghost use Rattle.sp_team.specs.Requests.{IsRequest, Asks, AsksAll};
+ghost use Rattle.sp_team.specs.Requests.{IsRequest, request, HasTail, Asks, AsksAll};
 ghost use Rattle.sp_team.specs.Later.{IsLater};
+ghost use Rattle.sp_team.specs.Live.{IsLive};
 ghost use Rattle.sp_team.specs.Marked.{IsMet, WillBeMet, RowWillBeMet, WillBeTrue};
 
 use crate::entries::read_dist;
@@ -24,99 +25,104 @@ pub(crate) const MOST: usize = 512;
 /// A row of so many arcs at most is asked for without a branch for each arc.
 pub(crate) const FEW: usize = 4;
 
-/// An arc of a vertex that is relaxed, which is to offer its head what it makes of the vertex's distance.
+/// What an arc of a vertex that is relaxed is to offer its head.
 #[derive(Clone, Copy)]
-pub struct Request {
-    pub arc: Arc,
-    /// The distance of the arc's tail.
-    pub dist: u64,
+pub struct Request<const P: u32> {
+    /// What the arc makes of its tail's distance, with the tail.
+    pub word: Word<P>,
+    /// The head of the arc.
+    pub head: u32,
+    /// The length of the arc.
+    pub len: u32,
 }
 
-// Offers the head what the arc makes of its tail's distance.
-fn offer_head<L: Lawful, const P: u32>(
-    table: &OfferTable<L, P>,
-    request: Request,
-    caller: &mut Caller,
-    bins: &mut Bins,
-) -> Result<(), AllocError>
+// Returns what an arc is to offer its head, where its tail has this distance.
+fn request_of<const P: u32>(arc: Arc, dist: u64) -> Request<P>
     requires layout { is_layout P ≡ true }
-    requires request { IsRequest
-        (lawful P (L.allows table.now.law)) (max_dist P) table.now.vertices request }
-    requires caller { caller.old.table ≡ table.now.id }
-    ensures later { IsLater (lawful P (L.allows table.now.law)) caller.old caller.new }
-    ensures met { IsMet (max_dist P) (known_table caller.new.story) request }
+    requires sum { dist + arc.len ≤ max_dist P }
+    requires tail { HasTail P (max_dist P) dist arc }
+    ensures { result ≡ request P dist arc }
 {
-    let Request { arc, dist } = request;
-    let sum = dist + u64::from(arc.len);
-    let word = Word::<P>::pack(sum, arc.tail);
-    match table.offer(caller, arc.head, word).reply {
-        Reply::Shorter => {
-            let entry = Entry {
-                vertex: arc.head,
-                dist: sum,
-            };
-            bins.put_head(entry, dist)
-        }
-        Reply::SmallerPred | Reply::Kept => Ok(()),
+    Request {
+        word: Word::pack(dist + u64::from(arc.len), arc.tail),
+        head: arc.head,
+        len: arc.len,
     }
 }
 
-// Whether the head's word is greater than what the arc makes of its tail's distance.
-fn is_lower<L: Lawful, const P: u32>(
+// Offers the head what is asked.
+fn offer_head<L: Lawful, const P: u32>(
     table: &OfferTable<L, P>,
-    request: Request,
+    request: Request<P>,
     caller: &mut Caller,
-) -> bool
-    requires layout { is_layout P ≡ true }
+    bins: &mut Bins,
+) -> Result<(), AllocError>
     requires request { IsRequest
-        (lawful P (L.allows table.now.law)) (max_dist P) table.now.vertices request }
+        (lawful P (L.allows table.now.law)) table.now.vertices request }
     requires caller { caller.old.table ≡ table.now.id }
     ensures later { IsLater (lawful P (L.allows table.now.law)) caller.old caller.new }
-    ensures met { result ≡ false → IsMet (max_dist P) (known_table caller.new.story) request }
+    ensures met { IsMet (known_table caller.new.story) request.entry }
 {
-    let Request { arc, dist } = request;
-    let word = Word::<P>::pack(dist + u64::from(arc.len), arc.tail);
-    word.is_below(table.read(caller, arc.head))
+    let Request { word, head, len } = request;
+    match (table.offer(caller, head, word).reply, word.dist()) {
+        (Reply::Shorter, Some(dist)) => {
+            let entry = Entry { vertex: head, dist };
+            bins.put_head(entry, dist.saturating_sub(u64::from(len)))
+        }
+        _ => Ok(()),
+    }
+}
+
+// Whether the head's word is greater than the one that is asked for.
+fn is_lower<L: Lawful, const P: u32>(
+    table: &OfferTable<L, P>,
+    request: Request<P>,
+    caller: &mut Caller,
+) -> bool
+    requires request { IsRequest
+        (lawful P (L.allows table.now.law)) table.now.vertices request }
+    requires caller { caller.old.table ≡ table.now.id }
+    ensures later { IsLater (lawful P (L.allows table.now.law)) caller.old caller.new }
+    ensures met { result ≡ false → IsMet (known_table caller.new.story) request.entry }
+{
+    request.word.is_below(table.read(caller, request.head))
 }
 
 // Reads the words of the heads, so that they lie in the cache. These reads don't wait for one another, as they would between
 // offers.
 fn warm_heads<L: Lawful, const P: u32>(
     table: &OfferTable<L, P>,
-    requests: &[Request],
+    requests: &[Request<P>],
     caller: &mut Caller,
 )
-    requires requests { All (IsRequest
-        (lawful P (L.allows table.now.law)) (max_dist P) table.now.vertices) requests.now }
+    requires requests { All (IsRequest (lawful P (L.allows table.now.law)) table.now.vertices) requests.now }
     requires caller { caller.old.table ≡ table.now.id }
     ensures { IsLater (lawful P (L.allows table.now.law)) caller.old caller.new }
 {
     for request in requests {
-        let _ = read_dist(table, request.arc.head, caller);
+        let _ = read_dist(table, request.head, caller);
     }
 }
 
 // Drops the requests that are met already, which are most of them. No branch depends on a word.
 fn drop_met<L: Lawful, const P: u32>(
     table: &OfferTable<L, P>,
-    requests: &mut Vec<Request>,
+    requests: &mut Vec<Request<P>>,
     caller: &mut Caller,
 )
     requires layout { is_layout P ≡ true }
-    requires requests { All (IsRequest (lawful P (L.allows table.now.law)) (max_dist P)
-        table.now.vertices) requests.old.items }
+    requires requests { All (IsRequest (lawful P (L.allows table.now.law)) table.now.vertices) requests.old.items }
     requires caller { caller.old.table ≡ table.now.id }
     ensures later { IsLater (lawful P (L.allows table.now.law)) caller.old caller.new }
-    ensures requests { All (IsRequest (lawful P (L.allows table.now.law)) (max_dist P)
-        table.now.vertices) requests.new.items }
-    ensures met { All (WillBeMet (max_dist P) (known_table caller.new.story)
+    ensures requests { All (IsRequest (lawful P (L.allows table.now.law)) table.now.vertices) requests.new.items }
+    ensures met { All (WillBeMet (known_table caller.new.story)
         requests.new.items) requests.old.items }
 {
     let mut kept: usize = 0;
     for place in 0..requests.len() {
         let request = requests[place];
         let is_kept = is_lower(table, request, caller);
-        requests[kept] = request;
+        requests[kept] = requests[place];
         kept += usize::from(is_kept);
     }
     requests.truncate(kept);
@@ -125,17 +131,16 @@ fn drop_met<L: Lawful, const P: u32>(
 // Makes the offers, one after the other.
 fn offer_all<L: Lawful, const P: u32>(
     table: &OfferTable<L, P>,
-    requests: &[Request],
+    requests: &[Request<P>],
     caller: &mut Caller,
     bins: &mut Bins,
 ) -> Result<(), AllocError>
     requires layout { is_layout P ≡ true }
-    requires requests { All (IsRequest
-        (lawful P (L.allows table.now.law)) (max_dist P) table.now.vertices) requests.now }
+    requires requests { All (IsRequest (lawful P (L.allows table.now.law)) table.now.vertices) requests.now }
     requires caller { caller.old.table ≡ table.now.id }
     ensures later { IsLater (lawful P (L.allows table.now.law)) caller.old caller.new }
     ensures met { OnOk result
-        (All (IsMet (max_dist P) (known_table caller.new.story)) requests.now) }
+        (All (IsMet (known_table caller.new.story)) requests.now) }
 {
     for request in requests {
         offer_head(table, *request, caller, bins)?;
@@ -146,18 +151,17 @@ fn offer_all<L: Lawful, const P: u32>(
 /// Answers all requests, and leaves none.
 pub(crate) fn answer<L: Lawful, const P: u32>(
     table: &OfferTable<L, P>,
-    requests: &mut Vec<Request>,
+    requests: &mut Vec<Request<P>>,
     caller: &mut Caller,
     bins: &mut Bins,
 ) -> Result<(), AllocError>
     requires layout { is_layout P ≡ true }
-    requires requests { All (IsRequest (lawful P (L.allows table.now.law)) (max_dist P)
-        table.now.vertices) requests.old.items }
+    requires requests { All (IsRequest (lawful P (L.allows table.now.law)) table.now.vertices) requests.old.items }
     requires caller { caller.old.table ≡ table.now.id }
     ensures later { IsLater (lawful P (L.allows table.now.law)) caller.old caller.new }
     ensures none { OnOk result (requests.new.items ≡ []) }
     ensures met { OnOk result
-        (All (IsMet (max_dist P) (known_table caller.new.story)) requests.old.items) }
+        (All (IsMet (known_table caller.new.story)) requests.old.items) }
 {
     warm_heads(table, requests.as_slice(), caller);
     drop_met(table, requests, caller);
@@ -170,16 +174,17 @@ pub(crate) fn answer<L: Lawful, const P: u32>(
 fn ask_arc<const P: u32>(
     arc: Arc,
     dist: u64,
-    requests: &mut Vec<Request>,
+    requests: &mut Vec<Request<P>>,
 ) -> Result<bool, AllocError>
     requires layout { is_layout P ≡ true }
     requires dist { dist ≤ max_dist P }
+    requires tail { HasTail P (max_dist P) dist arc }
     ensures { IfOk result
-        (λ fits. Asks (max_dist P) arc dist fits requests.old.items requests.new.items) }
+        (λ fits. Asks P (max_dist P) arc dist fits requests.old.items requests.new.items) }
 {
     let fits = u64::from(arc.len) <= Word::<P>::max_dist() - dist;
     if fits {
-        requests.push(Request { arc, dist })?;
+        requests.push(request_of(arc, dist))?;
     }
     Ok(fits)
 }
@@ -190,7 +195,7 @@ fn ask_each<L: Lawful, const P: u32>(
     table: &OfferTable<L, P>,
     row: &[Arc],
     dist: u64,
-    requests: &mut Vec<Request>,
+    requests: &mut Vec<Request<P>>,
     caller: &mut Caller,
     bins: &mut Bins,
 ) -> Result<bool, AllocError>
@@ -199,13 +204,11 @@ fn ask_each<L: Lawful, const P: u32>(
     requires arcs { All (IsArc table.now.vertices) row.now }
     requires allowed { All
         (AllowsSum (lawful P (L.allows table.now.law)) (max_dist P) dist) row.now }
-    requires requests { All (IsRequest (lawful P (L.allows table.now.law)) (max_dist P)
-        table.now.vertices) requests.old.items }
+    requires requests { All (IsRequest (lawful P (L.allows table.now.law)) table.now.vertices) requests.old.items }
     requires caller { caller.old.table ≡ table.now.id }
     ensures later { IsLater (lawful P (L.allows table.now.law)) caller.old caller.new }
-    ensures requests { OnOk result (All (IsRequest (lawful P (L.allows table.now.law))
-        (max_dist P) table.now.vertices) requests.new.items) }
-    ensures before { OnOk result (All (WillBeMet (max_dist P) (known_table caller.new.story)
+    ensures requests { OnOk result (All (IsRequest (lawful P (L.allows table.now.law)) table.now.vertices) requests.new.items) }
+    ensures before { OnOk result (All (WillBeMet (known_table caller.new.story)
         requests.new.items) requests.old.items) }
     ensures row { IfOk result (λ whole. IsTrue whole
         → RowWillBeMet (max_dist P) (known_table caller.new.story)
@@ -213,7 +216,7 @@ fn ask_each<L: Lawful, const P: u32>(
 {
     let mut whole = true;
     for arc in row {
-        let fits = ask_arc::<P>(*arc, dist, requests)?;
+        let fits = ask_arc(*arc, dist, requests)?;
         whole = whole && fits;
         if requests.len() >= MOST {
             answer(table, requests, caller, bins)?;
@@ -225,11 +228,12 @@ fn ask_each<L: Lawful, const P: u32>(
 // Puts requests for the arcs of a row at their tail's distance, where these are few, there is room, and all sums are within the
 // greatest distance: as many as the longest such row would have, and then without those that there are too many. So no branch
 // depends on how many arcs there are. Tells whether it did.
-fn ask_few<const P: u32>(row: &[Arc], dist: u64, requests: &mut Vec<Request>) -> bool
+fn ask_few<const P: u32>(row: &[Arc], dist: u64, requests: &mut Vec<Request<P>>) -> bool
     requires layout { is_layout P ≡ true }
     requires dist { dist ≤ max_dist P }
+    requires tails { All (HasTail P (max_dist P) dist) row.now }
     ensures asked { IsTrue result
-        → AsksAll (max_dist P) row.now dist requests.old.items requests.new.items }
+        → AsksAll P (max_dist P) row.now dist requests.old.items requests.new.items }
     ensures refused { result ≡ false → requests.new ≡ requests.old }
 {
     let before = requests.len();
@@ -247,10 +251,10 @@ fn ask_few<const P: u32>(row: &[Arc], dist: u64, requests: &mut Vec<Request>) ->
     if u64::from(longest) > Word::<P>::max_dist() - dist {
         return false;
     }
-    requests.push_reserved(Request { arc: first, dist });
-    requests.push_reserved(Request { arc: second, dist });
-    requests.push_reserved(Request { arc: third, dist });
-    requests.push_reserved(Request { arc: fourth, dist });
+    requests.push_reserved(request_of(first, dist));
+    requests.push_reserved(request_of(second, dist));
+    requests.push_reserved(request_of(third, dist));
+    requests.push_reserved(request_of(fourth, dist));
     requests.truncate(before + row.len());
     true
 }
@@ -261,7 +265,7 @@ fn ask_row<L: Lawful, const P: u32>(
     table: &OfferTable<L, P>,
     row: &[Arc],
     dist: u64,
-    requests: &mut Vec<Request>,
+    requests: &mut Vec<Request<P>>,
     caller: &mut Caller,
     bins: &mut Bins,
 ) -> Result<bool, AllocError>
@@ -270,19 +274,17 @@ fn ask_row<L: Lawful, const P: u32>(
     requires arcs { All (IsArc table.now.vertices) row.now }
     requires allowed { All
         (AllowsSum (lawful P (L.allows table.now.law)) (max_dist P) dist) row.now }
-    requires requests { All (IsRequest (lawful P (L.allows table.now.law)) (max_dist P)
-        table.now.vertices) requests.old.items }
+    requires requests { All (IsRequest (lawful P (L.allows table.now.law)) table.now.vertices) requests.old.items }
     requires caller { caller.old.table ≡ table.now.id }
     ensures later { IsLater (lawful P (L.allows table.now.law)) caller.old caller.new }
-    ensures requests { OnOk result (All (IsRequest (lawful P (L.allows table.now.law))
-        (max_dist P) table.now.vertices) requests.new.items) }
-    ensures before { OnOk result (All (WillBeMet (max_dist P) (known_table caller.new.story)
+    ensures requests { OnOk result (All (IsRequest (lawful P (L.allows table.now.law)) table.now.vertices) requests.new.items) }
+    ensures before { OnOk result (All (WillBeMet (known_table caller.new.story)
         requests.new.items) requests.old.items) }
     ensures row { IfOk result (λ whole. IsTrue whole
         → RowWillBeMet (max_dist P) (known_table caller.new.story)
         requests.new.items dist row.now) }
 {
-    let is_asked = ask_few::<P>(row, dist, requests);
+    let is_asked = ask_few(row, dist, requests);
     if is_asked {
         if requests.len() >= MOST {
             answer(table, requests, caller, bins)?;
@@ -293,40 +295,38 @@ fn ask_row<L: Lawful, const P: u32>(
     }
 }
 
-/// Puts a request for each arc of an entry's vertex, if the vertex still has the entry's distance, and notes its mark, if each
-/// arc has one. Tells whether it has.
+/// Puts a request for each arc of an entry's vertex at the entry's distance, and notes its mark, if there is one for each arc.
 pub(crate) fn ask<L: Lawful, const P: u32>(
     graph: &Graph,
     table: &OfferTable<L, P>,
     entry: Entry,
-    notes: &mut Notes,
+    notes: &mut Notes<P>,
     caller: &mut Caller,
     bins: &mut Bins,
-) -> Result<bool, AllocError>
+) -> Result<(), AllocError>
     requires ready { IsReady P (lawful P (L.allows table.now.law)) table.now.vertices graph.now }
-    requires requests { All (IsRequest (lawful P (L.allows table.now.law)) (max_dist P)
-        table.now.vertices) notes.old.requests.items }
+    requires live { IsLive (lawful P (L.allows table.now.law)) graph.now entry }
+    requires requests { All (IsRequest (lawful P (L.allows table.now.law)) table.now.vertices)
+        notes.old.requests.items }
     requires marks { All (WillBeTrue (max_dist P) graph.now (known_table caller.old.story)
         notes.old.requests.items) notes.old.marks.items }
     requires caller { caller.old.table ≡ table.now.id }
     ensures later { IsLater (lawful P (L.allows table.now.law)) caller.old caller.new }
     ensures requests { OnOk result (All (IsRequest (lawful P (L.allows table.now.law))
-        (max_dist P) table.now.vertices) notes.new.requests.items) }
+        table.now.vertices) notes.new.requests.items) }
     ensures marks { OnOk result (All (WillBeTrue (max_dist P) graph.now
         (known_table caller.new.story) notes.new.requests.items) notes.new.marks.items) }
 {
-    let vertex = entry.vertex;
-    if !graph.has_vertex(vertex) {
-        return Ok(false);
+    let Entry { vertex, dist } = entry;
+    if ask_row(
+        table,
+        graph.row(vertex),
+        dist,
+        &mut notes.requests,
+        caller,
+        bins,
+    )? {
+        notes.note(vertex, dist);
     }
-    match read_dist(table, vertex, caller) {
-        Some(dist) if dist == entry.dist => {
-            let row = graph.row(vertex);
-            if ask_row(table, row, dist, &mut notes.requests, caller, bins)? {
-                notes.note(vertex, dist);
-            }
-            Ok(true)
-        }
-        _ => Ok(false),
-    }
+    Ok(())
 }

@@ -7,11 +7,12 @@ ghost use Rattle.sp_offer.specs.Order.{lawful};
 ghost use Rattle.sp_offer.specs.Story.{Follows, own_calls};
 ghost use Rattle.sp_team.specs.Law.{IsReady};
 ghost use Rattle.sp_team.specs.Later.{IsLater};
+ghost use Rattle.sp_team.specs.Live.{IsLive};
 ghost use Rattle.sp_team.specs.Marked.{AllTrue, AreTrue};
 
 use crate::chunk::Chunk;
 use crate::common::Common;
-use crate::entries::{count_arcs, greatest_end, is_live, read_dist, warm_words};
+use crate::entries::{greatest_end, is_live, leads_on, read_dist, warm_vertices};
 use crate::hands::Hands;
 use crate::notes::Notes;
 use crate::relax::{answer, ask};
@@ -77,14 +78,14 @@ struct Squad {
 
 /// What a worker works off at once, and what it has noted.
 #[derive(Drop)]
-struct Batch {
-    // entries whose vertices still have their distances
+struct Batch<const P: u32> {
+    // entries whose vertices still have their distances, and lead on
     live: Vec<Entry>,
-    notes: Notes,
+    notes: Notes<P>,
 }
 
-impl Batch {
-    fn new(graph: &Graph, common: &Common) -> Result<Batch, AllocError>
+impl<const P: u32> Batch<P> {
+    fn new(graph: &Graph, common: &Common) -> Result<Batch<P>, AllocError>
         ensures { IfOk result (λ batch. batch.notes.marks.items ≡ []) }
     {
         Ok(Batch {
@@ -95,15 +96,15 @@ impl Batch {
 
     // Returns the marks.
     fn into_marks(self) -> Vec<Mark>
-        ensures { result ≡ self.notes.marks }
+        ensures { result ≡ self.entry.notes.marks }
     {
         let Batch { notes, .. } = self;
         notes.marks
     }
 }
 
-// Takes some entries, and leaves those in the list that are within the horizon and whose vertices still have their distances. No
-// branch depends on a word.
+// Takes some entries, and leaves those in the list that are within the horizon, whose vertices still have their distances, and
+// which lead on. No branch depends on a word. Returns how many there were with those that don't.
 fn take_live<L: Lawful, const P: u32>(
     graph: &Graph,
     table: &OfferTable<L, P>,
@@ -111,21 +112,26 @@ fn take_live<L: Lawful, const P: u32>(
     horizon: Horizon,
     live: &mut Vec<Entry>,
     caller: &mut Caller,
-) -> Result<(), AllocError>
+) -> Result<usize, AllocError>
     requires ready { IsReady P (lawful P (L.allows table.now.law)) table.now.vertices graph.now }
     requires caller { caller.old.table ≡ table.now.id }
-    ensures { IsLater (lawful P (L.allows table.now.law)) caller.old caller.new }
+    ensures later { IsLater (lawful P (L.allows table.now.law)) caller.old caller.new }
+    ensures live { OnOk result (All (IsLive (lawful P (L.allows table.now.law)) graph.now)
+        live.new.items) }
 {
     hands.take(STRETCH, live)?;
+    let mut relaxed: usize = 0;
     let mut kept: usize = 0;
     for place in 0..live.len() {
         let entry = live[place];
-        let is_kept = is_live(graph, table, entry, caller) & horizon.reaches(entry.dist);
+        let is_relaxed = is_live(graph, table, entry, caller) & horizon.reaches(entry.dist);
+        let is_kept = is_relaxed & leads_on(graph, entry);
         live[kept] = entry;
+        relaxed = relaxed.wrapping_add(usize::from(is_relaxed));
         kept += usize::from(is_kept);
     }
     live.truncate(kept);
-    Ok(())
+    Ok(relaxed)
 }
 
 // Relaxes the vertices of entries.
@@ -133,10 +139,12 @@ fn relax_live<L: Lawful, const P: u32>(
     graph: &Graph,
     table: &OfferTable<L, P>,
     hands: &mut Hands,
-    batch: &mut Batch,
+    batch: &mut Batch<P>,
     caller: &mut Caller,
 ) -> Result<(), AllocError>
     requires ready { IsReady P (lawful P (L.allows table.now.law)) table.now.vertices graph.now }
+    requires live { All (IsLive (lawful P (L.allows table.now.law)) graph.now)
+        batch.old.live.items }
     requires caller { caller.old.table ≡ table.now.id }
     requires marks { AllTrue (max_dist P) graph.now caller.old.story
         batch.old.notes.marks.items }
@@ -146,12 +154,9 @@ fn relax_live<L: Lawful, const P: u32>(
 {
     let Batch { live, notes } = batch;
     notes.requests.clear();
-    let mut relaxed: usize = 0;
     for entry in live.as_slice() {
-        let is_relaxed = ask(graph, table, *entry, notes, caller, hands.bins())?;
-        relaxed = relaxed.wrapping_add(usize::from(is_relaxed));
+        ask(graph, table, *entry, notes, caller, hands.bins())?;
     }
-    hands.count(relaxed);
     answer(table, &mut notes.requests, caller, hands.bins())
 }
 
@@ -162,7 +167,7 @@ fn run_some<L: Lawful, const P: u32>(
     table: &OfferTable<L, P>,
     hands: &mut Hands,
     horizon: Horizon,
-    batch: &mut Batch,
+    batch: &mut Batch<P>,
     caller: &mut Caller,
 ) -> Result<(), AllocError>
     requires ready { IsReady P (lawful P (L.allows table.now.law)) table.now.vertices graph.now }
@@ -173,10 +178,10 @@ fn run_some<L: Lawful, const P: u32>(
     ensures marks { OnOk result (AllTrue (max_dist P) graph.now caller.new.story
         batch.new.notes.marks.items) }
 {
-    warm_words(graph, table, hands.upcoming(STRETCH), caller);
-    take_live(graph, table, hands, horizon, &mut batch.live, caller)?;
-    if count_arcs(graph, &batch.live) == 0 || greatest_end(graph, &batch.live) == 0 {
-        hands.count(batch.live.len());
+    let arcs = warm_vertices(graph, table, hands.upcoming(STRETCH), caller);
+    let relaxed = take_live(graph, table, hands, horizon, &mut batch.live, caller)?;
+    hands.count(relaxed);
+    if arcs == 0 || greatest_end(graph, &batch.live) == 0 {
         return Ok(());
     }
     relax_live(graph, table, hands, batch, caller)

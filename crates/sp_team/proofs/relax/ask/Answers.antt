@@ -1,4 +1,4 @@
-use Rattle.std.proofs.Common.{Vec, sym, subst, ◌∙◌, arith}
+use Rattle.std.proofs.Common.{Vec, sym, subst, arith}
 use Rattle.std.specs.Prelude.{All}
 use Rattle.std.specs.declared.alloc.Global.{Global}
 use Rattle.sp_word.specs.Word.{max_dist}
@@ -7,28 +7,30 @@ use Rattle.sp_offer.specs.Order.{lawful}
 use Rattle.sp_offer.specs.Story.{known_table}
 use Rattle.sp_team.specs.declared.relax.Request.{Request}
 use Rattle.sp_team.specs.Marked.{WillBeTrue}
-use Rattle.sp_team.proofs.Later.{later_along}
-use Rattle.sp_team.proofs.Marks.{waits, marks_along, noted, mark_of_row}
+use Rattle.sp_team.proofs.Marks.{marks_along, noted, mark_of_row}
 use Rattle.sp_team.proofs.Rows.{row_allowed}
 use Rattle.sp_team.proofs.relax.ask.Goals as goal
 
 pub ask_row-requires : goal.ask_row-requires
 ask_row-requires g c =
     let ready = c.requires.ready in
-    let read = c.in-Some.ensures.lawful in
+    let held = c.requires.live.1 in
     let law = lawful g.row.P (g.L.Lawful.allows c.args.table.now.law) in (
       omega arith,
       (
-        ready.layout,
+        omega arith,
         (
-          read.1.1.0,
+          ready.layout,
           (
-            subst (λ n. All (IsArc n) c.row-row.result.now) (sym ready.words) c.row-row.ensures.arcs,
+            held.1.1.0,
             (
-              row_allowed law (max_dist g.row.P) c.args.graph.now c.args.entry.vertex c.in-Some.dist read.0 c.row-row.result.now ready.arcs read.1 c.row-row.ensures.row,
+              subst (λ n. All (IsArc n) c.row.result.now) (sym ready.words) c.row.ensures.arcs,
               (
-                c.requires.requests,
-                c.read_dist.ensures.later.table ∙ c.requires.caller,
+                row_allowed law (max_dist g.row.P) c.args.graph.now c.args.entry.vertex c.args.entry.dist held.0 c.row.result.now ready.arcs held.1 c.row.ensures.row,
+                (
+                  c.requires.requests,
+                  c.requires.caller,
+                ),
               ),
             ),
           ),
@@ -36,47 +38,24 @@ ask_row-requires g c =
       ),
     )
 
-pub returns-in_err-ask_row-in-Some-clause-later : goal.returns-in_err-ask_row-in-Some-clause-later
-returns-in_err-ask_row-in-Some-clause-later g c = later_along _ _ _ _ c.read_dist.ensures.later c.ask_row.ensures.later
-
-pub returns-then-branch-clause-later : goal.returns-then-branch-clause-later
-returns-then-branch-clause-later g c = later_along _ _ _ _ c.read_dist.ensures.later c.ask_row.ensures.later
-
 pub returns-then-branch-clause-marks : goal.returns-then-branch-clause-marks
 returns-then-branch-clause-marks g c =
-    let law = lawful g.row.P (g.L.Lawful.allows c.args.table.now.law) in
     let max = max_dist g.row.P in
     let graph = c.args.graph.now in
     let vertex = c.args.entry.vertex in
+    let dist = c.args.entry.dist in
     let after = known_table c.ask_row.new.caller.story in
     let rs = c.args.notes.now.requests.items in
     let ss = c.ask_row.new.requests.items in
     let before = c.args.notes.now.marks.items in
-    let fell = (later_along law _ _ _ c.read_dist.ensures.later c.ask_row.ensures.later).falls in
-    let told = c.in_ok-ask_row-in-Some.ensures in
-    let held = marks_along max graph (known_table c.args.caller.now.story) after rs ss before fell told.before c.requires.marks in
-    let here = mark_of_row max graph after ss vertex c.in-Some.dist c.row-row.result.now c.row-row.ensures.row (told.row c.if-branch.true) in
+    let told = c.in_ok-ask_row.ensures in
+    let held = marks_along max graph (known_table c.args.caller.now.story) after rs ss before c.ask_row.ensures.later.falls told.before c.requires.marks in
+    let here = mark_of_row max graph after ss vertex dist c.row.result.now c.row.ensures.row (told.row c.if-branch.true) in
     let marks = c.note.new.self.marks.items in
-    subst (λ (v : Vec Request Global). All (WillBeTrue max graph after v.items) marks) (sym c.note.ensures.requests)
-    (noted (WillBeTrue max graph after ss) vertex c.in-Some.dist before marks c.note.ensures.marks held here)
-
-pub returns-else-branch-clause-later : goal.returns-else-branch-clause-later
-returns-else-branch-clause-later g c = later_along _ _ _ _ c.read_dist.ensures.later c.ask_row.ensures.later
+    subst (λ (v : Vec (Request g.row.P) Global). All (WillBeTrue max graph after v.items) marks) (sym c.note.ensures.requests)
+    (noted (WillBeTrue max graph after ss) vertex dist before marks c.note.ensures.marks held here)
 
 pub returns-else-branch-clause-marks : goal.returns-else-branch-clause-marks
 returns-else-branch-clause-marks g c =
-    let law = lawful g.row.P (g.L.Lawful.allows c.args.table.now.law) in
     marks_along (max_dist g.row.P) c.args.graph.now (known_table c.args.caller.now.story) (known_table c.ask_row.new.caller.story) c.args.notes.now.requests.items c.ask_row.new.requests.items
-    c.args.notes.now.marks.items (later_along law _ _ _ c.read_dist.ensures.later c.ask_row.ensures.later).falls c.in_ok-ask_row-in-Some.ensures.before c.requires.marks
-
-pub returns-in_default-clause-marks : goal.returns-in_default-clause-marks
-returns-in_default-clause-marks g c =
-    let waiting = c.args.notes.now.requests.items in let after = known_table c.read_dist.new.caller.story in
-    marks_along (max_dist g.row.P) c.args.graph.now (known_table c.args.caller.now.story) after waiting waiting c.args.notes.now.marks.items c.read_dist.ensures.later.falls
-    (waits (max_dist g.row.P) after waiting) c.requires.marks
-
-pub returns-in_default-2-clause-marks : goal.returns-in_default-2-clause-marks
-returns-in_default-2-clause-marks g c =
-    let waiting = c.args.notes.now.requests.items in let after = known_table c.read_dist.new.caller.story in
-    marks_along (max_dist g.row.P) c.args.graph.now (known_table c.args.caller.now.story) after waiting waiting c.args.notes.now.marks.items c.read_dist.ensures.later.falls
-    (waits (max_dist g.row.P) after waiting) c.requires.marks
+    c.args.notes.now.marks.items c.ask_row.ensures.later.falls c.in_ok-ask_row.ensures.before c.requires.marks

@@ -13,7 +13,7 @@ invariant-loop-arc g l =
     let max = max_dist g.row.P in
     let known = known_table l.caller.story in record {
       later : IsLater law l.initial.caller l.caller;
-      requests : All (IsRequest law max l.table.vertices) l.requests.items;
-      before : All (WillBeMet max known l.requests.items) l.initial.requests.items;
+      requests : All (IsRequest law l.table.vertices) l.requests.items;
+      before : All (WillBeMet known l.requests.items) l.initial.requests.items;
       row : IsTrue l.whole → RowWillBeMet max known l.requests.items l.dist (take l.arc-index l.row);
     }

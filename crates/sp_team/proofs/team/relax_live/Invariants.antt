@@ -12,6 +12,6 @@ invariant-loop-entry g l =
     let law = lawful g.row.P (g.L.Lawful.allows l.table.law) in
     let max = max_dist g.row.P in record {
       later : IsLater law l.initial.caller l.caller;
-      requests : All (IsRequest law max l.table.vertices) l.notes.requests.items;
+      requests : All (IsRequest law l.table.vertices) l.notes.requests.items;
       marks : All (WillBeTrue max l.graph (known_table l.caller.story) l.notes.requests.items) l.notes.marks.items;
     }

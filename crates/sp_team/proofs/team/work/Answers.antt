@@ -22,10 +22,13 @@ pub run_some-requires : goal.run_some-requires
 run_some-requires g c = (
   omega arith,
   (
-    c.requires.ready,
+    omega arith,
     (
-      c.look.ensures.table ∙ (c.loop.invariant.later.table ∙ (c.begin.ensures.table ∙ c.requires.caller)),
-      marks_still (max_dist g.row.P) c.args.graph.now (known_table c.loop.caller.story) (known_table c.look.new.caller.story) c.loop.batch.notes.marks.items c.look.ensures.falls c.loop.invariant.marks,
+      c.requires.ready,
+      (
+        c.look.ensures.table ∙ (c.loop.invariant.later.table ∙ (c.begin.ensures.table ∙ c.requires.caller)),
+        marks_still (max_dist g.row.P) c.args.graph.now (known_table c.loop.caller.story) (known_table c.look.new.caller.story) c.loop.batch.notes.marks.items c.look.ensures.falls c.loop.invariant.marks,
+      ),
     ),
   ),
 )

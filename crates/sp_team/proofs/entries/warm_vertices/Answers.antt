@@ -3,8 +3,8 @@ use Rattle.sp_offer.specs.Order.{lawful}
 use Rattle.sp_offer.specs.Story.{Knowledge}
 use Rattle.sp_team.specs.Later.{IsLater}
 use Rattle.sp_team.proofs.Later.{later_along}
-use Rattle.sp_team.proofs.entries.warm_words.Goals as goal
-use Rattle.sp_team.proofs.entries.warm_words.Goals.{then-has_vertex, else-has_vertex}
+use Rattle.sp_team.proofs.entries.warm_vertices.Goals as goal
+use Rattle.sp_team.proofs.entries.warm_vertices.Goals.{then-has_vertex, else-has_vertex}
 
 pub loop-entry-preserved : goal.loop-entry-preserved
 loop-entry-preserved g c =
