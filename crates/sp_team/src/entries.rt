@@ -71,33 +71,33 @@ pub(crate) fn warm_vertices<L: Lawful, const P: u32>(
     arcs
 }
 
-// Returns the greatest of the first heads of the rows of the entries' vertices.
-fn greatest_first(graph: &Graph, entries: &[Entry]) -> u32
+// Returns the bits that the first heads of the rows of the entries' vertices have; 0 where there is no entry.
+fn first_bits(graph: &Graph, entries: &[Entry]) -> u32
     requires { All (LeadsOn graph.now) entries.now }
 {
-    let mut greatest = 0;
+    let mut bits = 0;
     for entry in entries {
-        greatest = greatest.max(graph.row(entry.vertex)[0].head);
+        bits |= graph.row(entry.vertex)[0].head;
     }
-    greatest
+    bits
 }
 
-// Returns the greatest of the last heads of the rows of the entries' vertices.
-fn greatest_last(graph: &Graph, entries: &[Entry]) -> u32
+// Returns the bits that the last heads of the rows of the entries' vertices have; 0 where there is no entry.
+fn last_bits(graph: &Graph, entries: &[Entry]) -> u32
     requires { All (LeadsOn graph.now) entries.now }
 {
-    let mut greatest = 0;
+    let mut bits = 0;
     for entry in entries {
         let row = graph.row(entry.vertex);
-        greatest = greatest.max(row[row.len() - 1].head);
+        bits |= row[row.len() - 1].head;
     }
-    greatest
+    bits
 }
 
-/// Returns the greatest of the first and last heads of the rows of the entries' vertices, and so reads where all of these rows
+/// Returns the bits that the first and last heads of the rows of the entries' vertices have, and so reads where all of these rows
 /// begin and end; 0 where there is no entry. The shorter a loop, the more of its reads are on their way at once: so there are two.
-pub(crate) fn greatest_end(graph: &Graph, entries: &[Entry]) -> u32
+pub(crate) fn end_bits(graph: &Graph, entries: &[Entry]) -> u32
     requires { All (LeadsOn graph.now) entries.now }
 {
-    greatest_first(graph, entries).max(greatest_last(graph, entries))
+    first_bits(graph, entries) | last_bits(graph, entries)
 }

@@ -12,7 +12,7 @@ ghost use Rattle.sp_team.specs.Marked.{AllTrue, AreTrue};
 
 use crate::chunk::Chunk;
 use crate::common::Common;
-use crate::entries::{greatest_end, is_live, leads_on, read_dist, warm_vertices};
+use crate::entries::{end_bits, is_live, leads_on, read_dist, warm_vertices};
 use crate::hands::Hands;
 use crate::notes::Notes;
 use crate::relax::{answer, ask};
@@ -181,7 +181,7 @@ fn run_some<L: Lawful, const P: u32>(
     let arcs = warm_vertices(graph, table, hands.upcoming(STRETCH), caller);
     let relaxed = take_live(graph, table, hands, horizon, &mut batch.live, caller)?;
     hands.count(relaxed);
-    if arcs == 0 || greatest_end(graph, &batch.live) == 0 {
+    if arcs == 0 || end_bits(graph, &batch.live) == 0 {
         return Ok(());
     }
     relax_live(graph, table, hands, batch, caller)

@@ -14,8 +14,8 @@ returns-in_err-relaxed-clause-later g c = later_along _ _ _ _ c.warm_vertices-ar
 pub returns-then-arcs-eq0-clause-later : goal.returns-then-arcs-eq0-clause-later
 returns-then-arcs-eq0-clause-later g c = later_along _ _ _ _ c.warm_vertices-arcs.ensures c.take_live.ensures.later
 
-pub greatest_end-requires : goal.greatest_end-requires
-greatest_end-requires g c = subst (All (LeadsOn c.args.graph.now)) (sym c.deref.ensures.value) (λ k e low. (c.in_ok-relaxed.ensures.live k e low).0)
+pub end_bits-requires : goal.end_bits-requires
+end_bits-requires g c = subst (All (LeadsOn c.args.graph.now)) (sym c.deref.ensures.value) (λ k e low. (c.in_ok-relaxed.ensures.live k e low).0)
 
 pub relax_live-requires : goal.relax_live-requires
 relax_live-requires g c =
