@@ -95,7 +95,8 @@ fn warm_heads<L: Lawful, const P: u32>(
     requests: &[Request<P>],
     caller: &mut Caller,
 )
-    requires requests { All (IsRequest (lawful P (L.allows table.now.law)) table.now.vertices) requests.now }
+    requires requests { All (IsRequest (lawful P (L.allows table.now.law)) table.now.vertices)
+        requests.now }
     requires caller { caller.old.table ≡ table.now.id }
     ensures { IsLater (lawful P (L.allows table.now.law)) caller.old caller.new }
 {
@@ -111,10 +112,12 @@ fn drop_met<L: Lawful, const P: u32>(
     caller: &mut Caller,
 )
     requires layout { is_layout P ≡ true }
-    requires requests { All (IsRequest (lawful P (L.allows table.now.law)) table.now.vertices) requests.old.items }
+    requires requests { All (IsRequest (lawful P (L.allows table.now.law)) table.now.vertices)
+        requests.old.items }
     requires caller { caller.old.table ≡ table.now.id }
     ensures later { IsLater (lawful P (L.allows table.now.law)) caller.old caller.new }
-    ensures requests { All (IsRequest (lawful P (L.allows table.now.law)) table.now.vertices) requests.new.items }
+    ensures requests { All (IsRequest (lawful P (L.allows table.now.law)) table.now.vertices)
+        requests.new.items }
     ensures met { All (WillBeMet (known_table caller.new.story)
         requests.new.items) requests.old.items }
 {
@@ -136,7 +139,8 @@ fn offer_all<L: Lawful, const P: u32>(
     bins: &mut Bins,
 ) -> Result<(), AllocError>
     requires layout { is_layout P ≡ true }
-    requires requests { All (IsRequest (lawful P (L.allows table.now.law)) table.now.vertices) requests.now }
+    requires requests { All (IsRequest (lawful P (L.allows table.now.law)) table.now.vertices)
+        requests.now }
     requires caller { caller.old.table ≡ table.now.id }
     ensures later { IsLater (lawful P (L.allows table.now.law)) caller.old caller.new }
     ensures met { OnOk result
@@ -156,7 +160,8 @@ pub(crate) fn answer<L: Lawful, const P: u32>(
     bins: &mut Bins,
 ) -> Result<(), AllocError>
     requires layout { is_layout P ≡ true }
-    requires requests { All (IsRequest (lawful P (L.allows table.now.law)) table.now.vertices) requests.old.items }
+    requires requests { All (IsRequest (lawful P (L.allows table.now.law)) table.now.vertices)
+        requests.old.items }
     requires caller { caller.old.table ≡ table.now.id }
     ensures later { IsLater (lawful P (L.allows table.now.law)) caller.old caller.new }
     ensures none { OnOk result (requests.new.items ≡ []) }
@@ -204,10 +209,12 @@ fn ask_each<L: Lawful, const P: u32>(
     requires arcs { All (IsArc table.now.vertices) row.now }
     requires allowed { All
         (AllowsSum (lawful P (L.allows table.now.law)) (max_dist P) dist) row.now }
-    requires requests { All (IsRequest (lawful P (L.allows table.now.law)) table.now.vertices) requests.old.items }
+    requires requests { All (IsRequest (lawful P (L.allows table.now.law)) table.now.vertices)
+        requests.old.items }
     requires caller { caller.old.table ≡ table.now.id }
     ensures later { IsLater (lawful P (L.allows table.now.law)) caller.old caller.new }
-    ensures requests { OnOk result (All (IsRequest (lawful P (L.allows table.now.law)) table.now.vertices) requests.new.items) }
+    ensures requests { OnOk result (All (IsRequest (lawful P (L.allows table.now.law))
+        table.now.vertices) requests.new.items) }
     ensures before { OnOk result (All (WillBeMet (known_table caller.new.story)
         requests.new.items) requests.old.items) }
     ensures row { IfOk result (λ whole. IsTrue whole
@@ -274,10 +281,12 @@ fn ask_row<L: Lawful, const P: u32>(
     requires arcs { All (IsArc table.now.vertices) row.now }
     requires allowed { All
         (AllowsSum (lawful P (L.allows table.now.law)) (max_dist P) dist) row.now }
-    requires requests { All (IsRequest (lawful P (L.allows table.now.law)) table.now.vertices) requests.old.items }
+    requires requests { All (IsRequest (lawful P (L.allows table.now.law)) table.now.vertices)
+        requests.old.items }
     requires caller { caller.old.table ≡ table.now.id }
     ensures later { IsLater (lawful P (L.allows table.now.law)) caller.old caller.new }
-    ensures requests { OnOk result (All (IsRequest (lawful P (L.allows table.now.law)) table.now.vertices) requests.new.items) }
+    ensures requests { OnOk result (All (IsRequest (lawful P (L.allows table.now.law))
+        table.now.vertices) requests.new.items) }
     ensures before { OnOk result (All (WillBeMet (known_table caller.new.story)
         requests.new.items) requests.old.items) }
     ensures row { IfOk result (λ whole. IsTrue whole
