@@ -7,10 +7,9 @@ pub mod Parts
 pub mod SortedRows
 pub mod RowOrder
 pub mod ShortRows
-pub mod Shares
+pub mod Sides
 pub mod Counting
 pub mod Reading
-pub mod Groups
 pub mod Starts
 pub mod Cuts
 pub mod LeftOut

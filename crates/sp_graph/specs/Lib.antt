@@ -7,7 +7,7 @@ pub mod Lengths
 pub mod Keys
 pub mod Index
 pub mod RowEnds
-pub mod Shares
+pub mod Ranges
 pub mod Rising
 pub mod Split
 pub mod RowsValue

@@ -70,10 +70,9 @@ impl Graph {
 
     /// Builds the graph of `n` vertices with these arcs, each as often as it is given.
     ///
-    /// It takes linear time, except that sorting a row of `l` arcs that is out of order takes `l log l`. Arcs that come
-    /// by rising tail stay where they are; others are copied once, or twice if their tails are far apart, and each list
-    /// is freed as soon as its copy is complete. The call fails if there is no memory for a second list and for `n + 1`
-    /// indices, or if there are 2^32 arcs or more.
+    /// It takes linear time, except that sorting a row of `l` arcs that is out of order takes `l log l`. The arcs stay in
+    /// their list: they are sorted there, range after range of their tails, each with the help of a copy of its arcs. The
+    /// call fails if there is no memory for a second list and for `n + 1` indices, or if there are 2^32 arcs or more.
     #[tactic(auto, using(std::proofs::lemmas::List::Sorted::length_permutation))]
     pub fn from_arcs(alloc: Global, n: u32, arcs: Vec<Arc>) -> Result<Graph, AllocError>
         requires some { 1 ≤ n }
@@ -88,8 +87,8 @@ impl Graph {
         let all = put_in_order(alloc, n, arcs)?;
         Ok(Graph {
             n,
-            arcs: all.rows.arcs,
-            ends: all.rows.ends,
+            arcs: all.arcs,
+            ends: all.ends,
             lengths: all.lengths,
         })
     }
@@ -117,8 +116,8 @@ impl Graph {
         let all = put_in_order_by(rt, alloc, n, arcs, workers)?;
         Ok(Graph {
             n,
-            arcs: all.rows.arcs,
-            ends: all.rows.ends,
+            arcs: all.arcs,
+            ends: all.ends,
             lengths: all.lengths,
         })
     }

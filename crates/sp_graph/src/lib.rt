@@ -2,6 +2,7 @@
 //! also finds the vertices that a table of words leaves out.
 #![tactic(auto)]
 
+mod gathering;
 mod graph;
 mod index;
 mod lengths;
@@ -9,14 +10,13 @@ mod marks;
 mod nearness;
 mod ordering;
 mod placing;
+mod ranges;
 mod rising;
 mod row_order;
 mod row_sorting;
 mod rows;
 mod sharing;
-mod sharing_counts;
-mod sharing_groups;
-mod sharing_places;
+mod sharing_ranges;
 mod sharing_rising;
 mod short_rows;
 mod words;

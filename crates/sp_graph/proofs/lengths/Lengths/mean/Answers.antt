@@ -1,4 +1,4 @@
-use Rattle.std.proofs.Common.{◌≡◌, ◌<◌, ◌^◌, ◌/◌, rules, List, [], ◌∷◌, length, refl, arith}
+use Rattle.std.proofs.Common.{◌≡◌, ◌<◌, ◌^◌, ◌/◌, List, [], ◌∷◌, length, refl, arith}
 use Rattle.sp_paths.specs.declared.arc.Arc.{Arc}
 use Rattle.sp_graph.specs.Mean.{total_length, mean_length}
 use Rattle.sp_graph.specs.Lengths.{AreLengths}
