@@ -51,6 +51,21 @@ fn drawn(alloc: Global, n: u32, count: u32) -> Result<Vec<Triple>, AllocError>
     Ok(arcs)
 }
 
+// Whether each of the arcs stands in the row of its tail.
+fn has_all(graph: &Graph, arcs: &[Triple]) -> bool {
+    for (tail, head, len) in arcs {
+        let is_there = graph.has_vertex(*tail)
+            && graph
+                .row(*tail)
+                .iter()
+                .any(|arc| arc.head == *head && arc.len == *len);
+        if !is_there {
+            return false;
+        }
+    }
+    true
+}
+
 // Whether drawn arcs have rows, whole and parted, of which none is lost.
 fn makes_rows(alloc: Global, n: u32, count: u32) -> Result<bool, AllocError>
     requires { 1 ≤ n }
@@ -58,11 +73,11 @@ fn makes_rows(alloc: Global, n: u32, count: u32) -> Result<bool, AllocError>
     let arcs = drawn(alloc, n, count)?;
     let graph = Graph::from_arcs(alloc, n, arcs_of(alloc, n, &arcs)?)?;
     let rows = Rows::split(alloc, &graph, 2)?;
-    Ok(rows.n() == n && graph.m() == arcs.len())
+    Ok(rows.n() == n && graph.m() == arcs.len() && has_all(&graph, &arcs))
 }
 
-// Where memory is refused once, at whatever call, that is told there, and the next rows stand. Those of 50,000 vertices don't
-// lie in the caches together, so their arcs are gathered first.
+// Where memory is refused once, at whatever call, that is told there, and the next rows stand. Those of 50,000 vertices lie in
+// two ranges.
 #[test]
 fn refused_memory(rt: HostRuntime) {
     for n in [40, 50_000] {
