@@ -70,9 +70,10 @@ impl Graph {
 
     /// Builds the graph of `n` vertices with these arcs, each as often as it is given.
     ///
-    /// It takes linear time, except that sorting a row of `l` arcs that is out of order takes `l log l`. The arcs stay in
-    /// their list: they are sorted there, range after range of their tails, each with the help of a copy of its arcs. The
-    /// call fails if there is no memory for a second list and for `n + 1` indices, or if there are 2^32 arcs or more.
+    /// It takes linear time, except that sorting a row of `l` arcs that is out of order takes `l log l`. Arcs that come by
+    /// rising tail stay where they are; others are placed in a second list, or where their tails are far apart, range after
+    /// range of their tails in a copy of its arcs. The call fails if there is no memory for a second list and for `n + 1`
+    /// indices, or if there are 2^32 arcs or more.
     #[tactic(auto, using(std::proofs::lemmas::List::Sorted::length_permutation))]
     pub fn from_arcs(alloc: Global, n: u32, arcs: Vec<Arc>) -> Result<Graph, AllocError>
         requires some { 1 ≤ n }
@@ -94,8 +95,8 @@ impl Graph {
     }
 
     /// Builds the graph of `n` vertices with these arcs, each as often as it is given, as `from_arcs` does: by as many
-    /// threads as there are workers, or fewer where there are fewer processors or few arcs. It fails where `from_arcs`
-    /// does, and the graph is the same.
+    /// threads as there are workers, or fewer where there are fewer processors or few arcs. Several sort them by ranges. It
+    /// fails where `from_arcs` does, and the graph is the same.
     #[tactic(auto, using(std::proofs::lemmas::List::Sorted::length_permutation))]
     pub fn from_arcs_by<R: Threads + Sync>(
         rt: &R,
