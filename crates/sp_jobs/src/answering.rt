@@ -174,10 +174,10 @@ fn find_and_write<Q: Question, R: Threads + Wait + Sync, W: Write, L>(
             (Q.answers question.entry.now) sources.entry.now group.items) }
     { find_group::<Q, R>(rt, alloc, question, workers, sources) };
     let mut write = || -> Result<Summary, BatchError>
-        requires { AreFew Q.told (Q.answers question.now) before.now }
+        requires { IsSync R.row × AreFew Q.told (Q.answers question.now) before.now }
         ensures { IsGroupWritten Q.told
             W.Write before.entry.now out.entry.now result out.exit.now }
-    { write_group::<Q, W>(alloc, question, before, out) };
+    { write_group::<Q, R, W>(rt, alloc, question, Workers::one(), before, out) };
     join_mut(rt, &mut find, &mut write)
 }
 
@@ -225,7 +225,20 @@ fn answer_group<Q: Question, R: Threads + Wait + Sync, W: Write>(
     }
 }
 
-// Answers sources by groups of as many as there are workers. While a group is found, the one before it is written.
+// Returns how many of the sources that are left the next group has: what is over where they are no multiple of the number of
+// workers, else as many as there are workers. So the first group is the small one, and each later group is full.
+fn group_size(left: usize, workers: Workers) -> usize
+    requires { 1 ≤ left }
+    ensures some { 1 ≤ result }
+    ensures left { result ≤ left }
+    ensures each { result ≤ workers }
+    ensures few { result ≤ MOST_WORKERS }
+{
+    (left - 1) % workers.get() as usize + 1
+}
+
+// Answers sources by groups of as many as there are workers, or fewer in the first one. While a group is found, the one before it
+// is written; the last one is written by all workers.
 fn answer_side_by_side<Q: Question, R: Threads + Wait + Sync, W: Write, L: Listener>(
     rt: &R,
     alloc: Global,
@@ -244,7 +257,7 @@ fn answer_side_by_side<Q: Question, R: Threads + Wait + Sync, W: Write, L: Liste
     let mut rest = sources;
     while !rest.is_empty() {
         asked.listener.hear(Q::progress(summary, asked.count));
-        let size = rest.len().min(asked.workers.get() as usize);
+        let size = group_size(rest.len(), asked.workers);
         let (group, later) = rest.split_at(size);
         let of_group = Asked {
             sources: group,
@@ -261,7 +274,7 @@ fn answer_side_by_side<Q: Question, R: Threads + Wait + Sync, W: Write, L: Liste
         waiting = next;
         rest = later;
     }
-    let last = write_group::<Q, W>(alloc, question, &waiting, out)?;
+    let last = write_group::<Q, R, W>(rt, alloc, question, asked.workers, &waiting, out)?;
     Ok(sum(summary, last))
 }
 
@@ -270,8 +283,9 @@ fn answer_side_by_side<Q: Question, R: Threads + Wait + Sync, W: Write, L: Liste
 /// than processors.
 ///
 /// This thread writes the answers for a group of sources while the workers find those for the next, so no more answers are
-/// kept than those of two groups. Where memory for a group is refused, its sources are answered one after the other. Where
-/// that is refused too, or the writer fails, a beginning of the text stands.
+/// kept than those of two groups. The first group is smaller where the sources are no multiple of the workers, and the answers
+/// for the last one are written by all workers. Where memory for a group is refused, its sources are answered one after the
+/// other. Where that is refused too, or the writer fails, a beginning of the text stands.
 pub fn answer_sources<Q: Question, R: Threads + Wait + Sync, W: Write, L: Listener>(
     rt: &R,
     alloc: Global,

@@ -68,8 +68,8 @@ pub trait Question: Sync {
     ) -> Result<Summary, BatchError>
         ensures { AreWritten W.Write (told found.now ∷ []) out.old result out.new };
 
-    /// Writes the answer of the only source as `write` does, while so many workers have nothing else to do. By default this thread does
-    /// so alone.
+    /// Writes the answer of one source as `write` does, by so many workers that have nothing else to do, this thread counted. By default
+    /// this thread does so alone.
     fn write_by<R: Threads + Sync, W: Write>(
         &self,
         _rt: &R,

@@ -5,7 +5,9 @@ ghost use Rattle.sp_jobs.specs.Steps.{AreFew, IsGroupWritten, Fits, none, sum_of
 use crate::answers::{BatchError, Summary};
 use crate::question::Question;
 use sp_device::Write;
+use sp_word::Workers;
 use std::alloc::Global;
+use std::thread::Threads;
 
 /// Returns the summary of no source.
 pub(crate) fn nothing() -> Summary
@@ -30,10 +32,12 @@ pub(crate) fn sum(first: Summary, second: Summary) -> Summary
     }
 }
 
-/// Writes the answers for some sources, in their order, and counts them.
-pub(crate) fn write_group<Q: Question, W: Write>(
+/// Writes the answers for some sources, in their order and each by so many workers, and counts them.
+pub(crate) fn write_group<Q: Question, R: Threads + Sync, W: Write>(
+    rt: &R,
     alloc: Global,
     question: &Q,
+    workers: Workers,
     group: &[Q::Found],
     out: &mut W,
 ) -> Result<Summary, BatchError>
@@ -42,7 +46,7 @@ pub(crate) fn write_group<Q: Question, W: Write>(
 {
     let mut summary = nothing();
     for found in group {
-        let one = question.write(alloc, found, out)?;
+        let one = question.write_by(rt, alloc, workers, found, out)?;
         summary = sum(summary, one);
     }
     Ok(summary)

@@ -17,18 +17,20 @@ use std::thread::Threads;
 // A source is held for no more loads than this.
 const MOST_LOADS: u64 = 1_000_000_000;
 
-/// Holds the first sources until so many are begun, for a bounded number of loads. It counts those that saw the others come.
-/// What answers a source is no text.
+/// Holds the sources behind the first ones until so many are begun in all, for a bounded number of loads. It counts those that saw
+/// the others come. What answers a source is no text.
 #[derive(Drop)]
 struct Meeting {
+    first: u64,
     wanted: u64,
     begun: AtomicU64,
     met: AtomicU64,
 }
 
 impl Meeting {
-    fn new(wanted: u64) -> Meeting {
+    fn new(first: u64, wanted: u64) -> Meeting {
         Meeting {
+            first,
             wanted,
             begun: AtomicU64::new(0),
             met: AtomicU64::new(0),
@@ -40,7 +42,8 @@ impl Meeting {
     }
 
     fn meet(&self) {
-        if self.begun.fetch_add(1, Ordering::SeqCst) >= self.wanted {
+        let begun = self.begun.fetch_add(1, Ordering::SeqCst);
+        if begun < self.first || begun >= self.wanted {
             return;
         }
         for _ in 0..MOST_LOADS {
@@ -100,7 +103,8 @@ impl Question for Meeting {
     }
 }
 
-// Whether as many of the sources as there are workers and processors are found at once, in a graph that is just large enough.
+// Whether as many of the sources as there are workers and processors are found at once, in a graph that is just large enough. What
+// is over is found before.
 fn do_meet(
     rt: &(impl AllocGlobal + Threads + Wait + Sync),
     sources: &[u32],
@@ -109,8 +113,12 @@ fn do_meet(
     requires { length sources.now ≤ 9 }
 {
     let count = sources.len() as u64;
-    let wanted = count.min(workers.get() as u64).min(count_processors(rt));
-    let meeting = Meeting::new(wanted);
+    let at_once = count.min(workers.get() as u64).min(count_processors(rt));
+    let over = count
+        .saturating_sub(at_once)
+        .checked_rem(at_once)
+        .unwrap_or(0);
+    let meeting = Meeting::new(over, over.saturating_add(at_once));
     let asked = Asked {
         sources,
         count: sources.len(),
@@ -120,7 +128,7 @@ fn do_meet(
     };
     let mut out = UpToWriter::new(rt.alloc(), 0, 1);
     let answer = answer_sources(rt, rt.alloc(), &meeting, &asked, &mut out);
-    answer == summary(count, 0, 0) && meeting.met() == wanted
+    answer == summary(count, 0, 0) && meeting.met() == at_once
 }
 
 // Two sources are found at once, by 2 workers and by 64.

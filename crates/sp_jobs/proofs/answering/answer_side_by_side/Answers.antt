@@ -15,7 +15,7 @@ answer_group-requires-clause-sources g c κs lives =
     let b = c.loop-rest.invariant in
     let rest = c.loop-rest.rest.now in
     let all = all_behind can_ask c.args.asked.now.sources.now (b.front ++ b.back) rest b.parts c.requires.sources in
-    All-same can_ask c.split_at.result.0.now (take c.min-size.result rest) c.split_at.ensures.front (All-take can_ask c.min-size.result rest all)
+    All-same can_ask c.split_at.result.0.now (take c.group_size-size.result rest) c.split_at.ensures.front (All-take can_ask c.group_size-size.result rest all)
 
 pub answer_group-requires-clause-waiting : goal.answer_group-requires-clause-waiting
 answer_group-requires-clause-waiting g c κs lives =
