@@ -223,7 +223,8 @@ def long_tree(count, program, folder):
     moves = len({percent for _, percent in steps}) > 2 and steps == sorted(steps)
     # Of these lines, each of some 20 bytes, so many bytes are as many vertices as the percents beyond two thirds tell.
     near = all(abs((2 + number / len(tree)) * 100 / 3 - percent) < 4 for number, percent in steps)
-    count.of(f"a long tree on a terminal: {shown}", status == 0 and text == tree and moves and near and len(shown) <= 3 + seconds * 11 and rest == "\r\n")
+    told = f"status {status}, same {text == tree}, moves {moves}, near {near}, {seconds:.1f} s, {rest!r}, {shown}"
+    count.of(f"a long tree on a terminal: {told}", status == 0 and text == tree and moves and near and len(shown) <= 3 + seconds * 11 and rest == "\r\n")
     with subprocess.Popen([program, *words], stdout=subprocess.PIPE, stderr=subprocess.PIPE) as it:
         text = slowly(PAUSE, len(tree) // 2)(it.stdout)
         err = it.stderr.read().decode()
