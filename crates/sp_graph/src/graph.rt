@@ -70,10 +70,10 @@ impl Graph {
 
     /// Builds the graph of `n` vertices with these arcs, each as often as it is given.
     ///
-    /// It takes linear time, except that sorting a row of `l` arcs that is out of order takes `l log l`. Arcs that come by
-    /// rising tail stay where they are; others are placed in a second list, or where their tails are far apart, range after
-    /// range of their tails in a copy of its arcs. The call fails if there is no memory for a second list and for `n + 1`
-    /// indices, or if there are 2^32 arcs or more.
+    /// Arcs that come by rising tail stay where they are; others are sorted within their list, range after range of their tails,
+    /// each in a copy of its arcs. It takes linear time, except that sorting a row of `l` arcs that is out of order takes
+    /// `l log l`, and all `m` arcs `m log m` where there is no memory for the copy of a range. The call fails if there is none
+    /// for `n + 1` indices and some for the ranges, or if there are 2^32 arcs or more.
     #[tactic(auto, using(std::proofs::lemmas::List::Sorted::length_permutation))]
     pub fn from_arcs(alloc: Global, n: u32, arcs: Vec<Arc>) -> Result<Graph, AllocError>
         requires some { 1 ≤ n }
@@ -95,8 +95,8 @@ impl Graph {
     }
 
     /// Builds the graph of `n` vertices with these arcs, each as often as it is given, as `from_arcs` does: by as many
-    /// threads as there are workers, or fewer where there are fewer processors or few arcs. Several sort them by ranges. It
-    /// fails where `from_arcs` does, and the graph is the same.
+    /// threads as there are workers, or fewer where there are fewer processors or few arcs. It fails where `from_arcs` does,
+    /// and the graph is the same.
     #[tactic(auto, using(std::proofs::lemmas::List::Sorted::length_permutation))]
     pub fn from_arcs_by<R: Threads + Sync>(
         rt: &R,
