@@ -5,4 +5,3 @@ pub mod Refusals
 pub mod Touching
 pub mod PartRows
 pub mod RootedRows
-pub mod Kept

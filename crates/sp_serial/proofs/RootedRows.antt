@@ -4,7 +4,7 @@ use Rattle.std.specs.Prelude.{All, Contains, Some}
 use Rattle.std.specs.List.{AllZip}
 use Rattle.std.proofs.lemmas.Bool.{cases_eq}
 use Rattle.std.proofs.lemmas.List.{get_or-replicate, length-replicate, take_all, take_more}
-use Rattle.sp_word.specs.Word.{Word, Unreached, Pair, max_dist}
+use Rattle.sp_word.specs.Word.{Word, Pair, max_dist}
 use Rattle.sp_word.specs.History.{Table}
 use Rattle.sp_paths.specs.Paths.{Graph, IsGraph, IsVertex, IsLeast}
 use Rattle.sp_answer.specs.Table.{TreeTable, IsTable, table_of, word_in}
@@ -112,11 +112,8 @@ same_word t (x ∷ xs) (y ∷ ys) zip v = go (same_word t xs ys zip.1 v) (cases_
         let mine : y.0 ≢ v = λ e. other (sym zip.0.0 ∙ e) in
         rw (ne_eqb y.0 v mine, ne_eqb x.0 v other) more
 
-no_word : (d p : ℕ) → Unreached ≡ Pair d p → ⊥
-no_word d p e = cc
-
 has_root : (t : TreeTable) (rows : List (ℕ × Word)) (mine : List Row) → AllZip (IsRowOf t) rows mine → (v d p : ℕ) → word_in rows v ≡ Pair d p → (r : ℕ) × (root_in (row_in mine v) ≡ Some r) × IsRoot (table_of t) v r
-has_root t [] [] zip v d p is = absurd (no_word d p is)
+has_root t [] [] zip v d p is = cc
 has_root t [] (y ∷ ys) zip v d p is = absurd zip
 has_root t (x ∷ xs) [] zip v d p is = absurd zip
 has_root t (x ∷ xs) (y ∷ ys) zip v d p is = go (has_root t xs ys zip.1 v d p) (cases_eq x.0 v)

@@ -1,7 +1,6 @@
 -- What words of walks from several sources tell, once the arcs are relaxed that bear on it.
-use Rattle.std.proofs.Common.{◌≡◌, ℕ, ◌≤◌, List, Option, Some, None, ap, arith, Bor}
+use Rattle.std.proofs.Common.{◌≡◌, ℕ, ◌≤◌, List, Option, Some, None, arith, Bor}
 use Rattle.std.specs.Prelude.{All}
-use Rattle.std.specs.Option.{unwrap_or}
 use Rattle.sp_word.specs.Word.{Word, max_dist}
 use Rattle.sp_paths.specs.Paths.{Graph, IsGraph, IsVertex, IsClosed, IsWithin, word_at}
 use Rattle.sp_graph.specs.LeftOut.{IsLeastLeftOut}
@@ -16,12 +15,6 @@ use Rattle.sp_plain.proofs.TableSteps.{small_within}
 use Rattle.sp_plain.specs.Several.{IsTableOfAny}
 use Rattle.sp_serial.specs.Bearing.{BearsOn}
 
-some_none : {v : ℕ} → Some v ≡ None → ⊥
-some_none e = cc
-
-some_same : (v w : ℕ) → Some v ≡ Some w → v ≡ w
-some_same v w e = ap (λ o. unwrap_or o 0) e
-
 module _ (P : ℕ) (g : Graph) (graph : IsGraph g) (sources : List ℕ) (vertices : All (IsVertex g.n) sources) (words : List Word) (table : IsTableOfAny g sources (max_dist P) words) where
   low : IsWithin g.n (max_dist P) (word_at words)
   low = small_within g.n (max_dist P) words table.size table.small
@@ -35,8 +28,8 @@ module _ (P : ℕ) (g : Graph) (graph : IsGraph g) (sources : List ℕ) (vertice
   up_to_limit limit most far less closed = limit_words P g sources graph vertices words table.size table.table low limit (closed_at far closed limit less most)
 
   pub near_shown : (until : Until) → IsAsked P g.n until → (far : ℕ) → BearsOn until words (Some far) → IsClosedUpTo g (max_dist P) far (word_at words) → AreRunWords P g sources until words None
-  near_shown AllWords asked far bears closed = absurd (some_none bears)
-  near_shown (Limit limit) asked far bears closed = up_to_limit limit asked far (let same = some_same far limit bears in omega (arith, same)) closed
+  near_shown AllWords asked far bears closed = cc
+  near_shown (Limit limit) asked far bears closed = up_to_limit limit asked far (let same : far ≡ limit = cc in omega arith) closed
   near_shown (Targets targets) asked far bears closed =
       target_words P g sources graph vertices words table.size table.table low targets None (near_targets P g sources graph vertices words table.size table.table low far targets.now (closed_at far closed) asked bears)
 

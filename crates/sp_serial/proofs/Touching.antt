@@ -59,15 +59,12 @@ touched_less i reached words low t = record {
     size : length (set words (here - 1) Unreached) ≡ length words
     size = length-set words (here - 1) Unreached
 
-    unlike : {d p : ℕ} → Unreached ≡ Pair d p → ⊥
-    unlike e = cc
-
     behind : (v k : ℕ) → (v ≡ here → ⊥) → i ≤ k → k < length reached → get_or reached k 0 ≡ v → (k ≡ i) ⊎ (k ≡ i → ⊥) → IsAmong (i + 1) reached v
     behind v k other from less is (inl same) = absurd (other (sym is ∙ ap (λ (j : ℕ). get_or reached j 0) same))
     behind v k other from less is (inr not) = (k, omega (arith, from, not), less, is)
 
     covers : (v d p : ℕ) → IsVertex (length words) v → word_at (set words (here - 1) Unreached) v ≡ Pair d p → (v ≡ here) ⊎ (v ≡ here → ⊥) → IsAmong (i + 1) reached v
-    covers v d p at is (inl same) = absurd (unlike (sym (word_same words here Unreached in'.0 in'.1) ∙ ap (λ (u : ℕ). word_at (set words (here - 1) Unreached) u) (sym same) ∙ is))
+    covers v d p at is (inl same) = let e : Unreached ≡ Pair d p = sym (word_same words here Unreached in'.0 in'.1) ∙ ap (λ (u : ℕ). word_at (set words (here - 1) Unreached) u) (sym same) ∙ is in cc
     covers v d p at is (inr other) =
         let (k, from, less, same) = t.covers v d p at (sym (word_other words here v Unreached in'.0 at.0 other) ∙ is) in
         behind v k other from less same (cases_eq k i)
@@ -105,13 +102,15 @@ touched_set reached words s w in' t among = record {
 
 -- where all words are unreached, no vertex need be listed
 pub touched_empty : (n : ℕ) (words : List Word) → words ≡ replicate n Unreached → AreTouched 0 [] words
-touched_empty n words is = record {
-  vertices = λ k d low. absurd (omega (arith, low));
-  covers = λ v d p at here. absurd (unlike (sym (ap (λ (ws : List Word). word_at ws v) is ∙ get_or-replicate n (v - 1) Unreached Unreached (let low = at.0 in let high = at.1 in let size = ap (λ (ws : List Word). length ws) is ∙ length-replicate n Unreached in omega arith)) ∙ here));
-}
+touched_empty n words is = record { vertices = λ k d low. absurd (omega (arith, low)); covers = λ v d p at here. covers v d p at here }
   where
-    unlike : {d p : ℕ} → Unreached ≡ Pair d p → ⊥
-    unlike e = cc
+    covers : (v d p : ℕ) → IsVertex (length words) v → word_at words v ≡ Pair d p → IsAmong 0 [] v
+    covers v d p at here =
+        let low = at.0 in
+        let high = at.1 in
+        let size = ap (λ (ws : List Word). length ws) is ∙ length-replicate n Unreached in
+        let none = ap (λ (ws : List Word). word_at ws v) is ∙ get_or-replicate n (v - 1) Unreached Unreached (omega arith) in
+        let e : Unreached ≡ Pair d p = sym none ∙ here in cc
 
 -- the order of the list has no bearing
 pub touched_sorted : (reached sorted : List ℕ) (words : List Word) → IsPermutation reached sorted → AreTouched 0 reached words → AreTouched 0 sorted words

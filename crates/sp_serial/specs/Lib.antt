@@ -4,3 +4,4 @@ pub mod Touched
 pub mod Part
 pub mod Rooted
 pub mod Live
+pub mod Lowers

@@ -13,6 +13,7 @@ use std::alloc::Global;
 
 /// Returns the shortest-path tree from the source, or the vertex that is too far, as `run_source` does. It starts no
 /// thread and never waits.
+#[tactic(auto, using(crate::proofs::Refusals::no_tree))]
 pub fn run_source_alone<const P: u32>(
     alloc: Global,
     graph: &Graph,
@@ -39,6 +40,7 @@ pub fn run_source_alone<const P: u32>(
 /// never waits. The run goes no farther, so a small part of a large graph takes little time.
 ///
 /// A vertex beyond the limit plays no part, however far it is.
+#[tactic(auto, using(crate::proofs::Refusals::no_part))]
 pub fn run_within_alone<const P: u32>(
     alloc: Global,
     graph: &Graph,
@@ -66,6 +68,7 @@ pub fn run_within_alone<const P: u32>(
 /// thread and never waits.
 ///
 /// The order of the sources has no bearing on the answer, nor has how often one of them is named.
+#[tactic(auto, using(crate::proofs::Refusals::no_forest))]
 pub fn run_nearest_alone<const P: u32>(
     alloc: Global,
     graph: &Graph,

@@ -3,11 +3,11 @@
 //! One after the other, each entry would wait for its words, its row and the words of its heads, since what is done depends on them.
 //! So many entries are gone over in several passes, each of which reads for all of them what the pass before has told the places
 //! of.
-ghost use Rattle.std.specs.Prelude.{◌≡◌, ◌<◌, ◌≤◌, ◌++◌, true, false, length, vec_len, All, Contains, IsTrue, OnOk};
-ghost use Rattle.sp_word.specs.Word.{is_layout, max_dist, max_pred};
+ghost use Rattle.std.specs.Prelude.{◌≡◌, ◌<◌, ◌≤◌, ◌++◌, true, false, length, vec_len, All, IsTrue, OnOk};
+ghost use Rattle.sp_word.specs.Word.{is_layout, max_pred};
 ghost use Rattle.sp_paths.specs.Paths.{IsArc, IsVertex};
-ghost use Rattle.sp_plain.specs.Lowering.{IsLowered};
 ghost use Rattle.sp_serial.specs.Live.{IsTail};
+ghost use Rattle.sp_serial.specs.Lowers.{AreArcs, CanLower, HasLowered};
 
 use crate::live::{count_live, end_bits, take_live};
 use crate::table::Table;
@@ -70,8 +70,8 @@ fn drop_relaxed<const P: u32>(graph: &Graph, words: &[Word<P>], arcs: &mut Vec<A
     requires layout { is_layout P ≡ true }
     requires room { graph.now.n ≤ max_pred P }
     requires size { length words.now ≡ graph.now.n }
-    requires arcs { All (Contains graph.now.arcs) arcs.old.items }
-    ensures { All (Contains graph.now.arcs) arcs.new.items }
+    requires arcs { AreArcs graph.now arcs.old.items }
+    ensures { AreArcs graph.now arcs.new.items }
 {
     // The graph's arcs lead from vertices to vertices.
     let _ = graph.n();
@@ -89,22 +89,23 @@ fn drop_relaxed<const P: u32>(graph: &Graph, words: &[Word<P>], arcs: &mut Vec<A
     arcs.truncate(kept);
 }
 
-// Relaxes arcs, one after the other. Heads that came nearer are put into buckets.
-fn relax_arcs<T: Table<P>, const P: u32>(
-    arcs: &[Arc],
+// Relaxes the arcs that wait, one after the other, and leaves none. Heads that came nearer are put into buckets.
+fn relax_waiting<T: Table<P>, const P: u32>(
+    graph: &Graph,
+    arcs: &mut Vec<Arc>,
     table: &mut T,
     bins: &mut Bins,
 ) -> Result<(), AllocError>
-    requires layout { is_layout P ≡ true }
-    requires room { length (T.labels table.old) ≤ max_pred P }
-    requires arcs { All (IsArc (length (T.labels table.old))) arcs.now }
-    requires kept { T.IsKept table.old }
-    ensures size { length (T.labels table.new) ≡ length (T.labels table.old) }
-    ensures lowered { IsLowered (max_dist P) arcs.now
-        (T.labels table.old) (T.labels table.new) }
-    ensures kept { T.IsKept table.new }
+    requires words { CanLower P graph.now (T.labels table.old) (T.IsKept table.old) }
+    requires arcs { AreArcs graph.now arcs.old.items }
+    ensures words { HasLowered P graph.now
+        (T.labels table.old) (T.labels table.new) (T.IsKept table.new) }
+    ensures arcs { OnOk result (AreArcs graph.now arcs.new.items) }
 {
-    for arc in arcs {
+    // The graph's arcs lead from vertices to vertices.
+    let _ = graph.n();
+    drop_relaxed(graph, table.words(), arcs);
+    for arc in arcs.as_slice() {
         if let Some(dist) = table.lower(*arc)? {
             let head = Entry {
                 vertex: arc.head,
@@ -113,31 +114,6 @@ fn relax_arcs<T: Table<P>, const P: u32>(
             bins.put_head(head, dist.saturating_sub(u64::from(arc.len)))?;
         }
     }
-    Ok(())
-}
-
-// Relaxes the arcs that wait, and leaves none.
-fn relax_waiting<T: Table<P>, const P: u32>(
-    graph: &Graph,
-    arcs: &mut Vec<Arc>,
-    table: &mut T,
-    bins: &mut Bins,
-) -> Result<(), AllocError>
-    requires layout { is_layout P ≡ true }
-    requires room { graph.now.n ≤ max_pred P }
-    requires size { length (T.labels table.old) ≡ graph.now.n }
-    requires kept { T.IsKept table.old }
-    requires arcs { All (Contains graph.now.arcs) arcs.old.items }
-    ensures size { length (T.labels table.new) ≡ graph.now.n }
-    ensures lowered { IsLowered (max_dist P) graph.now.arcs
-        (T.labels table.old) (T.labels table.new) }
-    ensures kept { T.IsKept table.new }
-    ensures arcs { OnOk result (All (Contains graph.now.arcs) arcs.new.items) }
-{
-    // The graph's arcs lead from vertices to vertices.
-    let _ = graph.n();
-    drop_relaxed(graph, table.words(), arcs);
-    relax_arcs(arcs, table, bins)?;
     arcs.clear();
     Ok(())
 }
@@ -149,16 +125,11 @@ fn relax_full<T: Table<P>, const P: u32>(
     table: &mut T,
     bins: &mut Bins,
 ) -> Result<(), AllocError>
-    requires layout { is_layout P ≡ true }
-    requires room { graph.now.n ≤ max_pred P }
-    requires size { length (T.labels table.old) ≡ graph.now.n }
-    requires kept { T.IsKept table.old }
-    requires arcs { All (Contains graph.now.arcs) arcs.old.items }
-    ensures size { length (T.labels table.new) ≡ graph.now.n }
-    ensures lowered { IsLowered (max_dist P) graph.now.arcs
-        (T.labels table.old) (T.labels table.new) }
-    ensures kept { T.IsKept table.new }
-    ensures arcs { OnOk result (All (Contains graph.now.arcs) arcs.new.items) }
+    requires words { CanLower P graph.now (T.labels table.old) (T.IsKept table.old) }
+    requires arcs { AreArcs graph.now arcs.old.items }
+    ensures words { HasLowered P graph.now
+        (T.labels table.old) (T.labels table.new) (T.IsKept table.new) }
+    ensures arcs { OnOk result (AreArcs graph.now arcs.new.items) }
 {
     if arcs.len() < MOST {
         return Ok(());
@@ -194,17 +165,12 @@ fn put_each<T: Table<P>, const P: u32>(
     table: &mut T,
     bins: &mut Bins,
 ) -> Result<(), AllocError>
-    requires layout { is_layout P ≡ true }
-    requires room { graph.now.n ≤ max_pred P }
     requires vertex { IsVertex graph.now.n vertex }
-    requires size { length (T.labels table.old) ≡ graph.now.n }
-    requires kept { T.IsKept table.old }
-    requires arcs { All (Contains graph.now.arcs) arcs.old.items }
-    ensures size { length (T.labels table.new) ≡ graph.now.n }
-    ensures lowered { IsLowered (max_dist P) graph.now.arcs
-        (T.labels table.old) (T.labels table.new) }
-    ensures kept { T.IsKept table.new }
-    ensures arcs { OnOk result (All (Contains graph.now.arcs) arcs.new.items) }
+    requires words { CanLower P graph.now (T.labels table.old) (T.IsKept table.old) }
+    requires arcs { AreArcs graph.now arcs.old.items }
+    ensures words { HasLowered P graph.now
+        (T.labels table.old) (T.labels table.new) (T.IsKept table.new) }
+    ensures arcs { OnOk result (AreArcs graph.now arcs.new.items) }
 {
     for arc in graph.row(vertex) {
         relax_full(graph, arcs, table, bins)?;
@@ -221,17 +187,12 @@ fn put_row<T: Table<P>, const P: u32>(
     table: &mut T,
     bins: &mut Bins,
 ) -> Result<(), AllocError>
-    requires layout { is_layout P ≡ true }
-    requires room { graph.now.n ≤ max_pred P }
     requires tail { IsTail graph.now vertex }
-    requires size { length (T.labels table.old) ≡ graph.now.n }
-    requires kept { T.IsKept table.old }
-    requires arcs { All (Contains graph.now.arcs) arcs.old.items }
-    ensures size { length (T.labels table.new) ≡ graph.now.n }
-    ensures lowered { IsLowered (max_dist P) graph.now.arcs
-        (T.labels table.old) (T.labels table.new) }
-    ensures kept { T.IsKept table.new }
-    ensures arcs { OnOk result (All (Contains graph.now.arcs) arcs.new.items) }
+    requires words { CanLower P graph.now (T.labels table.old) (T.IsKept table.old) }
+    requires arcs { AreArcs graph.now arcs.old.items }
+    ensures words { HasLowered P graph.now
+        (T.labels table.old) (T.labels table.new) (T.IsKept table.new) }
+    ensures arcs { OnOk result (AreArcs graph.now arcs.new.items) }
 {
     let is_put = put_few(graph.row(vertex), arcs);
     if is_put {
@@ -249,15 +210,10 @@ fn relax_live<T: Table<P>, const P: u32>(
     table: &mut T,
     bins: &mut Bins,
 ) -> Result<(), AllocError>
-    requires layout { is_layout P ≡ true }
-    requires room { graph.now.n ≤ max_pred P }
     requires vertices { All (IsTail graph.now) vertices.now }
-    requires size { length (T.labels table.old) ≡ graph.now.n }
-    requires kept { T.IsKept table.old }
-    ensures size { length (T.labels table.new) ≡ graph.now.n }
-    ensures lowered { IsLowered (max_dist P) graph.now.arcs
-        (T.labels table.old) (T.labels table.new) }
-    ensures kept { T.IsKept table.new }
+    requires words { CanLower P graph.now (T.labels table.old) (T.IsKept table.old) }
+    ensures { HasLowered P graph.now
+        (T.labels table.old) (T.labels table.new) (T.IsKept table.new) }
 {
     arcs.clear();
     arcs.reserve(MOST + FEW_ARCS)?;
@@ -275,14 +231,9 @@ fn relax_row<T: Table<P>, const P: u32>(
     table: &mut T,
     bins: &mut Bins,
 ) -> Result<(), AllocError>
-    requires layout { is_layout P ≡ true }
-    requires room { graph.now.n ≤ max_pred P }
-    requires size { length (T.labels table.old) ≡ graph.now.n }
-    requires kept { T.IsKept table.old }
-    ensures size { length (T.labels table.new) ≡ graph.now.n }
-    ensures lowered { IsLowered (max_dist P) graph.now.arcs
-        (T.labels table.old) (T.labels table.new) }
-    ensures kept { T.IsKept table.new }
+    requires { CanLower P graph.now (T.labels table.old) (T.IsKept table.old) }
+    ensures { HasLowered P graph.now
+        (T.labels table.old) (T.labels table.new) (T.IsKept table.new) }
 {
     let vertex = entry.vertex;
     // The graph's arcs lead from vertices to vertices.
@@ -309,14 +260,9 @@ fn relax_each<T: Table<P>, const P: u32>(
     table: &mut T,
     bins: &mut Bins,
 ) -> Result<(), AllocError>
-    requires layout { is_layout P ≡ true }
-    requires room { graph.now.n ≤ max_pred P }
-    requires size { length (T.labels table.old) ≡ graph.now.n }
-    requires kept { T.IsKept table.old }
-    ensures size { length (T.labels table.new) ≡ graph.now.n }
-    ensures lowered { IsLowered (max_dist P) graph.now.arcs
-        (T.labels table.old) (T.labels table.new) }
-    ensures kept { T.IsKept table.new }
+    requires { CanLower P graph.now (T.labels table.old) (T.IsKept table.old) }
+    ensures { HasLowered P graph.now
+        (T.labels table.old) (T.labels table.new) (T.IsKept table.new) }
 {
     for entry in entries {
         relax_row(graph, *entry, table, bins)?;
@@ -342,14 +288,9 @@ fn relax_some<T: Table<P>, const P: u32>(
     table: &mut T,
     bins: &mut Bins,
 ) -> Result<(), AllocError>
-    requires layout { is_layout P ≡ true }
-    requires room { graph.now.n ≤ max_pred P }
-    requires size { length (T.labels table.old) ≡ graph.now.n }
-    requires kept { T.IsKept table.old }
-    ensures size { length (T.labels table.new) ≡ graph.now.n }
-    ensures lowered { IsLowered (max_dist P) graph.now.arcs
-        (T.labels table.old) (T.labels table.new) }
-    ensures kept { T.IsKept table.new }
+    requires { CanLower P graph.now (T.labels table.old) (T.IsKept table.old) }
+    ensures { HasLowered P graph.now
+        (T.labels table.old) (T.labels table.new) (T.IsKept table.new) }
 {
     if entries.len() < FEW {
         return relax_each(graph, entries, table, bins);
@@ -376,14 +317,9 @@ pub(crate) fn relax_rows<T: Table<P>, const P: u32>(
     table: &mut T,
     bins: &mut Bins,
 ) -> Result<(), AllocError>
-    requires layout { is_layout P ≡ true }
-    requires room { graph.now.n ≤ max_pred P }
-    requires size { length (T.labels table.old) ≡ graph.now.n }
-    requires kept { T.IsKept table.old }
-    ensures size { length (T.labels table.new) ≡ graph.now.n }
-    ensures lowered { IsLowered (max_dist P) graph.now.arcs
-        (T.labels table.old) (T.labels table.new) }
-    ensures kept { T.IsKept table.new }
+    requires { CanLower P graph.now (T.labels table.old) (T.IsKept table.old) }
+    ensures { HasLowered P graph.now
+        (T.labels table.old) (T.labels table.new) (T.IsKept table.new) }
 {
     if table.words().len() < FAR {
         return relax_each(graph, entries, table, bins);

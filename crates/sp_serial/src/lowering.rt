@@ -1,8 +1,9 @@
 //! Words lowered from sources on.
-ghost use Rattle.std.specs.Prelude.{◌≡◌, ◌≤◌, true, All, IfOk, OnOk, length, replicate};
-ghost use Rattle.sp_word.specs.Word.{Unreached, is_layout, max_dist, max_pred};
+ghost use Rattle.std.specs.Prelude.{◌≡◌, All, IfOk, OnOk, length};
+ghost use Rattle.sp_word.specs.Word.{max_dist};
 ghost use Rattle.sp_paths.specs.Paths.{IsVertex};
 ghost use Rattle.sp_plain.specs.Several.{IsTableOfAny};
+ghost use Rattle.sp_serial.specs.Touched.{IsClear};
 
 use crate::search::{Bounds, open_bins, search};
 use crate::table::Table;
@@ -16,9 +17,8 @@ fn start<T: Table<P>, const P: u32>(
     sources: &[u32],
     table: &mut T,
 ) -> Result<(), AllocError>
-    requires layout { is_layout P ≡ true }
     requires sources { All (IsVertex graph.now.n) sources.now }
-    requires unreached { T.labels table.old ≡ replicate graph.now.n Unreached }
+    requires clear { IsClear P graph.now (T.labels table.old) }
     requires kept { T.IsKept table.old }
     ensures size { length (T.labels table.new) ≡ graph.now.n }
     ensures table { OnOk result
@@ -42,10 +42,8 @@ pub(crate) fn lower_from<T: Table<P>, const P: u32>(
     table: &mut T,
     shift: &mut u32,
 ) -> Result<bool, AllocError>
-    requires layout { is_layout P ≡ true }
     requires sources { All (IsVertex graph.now.n) run.sources.now }
-    requires room { graph.now.n ≤ max_pred P }
-    requires unreached { T.labels table.old ≡ replicate graph.now.n Unreached }
+    requires clear { IsClear P graph.now (T.labels table.old) }
     requires kept { T.IsKept table.old }
     ensures size { length (T.labels table.new) ≡ graph.now.n }
     ensures table { IfOk result

@@ -1,4 +1,4 @@
-//! Searches that cost what they touch, by several threads.
+//! Searches that cost what they touch, in rooms whose words wait for the next search.
 ghost use Rattle.std.specs.Prelude.{◌≡◌, ◌≤◌, true, All, Some, IfSome};
 ghost use Rattle.sp_word.specs.Word.{is_layout, max_dist, max_pred};
 ghost use Rattle.sp_paths.specs.Paths.{IsVertex};
@@ -6,14 +6,14 @@ ghost use Rattle.sp_answer.specs.Within.{IsTreeWithin};
 ghost use Rattle.sp_forest.specs.Nearest.{IsForestAnswer};
 ghost use Rattle.sp_forest.specs.Run.{AreAnswersFor};
 
+use crate::misses::Misses;
 use crate::room::Room;
+use crate::shelf::{OnePlace, Places, Shelf};
 use crate::spare::Spare;
 use sp_answer::{PairAnswer, Tree};
 use sp_forest::Forest;
 use sp_graph::Graph;
-use std::alloc::{AllocError, Global};
-use std::sync::Mutex;
-use std::sync::atomic::{AtomicU32, Ordering};
+use std::alloc::Global;
 
 // A search gives up when it has relaxed one of this many vertices, since another run is better there, ..
 const SHARE: u32 = 64;
@@ -21,110 +21,53 @@ const SHARE: u32 = 64;
 // .. but not before so many, which take no longer than a run takes to begin.
 const LEAST: u32 = 1024;
 
-// After searches that gave up in a row, so many at most that count, no search is made for twice as many sources each time.
-pub(crate) const MOST_MISSES: u32 = 3;
+/// Rooms for searches: the words of a search that has found its answer wait for the next one on a shelf.
+#[derive(Drop)]
+pub struct RoomsOn<S, const P: u32> {
+    shelf: S,
+    misses: Misses,
+}
 
 /// Rooms for searches by several threads that share them: the words of a search that has found its answer wait for the next one,
 /// of whichever thread. No thread waits for another.
-#[derive(Drop)]
-pub struct Rooms<const P: u32> {
-    // a place for the words of each thread, empty while they are in use
-    places: Vec<Mutex<Option<Spare<P>>>>,
-    // how many searches gave up in a row, and for how many sources none is made now
-    misses: AtomicU32,
-    rest: AtomicU32,
-}
+pub type Rooms<const P: u32> = RoomsOn<Places<P>, P>;
+
+/// The words of a search, which wait for the next one: what `Rooms` is for several threads, for a single one and without a lock.
+pub type OwnRoom<const P: u32> = RoomsOn<OnePlace<P>, P>;
 
 // Returns how many vertices a search may relax before it gives up.
-pub(crate) fn most_of(graph: &Graph) -> usize {
+fn most_of(graph: &Graph) -> usize {
     (graph.n() / SHARE).max(LEAST) as usize
 }
 
-// Returns so many empty places.
-fn open_places<const P: u32>(
-    alloc: Global,
-    most: usize,
-) -> Result<Vec<Mutex<Option<Spare<P>>>>, AllocError> {
-    let mut places = Vec::with_capacity(alloc, most)?;
-    for _ in 0..most {
-        places.push(Mutex::new(None))?;
-    }
-    Ok(places)
-}
-
-impl<const P: u32> Rooms<P> {
+impl<const P: u32> RoomsOn<Places<P>, P> {
     /// Returns rooms for so many threads. It takes no memory for words yet; where there is none for the places, no words wait.
     pub fn new(alloc: Global, most: usize) -> Rooms<P> {
-        let places = match open_places(alloc, most) {
-            Ok(places) => places,
-            Err(_) => Vec::new(alloc),
-        };
-        Rooms {
-            places,
-            misses: AtomicU32::new(0),
-            rest: AtomicU32::new(0),
+        RoomsOn {
+            shelf: Places::new(alloc, most),
+            misses: Misses::new(),
         }
     }
+}
 
-    // Takes words that wait, if there are any.
-    fn take(&self) -> Option<Spare<P>> {
-        for place in &self.places {
-            let Some(mut held) = place.try_lock() else {
-                continue;
-            };
-            if let Some(spare) = held.take() {
-                return Some(spare);
-            }
-        }
-        None
-    }
-
-    // Puts words where they wait. If there is no place for them, they are let go.
-    fn put(&self, spare: Spare<P>) {
-        let mut left = Some(spare);
-        for place in &self.places {
-            let Some(mut held) = place.try_lock() else {
-                continue;
-            };
-            if held.is_none() {
-                *held = left.take();
-                return;
-            }
+impl<const P: u32> RoomsOn<OnePlace<P>, P> {
+    /// Returns a room without words. It takes no memory before the first search.
+    pub fn new() -> OwnRoom<P> {
+        RoomsOn {
+            shelf: OnePlace::new(),
+            misses: Misses::new(),
         }
     }
+}
 
-    // Returns whether no search is made now.
-    fn rests(&self) -> bool {
-        let rest = self.rest.load(Ordering::SeqCst);
-        if rest == 0 {
-            return false;
-        }
-        // where another thread counts at the same time, one of them is enough
-        let _ = self
-            .rest
-            .compare_exchange(rest, rest - 1, Ordering::SeqCst, Ordering::SeqCst);
-        true
-    }
-
-    // Takes note of a search that gave up.
-    fn miss(&self) {
-        let misses = self
-            .misses
-            .load(Ordering::SeqCst)
-            .saturating_add(1)
-            .min(MOST_MISSES);
-        self.misses.store(misses, Ordering::SeqCst);
-        self.rest
-            .store((1u32 << misses).saturating_sub(2), Ordering::SeqCst);
-    }
-
+impl<S: Shelf<P>, const P: u32> RoomsOn<S, P> {
     // Takes note of whether a search has found its answer, and keeps its words where it has.
     fn close(&self, room: Room<P>, found: bool) {
         if found {
-            self.misses.store(0, Ordering::SeqCst);
-            self.put(Spare::of_room(room));
+            self.misses.hit();
+            self.shelf.put(Spare::of_room(room));
         } else {
-            self.miss();
+            self.misses.miss();
         }
     }
 
@@ -134,10 +77,10 @@ impl<const P: u32> Rooms<P> {
         requires n { graph.now.n ≤ max_pred P }
         ensures { IfSome result (λ room. room ≡ graph.entry.now) }
     {
-        if self.rests() {
+        if self.misses.rests() {
             return None;
         }
-        if let Some(spare) = self.take() {
+        if let Some(spare) = self.shelf.take() {
             if let Some(room) = spare.to_room(alloc, graph) {
                 return Some(room);
             }

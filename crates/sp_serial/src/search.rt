@@ -1,7 +1,6 @@
 //! Words lowered bucket by bucket.
-ghost use Rattle.std.specs.Prelude.{◌≡◌, ◌≤◌, true, length};
-ghost use Rattle.sp_word.specs.Word.{is_layout, max_dist, max_pred};
-ghost use Rattle.sp_plain.specs.Lowering.{IsLowered};
+ghost use Rattle.std.specs.Prelude.{◌≡◌, length};
+ghost use Rattle.sp_serial.specs.Lowers.{CanLower, HasLowered};
 
 use crate::batch::{Batch, relax_rows};
 use crate::table::Table;
@@ -93,14 +92,9 @@ pub(crate) fn search<T: Table<P>, const P: u32>(
     table: &mut T,
     bins: &mut Bins,
 ) -> Result<bool, AllocError>
-    requires layout { is_layout P ≡ true }
-    requires room { graph.now.n ≤ max_pred P }
-    requires size { length (T.labels table.old) ≡ graph.now.n }
-    requires kept { T.IsKept table.old }
-    ensures size { length (T.labels table.new) ≡ graph.now.n }
-    ensures lowered { IsLowered (max_dist P) graph.now.arcs
-        (T.labels table.old) (T.labels table.new) }
-    ensures kept { T.IsKept table.new }
+    requires { CanLower P graph.now (T.labels table.old) (T.IsKept table.old) }
+    ensures { HasLowered P graph.now
+        (T.labels table.old) (T.labels table.new) (T.IsKept table.new) }
 {
     let mut batch = Batch::new(alloc);
     let mut entries = Vec::new(alloc);

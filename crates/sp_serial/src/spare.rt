@@ -13,7 +13,7 @@ use std::marker::Model;
 ///
 /// Contracts see how many they are.
 #[derive(Drop)]
-pub(crate) struct Spare<const P: u32> {
+pub struct Spare<const P: u32> {
     touched: Touched<P>,
 }
 

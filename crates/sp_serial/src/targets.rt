@@ -12,6 +12,7 @@ use std::alloc::Global;
 
 /// Returns the answers for targets of the source, in their order, as `run_targets` does. It starts no thread and never waits.
 /// It ends as soon as the targets' words are final, so near targets take little time.
+#[tactic(auto, using(crate::proofs::Refusals::no_answers))]
 pub fn run_targets_alone<const P: u32>(
     alloc: Global,
     graph: &Graph,
@@ -44,6 +45,7 @@ pub fn run_targets_alone<const P: u32>(
 
 /// Returns the answer for a target of the source, as `run_targets` does. It starts no thread and never waits. It ends as
 /// soon as the target's word is final, so a near target takes little time.
+#[tactic(auto, using(crate::proofs::Refusals::no_answer))]
 pub fn run_target_alone<const P: u32>(
     alloc: Global,
     graph: &Graph,

@@ -1,19 +1,11 @@
-use Rattle.sp_word.specs.Word.{max_dist}
-use Rattle.sp_plain.proofs.LoweringSteps.{lowered_then}
+use Rattle.sp_serial.proofs.Lowered.{lowers_then}
 use Rattle.sp_serial.proofs.batch.relax_live.Goals as goal
 
-pub returns-in_err-put_row-clause-lowered : goal.returns-in_err-put_row-clause-lowered
-returns-in_err-put_row-clause-lowered g c =
-    lowered_then (max_dist g.row.P) c.args.graph.now.arcs (g.T.Table.labels c.args.table.now) (g.T.Table.labels c.loop-vertex.table) (g.T.Table.labels c.put_row.new.table) c.loop-vertex.invariant.1 c.put_row.ensures.lowered
+pub returns-in_err-put_row : goal.returns-in_err-put_row
+returns-in_err-put_row g c = lowers_then c.loop-vertex.invariant.words c.put_row.ensures.words
 
 pub loop-vertex-preserved : goal.loop-vertex-preserved
-loop-vertex-preserved g c = (
-  c.put_row.ensures.size,
-  lowered_then (max_dist g.row.P) c.args.graph.now.arcs (g.T.Table.labels c.args.table.now) (g.T.Table.labels c.loop-vertex.table) (g.T.Table.labels c.put_row.new.table) c.loop-vertex.invariant.1 c.put_row.ensures.lowered,
-  c.in_ok-put_row.ensures.arcs,
-  c.put_row.ensures.kept,
-)
+loop-vertex-preserved g c = record { words = lowers_then c.loop-vertex.invariant.words c.put_row.ensures.words; arcs = c.in_ok-put_row.ensures.arcs }
 
-pub returns-clause-lowered : goal.returns-clause-lowered
-returns-clause-lowered g c =
-    lowered_then (max_dist g.row.P) c.args.graph.now.arcs (g.T.Table.labels c.args.table.now) (g.T.Table.labels c.loop-vertex.table) (g.T.Table.labels c.relax_waiting.new.table) c.loop-vertex.invariant.1 c.relax_waiting.ensures.lowered
+pub returns : goal.returns
+returns g c = lowers_then c.loop-vertex.invariant.words c.relax_waiting.ensures.words

@@ -1,12 +1,8 @@
-use Rattle.std.proofs.Common.{◌≡◌, length}
-use Rattle.std.specs.Prelude.{All, Contains}
-use Rattle.sp_word.specs.Word.{max_dist}
-use Rattle.sp_plain.specs.Lowering.{IsLowered}
+use Rattle.sp_serial.specs.Lowers.{AreArcs, HasLowered}
 use Rattle.sp_serial.proofs.batch.relax_live.Given as goal
 
 abbrev pub invariant-loop-vertex : goal.invariant-loop-vertex
-invariant-loop-vertex g l =
-    (length (g.T.Table.labels l.table) ≡ l.graph.n)
-    × IsLowered (max_dist g.row.P) l.graph.arcs (g.T.Table.labels l.initial.table) (g.T.Table.labels l.table)
-    × All (Contains l.graph.arcs) l.arcs.items
-    × g.T.Table.IsKept l.table
+invariant-loop-vertex g l = record {
+  words : HasLowered g.row.P l.graph (g.T.Table.labels l.initial.table) (g.T.Table.labels l.table) (g.T.Table.IsKept l.table);
+  arcs : AreArcs l.graph l.arcs.items;
+}

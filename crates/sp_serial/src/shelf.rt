@@ -1,0 +1,95 @@
+//! Where the words of a search wait for the next one.
+use crate::spare::Spare;
+use std::alloc::{AllocError, Global};
+use std::cell::RefCell;
+use std::sync::Mutex;
+
+/// Where the words of a search that has found its answer wait for the next one.
+pub trait Shelf<const P: u32> {
+    /// Takes words that wait, if there are any.
+    fn take(&self) -> Option<Spare<P>>;
+
+    /// Puts words where they wait. If there is no place for them, they are let go.
+    fn put(&self, spare: Spare<P>);
+}
+
+/// A place for the words of each thread, empty while they are in use. No thread waits for another.
+#[derive(Drop)]
+pub struct Places<const P: u32> {
+    places: Vec<Mutex<Option<Spare<P>>>>,
+}
+
+// Returns so many empty places.
+fn open_places<const P: u32>(
+    alloc: Global,
+    most: usize,
+) -> Result<Vec<Mutex<Option<Spare<P>>>>, AllocError> {
+    let mut places = Vec::with_capacity(alloc, most)?;
+    for _ in 0..most {
+        places.push(Mutex::new(None))?;
+    }
+    Ok(places)
+}
+
+impl<const P: u32> Places<P> {
+    /// Returns so many empty places, or none where there is no memory for them.
+    pub(crate) fn new(alloc: Global, most: usize) -> Places<P> {
+        let places = match open_places(alloc, most) {
+            Ok(places) => places,
+            Err(_) => Vec::new(alloc),
+        };
+        Places { places }
+    }
+}
+
+impl<const P: u32> Shelf<P> for Places<P> {
+    fn take(&self) -> Option<Spare<P>> {
+        for place in &self.places {
+            let Some(mut held) = place.try_lock() else {
+                continue;
+            };
+            if let Some(spare) = held.take() {
+                return Some(spare);
+            }
+        }
+        None
+    }
+
+    fn put(&self, spare: Spare<P>) {
+        let mut left = Some(spare);
+        for place in &self.places {
+            let Some(mut held) = place.try_lock() else {
+                continue;
+            };
+            if held.is_none() {
+                *held = left.take();
+                return;
+            }
+        }
+    }
+}
+
+/// A place for the words of a single caller, without a lock.
+#[derive(Drop)]
+pub struct OnePlace<const P: u32> {
+    spare: RefCell<Option<Spare<P>>>,
+}
+
+impl<const P: u32> OnePlace<P> {
+    /// Returns an empty place. It takes no memory.
+    pub(crate) fn new() -> OnePlace<P> {
+        OnePlace {
+            spare: RefCell::new(None),
+        }
+    }
+}
+
+impl<const P: u32> Shelf<P> for OnePlace<P> {
+    fn take(&self) -> Option<Spare<P>> {
+        self.spare.try_replace(None).unwrap_or(None)
+    }
+
+    fn put(&self, spare: Spare<P>) {
+        drop(self.spare.try_replace(Some(spare)));
+    }
+}
