@@ -16,6 +16,7 @@ pub mod LeftBytes
 pub mod BlockSteps
 pub mod GivenTrees
 pub mod ForestPieces
+pub mod SentTexts
 pub mod ForestForms
 pub mod ForestEnds
 pub mod OwnTexts

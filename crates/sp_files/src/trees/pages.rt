@@ -4,11 +4,11 @@ ghost use Rattle.std.specs.List.{flat_map};
 ghost use Rattle.sp_device.specs.Printing.{Sends, Finished as Written, Counted};
 ghost use Rattle.sp_files.specs.TreeText.{row_text, tree_text};
 
-use crate::common_lines::send_end;
+use crate::common_lines::write_end;
 use crate::trees::backward::{ROW_ROOM, put_rows};
-use crate::trees::writing::{send_problem, send_rows};
+use crate::trees::writing::{begin_tree, send_rows};
 use sp_answer::Tree;
-use sp_device::{Printer, Write, WriteFault, finish, print_text};
+use sp_device::{Printer, Write, WriteFault, print_text};
 use sp_word::Word;
 use std::alloc::{AllocError, Global};
 
@@ -72,9 +72,7 @@ pub fn write_tree_in_pages<const P: u32, W: Write>(
     ensures written { Written W.Write (tree_text tree.now) out.old result out.new }
     ensures passed { Counted W.Write out.old result out.new }
 {
-    let mut printer = Printer::new();
-    send_problem(out, &mut printer, tree.n(), tree.source());
+    let mut printer = begin_tree(tree.n(), tree.source());
     send_pages(alloc, out, &mut printer, tree.rows());
-    send_end(out, &mut printer, tree.rows().len());
-    finish(out, printer)
+    write_end(out, printer, tree.rows().len())
 }

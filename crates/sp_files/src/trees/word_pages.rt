@@ -5,13 +5,13 @@ ghost use Rattle.sp_device.specs.Printing.{Sends, Finished as Written, Counted};
 ghost use Rattle.sp_answer.specs.Table.{rows_from};
 ghost use Rattle.sp_files.specs.TreeText.{row_text, tree_text};
 
-use crate::common_lines::send_end;
+use crate::common_lines::write_end;
 use crate::trees::backward::put_words;
 use crate::trees::pages::{PAGE_ROWS, new_page};
 use crate::trees::text::{append_end, first_line};
-use crate::trees::writing::{send_problem, send_words};
+use crate::trees::writing::{begin_tree, send_words};
 use sp_answer::WordTree;
-use sp_device::{Printer, Write, WriteFault, finish, print_text};
+use sp_device::{Printer, Write, WriteFault, print_text};
 use sp_word::Word;
 use std::alloc::{AllocError, Global};
 
@@ -68,11 +68,9 @@ pub fn write_words_in_pages<const P: u32, W: Write>(
     ensures written { Written W.Write (tree_text tree.now) out.old result out.new }
     ensures passed { Counted W.Write out.old result out.new }
 {
-    let mut printer = Printer::new();
-    send_problem(out, &mut printer, tree.n(), tree.source());
+    let mut printer = begin_tree(tree.n(), tree.source());
     send_pages(alloc, out, &mut printer, tree.words());
-    send_end(out, &mut printer, tree.reached());
-    finish(out, printer)
+    write_end(out, printer, tree.reached())
 }
 
 // Appends the lines of the vertices from `first` on, which have these words and are made at the end of a page.
@@ -115,6 +113,7 @@ fn append_pages<const P: u32>(
 }
 
 /// Does what `text_of` does, for a tree that is given as the words of its vertices.
+#[tactic(auto, using(crate::proofs::TreePieces::made_of))]
 pub fn text_of_words<const P: u32>(alloc: Global, tree: &WordTree<P>) -> Result<Vec<u8>, AllocError>
     ensures { IfOk result (λ text. text.items ≡ tree_text tree.now) }
 {
