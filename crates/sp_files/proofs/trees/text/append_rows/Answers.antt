@@ -6,6 +6,5 @@ pub loop-rest-preserved : goal.loop-rest-preserved
 loop-rest-preserved g c = record {
   short = omega (arith, c.split_at.ensures.back_len, c.loop-rest.invariant.short);
   page = c.append_page.ensures.length ∙ c.loop-rest.invariant.page;
-  made = more_made c.args.rows.now c.loop-rest.rest.now c.split_at.result.0.now c.split_at.result.1.now c.args.text.now.items c.loop-rest.text.items c.append_page.new.text.items
-      c.loop-rest.invariant.made (parted _ c.loop-rest.rest.now c.split_at.result.0.now c.split_at.result.1.now c.split_at.ensures.front c.split_at.ensures.back) c.in_ok-append_page.ensures.lines;
+  made = more_made _ _ c.loop-rest.invariant.made (parted _ _ c.split_at.ensures.front c.split_at.ensures.back) c.in_ok-append_page.ensures.lines;
 }
