@@ -1,6 +1,6 @@
 -- Rows whose text is sent, or made, part by part.
 use Rattle.std.proofs.Common.{◌≡◌, ℕ, ◌+◌, ◌-◌, ◌<◌, ◌≤◌, List, [], ◌∷◌, ◌++◌, length, take, drop, get_or, refl, sym, ap, ◌∙◌, append_assoc, take-append-drop, arith}
-use Rattle.std.proofs.lemmas.List.{append-nil, drop_more, length-drop, length-take-le, take_more}
+use Rattle.std.proofs.lemmas.List.{append-nil, drop_more, length-drop, length-take-le, take_all, take_more}
 use Rattle.std.proofs.lemmas.List.Concat.{flat_map-append}
 use Rattle.std.specs.List.{flat_map}
 use Rattle.sp_word.specs.Word.{Word, Unreached, Pair}
@@ -14,6 +14,10 @@ use Rattle.sp_files.specs.TreeText.{reached_text, row_text}
 -- A list is what a cut makes of it.
 pub parted : {X : Type 0} (n : ℕ) (xs : List X) {front back : List X} → front ≡ take n xs → back ≡ drop n xs → xs ≡ front ++ back
 parted n xs front_is back_is = rw (front_is, back_is) (sym (take-append-drop n xs))
+
+-- what stands from a place on
+pub last_part : {X : Type 0} (start : ℕ) (xs part : List X) → start ≤ length xs → drop start xs ≡ part → take (length xs - start) (drop start xs) ≡ part
+last_part start xs part within is = take_all (length xs - start) (drop start xs) (omega (arith, length-drop start xs)) ∙ is
 
 -- ## The rows of words
 

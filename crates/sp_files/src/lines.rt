@@ -1,6 +1,6 @@
 //! The lines of a file, and how those are read that a tree's file and a forest's share.
-ghost use Rattle.std.specs.Prelude.{◌≡◌, ℕ, List};
-ghost use Rattle.sp_files.specs.Fields.{fields, last_in, HasNoNext, IsNext};
+ghost use Rattle.std.specs.Prelude.{◌≡◌};
+ghost use Rattle.sp_files.specs.Fields.{fields};
 ghost use Rattle.sp_files.specs.Spelling.{RowForm, problem_of, end_of, capped_line};
 
 use crate::fields::{last_number, next_number};

@@ -1,8 +1,7 @@
 //! Reads a line of a forest's file by itself.
-ghost use Rattle.std.specs.Prelude.{◌≡◌, ◌∷◌, [], ℕ, List, Some, None, MatchOption};
-ghost use Rattle.sp_text.specs.Text.{is_word};
-ghost use Rattle.sp_files.specs.Fields.{fields, last_in, HasNoNext, IsNext};
-ghost use Rattle.sp_files.specs.Spelling.{problem_of, first_of, end_of, row_line, line_in, capped_line};
+ghost use Rattle.std.specs.Prelude.{◌≡◌};
+ghost use Rattle.sp_files.specs.Fields.{fields};
+ghost use Rattle.sp_files.specs.Spelling.{row_line, line_in, capped_line};
 ghost use Rattle.sp_files.specs.ForestSpelling.{row_of, forest_lines};
 
 use crate::fields::{first_field, last_number, next_number};

@@ -23,22 +23,6 @@ pub(crate) fn new_page(alloc: Global, rows: usize) -> Result<Vec<u8>, AllocError
     vec![in alloc; 0; rows * ROW_ROOM]
 }
 
-// Sends the lines of rows as they stand at the end of a page.
-fn send_page<const P: u32, W: Write>(
-    out: &mut W,
-    printer: &mut Printer,
-    rows: &[(u32, Word<P>)],
-    page: &mut Vec<u8>,
-)
-    requires { length rows.now * 45 ≤ length page.old.items }
-    ensures sends { Sends W.Write (flat_map row_text rows.now)
-        out.old printer.old out.new printer.new }
-    ensures length { length page.new.items ≡ length page.old.items }
-{
-    let start = put_rows(rows, page);
-    print_text(out, printer, &page[start..]);
-}
-
 // Sends the lines of rows, page after page. Where memory for a page is refused, it sends line after line.
 fn send_pages<const P: u32, W: Write>(
     alloc: Global,
@@ -49,14 +33,16 @@ fn send_pages<const P: u32, W: Write>(
     ensures { Sends W.Write (flat_map row_text rows.now) out.old printer.old out.new printer.new }
 {
     let size = PAGE_ROWS.min(rows.len());
-    let Ok(mut page) = new_page(alloc, size) else {
+    let Ok(mut bytes) = new_page(alloc, size) else {
         send_rows(out, printer, rows);
         return;
     };
     let mut rest = rows;
+    let page = &mut bytes[..];
     while !rest.is_empty() {
         let (group, later) = rest.split_at(size.min(rest.len()));
-        send_page(out, printer, group, &mut page);
+        let start = put_rows(group, page);
+        print_text(out, printer, &page[start..]);
         rest = later;
     }
 }

@@ -15,24 +15,6 @@ use sp_device::{Printer, Write, WriteFault, print_text};
 use sp_word::Word;
 use std::alloc::{AllocError, Global};
 
-// Sends the lines of the vertices from `first` on, which have these words, as they stand at the end of a page.
-fn send_page<const P: u32, W: Write>(
-    out: &mut W,
-    printer: &mut Printer,
-    first: u32,
-    words: &[Word<P>],
-    page: &mut Vec<u8>,
-)
-    requires numbered { first + length words.now < 2 ^ 32 }
-    requires room { length words.now * 45 ≤ length page.old.items }
-    ensures sends { Sends W.Write (flat_map row_text (rows_from first words.now))
-        out.old printer.old out.new printer.new }
-    ensures length { length page.new.items ≡ length page.old.items }
-{
-    let start = put_words(first, words, page);
-    print_text(out, printer, &page[start..]);
-}
-
 // Sends the lines of the vertices from 1 on, which have these words, page after page. Where memory for a page is refused, it
 // sends line after line.
 fn send_pages<const P: u32, W: Write>(
@@ -46,15 +28,17 @@ fn send_pages<const P: u32, W: Write>(
         out.old printer.old out.new printer.new }
 {
     let size = PAGE_ROWS.min(words.len());
-    let Ok(mut page) = new_page(alloc, size) else {
+    let Ok(mut bytes) = new_page(alloc, size) else {
         send_words(out, printer, 1, words);
         return;
     };
     let mut rest = words;
+    let page = &mut bytes[..];
     while !rest.is_empty() {
         let first = (words.len() - rest.len()) as u32 + 1;
         let (group, later) = rest.split_at(size.min(rest.len()));
-        send_page(out, printer, first, group, &mut page);
+        let start = put_words(first, group, page);
+        print_text(out, printer, &page[start..]);
         rest = later;
     }
 }
@@ -73,23 +57,6 @@ pub fn write_words_in_pages<const P: u32, W: Write>(
     write_end(out, printer, tree.reached())
 }
 
-// Appends the lines of the vertices from `first` on, which have these words and are made at the end of a page.
-fn append_page<const P: u32>(
-    text: &mut Vec<u8>,
-    first: u32,
-    words: &[Word<P>],
-    page: &mut Vec<u8>,
-) -> Result<(), AllocError>
-    requires numbered { first + length words.now < 2 ^ 32 }
-    requires room { length words.now * 45 ≤ length page.old.items }
-    ensures lines { OnOk result
-        (text.new.items ≡ text.old.items ++ flat_map row_text (rows_from first words.now)) }
-    ensures length { length page.new.items ≡ length page.old.items }
-{
-    let start = put_words(first, words, page);
-    text.extend_from_slice(&page[start..])
-}
-
 // Appends the lines of the vertices from 1 on, which have these words, page after page.
 fn append_pages<const P: u32>(
     alloc: Global,
@@ -101,12 +68,14 @@ fn append_pages<const P: u32>(
         (text.new.items ≡ text.old.items ++ flat_map row_text (rows_from 1 words.now)) }
 {
     let size = PAGE_ROWS.min(words.len());
-    let mut page = new_page(alloc, size)?;
+    let mut bytes = new_page(alloc, size)?;
     let mut rest = words;
+    let page = &mut bytes[..];
     while !rest.is_empty() {
         let first = (words.len() - rest.len()) as u32 + 1;
         let (group, later) = rest.split_at(size.min(rest.len()));
-        append_page(text, first, group, &mut page)?;
+        let start = put_words(first, group, page);
+        text.extend_from_slice(&page[start..])?;
         rest = later;
     }
     Ok(())
