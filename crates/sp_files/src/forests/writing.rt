@@ -11,16 +11,6 @@ use sp_forest::Forest;
 use sp_text::push_number;
 use sp_word::Word;
 
-fn push_problem(block: &mut Block, n: u32, count: u64)
-    requires { length block.old + LINE_ROOM ≤ 8192 }
-    ensures { block.new ≡ block.old ++ problem_text n count }
-{
-    block.push(b"p near");
-    push_number(block, n as u64);
-    push_number(block, count);
-    block.push(b"\n");
-}
-
 fn push_row<const P: u32>(block: &mut Block, vertex: u32, word: Word<P>, root: u32)
     requires { length block.old + LINE_ROOM ≤ 8192 }
     ensures { block.new ≡ block.old ++ reached_text vertex word.entry root }
@@ -98,7 +88,10 @@ fn begin_forest<const P: u32>(forest: &Forest<P>) -> Printer
     ensures { Begins (problem_text forest.now.n (source_count forest.now.rows)) result }
 {
     let mut printer = Printer::new();
-    push_problem(&mut printer.block, forest.n(), count_sources(forest.rows()));
+    printer.block.push(b"p near");
+    push_number(&mut printer.block, forest.n() as u64);
+    push_number(&mut printer.block, count_sources(forest.rows()));
+    printer.block.push(b"\n");
     printer
 }
 

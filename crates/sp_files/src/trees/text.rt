@@ -65,7 +65,7 @@ pub(crate) fn append_end(text: &mut Vec<u8>, rows: usize) -> Result<(), AllocErr
 ///
 /// It takes memory for the longest lines that so many rows may have, and gives back what isn't needed; while it works also
 /// for the lines of at most 8,192 rows. It fails only where memory is refused.
-#[tactic(auto, using(crate::proofs::TreePieces::made_of))]
+#[tactic(auto, using(crate::proofs::WholeTexts::tree_made))]
 pub fn text_of<const P: u32>(alloc: Global, tree: &Tree<P>) -> Result<Vec<u8>, AllocError>
     ensures { IfOk result (λ text. text.items ≡ tree_text tree.now) }
 {

@@ -82,7 +82,7 @@ fn append_pages<const P: u32>(
 }
 
 /// Does what `text_of` does, for a tree that is given as the words of its vertices.
-#[tactic(auto, using(crate::proofs::TreePieces::made_of))]
+#[tactic(auto, using(crate::proofs::WholeTexts::tree_made))]
 pub fn text_of_words<const P: u32>(alloc: Global, tree: &WordTree<P>) -> Result<Vec<u8>, AllocError>
     ensures { IfOk result (λ text. text.items ≡ tree_text tree.now) }
 {

@@ -1,5 +1,5 @@
 use Rattle.std.proofs.Common.{length, ap}
-use Rattle.sp_files.proofs.SentTexts.{forest_written, counted}
+use Rattle.sp_files.proofs.WholeTexts.{forest_written, counted}
 use Rattle.sp_files.proofs.forests.writing.write_forest.Goals as goal
 
 pub returns-clause-written : goal.returns-clause-written

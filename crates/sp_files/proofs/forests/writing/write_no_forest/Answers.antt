@@ -1,6 +1,6 @@
 use Rattle.std.proofs.Common.{refl, ◌∙◌}
 use Rattle.sp_files.specs.ForestText.{no_forest_text}
-use Rattle.sp_files.proofs.SentTexts.{counted_alone}
+use Rattle.sp_files.proofs.WholeTexts.{counted_alone}
 use Rattle.sp_files.proofs.forests.writing.write_no_forest.Goals as goal
 
 pub returns-clause-passed : goal.returns-clause-passed

@@ -1,4 +1,4 @@
-use Rattle.sp_files.proofs.SentTexts.{tree_written, counted}
+use Rattle.sp_files.proofs.WholeTexts.{tree_written, counted}
 use Rattle.sp_files.proofs.trees.word_pages.write_words_in_pages.Goals as goal
 
 pub returns-clause-written : goal.returns-clause-written

@@ -1,4 +1,4 @@
-use Rattle.sp_files.proofs.SentTexts.{tree_written, counted}
+use Rattle.sp_files.proofs.WholeTexts.{tree_written, counted}
 use Rattle.sp_files.proofs.trees.word_sharing.write_words_by.Goals as goal
 
 pub returns-clause-written : goal.returns-clause-written

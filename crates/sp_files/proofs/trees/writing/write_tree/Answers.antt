@@ -1,5 +1,5 @@
 use Rattle.std.proofs.Common.{length, ap}
-use Rattle.sp_files.proofs.SentTexts.{tree_written, counted}
+use Rattle.sp_files.proofs.WholeTexts.{tree_written, counted}
 use Rattle.sp_files.proofs.trees.writing.write_tree.Goals as goal
 
 pub returns-clause-written : goal.returns-clause-written
