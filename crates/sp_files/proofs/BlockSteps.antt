@@ -39,11 +39,11 @@ small_drop : (most n all rest passed : ℕ) → rest + n ≡ all → (0 < all �
 small_drop most n all rest passed parts limit some = limit (omega (arith, parts, some))
 
 -- The first bytes that wait were taken.
-pub run_fed : {R : Type 0} (r : Reader R) (old now new : Stream R) (front : List ℕ) (state end : BlockState) (n : ℕ)
+pub run_fed : {R : Type 0} {r : Reader R} {old now : Stream R} {front : List ℕ} {state : BlockState} (new : Stream R) (end : BlockState) (n : ℕ)
     → IsFed r old front state now → n ≤ length now.piece → Runs state (take n now.piece) end
     → new.piece ≡ drop n now.piece → new.reader ≡ now.reader
     → IsFed r old (front ++ take n now.piece) end new
-run_fed r old now new front state end n h within runs piece reader =
+run_fed {r = r} {old = old} {now = now} {front = front} {state = state} new end n h within runs piece reader =
     let run = take n now.piece in
     let n_is : length run ≡ n = length-take-le n now.piece within in
     let parts : length (drop n now.piece) + n ≡ length now.piece = omega (arith, n_is, length-append run (drop n now.piece), ap length (take-append-drop n now.piece)) in
@@ -61,11 +61,11 @@ run_fed r old now new front state end n h within runs piece reader =
     }
 
 -- None waited, and the next bytes of the device came.
-pub piece_fed : {R : Type 0} (r : Reader R) (old now new : Stream R) (front : List ℕ) (state : BlockState)
+pub piece_fed : {R : Type 0} {r : Reader R} {old now : Stream R} {front : List ℕ} {state : BlockState} (new : Stream R)
     → IsFed r old front state now → now.piece ≡ []
     → Consumes (r.left now.reader) (r.left new.reader) new.piece → r.passed new.reader ≡ r.passed now.reader + length new.piece → r.passed new.reader ≤ 2 ^ 62
     → IsFed r old front state new
-piece_fed r old now new front state h none bytes more limit =
+piece_fed {r = r} {old = old} {now = now} {front = front} new h none bytes more limit =
     let came = refilled (r.left now.reader) (r.left new.reader) new.piece bytes in
     let counted : length front ≤ r.passed now.reader = omega (arith, h.counted) in
     record {
@@ -77,27 +77,27 @@ piece_fed r old now new front state h none bytes more limit =
     }
 
 -- The block is over.
-pub fed_whole : {P : ℕ} {R U : Type 0} (r : Reader R) (old new : Stream R) (front : List ℕ) (state : BlockState) (u : U) (tree : TreeReader P)
+pub fed_whole : {P : ℕ} {R U : Type 0} {r : Reader R} {old new : Stream R} {front : List ℕ} {state : BlockState} (u : U) (tree : TreeReader P)
     → IsFed r old front state new → state ≡ Over → IsBehindTree front tree → BlockFed r old (Ok u) new tree
-fed_whole r old new front state u tree h over behind =
+fed_whole {front = front} u tree h over behind =
     let runs = rw over at h.runs in
     (front, (Over, runs), h.came, inl runs, h.small, h.short, behind)
 
 -- The text is over.
-pub fed_all : {P : ℕ} {R U : Type 0} (r : Reader R) (old new : Stream R) (front : List ℕ) (state : BlockState) (u : U) (tree : TreeReader P)
+pub fed_all : {P : ℕ} {R U : Type 0} {r : Reader R} {old new : Stream R} {front : List ℕ} {state : BlockState} (u : U) (tree : TreeReader P)
     → IsFed r old front state new → new.piece ≡ [] → IsAtEnd (r.left new.reader) → IsBehindTree front tree → BlockFed r old (Ok u) new tree
-fed_all r old new front state u tree h none all behind =
+fed_all {r = r} {new = new} {front = front} {state = state} u tree h none all behind =
     (front, (state, h.runs), h.came, inr (rw none (at_end (r.left new.reader) all)), h.small, h.short, behind)
 
 -- A beginning of the block shows a fault.
-pub fed_refused : {R : Type 0} (P : ℕ) (r : Reader R) (old new : Stream R) (front : List ℕ) (state : BlockState) (e : DimacsError)
+pub fed_refused : {R : Type 0} {r : Reader R} {old new : Stream R} {front : List ℕ} {state : BlockState} (P : ℕ) (e : DimacsError)
     → IsFed r old front state new → Refused (tree_judge P) [] front e → BlockRefused P r old new e
-fed_refused P r old new front state e h refused = (front, (state, h.runs), h.came, inl refused)
+fed_refused {front = front} {state = state} P e h refused = (front, (state, h.runs), h.came, inl refused)
 
 -- The device has failed.
-pub fed_failed : {R : Type 0} (P : ℕ) (r : Reader R) (old now new : Stream R) (front : List ℕ) (state : BlockState) (e : DimacsError)
+pub fed_failed : {R : Type 0} {r : Reader R} {old now : Stream R} {front : List ℕ} {state : BlockState} (P : ℕ) (new : Stream R) (e : DimacsError)
     → IsFed r old front state now → now.piece ≡ [] → new.piece ≡ [] → Keeps (r.left now.reader) (r.left new.reader) → r.has_failed new.reader ≡ true
     → fault_at_failure (tree_judge P) front ≡ Some e → BlockRefused P r old new e
-fed_failed P r old now new front state e h none cleared keeps failed told =
+fed_failed {r = r} {old = old} {now = now} {front = front} {state = state} P new e h none cleared keeps failed told =
     let same = kept (r.left now.reader) (r.left new.reader) keeps in
     (front, (state, h.runs), and_nothing (left_in r old) (left_in r now) (left_in r new) front h.came (rw (none, cleared) same), inr (inr (failed, told)))

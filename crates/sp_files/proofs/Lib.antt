@@ -6,7 +6,7 @@ pub mod Forms
 pub mod Accepted
 pub mod Accepts
 pub mod FileEnds
-pub mod TreePieces
+pub mod WholeTexts
 pub mod SentRows
 pub mod PageRounds
 pub mod TreeForms
@@ -15,7 +15,6 @@ pub mod BlockStates
 pub mod LeftBytes
 pub mod BlockSteps
 pub mod GivenTrees
-pub mod ForestPieces
 pub mod ForestForms
 pub mod ForestEnds
 pub mod OwnTexts

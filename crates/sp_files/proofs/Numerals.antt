@@ -63,6 +63,9 @@ number_decimal ds h small =
 pub decimal_short : (n : ℕ) → n < 2 ^ 64 → length (decimal n) ≤ 20
 decimal_short n small = length-decimal-le 20 n (omega arith) (omega arith) small
 
+pub vertex_short : (n : ℕ) → n < 2 ^ 32 → length (decimal n) ≤ 10
+vertex_short n small = length-decimal-le 10 n (omega arith) (omega arith) (omega arith)
+
 -- Digits are neither spaces nor LFs.
 no_space : (d : ℕ) → is_ascii_digit d ≡ true → eqb d 32 ≡ false
 no_space d h = let range = digit_range d h in ne_eqb d 32 (λ e. omega (arith, e, range.0))

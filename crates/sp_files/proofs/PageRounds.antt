@@ -10,7 +10,7 @@ use Rattle.sp_device.specs.declared.printing.Printer.{Printer}
 use Rattle.sp_device.specs.Printing.{Sends}
 use Rattle.sp_answer.specs.Table.{rows_from}
 use Rattle.sp_files.specs.TreeText.{row_text}
-use Rattle.sp_files.proofs.SentRows.{rows_parted}
+use Rattle.sp_files.proofs.SentRows.{rows_parted, both_sent}
 
 -- One page more with no text.
 pub one_more_empty : (pages all : List (List ℕ)) (page : List ℕ) → concat pages ≡ [] → page ≡ [] → all ≡ pages ++ page ∷ [] → concat all ≡ []
@@ -30,34 +30,34 @@ both_made first n words group later left right within group_is later_is left_mad
     rw (concat-append left right, left_made, right_made, rows_parted first n words group later within group_is later_is)
     (sym (flat_map-append row_text (rows_from first group) (rows_from (first + n) later)))
 
-module _ {W : Type 0} (w : Writer W) where
-  -- The text of the rows is sent, but for what is ready, and for that of the rest of them.
-  pub record IsReadyBut (rows rest : List (ℕ × Word)) (ready : List ℕ) (old : W) (before : Printer) (new : W) (after : Printer) : Type 0 where
-    pub sent : List ℕ
-    pub parts : flat_map row_text rows ≡ (sent ++ ready) ++ flat_map row_text rest
-    pub sends : Sends w sent old before new after
+-- The text of the rows is sent, but for what is ready, and for that of the rest of them.
+pub record IsReadyBut {W : Type 0} (w : Writer W) (rows rest : List (ℕ × Word)) (ready : List ℕ) (old : W) (before : Printer) (new : W) (after : Printer) : Type 0 where
+  pub sent : List ℕ
+  pub parts : flat_map row_text rows ≡ (sent ++ ready) ++ flat_map row_text rest
+  pub sends : Sends w sent old before new after
 
-  pub none_ready : (rows : List (ℕ × Word)) (ready : List ℕ) (out : W) (printer : Printer) → ready ≡ [] → IsReadyBut rows rows ready out printer out printer
+module _ {W : Type 0} (w : Writer W) where
+  pub none_ready : (rows : List (ℕ × Word)) (ready : List ℕ) (out : W) (printer : Printer) → ready ≡ [] → IsReadyBut w rows rows ready out printer out printer
   none_ready rows ready out printer empty = record {
     sent = [];
     parts = rw empty refl;
     sends = λ front start h. rw (append-nil front) h;
   }
 
-  pub more_ready : (rows rest group later : List (ℕ × Word)) (ready made : List ℕ) (old mid new : W) (before middle after : Printer) → IsReadyBut rows rest ready old before mid middle → rest ≡ group ++ later
-      → Sends w ready mid middle new after → made ≡ flat_map row_text group → IsReadyBut rows later made old before new after
-  more_ready rows rest group later ready made old mid new before middle after h is sends made_is = record {
-    sent = h.sent ++ ready;
-    parts = h.parts
-        ∙ (ap (λ (l : List (ℕ × Word)). (h.sent ++ ready) ++ flat_map row_text l) is
-        ∙ (ap (λ (t : List ℕ). (h.sent ++ ready) ++ t) (flat_map-append row_text group later)
-        ∙ (sym (append_assoc (h.sent ++ ready) (flat_map row_text group) (flat_map row_text later))
-        ∙ ap (λ (t : List ℕ). ((h.sent ++ ready) ++ t) ++ flat_map row_text later) (sym made_is))));
-    sends = λ front start sent. rw (← append_assoc front h.sent ready) (sends (front ++ h.sent) start (h.sends front start sent));
-  }
-
-  pub all_ready : (rows rest : List (ℕ × Word)) (ready : List ℕ) (old mid new : W) (before middle after : Printer) → IsReadyBut rows rest ready old before mid middle → rest ≡ [] → Sends w ready mid middle new after
+  pub all_ready : (rows rest : List (ℕ × Word)) (ready : List ℕ) (old mid new : W) (before middle after : Printer) → IsReadyBut w rows rest ready old before mid middle → rest ≡ [] → Sends w ready mid middle new after
       → Sends w (flat_map row_text rows) old before new after
   all_ready rows rest ready old mid new before middle after h is sends =
       let whole : flat_map row_text rows ≡ h.sent ++ ready = h.parts ∙ (ap (λ (l : List (ℕ × Word)). (h.sent ++ ready) ++ flat_map row_text l) is ∙ append-nil (h.sent ++ ready)) in
-      λ front start sent. rw (whole, ← append_assoc front h.sent ready) (sends (front ++ h.sent) start (h.sends front start sent))
+      both_sent w h.sent ready (flat_map row_text rows) old mid new before middle after h.sends sends whole
+
+pub more_ready : {W : Type 0} {w : Writer W} {rows rest : List (ℕ × Word)} {ready made : List ℕ} {old mid new : W} {before middle after : Printer} (group later : List (ℕ × Word)) → IsReadyBut w rows rest ready old before mid middle → rest ≡ group ++ later → Sends w ready mid middle new after → made ≡ flat_map row_text group
+    → IsReadyBut w rows later made old before new after
+more_ready {w = w} {ready = ready} {old = old} {mid = mid} {new = new} {before = before} {middle = middle} {after = after} group later h is sends made_is = record {
+  sent = h.sent ++ ready;
+  parts = h.parts
+      ∙ (ap (λ (l : List (ℕ × Word)). (h.sent ++ ready) ++ flat_map row_text l) is
+      ∙ (ap (λ (t : List ℕ). (h.sent ++ ready) ++ t) (flat_map-append row_text group later)
+      ∙ (sym (append_assoc (h.sent ++ ready) (flat_map row_text group) (flat_map row_text later))
+      ∙ ap (λ (t : List ℕ). ((h.sent ++ ready) ++ t) ++ flat_map row_text later) (sym made_is))));
+  sends = both_sent w h.sent ready (h.sent ++ ready) old mid new before middle after h.sends sends refl;
+}

@@ -2,6 +2,7 @@ pub mod Fields
 pub mod Spelling
 pub mod Taking
 pub mod Reading
+pub mod Sending
 pub mod TreeText
 pub mod TreeSpelling
 pub mod TreeReading

@@ -1,9 +1,9 @@
 //! Lines that several texts have.
 ghost use Rattle.std.specs.Prelude.{◌++◌, ◌≡◌, ◌≤◌, ◌+◌, length};
-ghost use Rattle.sp_device.specs.Printing.{Sends};
 ghost use Rattle.sp_files.specs.TreeText.{end_text, far_text};
+ghost use Rattle.sp_files.specs.Sending.{EndsWith};
 
-use sp_device::{Block, Printer, Write, make_room};
+use sp_device::{Block, Printer, Write, WriteFault, finish, make_room};
 use sp_text::push_number;
 
 /// At least as many bytes as a line has.
@@ -19,12 +19,17 @@ pub(crate) fn push_end(block: &mut Block, count: u64)
     block.push(b"\n");
 }
 
-/// Sends the last line of a tree or a forest, with the number of its rows.
-pub(crate) fn send_end<W: Write>(out: &mut W, printer: &mut Printer, rows: usize)
-    ensures { Sends W.Write (end_text rows) out.old printer.old out.new printer.new }
+/// Writes what waits, and behind it the last line of a tree or a forest of so many rows. Returns the number of bytes in all.
+pub(crate) fn write_end<W: Write>(
+    out: &mut W,
+    mut printer: Printer,
+    rows: usize,
+) -> Result<u64, WriteFault>
+    ensures { EndsWith W.Write (end_text rows) out.old printer result out.new }
 {
-    make_room(out, printer, LINE_ROOM);
+    make_room(out, &mut printer, LINE_ROOM);
     push_end(&mut printer.block, rows as u64);
+    finish(out, printer)
 }
 
 /// Appends the line of a source and a vertex that is too far from it.

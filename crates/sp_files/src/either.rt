@@ -56,14 +56,8 @@ impl<const P: u32> EitherReader<P> {
             → IsBehindEither near text self.old → EitherFinished near text result }
     {
         match self {
-            EitherReader::Tree(reader) => match reader.finish() {
-                Ok(tree) => Ok(TreeOrForest::Tree(tree)),
-                Err(error) => Err(error),
-            },
-            EitherReader::Forest(reader) => match reader.finish() {
-                Ok(file) => Ok(TreeOrForest::Forest(file)),
-                Err(error) => Err(error),
-            },
+            EitherReader::Tree(reader) => Ok(TreeOrForest::Tree(reader.finish()?)),
+            EitherReader::Forest(reader) => Ok(TreeOrForest::Forest(reader.finish()?)),
         }
     }
 

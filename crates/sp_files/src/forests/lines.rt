@@ -1,12 +1,11 @@
 //! Reads a line of a forest's file by itself.
-ghost use Rattle.std.specs.Prelude.{◌≡◌, ◌∷◌, [], ℕ, List, Some, None, MatchOption};
-ghost use Rattle.sp_text.specs.Text.{is_word};
-ghost use Rattle.sp_files.specs.Fields.{fields, last_in, HasNoNext, IsNext};
-ghost use Rattle.sp_files.specs.Spelling.{problem_of, first_of, end_of, row_line, line_in, capped_line};
+ghost use Rattle.std.specs.Prelude.{◌≡◌};
+ghost use Rattle.sp_files.specs.Fields.{fields};
+ghost use Rattle.sp_files.specs.Spelling.{row_line, line_in, capped_line};
 ghost use Rattle.sp_files.specs.ForestSpelling.{row_of, forest_lines};
 
 use crate::fields::{first_field, last_number, next_number};
-use crate::lines::Line;
+use crate::lines::{Line, read_end, read_problem};
 
 /// The numbers of a row's line.
 #[derive(Clone, Copy)]
@@ -17,54 +16,20 @@ pub struct ForestRow {
     pub root: u64,
 }
 
-// Reads `near N K`.
-fn read_problem(text: &[u8]) -> Option<Line<ForestRow>>
-    ensures { result ≡ capped_line forest_lines (first_of forest_lines.word (fields text.now)) }
-{
-    let (b"near", Some(numbers)) = first_field(text) else {
-        return None;
-    };
-    let Some((n, rest)) = next_number(numbers) else {
-        return None;
-    };
-    match last_number(rest) {
-        Some(second) => Some(Line::Problem { n, second }),
-        None => None,
-    }
-}
-
 // Reads `V D P S`.
 fn read_row(text: &[u8]) -> Option<Line<ForestRow>>
     ensures { result ≡ capped_line forest_lines (row_line (row_of (fields text.now))) }
 {
-    let Some((vertex, rest)) = next_number(text) else {
-        return None;
-    };
-    let Some((dist, rest)) = next_number(rest) else {
-        return None;
-    };
-    let Some((pred, rest)) = next_number(rest) else {
-        return None;
-    };
-    match last_number(rest) {
-        Some(root) => Some(Line::Row(ForestRow {
-            vertex,
-            dist,
-            pred,
-            root,
-        })),
-        None => None,
-    }
-}
-
-// Reads `R`.
-fn read_end(text: &[u8]) -> Option<Line<ForestRow>>
-    ensures { result ≡ capped_line forest_lines (end_of (fields text.now)) }
-{
-    match last_number(text) {
-        Some(count) => Some(Line::End { count }),
-        None => None,
-    }
+    let (vertex, rest) = next_number(text)?;
+    let (dist, rest) = next_number(rest)?;
+    let (pred, rest) = next_number(rest)?;
+    let root = last_number(rest)?;
+    Some(Line::Row(ForestRow {
+        vertex,
+        dist,
+        pred,
+        root,
+    }))
 }
 
 /// Returns the line that the bytes spell, if they spell it in its one form.
@@ -72,12 +37,15 @@ fn read_end(text: &[u8]) -> Option<Line<ForestRow>>
 pub fn read_line(bytes: &[u8]) -> Option<Line<ForestRow>>
     ensures { result ≡ capped_line forest_lines (line_in forest_lines bytes.now) }
 {
-    let (word, Some(rest)) = first_field(bytes) else {
+    let (letter, Some(rest)) = first_field(bytes) else {
         return None;
     };
-    match word {
+    match letter {
         b"v" => read_row(rest),
-        b"p" => read_problem(rest),
+        b"p" => match first_field(rest) {
+            (b"near", Some(numbers)) => read_problem(numbers),
+            _ => None,
+        },
         b"e" => read_end(rest),
         _ => None,
     }

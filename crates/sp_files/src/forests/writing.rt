@@ -2,23 +2,14 @@
 ghost use Rattle.std.specs.Prelude.{◌++◌, ◌≡◌, ◌≤◌, ◌+◌, length};
 ghost use Rattle.std.specs.List.{flat_map};
 ghost use Rattle.sp_device.specs.Printing.{Sends, Finished as Written, Counted};
+ghost use Rattle.sp_files.specs.Sending.{Begins};
 ghost use Rattle.sp_files.specs.ForestText.{problem_text, reached_text, row_text, is_first, source_count, forest_text, no_forest_text};
 
-use crate::common_lines::{LINE_ROOM, send_end};
+use crate::common_lines::{LINE_ROOM, write_end};
 use sp_device::{Block, Printer, Write, WriteFault, finish, make_room};
 use sp_forest::Forest;
 use sp_text::push_number;
 use sp_word::Word;
-
-fn push_problem(block: &mut Block, n: u32, count: u64)
-    requires { length block.old + LINE_ROOM ≤ 8192 }
-    ensures { block.new ≡ block.old ++ problem_text n count }
-{
-    block.push(b"p near");
-    push_number(block, n as u64);
-    push_number(block, count);
-    block.push(b"\n");
-}
 
 fn push_row<const P: u32>(block: &mut Block, vertex: u32, word: Word<P>, root: u32)
     requires { length block.old + LINE_ROOM ≤ 8192 }
@@ -92,13 +83,16 @@ fn send_rows<const P: u32, W: Write>(
     }
 }
 
-// Sends the problem line of a forest.
-fn send_problem<const P: u32, W: Write>(out: &mut W, printer: &mut Printer, forest: &Forest<P>)
-    ensures { Sends W.Write (problem_text forest.now.n (source_count forest.now.rows))
-        out.old printer.old out.new printer.new }
+// Returns a printer that sends the problem line of a forest first.
+fn begin_forest<const P: u32>(forest: &Forest<P>) -> Printer
+    ensures { Begins (problem_text forest.now.n (source_count forest.now.rows)) result }
 {
-    make_room(out, printer, LINE_ROOM);
-    push_problem(&mut printer.block, forest.n(), count_sources(forest.rows()));
+    let mut printer = Printer::new();
+    printer.block.push(b"p near");
+    push_number(&mut printer.block, forest.n() as u64);
+    push_number(&mut printer.block, count_sources(forest.rows()));
+    printer.block.push(b"\n");
+    printer
 }
 
 /// Writes the block of a forest, and returns its number of bytes. A source that was named twice counts once.
@@ -111,11 +105,9 @@ pub fn write_forest<const P: u32, W: Write>(
     ensures written { Written W.Write (forest_text forest.now) out.old result out.new }
     ensures passed { Counted W.Write out.old result out.new }
 {
-    let mut printer = Printer::new();
-    send_problem(out, &mut printer, forest);
+    let mut printer = begin_forest(forest);
     send_rows(out, &mut printer, forest.rows());
-    send_end(out, &mut printer, forest.rows().len());
-    finish(out, printer)
+    write_end(out, printer, forest.rows().len())
 }
 
 /// Writes the line `x V` of a vertex that is too far from all sources, and returns its number of bytes.
@@ -126,7 +118,6 @@ pub fn write_no_forest<W: Write>(vertex: u32, out: &mut W) -> Result<u64, WriteF
     ensures passed { Counted W.Write out.old result out.new }
 {
     let mut printer = Printer::new();
-    make_room(out, &mut printer, LINE_ROOM);
     push_far(&mut printer.block, vertex);
     finish(out, printer)
 }

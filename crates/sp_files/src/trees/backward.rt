@@ -24,26 +24,12 @@ fn put_byte(byte: u8, bytes: &mut [u8], end: usize) -> usize
     end - 1
 }
 
-// Puts a space and the number of a vertex before what stands from `end` on, and returns where they begin.
-#[inline(always)]
-fn put_vertex(vertex: u32, bytes: &mut [u8], end: usize) -> usize
-    requires room { 11 ≤ end }
-    requires within { end ≤ length bytes.old }
-    ensures front { result ≤ end }
-    ensures short { end ≤ result + 11 }
-    ensures text { drop result bytes.new ≡ number_text vertex ++ drop end bytes.old }
-{
-    let start = write_digits(vertex as u64, bytes, end);
-    put_byte(b' ', bytes, start)
-}
-
 // Puts a space and a number before what stands from `end` on, and returns where they begin.
 #[inline(always)]
 fn put_number(n: u64, bytes: &mut [u8], end: usize) -> usize
-    requires room { 21 ≤ end }
+    requires room { length (number_text n) ≤ end }
     requires within { end ≤ length bytes.old }
-    ensures front { result ≤ end }
-    ensures short { end ≤ result + 21 }
+    ensures start { result + length (number_text n) ≡ end }
     ensures text { drop result bytes.new ≡ number_text n ++ drop end bytes.old }
 {
     let start = write_digits(n, bytes, end);
@@ -51,6 +37,7 @@ fn put_number(n: u64, bytes: &mut [u8], end: usize) -> usize
 }
 
 // Puts the line of a row before what stands from `end` on, and returns where it begins.
+#[tactic(auto, using(crate::proofs::Numerals::decimal_short, crate::proofs::Numerals::vertex_short))]
 #[inline]
 fn put_row<const P: u32>(vertex: u32, word: Word<P>, bytes: &mut [u8], end: usize) -> usize
     requires room { 45 ≤ end }
@@ -64,9 +51,9 @@ fn put_row<const P: u32>(vertex: u32, word: Word<P>, bytes: &mut [u8], end: usiz
         return end;
     };
     let end = put_byte(b'\n', bytes, end);
-    let end = put_vertex(pred, bytes, end);
+    let end = put_number(pred as u64, bytes, end);
     let end = put_number(dist, bytes, end);
-    let end = put_vertex(vertex, bytes, end);
+    let end = put_number(vertex as u64, bytes, end);
     put_byte(b'v', bytes, end)
 }
 

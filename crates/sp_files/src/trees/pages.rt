@@ -4,11 +4,11 @@ ghost use Rattle.std.specs.List.{flat_map};
 ghost use Rattle.sp_device.specs.Printing.{Sends, Finished as Written, Counted};
 ghost use Rattle.sp_files.specs.TreeText.{row_text, tree_text};
 
-use crate::common_lines::send_end;
+use crate::common_lines::write_end;
 use crate::trees::backward::{ROW_ROOM, put_rows};
-use crate::trees::writing::{send_problem, send_rows};
+use crate::trees::writing::{begin_tree, send_rows};
 use sp_answer::Tree;
-use sp_device::{Printer, Write, WriteFault, finish, print_text};
+use sp_device::{Printer, Write, WriteFault, print_text};
 use sp_word::Word;
 use std::alloc::{AllocError, Global};
 
@@ -23,22 +23,6 @@ pub(crate) fn new_page(alloc: Global, rows: usize) -> Result<Vec<u8>, AllocError
     vec![in alloc; 0; rows * ROW_ROOM]
 }
 
-// Sends the lines of rows as they stand at the end of a page.
-fn send_page<const P: u32, W: Write>(
-    out: &mut W,
-    printer: &mut Printer,
-    rows: &[(u32, Word<P>)],
-    page: &mut Vec<u8>,
-)
-    requires { length rows.now * 45 ≤ length page.old.items }
-    ensures sends { Sends W.Write (flat_map row_text rows.now)
-        out.old printer.old out.new printer.new }
-    ensures length { length page.new.items ≡ length page.old.items }
-{
-    let start = put_rows(rows, page);
-    print_text(out, printer, &page[start..]);
-}
-
 // Sends the lines of rows, page after page. Where memory for a page is refused, it sends line after line.
 fn send_pages<const P: u32, W: Write>(
     alloc: Global,
@@ -49,14 +33,16 @@ fn send_pages<const P: u32, W: Write>(
     ensures { Sends W.Write (flat_map row_text rows.now) out.old printer.old out.new printer.new }
 {
     let size = PAGE_ROWS.min(rows.len());
-    let Ok(mut page) = new_page(alloc, size) else {
+    let Ok(mut bytes) = new_page(alloc, size) else {
         send_rows(out, printer, rows);
         return;
     };
     let mut rest = rows;
+    let page = &mut bytes[..];
     while !rest.is_empty() {
         let (group, later) = rest.split_at(size.min(rest.len()));
-        send_page(out, printer, group, &mut page);
+        let start = put_rows(group, page);
+        print_text(out, printer, &page[start..]);
         rest = later;
     }
 }
@@ -72,9 +58,7 @@ pub fn write_tree_in_pages<const P: u32, W: Write>(
     ensures written { Written W.Write (tree_text tree.now) out.old result out.new }
     ensures passed { Counted W.Write out.old result out.new }
 {
-    let mut printer = Printer::new();
-    send_problem(out, &mut printer, tree.n(), tree.source());
+    let mut printer = begin_tree(tree.n(), tree.source());
     send_pages(alloc, out, &mut printer, tree.rows());
-    send_end(out, &mut printer, tree.rows().len());
-    finish(out, printer)
+    write_end(out, printer, tree.rows().len())
 }

@@ -12,20 +12,6 @@ use sp_device::Block;
 use sp_word::Word;
 use std::alloc::{AllocError, Global};
 
-// Appends the lines of rows, which are made at the end of a page.
-fn append_page<const P: u32>(
-    text: &mut Vec<u8>,
-    rows: &[(u32, Word<P>)],
-    page: &mut Vec<u8>,
-) -> Result<(), AllocError>
-    requires { length rows.now * 45 ≤ length page.old.items }
-    ensures lines { OnOk result (text.new.items ≡ text.old.items ++ flat_map row_text rows.now) }
-    ensures length { length page.new.items ≡ length page.old.items }
-{
-    let start = put_rows(rows, page);
-    text.extend_from_slice(&page[start..])
-}
-
 // Appends the lines of rows, page after page.
 fn append_rows<const P: u32>(
     alloc: Global,
@@ -35,11 +21,13 @@ fn append_rows<const P: u32>(
     ensures { OnOk result (text.new.items ≡ text.old.items ++ flat_map row_text rows.now) }
 {
     let size = PAGE_ROWS.min(rows.len());
-    let mut page = new_page(alloc, size)?;
+    let mut bytes = new_page(alloc, size)?;
     let mut rest = rows;
+    let page = &mut bytes[..];
     while !rest.is_empty() {
         let (group, later) = rest.split_at(size.min(rest.len()));
-        append_page(text, group, &mut page)?;
+        let start = put_rows(group, page);
+        text.extend_from_slice(&page[start..])?;
         rest = later;
     }
     Ok(())
@@ -77,6 +65,7 @@ pub(crate) fn append_end(text: &mut Vec<u8>, rows: usize) -> Result<(), AllocErr
 ///
 /// It takes memory for the longest lines that so many rows may have, and gives back what isn't needed; while it works also
 /// for the lines of at most 8,192 rows. It fails only where memory is refused.
+#[tactic(auto, using(crate::proofs::WholeTexts::tree_made))]
 pub fn text_of<const P: u32>(alloc: Global, tree: &Tree<P>) -> Result<Vec<u8>, AllocError>
     ensures { IfOk result (λ text. text.items ≡ tree_text tree.now) }
 {

@@ -5,33 +5,15 @@ ghost use Rattle.sp_device.specs.Printing.{Sends, Finished as Written, Counted};
 ghost use Rattle.sp_answer.specs.Table.{rows_from};
 ghost use Rattle.sp_files.specs.TreeText.{row_text, tree_text};
 
-use crate::common_lines::send_end;
+use crate::common_lines::write_end;
 use crate::trees::backward::put_words;
 use crate::trees::pages::{PAGE_ROWS, new_page};
 use crate::trees::text::{append_end, first_line};
-use crate::trees::writing::{send_problem, send_words};
+use crate::trees::writing::{begin_tree, send_words};
 use sp_answer::WordTree;
-use sp_device::{Printer, Write, WriteFault, finish, print_text};
+use sp_device::{Printer, Write, WriteFault, print_text};
 use sp_word::Word;
 use std::alloc::{AllocError, Global};
-
-// Sends the lines of the vertices from `first` on, which have these words, as they stand at the end of a page.
-fn send_page<const P: u32, W: Write>(
-    out: &mut W,
-    printer: &mut Printer,
-    first: u32,
-    words: &[Word<P>],
-    page: &mut Vec<u8>,
-)
-    requires numbered { first + length words.now < 2 ^ 32 }
-    requires room { length words.now * 45 ≤ length page.old.items }
-    ensures sends { Sends W.Write (flat_map row_text (rows_from first words.now))
-        out.old printer.old out.new printer.new }
-    ensures length { length page.new.items ≡ length page.old.items }
-{
-    let start = put_words(first, words, page);
-    print_text(out, printer, &page[start..]);
-}
 
 // Sends the lines of the vertices from 1 on, which have these words, page after page. Where memory for a page is refused, it
 // sends line after line.
@@ -46,15 +28,17 @@ fn send_pages<const P: u32, W: Write>(
         out.old printer.old out.new printer.new }
 {
     let size = PAGE_ROWS.min(words.len());
-    let Ok(mut page) = new_page(alloc, size) else {
+    let Ok(mut bytes) = new_page(alloc, size) else {
         send_words(out, printer, 1, words);
         return;
     };
     let mut rest = words;
+    let page = &mut bytes[..];
     while !rest.is_empty() {
         let first = (words.len() - rest.len()) as u32 + 1;
         let (group, later) = rest.split_at(size.min(rest.len()));
-        send_page(out, printer, first, group, &mut page);
+        let start = put_words(first, group, page);
+        print_text(out, printer, &page[start..]);
         rest = later;
     }
 }
@@ -68,28 +52,9 @@ pub fn write_words_in_pages<const P: u32, W: Write>(
     ensures written { Written W.Write (tree_text tree.now) out.old result out.new }
     ensures passed { Counted W.Write out.old result out.new }
 {
-    let mut printer = Printer::new();
-    send_problem(out, &mut printer, tree.n(), tree.source());
+    let mut printer = begin_tree(tree.n(), tree.source());
     send_pages(alloc, out, &mut printer, tree.words());
-    send_end(out, &mut printer, tree.reached());
-    finish(out, printer)
-}
-
-// Appends the lines of the vertices from `first` on, which have these words and are made at the end of a page.
-fn append_page<const P: u32>(
-    text: &mut Vec<u8>,
-    first: u32,
-    words: &[Word<P>],
-    page: &mut Vec<u8>,
-) -> Result<(), AllocError>
-    requires numbered { first + length words.now < 2 ^ 32 }
-    requires room { length words.now * 45 ≤ length page.old.items }
-    ensures lines { OnOk result
-        (text.new.items ≡ text.old.items ++ flat_map row_text (rows_from first words.now)) }
-    ensures length { length page.new.items ≡ length page.old.items }
-{
-    let start = put_words(first, words, page);
-    text.extend_from_slice(&page[start..])
+    write_end(out, printer, tree.reached())
 }
 
 // Appends the lines of the vertices from 1 on, which have these words, page after page.
@@ -103,18 +68,21 @@ fn append_pages<const P: u32>(
         (text.new.items ≡ text.old.items ++ flat_map row_text (rows_from 1 words.now)) }
 {
     let size = PAGE_ROWS.min(words.len());
-    let mut page = new_page(alloc, size)?;
+    let mut bytes = new_page(alloc, size)?;
     let mut rest = words;
+    let page = &mut bytes[..];
     while !rest.is_empty() {
         let first = (words.len() - rest.len()) as u32 + 1;
         let (group, later) = rest.split_at(size.min(rest.len()));
-        append_page(text, first, group, &mut page)?;
+        let start = put_words(first, group, page);
+        text.extend_from_slice(&page[start..])?;
         rest = later;
     }
     Ok(())
 }
 
 /// Does what `text_of` does, for a tree that is given as the words of its vertices.
+#[tactic(auto, using(crate::proofs::WholeTexts::tree_made))]
 pub fn text_of_words<const P: u32>(alloc: Global, tree: &WordTree<P>) -> Result<Vec<u8>, AllocError>
     ensures { IfOk result (λ text. text.items ≡ tree_text tree.now) }
 {

@@ -6,13 +6,13 @@ ghost use Rattle.sp_answer.specs.Table.{rows_from};
 ghost use Rattle.sp_files.specs.TreeText.{row_text, tree_text};
 ghost use denote.Param.Send.{IsSync};
 
-use crate::common_lines::send_end;
+use crate::common_lines::write_end;
 use crate::trees::page::{MOST_ROWS, Page};
 use crate::trees::page_making::make_pages;
 use crate::trees::word_pages::write_words_in_pages;
-use crate::trees::writing::send_problem;
+use crate::trees::writing::begin_tree;
 use sp_answer::WordTree;
-use sp_device::{Printer, Write, WriteFault, finish, print_text};
+use sp_device::{Printer, Write, WriteFault, print_text};
 use sp_word::{Word, Workers};
 use std::alloc::{AllocError, Global};
 use std::mem::swap;
@@ -170,9 +170,7 @@ pub fn write_words_by<const P: u32, R: Threads + Sync, W: Write>(
     let Ok(sets) = new_sets(alloc, makers) else {
         return write_words_in_pages(alloc, tree, out);
     };
-    let mut printer = Printer::new();
-    send_problem(out, &mut printer, tree.n(), tree.source());
+    let mut printer = begin_tree(tree.n(), tree.source());
     send_words_by(rt, out, &mut printer, tree.words(), sets);
-    send_end(out, &mut printer, tree.reached());
-    finish(out, printer)
+    write_end(out, printer, tree.reached())
 }

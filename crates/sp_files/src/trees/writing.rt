@@ -3,9 +3,10 @@ ghost use Rattle.std.specs.Prelude.{◌++◌, ◌≡◌, ◌≤◌, ◌<◌, ◌
 ghost use Rattle.std.specs.List.{flat_map};
 ghost use Rattle.sp_device.specs.Printing.{Sends, Finished as Written, Counted};
 ghost use Rattle.sp_answer.specs.Table.{rows_from};
+ghost use Rattle.sp_files.specs.Sending.{Begins};
 ghost use Rattle.sp_files.specs.TreeText.{problem_text, reached_text, row_text, tree_text, far_text};
 
-use crate::common_lines::{LINE_ROOM, push_far, send_end};
+use crate::common_lines::{LINE_ROOM, push_far, write_end};
 use sp_answer::Tree;
 use sp_device::{Block, Printer, Write, WriteFault, finish, make_room};
 use sp_text::push_number;
@@ -73,12 +74,13 @@ pub(crate) fn send_words<const P: u32, W: Write>(
     }
 }
 
-/// Sends the problem line of a tree.
-pub(crate) fn send_problem<W: Write>(out: &mut W, printer: &mut Printer, n: u32, source: u32)
-    ensures { Sends W.Write (problem_text n source) out.old printer.old out.new printer.new }
+/// Returns a printer that sends the problem line of a tree first.
+pub(crate) fn begin_tree(n: u32, source: u32) -> Printer
+    ensures { Begins (problem_text n source) result }
 {
-    make_room(out, printer, LINE_ROOM);
+    let mut printer = Printer::new();
     push_problem(&mut printer.block, n, source);
+    printer
 }
 
 /// Writes the block of a tree, and returns its number of bytes.
@@ -88,11 +90,9 @@ pub fn write_tree<const P: u32, W: Write>(tree: &Tree<P>, out: &mut W) -> Result
     ensures written { Written W.Write (tree_text tree.now) out.old result out.new }
     ensures passed { Counted W.Write out.old result out.new }
 {
-    let mut printer = Printer::new();
-    send_problem(out, &mut printer, tree.n(), tree.source());
+    let mut printer = begin_tree(tree.n(), tree.source());
     send_rows(out, &mut printer, tree.rows());
-    send_end(out, &mut printer, tree.rows().len());
-    finish(out, printer)
+    write_end(out, printer, tree.rows().len())
 }
 
 /// Writes the line `x S V` of a source and a vertex that is too far from it, and returns its number of bytes.
@@ -103,7 +103,6 @@ pub fn write_far<W: Write>(source: u32, vertex: u32, out: &mut W) -> Result<u64,
     ensures passed { Counted W.Write out.old result out.new }
 {
     let mut printer = Printer::new();
-    make_room(out, &mut printer, LINE_ROOM);
     push_far(&mut printer.block, source, vertex);
     finish(out, printer)
 }

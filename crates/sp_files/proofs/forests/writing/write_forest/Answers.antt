@@ -1,27 +1,9 @@
-use Rattle.std.proofs.Common.{[], ◌++◌, length, ap}
-use Rattle.std.specs.List.{flat_map}
-use Rattle.sp_device.proofs.TextSteps.{unsent}
-use Rattle.sp_files.specs.TreeText.{end_text}
-use Rattle.sp_files.specs.ForestText.{problem_text, row_text, source_count}
-use Rattle.sp_files.proofs.ForestPieces.{forest_is}
+use Rattle.std.proofs.Common.{length, ap}
+use Rattle.sp_files.proofs.WholeTexts.{forest_written, counted}
 use Rattle.sp_files.proofs.forests.writing.write_forest.Goals as goal
 
 pub returns-clause-written : goal.returns-clause-written
-returns-clause-written g c =
-    let start = c.args.out.now in
-    let forest = c.args.forest.now in
-    let head = problem_text forest.n (source_count forest.rows) in
-    let rows = flat_map row_text c.rows.result.now in
-    let none = unsent g.W.Write start c.new-printer.result c.new-printer.ensures.block c.new-printer.ensures.count c.new-printer.ensures.going in
-    let all = c.send_end.ensures (head ++ rows) start (c.send_rows.ensures head start (c.send_problem.ensures [] start none)) in
-    rw (forest_is forest c.rows.result.now (length c.rows-2.result.now) c.rows.ensures.rows (ap length c.rows-2.ensures.rows)) (c.finish.ensures.written ((head ++ rows) ++ end_text (length c.rows-2.result.now)) start all)
+returns-clause-written g c = forest_written c.args.forest.now c.rows.ensures.rows (ap length c.rows-2.ensures.rows) c.begin_forest-printer.ensures c.send_rows.ensures c.write_end.ensures
 
 pub returns-clause-passed : goal.returns-clause-passed
-returns-clause-passed g c =
-    let start = c.args.out.now in
-    let forest = c.args.forest.now in
-    let head = problem_text forest.n (source_count forest.rows) in
-    let rows = flat_map row_text c.rows.result.now in
-    let none = unsent g.W.Write start c.new-printer.result c.new-printer.ensures.block c.new-printer.ensures.count c.new-printer.ensures.going in
-    let all = c.send_end.ensures (head ++ rows) start (c.send_rows.ensures head start (c.send_problem.ensures [] start none)) in
-    c.finish.ensures.passed ((head ++ rows) ++ end_text (length c.rows-2.result.now)) start all
+returns-clause-passed g c = counted c.begin_forest-printer.ensures c.send_rows.ensures c.write_end.ensures

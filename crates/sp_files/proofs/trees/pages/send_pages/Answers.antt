@@ -1,12 +1,10 @@
 use Rattle.std.proofs.Common.{◌∙◌, arith}
-use Rattle.sp_files.proofs.SentRows.{parted, more_sent}
+use Rattle.sp_files.proofs.SentRows.{last_part, parted, more_sent}
 use Rattle.sp_files.proofs.trees.pages.send_pages.Goals as goal
 
 pub loop-rest-preserved : goal.loop-rest-preserved
 loop-rest-preserved g c = record {
   short = omega (arith, c.split_at.ensures.back_len, c.loop-rest.invariant.short);
-  page = c.send_page.ensures.length ∙ c.loop-rest.invariant.page;
-  sent = more_sent g.W.Write c.args.rows.now c.loop-rest.rest.now c.split_at.result.0.now c.split_at.result.1.now
-      c.args.out.now c.loop-rest.out c.send_page.new.out c.args.printer.now c.loop-rest.printer c.send_page.new.printer
-      c.loop-rest.invariant.sent (parted _ c.loop-rest.rest.now c.split_at.result.0.now c.split_at.result.1.now c.split_at.ensures.front c.split_at.ensures.back) c.send_page.ensures.sends;
+  page = c.put_rows-start.auto.bytes ∙ c.loop-rest.invariant.page;
+  sent = more_sent _ _ c.loop-rest.invariant.sent (parted _ _ c.split_at.ensures.front c.split_at.ensures.back) (rw (last_part c.put_rows-start.result c.put_rows-start.new.bytes _ c.put_rows-start.ensures.within c.put_rows-start.ensures.text) at c.print_text.ensures);
 }

@@ -1,11 +1,10 @@
 use Rattle.std.proofs.Common.{◌∙◌, arith}
-use Rattle.sp_files.proofs.SentRows.{parted, more_made}
+use Rattle.sp_files.proofs.SentRows.{last_part, parted, more_made}
 use Rattle.sp_files.proofs.trees.text.append_rows.Goals as goal
 
 pub loop-rest-preserved : goal.loop-rest-preserved
 loop-rest-preserved g c = record {
   short = omega (arith, c.split_at.ensures.back_len, c.loop-rest.invariant.short);
-  page = c.append_page.ensures.length ∙ c.loop-rest.invariant.page;
-  made = more_made c.args.rows.now c.loop-rest.rest.now c.split_at.result.0.now c.split_at.result.1.now c.args.text.now.items c.loop-rest.text.items c.append_page.new.text.items
-      c.loop-rest.invariant.made (parted _ c.loop-rest.rest.now c.split_at.result.0.now c.split_at.result.1.now c.split_at.ensures.front c.split_at.ensures.back) c.in_ok-append_page.ensures.lines;
+  page = c.put_rows-start.auto.bytes ∙ c.loop-rest.invariant.page;
+  made = more_made _ _ c.loop-rest.invariant.made (parted _ _ c.split_at.ensures.front c.split_at.ensures.back) (rw (last_part c.put_rows-start.result c.put_rows-start.new.bytes _ c.put_rows-start.ensures.within c.put_rows-start.ensures.text) at c.in_ok-extend_from_slice.ensures.items);
 }
