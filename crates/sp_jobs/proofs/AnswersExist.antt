@@ -1,11 +1,10 @@
--- Every source of a graph has an answer, so what was begun with the first answers is a beginning with all.
-use Rattle.std.proofs.Common.{◌≡◌, ℕ, zero, suc, ◌+◌, ◌-◌, ◌<◌, ◌≤◌, ◌⊎◌, inl, inr, List, [], ◌∷◌, ◌++◌, length, get_or, Option, Some, None, true, refl, sym, ap, ◌∙◌, subst, arith}
+-- Every source of a graph has an answer.
+use Rattle.std.proofs.Common.{◌≡◌, ℕ, zero, suc, ◌+◌, ◌-◌, ◌<◌, ◌≤◌, ◌⊎◌, inl, inr, List, [], ◌∷◌, length, get_or, Option, Some, None, true, refl, sym, ap, ◌∙◌, subst, arith}
 use Rattle.std.specs.Prelude.{All, IfSome}
 use Rattle.std.specs.Option.{unwrap_or}
 use Rattle.std.proofs.lemmas.Option.{unwrap_or-slice_get}
 use Rattle.sp_word.specs.Word.{Word, Unreached, Pair, Fits, is_layout, max_dist, max_pred}
 use Rattle.sp_word.specs.History.{Table}
-use Rattle.sp_device.proofs.TextSteps.{begun_more}
 use Rattle.sp_paths.specs.Paths.{Graph, IsGraph, IsVertex, IsTreePair, IsTreeWord, IsTree, IsFar, EndsInTree}
 use Rattle.sp_paths.specs.Theorems.{HasTree}
 use Rattle.sp_paths.proofs.Walks.{arc_in}
@@ -13,10 +12,8 @@ use Rattle.sp_paths.proofs.TheoremProofs.{far_is_meant}
 use Rattle.sp_paths.proofs.Existence.{trees_exist}
 use Rattle.sp_answer.specs.Table.{TreeTable, tree_of, table_of, rows_from, HasPredWithin, IsTable}
 use Rattle.sp_answer.proofs.RisingRows.{tree_is_table, words_are}
-use Rattle.sp_jobs.specs.Batch.{TreeAnswer, TreeOf, FarFrom, IsTreeAnswer, AreTreeAnswers, batch_text, HasBegunBatch}
-use Rattle.sp_jobs.proofs.ToldInOrder.{all_behind}
+use Rattle.sp_jobs.specs.Batch.{TreeAnswer, TreeOf, FarFrom, IsTreeAnswer, AreTreeAnswers}
 use Rattle.sp_jobs.proofs.PartsExist.{part, part_ends, part_fits, ends_same}
-use Rattle.sp_jobs.proofs.AnswersInOrder.{HasBegunFirst, answers_both, text_both}
 
 -- ## The words of a table in a list
 
@@ -157,13 +154,3 @@ module _ (P : ℕ) (g : Graph) (layout : is_layout P ≡ true) (most : g.n ≤ m
         let first = answer_exists limit within s (all 0 0 (omega arith)) in
         let more = answers_exist sources (λ i d less. all (suc i) d (omega arith)) in
         (first.0 ∷ more.0, (first.1, more.1))
-
-    -- A beginning of the first answers' text is one of the text of all.
-    pub begun_whole : (sources : List ℕ) (old new : Option (List ℕ)) → All (IsVertex g.n) sources → HasBegunFirst P limit g sources old new → HasBegunBatch P limit g sources old new
-    begun_whole sources old new all b =
-        let more = answers_exist b.later (all_behind (IsVertex g.n) sources b.done b.later b.parts all) in
-        record {
-          answers = b.answers ++ more.0;
-          are = subst (λ (l : List ℕ). AreTreeAnswers P limit g l (b.answers ++ more.0)) (sym b.parts) (answers_both P limit g b.done b.later b.answers more.0 b.are more.1);
-          begun = rw (text_both b.answers more.0) (begun_more (batch_text b.answers) (batch_text more.0) old new b.begun);
-        }

@@ -1,30 +1,27 @@
 -- The answers for a graph whose arcs were put in another order.
-use Rattle.std.proofs.Common.{◌≡◌, ℕ, ◌≤◌, true, List, [], ◌∷◌, length, Option, Some, None, Result, Ok, Err, ap, ◌∙◌, subst}
+use Rattle.std.proofs.Common.{◌≡◌, ℕ, ◌≤◌, true, List, [], ◌∷◌, ◌++◌, length, Option, Some, None, Result, Ok, Err, sym, ap, ◌∙◌, subst}
 use Rattle.std.specs.Prelude.{All, IfSome}
 use Rattle.std.specs.Io.KnownBytes.{Appends}
 use Rattle.sp_word.specs.Word.{max_dist, max_pred, is_layout}
-use Rattle.sp_paths.specs.Paths.{Graph, IsGraph}
+use Rattle.sp_paths.specs.Paths.{Graph, IsGraph, IsVertex}
 use Rattle.sp_paths.specs.Bags.{AreSame}
 use Rattle.sp_paths.proofs.SameArcs.{same_arcs_same_answers}
 use Rattle.sp_answer.specs.Table.{table_of}
 use Rattle.sp_device.specs.declared.devices.Write.{Ghosts as Writer}
+use Rattle.sp_device.proofs.TextSteps.{begun_more}
 use Rattle.sp_jobs.specs.declared.answers.Summary.{Summary}
 use Rattle.sp_jobs.specs.declared.answers.BatchError.{BatchError}
 use Rattle.sp_jobs.specs.declared.answers.BatchError.TheVariants.{Gr, Ss, Targets, Pairs, NoSuchVertex, Memory, Write}
-use Rattle.sp_jobs.specs.Batch.{TreeAnswer, TreeOf, FarFrom, IsTreeAnswer, AreTreeAnswers, HasBegunBatch}
+use Rattle.sp_jobs.specs.Batch.{TreeAnswer, TreeOf, FarFrom, IsTreeAnswer, AreTreeAnswers, batch_text, HasBegunBatch, IsBatch}
 use Rattle.sp_jobs.specs.Places.{AreNumbered}
-use Rattle.sp_jobs.specs.Answered.{Wrote, wrote_by}
-use Rattle.sp_jobs.specs.Vertices.{IsFirstSource}
+use Rattle.sp_jobs.specs.Answered.{wrote_by}
 use Rattle.sp_jobs.proofs.Files.{itself}
-use Rattle.sp_jobs.proofs.Outcomes.{IsLate, late}
-use Rattle.sp_jobs.specs.Told.{AreAllAnswered}
-use Rattle.sp_jobs.specs.Told.{HasBegunFirst as HasToldFirst}
-use Rattle.sp_jobs.proofs.ToldInOrder.{none_begun}
-use Rattle.sp_jobs.specs.Batch.{AreTreesWritten, AreTreesBegun, IsBatch}
+use Rattle.sp_jobs.specs.Told.{HasBegunFirst, AreAllAnswered}
+use Rattle.sp_jobs.proofs.ToldInOrder.{all_behind, none_begun}
 use Rattle.sp_jobs.specs.Trees.{IsTreeTold}
-use Rattle.sp_jobs.proofs.AnswersInOrder.{HasBegunFirst, answers_told, begun_told}
+use Rattle.sp_jobs.proofs.AnswersInOrder.{answers_both, text_both, answers_told}
 use Rattle.sp_jobs.proofs.PartsExist.{same_part}
-use Rattle.sp_jobs.proofs.AnswersExist.{begun_whole}
+use Rattle.sp_jobs.proofs.AnswersExist.{answers_exist}
 
 same_answer : (P : ℕ) (limit : Option ℕ) (g h : Graph) (s : ℕ) (answer : TreeAnswer) → AreSame g h → IsTreeAnswer P limit g s answer → IsTreeAnswer P limit h s answer
 same_answer P None g h s (TreeOf t) same is =
@@ -56,16 +53,6 @@ same_all P limit g h [] (a ∷ answers) same are = are
 same_all P limit g h (s ∷ sources) [] same are = are
 same_all P limit g h (s ∷ sources) (a ∷ answers) same are = (same_answer P limit g h s a same are.0, same_all P limit g h sources answers same are.1)
 
-same_begun : (P : ℕ) (limit : Option ℕ) (g h : Graph) (sources : List ℕ) (old new : Option (List ℕ)) → AreSame g h → HasBegunFirst P limit g sources old new → HasBegunFirst P limit h sources old new
-same_begun P limit g h sources old new same is = record {
-  done = is.done;
-  later = is.later;
-  parts = is.parts;
-  answers = is.answers;
-  are = same_all P limit g h is.done is.answers same is.are;
-  begun = is.begun;
-}
-
 -- A graph within the limits of a run, and sources that are its vertices.
 pub record AreSources (P : ℕ) (limit : Option ℕ) (g : Graph) (sources : List ℕ) : Type 0 where
   pub layout : is_layout P ≡ true
@@ -76,13 +63,18 @@ pub record AreSources (P : ℕ) (limit : Option ℕ) (g : Graph) (sources : List
   pub within : All (λ s. s ≤ g.n) sources
 
 module _ {W : Type 0} (P : ℕ) (limit : Option ℕ) (g : Graph) (sources : List ℕ) (device : Writer W) (ok : AreSources P limit g sources) where
-  -- What was begun with the first answers is a beginning with all.
-  begun_all : (old new : Option (List ℕ)) → HasBegunFirst P limit g sources old new → HasBegunBatch P limit g sources old new
-  begun_all old new begun = begun_whole P g ok.layout ok.most ok.arcs limit ok.limit_within sources old new (λ i d less. (ok.numbered.named i d less, ok.within i d less)) begun
-
-  -- So it is with what the answers tell of a graph with the same arcs.
-  told_begun : (graph : Graph) (old new : Option (List ℕ)) → AreSame graph g → HasToldFirst (λ s told. IsTreeTold P limit graph s told) sources old new → HasBegunBatch P limit g sources old new
-  told_begun graph old new same begun = begun_all old new (same_begun P limit graph g sources old new same (begun_told P limit graph sources old new begun))
+  -- What was begun with what the first answers of a graph with the same arcs tell is a beginning with all.
+  told_begun : (graph : Graph) (old new : Option (List ℕ)) → AreSame graph g → HasBegunFirst (λ s told. IsTreeTold P limit graph s told) sources old new → HasBegunBatch P limit g sources old new
+  told_begun graph old new same b =
+      let t = answers_told P limit graph b.done b.all b.are in
+      let first = same_all P limit graph g b.done t.answers same t.are in
+      let later = all_behind (IsVertex g.n) sources b.done b.later b.parts (λ i d less. (ok.numbered.named i d less, ok.within i d less)) in
+      let more = answers_exist P g ok.layout ok.most ok.arcs limit ok.limit_within b.later later in
+      record {
+        answers = t.answers ++ more.0;
+        are = subst (λ (l : List ℕ). AreTreeAnswers P limit g l (t.answers ++ more.0)) (sym b.parts) (answers_both P limit g b.done b.later t.answers more.0 first more.1);
+        begun = rw (text_both t.answers more.0) (begun_more (batch_text t.answers) (batch_text more.0) old new (rw t.text at b.begun));
+      }
 
   -- What was answered for a graph with the same arcs was answered for this one.
   pub batch_of_same : (graph : Graph) (old new : W) (result : Result Summary BatchError) → AreSame graph g
@@ -106,8 +98,3 @@ module _ {W : Type 0} (P : ℕ) (limit : Option ℕ) (g : Graph) (sources : List
   -- Memory was refused before anything was written.
   pub refused_early : (old : W) → IsBatch P limit (wrote_by device old old) g sources (Err Memory)
   refused_early old = batch_of_same g old old (Err Memory) (itself g) (none_begun (λ s told. IsTreeTold P limit g s told) sources (device.written old))
-
--- What was answered for a graph is no fault of a text.
-pub batch_late : (P : ℕ) (limit : Option ℕ) (wrote : Wrote) (graph : Graph) (sources : List ℕ) (result : Result Summary BatchError) → IsBatch P limit wrote graph sources result → IsLate result
-batch_late P limit wrote graph sources result is =
-    late (AreTreesWritten P limit graph sources wrote) (IsFirstSource graph.n sources) (AreTreesBegun P limit graph sources wrote) (AreTreesBegun P limit graph sources wrote) wrote result is

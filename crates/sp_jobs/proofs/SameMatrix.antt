@@ -12,12 +12,11 @@ use Rattle.sp_jobs.specs.Places.{AreNumbered}
 use Rattle.sp_jobs.specs.Answered.{Wrote, wrote_by}
 use Rattle.sp_jobs.specs.Listing.{Asked, AreAsked}
 use Rattle.sp_jobs.proofs.Files.{itself}
-use Rattle.sp_jobs.proofs.Outcomes.{IsLate, by_end, late}
+use Rattle.sp_jobs.proofs.Outcomes.{by_end, late}
 use Rattle.sp_jobs.specs.Told.{AreAllAnswered, HasBegunFirst}
-use Rattle.sp_jobs.specs.PairAnswers.{AreLinesWritten, HasBegunPairs}
+use Rattle.sp_jobs.specs.PairAnswers.{HasBegunPairs}
 use Rattle.sp_jobs.proofs.ToldInOrder.{none_begun}
-use Rattle.sp_jobs.specs.Matrix.{matrix_of, AreUpTo, AreLinesBegun, IsFirstOfLists, IsMatrix}
-use Rattle.sp_jobs.specs.Matrix.{IsMatrixTo, IsMatrixToSome}
+use Rattle.sp_jobs.specs.Matrix.{matrix_of, AreUpTo, IsMatrix, IsMatrixTo, IsMatrixToSome}
 use Rattle.sp_jobs.specs.Row.{IsRowTold}
 use Rattle.sp_jobs.proofs.Rows.{rows_told, same_answers, matrix_begun}
 
@@ -60,18 +59,14 @@ module _ {W : Type 0} (P : ℕ) (g : Graph) (sources targets : List ℕ) (device
   pub refused_early : (old : W) → IsMatrix P targets (wrote_by device old old) g sources (Err Memory)
   refused_early old = matrix_of_same g old old (Err Memory) (itself g) (none_begun (λ s told. IsRowTold P g targets s told) sources (device.written old))
 
-module _ (P : ℕ) (targets : List ℕ) (wrote : Wrote) (graph : Graph) (sources : List ℕ) (result : Result Summary BatchError) (is : IsMatrix P targets wrote graph sources result) where
-  -- What was answered for a graph is no fault of a text.
-  pub matrix_late : IsLate result
-  matrix_late = late (AreLinesWritten P graph (matrix_of sources targets) wrote) (IsFirstOfLists graph.n sources targets) (AreLinesBegun P graph sources targets wrote) (AreLinesBegun P graph sources targets wrote) wrote result is
-
+module _ (P : ℕ) (targets : List ℕ) (wrote : Wrote) (graph : Graph) (sources : List ℕ) where
   -- It is what is done for a list that asks for the targets.
-  pub to_asked : (ends : Asked) → AreAsked P ends targets → IsMatrixTo P ends wrote graph sources result
-  to_asked ends are =
-      by_end (λ r. IsMatrix P targets wrote graph sources r → IsMatrixTo P ends wrote graph sources r) result matrix_late
+  pub to_asked : (ends : Asked) (result : Result Summary BatchError) → IsMatrix P targets wrote graph sources result → AreAsked P ends targets → IsMatrixTo P ends wrote graph sources result
+  to_asked ends result is are =
+      by_end (λ r. IsMatrix P targets wrote graph sources r → IsMatrixTo P ends wrote graph sources r) result (late _ _ _ _ _ result is)
       (λ summary done. (targets, are, done)) (λ v role done. (targets, are, done)) (λ done. (targets, are, done)) (λ done. (targets, are, done)) is
 
-  pub to_some : (ends : List ℕ → Asked) (text : List ℕ) → AreAsked P (ends text) targets → IsMatrixToSome P ends wrote graph sources result
-  to_some ends text are =
-      by_end (λ r. IsMatrix P targets wrote graph sources r → IsMatrixToSome P ends wrote graph sources r) result matrix_late
+  pub to_some : (ends : List ℕ → Asked) (text : List ℕ) (result : Result Summary BatchError) → IsMatrix P targets wrote graph sources result → AreAsked P (ends text) targets → IsMatrixToSome P ends wrote graph sources result
+  to_some ends text result is are =
+      by_end (λ r. IsMatrix P targets wrote graph sources r → IsMatrixToSome P ends wrote graph sources r) result (late _ _ _ _ _ result is)
       (λ summary done. (text, targets, are, done)) (λ v role done. (text, targets, are, done)) (λ done. (text, targets, are, done)) (λ done. (text, targets, are, done)) is

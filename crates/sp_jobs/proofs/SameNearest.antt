@@ -11,12 +11,10 @@ use Rattle.sp_forest.specs.Nearest.{IsRefusal}
 use Rattle.sp_jobs.specs.declared.answers.Summary.{Summary}
 use Rattle.sp_jobs.specs.declared.answers.BatchError.{BatchError}
 use Rattle.sp_jobs.specs.declared.answers.BatchError.TheVariants.{Gr, Ss, Targets, Pairs, NoSuchVertex, Memory, Write}
-use Rattle.sp_jobs.specs.Answered.{Wrote, wrote_by, IsUnwritten}
-use Rattle.sp_jobs.specs.Vertices.{IsFirstSource}
-use Rattle.sp_jobs.proofs.Outcomes.{IsLate, late}
-use Rattle.sp_jobs.specs.Nearest.{ForestAnswer, ForestOf, FarFromAll, IsAnswerToAll, HasBegunForest}
+use Rattle.sp_jobs.specs.Answered.{wrote_by}
+use Rattle.sp_jobs.specs.Nearest.{ForestAnswer, ForestOf, FarFromAll, IsAnswerToAll}
 use Rattle.sp_jobs.specs.ForestAnswer.{IsForestAnswerWritten}
-use Rattle.sp_jobs.specs.Nearest.{AreVertices, IsForestWritten, IsForestRun}
+use Rattle.sp_jobs.specs.Nearest.{AreVertices, IsForestRun}
 use Rattle.sp_jobs.proofs.SameForests.{same_far, same_forest_answer}
 
 far_of : (P : ℕ) (g : Graph) (sources : List ℕ) (limit : Option ℕ) (v : ℕ) → IsRefusal P g sources limit (run.TooFar v) → IsAnswerToAll P g sources limit (FarFromAll v)
@@ -48,8 +46,3 @@ module _ {W : Type 0} (P : ℕ) (limit : Option ℕ) (g : Graph) (sources : List
   -- Memory was refused before anything was written.
   pub refused_early : (old : W) → IsForestRun P limit (wrote_by device old old) g sources (Err Memory)
   refused_early old = (within, refl)
-
--- What was answered for a graph is no fault of a text.
-pub forest_late : (P : ℕ) (limit : Option ℕ) (wrote : Wrote) (graph : Graph) (sources : List ℕ) (result : Result Summary BatchError) → IsForestRun P limit wrote graph sources result → IsLate result
-forest_late P limit wrote graph sources result is =
-    late (IsForestWritten P graph sources limit wrote) (IsFirstSource graph.n sources) (AreVertices graph sources × IsUnwritten wrote) (AreVertices graph sources × HasBegunForest P graph sources limit wrote.before wrote.after) wrote result is

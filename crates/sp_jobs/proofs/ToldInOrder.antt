@@ -152,26 +152,25 @@ group_fits told Answers device group i found old mid new one two few less is h k
 
 -- ## Sources
 
-module _ {W : Type 0} (Answers : ℕ → Told → Type 0) (device : Writer W) where
-  pub none_done : (out : W) → AreDone Answers [] device out none out
-  none_done out = record { all = []; are = tt; text = none_written device out }
+pub none_done : {W : Type 0} (Answers : ℕ → Told → Type 0) (device : Writer W) (out : W) → AreDone Answers [] device out none out
+none_done Answers device out = record { all = []; are = tt; text = none_written device out }
 
-  pub done_both : (front back : List ℕ) (old mid new : W) (one two : Summary) → AreDone Answers front device old one mid → AreDone Answers back device mid two new
-      → AreDone Answers (front ++ back) device old (sum_of one two) new
-  done_both front back old mid new one two h k = record {
+module _ {W : Type 0} {Answers : ℕ → Told → Type 0} {device : Writer W} {front back : List ℕ} {old mid new : W} {one two : Summary} where
+  pub done_both : AreDone Answers front device old one mid → AreDone Answers back device mid two new → AreDone Answers (front ++ back) device old (sum_of one two) new
+  done_both h k = record {
     all = h.all ++ k.all;
     are = due_both Answers front back h.all k.all h.are k.are;
     text = written_both device h.all k.all old mid new one two h.text k.text;
   }
 
-  pub done_fit : (front back : List ℕ) (old mid new : W) (one two : Summary) → AreDone Answers front device old one mid → AreDone Answers back device mid two new
-      → length front + length back ≤ 2097152 → Fits one two
-  done_fit front back old mid new one two h k few =
+  pub done_fit : AreDone Answers front device old one mid → AreDone Answers back device mid two new → length front + length back ≤ 2097152 → Fits one two
+  done_fit h k few =
       let first = due_few Answers front h.all h.are in
       let second = due_few Answers back k.all k.are in
       counts_fit device h.all k.all old mid new one two h.text k.text (omega (arith, first.0, second.0, few)) (omega (arith, first.0, second.0, first.1, second.1, few))
 
-  -- What was found and then written was answered.
+-- What was found and then written was answered.
+module _ {W : Type 0} (Answers : ℕ → Told → Type 0) (device : Writer W) where
   pub all_written : (sources : List ℕ) (all : List Told) (old new : W) (result : Result Summary BatchError) → AreDue Answers sources all
       → AreWritten device all old result new → AreAllAnswered Answers sources device old result new
   all_written sources all old new (Ok summary) are h = record { all = all; are = are; text = h }
@@ -247,13 +246,14 @@ none_between told Answers sources device out = record { front = []; back = []; p
 regroup : (sources front back rest group later : List ℕ) → sources ≡ (front ++ back) ++ rest → rest ≡ group ++ later → sources ≡ (front ++ (back ++ group)) ++ later
 regroup sources front back rest group later parts cut = parts ∙ (ap (λ (l : List ℕ). (front ++ back) ++ l) cut ∙ simp append_assoc)
 
-module _ {F W : Type 0} (told : F → Told) (Answers : ℕ → Told → Type 0) (sources : List ℕ) (device : Writer W) (old mid new : W) (summary : Summary) (waiting : List F) where
-  -- Those that wait are few.
-  pub between_few : (rest : List ℕ) → IsBetween told Answers sources device old summary mid waiting rest → length sources ≤ 1048576 → AreFew told Answers waiting
-  between_few rest b short =
-      let long = ap length b.parts in
-      record { sources = b.back; short = omega (arith, simp length-append at long, short); found = b.found }
+-- Those that wait are few.
+pub between_few : {F W : Type 0} {told : F → Told} {Answers : ℕ → Told → Type 0} {sources : List ℕ} {device : Writer W} {old mid : W} {summary : Summary} {waiting : List F} (rest : List ℕ) → IsBetween told Answers sources device old summary mid waiting rest
+    → length sources ≤ 1048576 → AreFew told Answers waiting
+between_few rest b short =
+    let long = ap length b.parts in
+    record { sources = b.back; short = omega (arith, simp length-append at long, short); found = b.found }
 
+module _ {F W : Type 0} {told : F → Told} {Answers : ℕ → Told → Type 0} {sources : List ℕ} {device : Writer W} {old mid : W} {summary : Summary} {waiting : List F} (new : W) where
   -- A further group was refused.
   pub between_refused : (rest group later : List ℕ) (e : BatchError) → IsBetween told Answers sources device old summary mid waiting rest → rest ≡ group ++ later
       → ((front : List ℕ) → AreFound told Answers front waiting → IsStepped told Answers (front ++ group) device mid (Err e) new) → AreAllAnswered Answers sources device old (Err e) new
@@ -269,7 +269,7 @@ module _ {F W : Type 0} (told : F → Told) (Answers : ℕ → Told → Type 0) 
         front = b.front ++ s.front;
         back = s.back;
         parts = regroup sources b.front b.back rest group later b.parts cut ∙ (ap (λ (l : List ℕ). (b.front ++ l) ++ later) s.parts ∙ simp append_assoc);
-        done = done_both Answers device b.front s.front old mid new summary step.summary b.done s.done;
+        done = done_both b.done s.done;
         found = s.found;
       }
 
@@ -279,20 +279,19 @@ module _ {F W : Type 0} (told : F → Told) (Answers : ℕ → Told → Type 0) 
       let s = steps b.back b.found in
       let whole : sources ≡ (b.front ++ (s.front ++ s.back)) ++ later = regroup sources b.front b.back rest group later b.parts cut ∙ ap (λ (l : List ℕ). (b.front ++ l) ++ later) s.parts in
       let long = ap length whole in
-      done_fit Answers device b.front s.front old mid new summary step.summary b.done s.done
-      (omega (arith, simp length-append at long, short))
+      done_fit b.done s.done (omega (arith, simp length-append at long, short))
 
   -- The answers that wait were written last.
   pub between_last : (last : Summary) → IsBetween told Answers sources device old summary mid waiting [] → IsWritten device (map told waiting) mid last new → AreDone Answers sources device old (sum_of summary last) new
   between_last last b h =
       let whole : sources ≡ b.front ++ b.back = b.parts ∙ append-nil (b.front ++ b.back) in
-      rw whole (done_both Answers device b.front b.back old mid new summary last b.done (record { all = map told waiting; are = b.found; text = h }))
+      rw whole (done_both {front = b.front} {back = b.back} b.done (record { all = map told waiting; are = b.found; text = h }))
 
   pub last_fits : (last : Summary) → IsBetween told Answers sources device old summary mid waiting [] → IsWritten device (map told waiting) mid last new → length sources ≤ 1048576 → Fits summary last
   last_fits last b h short =
       let whole : sources ≡ b.front ++ b.back = b.parts ∙ append-nil (b.front ++ b.back) in
       let long = ap length whole in
-      done_fit Answers device b.front b.back old mid new summary last b.done (record { all = map told waiting; are = b.found; text = h }) (omega (arith, simp length-append at long, short))
+      done_fit {front = b.front} {back = b.back} {new = new} b.done (record { all = map told waiting; are = b.found; text = h }) (omega (arith, simp length-append at long, short))
 
   pub last_refused : (e : BatchError) → IsBetween told Answers sources device old summary mid waiting [] → AreWritten device (map told waiting) mid (Err e) new → AreAllAnswered Answers sources device old (Err e) new
   last_refused e b h =

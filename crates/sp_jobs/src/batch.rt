@@ -12,12 +12,11 @@ ghost use Rattle.sp_jobs.specs.Batch.{BatchAnswered, BatchOfSome, IsBatch, Trees
 
 use crate::answering::Asked;
 use crate::answers::{BatchError, Role, Summary};
-use crate::job::Job;
+use crate::crews::SourceCrew;
 use crate::listing::Listing;
 use crate::places::chosen;
 use crate::progress::{Listener, Nobody};
 use crate::settings::{BucketWidth, Settings};
-use crate::tree_crews::TreeCrew;
 use crate::vertices::first_above;
 use sp_dimacs::{Read, Write, read_ss};
 use sp_network::{Direction, Network, Peeked};
@@ -28,7 +27,7 @@ use std::thread::Threads;
 
 // Tests the sources of a batch, and then finds and writes their answers.
 #[tactic(auto, using(crate::proofs::ToldInOrder::not_early))]
-fn answer_batch<const P: u32, R: TreeCrew<P>, W: Write, L: Listener>(
+fn answer_batch<const P: u32, R: SourceCrew<P>, W: Write, L: Listener>(
     rt: &R,
     alloc: Global,
     file: Network,
@@ -51,11 +50,7 @@ fn answer_batch<const P: u32, R: TreeCrew<P>, W: Write, L: Listener>(
     }
     let graph = settings.build(rt, alloc, file)?;
     let uncounted = Meter::new();
-    let job = Job {
-        graph: &graph,
-        team: settings.team_for(&graph),
-        meter: settings.listener.meter().unwrap_or(&uncounted),
-    };
+    let job = settings.job(&graph, &uncounted);
     let asked = Asked::of(&job, settings.listener, sources, sources.len());
     rt.answer_trees::<W, L>(alloc, &graph, job.team, limit, job.meter, &asked, out)
 }
@@ -110,7 +105,14 @@ pub fn run_batch<const P: u32, R: Threads + Wait + Sync, G: Read, S: Read, W: Wr
 ///
 /// By `&Alone::new(rt)` the calling thread makes the whole job, and waits for no other; by `&rt`, a reference to the runtime's, threads
 /// may wait for one another.
-pub fn run_batch_told<const P: u32, R: TreeCrew<P>, G: Read, S: Read + Drop, W: Write, L: Listener>(
+pub fn run_batch_told<
+    const P: u32,
+    R: SourceCrew<P>,
+    G: Read,
+    S: Read + Drop,
+    W: Write,
+    L: Listener,
+>(
     rt: &R,
     alloc: Global,
     gr: &mut Peeked<G>,

@@ -1,8 +1,8 @@
 //! The answer for several sources: how it is found and written.
-ghost use Rattle.std.specs.Prelude.{◌≤◌, All, IfOk, IfErr, IfSome};
+ghost use Rattle.std.specs.Prelude.{◌≤◌, All, IfOk, IfSome};
 ghost use Rattle.sp_word.specs.Word.{max_dist};
 ghost use Rattle.sp_paths.specs.Paths.{IsVertex};
-ghost use Rattle.sp_forest.specs.Nearest.{IsForestAnswer, IsRefusal};
+ghost use Rattle.sp_forest.specs.Nearest.{IsForestAnswer};
 ghost use Rattle.sp_jobs.specs.Ready.{IsReady};
 ghost use Rattle.sp_jobs.specs.Nearest.{IsAnswerToAll};
 ghost use Rattle.sp_jobs.specs.ForestAnswer.{forest_answer_of, IsForestAnswerWritten};
@@ -41,35 +41,8 @@ fn find_small<const P: u32>(alloc: Global, graph: &Graph, asked: Nearest) -> Opt
     Rooms::new(alloc, 1).forest(alloc, graph, asked.sources, limit)
 }
 
-// Finds the forest: a small one as a room does, any other by a run of a team, which counts on the job's meter the vertices that it
-// relaxes.
-fn find_forest<const P: u32, R: Crew>(
-    rt: &R,
-    alloc: Global,
-    job: &Job<P>,
-    asked: Nearest,
-) -> Result<Forest<P>, RunError>
-    requires ready { IsReady P job.now.graph.now }
-    requires vertices { All (IsVertex job.now.graph.now.n) asked.sources.now }
-    requires limit { IfSome asked.limit (λ limit. limit ≤ max_dist P) }
-    ensures forest { IfOk result (IsForestAnswer P job.now.graph.now
-        asked.entry.sources.now asked.entry.limit) }
-    ensures refused { IfErr result (IsRefusal P job.now.graph.now
-        asked.entry.sources.now asked.entry.limit) }
-{
-    let graph = job.graph;
-    if let Some(forest) = find_small::<P>(alloc, graph, asked) {
-        return Ok(forest);
-    }
-    let run = Run {
-        sources: asked.sources,
-        until: Until::up_to(asked.limit),
-    };
-    let words = job.run(rt, alloc, run)?;
-    words.forest(alloc, graph, asked.sources, asked.limit)
-}
-
-/// Finds the answer.
+/// Finds the answer: a small forest as a room does, any other by a run of a team, which counts on the job's meter the vertices that
+/// it relaxes.
 pub(crate) fn find_answer<const P: u32, R: Crew>(
     rt: &R,
     alloc: Global,
@@ -82,7 +55,18 @@ pub(crate) fn find_answer<const P: u32, R: Crew>(
     ensures { IfOk result (λ found. IsAnswerToAll P job.now.graph.now
         asked.entry.sources.now asked.entry.limit (forest_answer_of found)) }
 {
-    match find_forest::<P, R>(rt, alloc, job, asked) {
+    let graph = job.graph;
+    if let Some(forest) = find_small::<P>(alloc, graph, asked) {
+        return Ok(NearestAnswer::Forest(forest));
+    }
+    let run = Run {
+        sources: asked.sources,
+        until: Until::up_to(asked.limit),
+    };
+    let Ok(words) = job.run(rt, alloc, run) else {
+        return Err(AllocError);
+    };
+    match words.forest(alloc, graph, asked.sources, asked.limit) {
         Ok(forest) => Ok(NearestAnswer::Forest(forest)),
         Err(RunError::TooFar(vertex)) => Ok(NearestAnswer::TooFar(vertex)),
         Err(RunError::NoSuchVertex) => unreachable!(),

@@ -19,7 +19,7 @@ use sp_dimacs::Read;
 use sp_graph::Graph;
 use sp_network::{Network, Peeked, read_network};
 use sp_run::{Run, RunError, RunWords, useful_team, words_of_run};
-use sp_word::{Crew, Meter, Team};
+use sp_word::{Crew, Meter, Team, Workers};
 use std::alloc::{AllocError, Global};
 use std::marker::Sync;
 use std::thread::Threads;
@@ -111,6 +111,18 @@ impl<const P: u32, L: Listener> Settings<'_, P, L> {
         });
         Ok(graph)
     }
+
+    /// Returns the job in a graph. Its runs count on the listener's meter, or on the other one where there is none.
+    pub(crate) fn job<'a>(&'a self, graph: &'a Graph, uncounted: &'a Meter) -> Job<'a, P>
+        requires { is_layout P ≡ true }
+        ensures { result.graph.now ≡ graph.now }
+    {
+        Job {
+            graph,
+            team: self.team_for(graph),
+            meter: self.listener.meter().unwrap_or(uncounted),
+        }
+    }
 }
 
 /// A job whose graph has been read: the graph, and what each of its runs takes.
@@ -124,7 +136,21 @@ pub struct Job<'a, const P: u32> {
     pub meter: &'a Meter,
 }
 
-impl<const P: u32> Job<'_, P> {
+impl<'a, const P: u32> Job<'a, P> {
+    /// Returns the same job by so many workers.
+    pub(crate) fn by(&self, workers: Workers) -> Job<'a, P>
+        ensures { result.graph.now ≡ self.now.graph.now }
+    {
+        Job {
+            graph: self.graph,
+            team: Team {
+                delta: self.team.delta,
+                workers,
+            },
+            meter: self.meter,
+        }
+    }
+
     /// Runs from sources, as far as is asked. This is the one call by which a job runs by its team, of which no more workers run
     /// than there is work for in the graph.
     pub fn run<R: Crew>(&self, rt: &R, alloc: Global, asked: Run) -> Result<RunWords<P>, RunError>

@@ -12,10 +12,9 @@ ghost use Rattle.sp_jobs.specs.Matrix.{MatrixAnswered, MatrixOfSome};
 
 use crate::answering::Asked;
 use crate::answers::{BatchError, Role, Summary};
-use crate::job::Job;
+use crate::crews::SourceCrew;
 use crate::listing::Listing;
 use crate::progress::Listener;
-use crate::row_crews::RowCrew;
 use crate::settings::Settings;
 use crate::vertices::first_above;
 use sp_dimacs::{Read, Write};
@@ -25,7 +24,7 @@ use std::alloc::Global;
 
 // Tests the sources and then the targets of a matrix, and then finds and writes its lines.
 #[tactic(auto, using(crate::proofs::ToldInOrder::not_early))]
-fn answer_matrix<const P: u32, R: RowCrew<P>, W: Write, L: Listener>(
+fn answer_matrix<const P: u32, R: SourceCrew<P>, W: Write, L: Listener>(
     rt: &R,
     alloc: Global,
     file: Network,
@@ -52,22 +51,10 @@ fn answer_matrix<const P: u32, R: RowCrew<P>, W: Write, L: Listener>(
     }
     let graph = settings.build(rt, alloc, file)?;
     let uncounted = Meter::new();
-    let job = Job {
-        graph: &graph,
-        team: settings.team_for(&graph),
-        meter: settings.listener.meter().unwrap_or(&uncounted),
-    };
+    let job = settings.job(&graph, &uncounted);
     let count = sources.len().saturating_mul(targets.len());
     let asked = Asked::of(&job, settings.listener, sources, count);
-    rt.answer_rows::<W, L>(
-        alloc,
-        &graph,
-        job.team.delta,
-        targets,
-        job.meter,
-        &asked,
-        out,
-    )
+    rt.answer_rows::<W, L>(alloc, &graph, job.team, targets, job.meter, &asked, out)
 }
 
 /// Reads a graph, and writes for each of the sources, in the order of their list, and for each of the targets, in the order of
@@ -84,7 +71,7 @@ fn answer_matrix<const P: u32, R: RowCrew<P>, W: Write, L: Listener>(
 /// answered at once. The crew is as in `run_batch_told`.
 pub fn run_matrix_told<
     const P: u32,
-    R: RowCrew<P>,
+    R: SourceCrew<P>,
     G: Read,
     S: Read + Drop,
     T: Read + Drop,

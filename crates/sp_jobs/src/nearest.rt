@@ -11,23 +11,16 @@ ghost use Rattle.sp_jobs.specs.Nearest.{IsForestRun, ForestAnswered, ForestOfSom
 
 use crate::answers::{BatchError, Role, Summary};
 use crate::forest_answer::{find_answer, write_answer};
-use crate::job::Job;
 use crate::listing::Listing;
 use crate::progress::{Listener, Progress};
 use crate::settings::Settings;
 use crate::vertices::first_above;
+use crate::writing::nothing;
 use sp_dimacs::{Read, Write};
 use sp_network::{Network, Peeked};
 use sp_run::Nearest;
 use sp_word::{Crew, Meter};
 use std::alloc::Global;
-
-// What is written before the one answer is found.
-const NOTHING: Summary = Summary {
-    sources: 0,
-    too_far: 0,
-    bytes: 0,
-};
 
 // Tests the sources, and then finds and writes their answer.
 fn answer_nearest<const P: u32, R: Crew, W: Write, L: Listener>(
@@ -51,15 +44,11 @@ fn answer_nearest<const P: u32, R: Crew, W: Write, L: Listener>(
     }
     let graph = settings.build(rt, alloc, file)?;
     settings.listener.hear(Progress::Runs {
-        written: NOTHING,
+        written: nothing(),
         count: 1,
     });
     let uncounted = Meter::new();
-    let job = Job {
-        graph: &graph,
-        team: settings.team_for(&graph),
-        meter: settings.listener.meter().unwrap_or(&uncounted),
-    };
+    let job = settings.job(&graph, &uncounted);
     let found = find_answer::<P, R>(rt, alloc, &job, asked)?;
     write_answer(&found, out)
 }

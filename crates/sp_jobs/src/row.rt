@@ -1,7 +1,6 @@
 //! The question of a matrix: what are the answers of a source for all targets.
-ghost use Rattle.std.specs.Prelude.{◌≡◌, [], ◌∷◌, length, IfOk};
-ghost use denote.Param.Send.{IsSync};
-ghost use Rattle.sp_jobs.specs.Told.{IsDue, AreWritten};
+ghost use Rattle.std.specs.Prelude.{◌≡◌, length, IfOk};
+ghost use Rattle.sp_jobs.specs.Told.{IsDue};
 ghost use Rattle.sp_word.specs.Word.{max_dist};
 ghost use Rattle.sp_forest.specs.Run.{AreAnswersFor};
 ghost use Rattle.sp_jobs.specs.Row.{IsRow, IsRowTold, CanFindRow, told_of_row};
@@ -16,7 +15,7 @@ use sp_answer::PairAnswer;
 use sp_device::Write;
 use sp_graph::Graph;
 use sp_serial::Rooms;
-use sp_word::{Alone, Crew, Delta, Meter, Team, Workers};
+use sp_word::{Alone, Crew, Workers};
 use std::alloc::{AllocError, Global};
 use std::sync::Wait;
 use std::thread::Threads;
@@ -31,11 +30,7 @@ pub struct Row {
 /// The question of a matrix: what are the answers of a source of the graph for all targets.
 #[derive(Drop)]
 pub struct RowQuestion<'a, const P: u32> {
-    pub(crate) graph: &'a Graph,
-    /// The width of a bucket.
-    pub(crate) delta: Delta<P>,
-    /// The meter on which the workers count the vertices that they relax.
-    pub(crate) meter: &'a Meter,
+    pub(crate) job: Job<'a, P>,
     pub(crate) targets: &'a [u32],
     /// The rooms in which near targets are looked for.
     pub(crate) rooms: Rooms<P>,
@@ -69,8 +64,10 @@ fn find_row<const P: u32, R: Crew>(
     workers: Workers,
     source: u32,
 ) -> Result<Row, AllocError>
-    requires { CanFindRow P question.now.graph.now question.now.targets.now source }
-    ensures { IfOk result (IsRow P question.now.graph.now source question.now.targets.now) }
+    requires { CanFindRow P question.now.job.graph.now question.now.targets.now source }
+    ensures { IfOk result (λ found. IsDue
+        (IsRowTold P question.now.job.graph.now question.now.targets.now)
+        source (told_of_row found)) }
 {
     if question.targets.is_empty() {
         return Ok(Row {
@@ -78,17 +75,10 @@ fn find_row<const P: u32, R: Crew>(
             lines: Vec::new(alloc),
         });
     }
-    let job = Job {
-        graph: question.graph,
-        team: Team {
-            delta: question.delta,
-            workers,
-        },
-        meter: question.meter,
-    };
+    let job = question.job.by(workers);
     let targets = question.targets;
     let answers = find_targets(rt, alloc, &question.rooms, &job, source, targets)?;
-    row_of::<P>(alloc, question.graph, source, targets, &answers)
+    row_of::<P>(alloc, job.graph, source, targets, &answers)
 }
 
 impl<'a, const P: u32> Question for RowQuestion<'a, P> {
@@ -96,10 +86,11 @@ impl<'a, const P: u32> Question for RowQuestion<'a, P> {
 
     ghost told = { told_of_row };
 
-    ghost can_ask = { λ question s. CanFindRow P question.graph.now question.targets.now s };
+    ghost can_ask = { λ question s.
+        CanFindRow P question.job.graph.now question.targets.now s };
 
     ghost answers = { λ question s told.
-        IsRowTold P question.graph.now question.targets.now s told };
+        IsRowTold P question.job.graph.now question.targets.now s told };
 
     fn progress(written: Summary, count: usize) -> Progress {
         Progress::Lines { written, count }
@@ -111,13 +102,7 @@ impl<'a, const P: u32> Question for RowQuestion<'a, P> {
         alloc: Global,
         workers: Workers,
         source: u32,
-    ) -> Result<Row, AllocError>
-        requires source { CanFindRow P self.now.graph.now self.now.targets.now source }
-        requires sync { IsSync R.row }
-        ensures { IfOk result (λ found.
-            IsDue (λ s told. IsRowTold P self.now.graph.now self.now.targets.now s told)
-            source (told_of_row found)) }
-    {
+    ) -> Result<Row, AllocError> {
         find_row::<P, R>(rt, alloc, self, workers, source)
     }
 
@@ -126,13 +111,7 @@ impl<'a, const P: u32> Question for RowQuestion<'a, P> {
         rt: &R,
         alloc: Global,
         source: u32,
-    ) -> Result<Row, AllocError>
-        requires source { CanFindRow P self.now.graph.now self.now.targets.now source }
-        requires sync { IsSync R.row }
-        ensures { IfOk result (λ found.
-            IsDue (λ s told. IsRowTold P self.now.graph.now self.now.targets.now s told)
-            source (told_of_row found)) }
-    {
+    ) -> Result<Row, AllocError> {
         find_row::<P, _>(&Alone::new(rt), alloc, self, Workers::one(), source)
     }
 
@@ -141,9 +120,7 @@ impl<'a, const P: u32> Question for RowQuestion<'a, P> {
         _alloc: Global,
         found: &Row,
         out: &mut W,
-    ) -> Result<Summary, BatchError>
-        ensures { AreWritten W.Write (told_of_row found.now ∷ []) out.old result out.new }
-    {
+    ) -> Result<Summary, BatchError> {
         write_row(found, out)
     }
 }

@@ -1,8 +1,7 @@
 //! The question of a batch: what is the tree of a source.
-ghost use Rattle.std.specs.Prelude.{◌≡◌, [], ◌∷◌, None, Some, IfOk};
-ghost use denote.Param.Send.{IsSync};
+ghost use Rattle.std.specs.Prelude.{None, Some, IfOk};
 ghost use Rattle.sp_answer.specs.Within.{IsTreeWithin};
-ghost use Rattle.sp_jobs.specs.Told.{IsDue, AreWritten};
+ghost use Rattle.sp_jobs.specs.Told.{IsDue};
 ghost use Rattle.sp_jobs.specs.Trees.{told_by, IsTreeTold, CanFindTree};
 
 use crate::answers::{BatchError, Summary};
@@ -14,10 +13,9 @@ use sp_device::{Write, write_all};
 use sp_files::{
     text_of, text_of_words, write_far, write_tree_in_pages, write_words_by, write_words_in_pages,
 };
-use sp_graph::Graph;
 use sp_run::{Run, RunError, Until};
 use sp_serial::Rooms;
-use sp_word::{Alone, Crew, Meter, Team, Workers};
+use sp_word::{Alone, Crew, Workers};
 use std::alloc::{AllocError, Global};
 use std::sync::Wait;
 use std::thread::Threads;
@@ -42,15 +40,11 @@ pub enum SourceAnswer<const P: u32> {
 /// The question of a batch: what is the tree of a source of the graph, or its part within a limit.
 #[derive(Drop)]
 pub struct TreeQuestion<'a, const P: u32> {
-    pub(crate) graph: &'a Graph,
-    /// The width of a bucket, and the number of workers.
-    pub(crate) team: Team<P>,
+    pub(crate) job: Job<'a, P>,
     /// The greatest distance that is told, if there is a limit.
     pub(crate) limit: Option<u64>,
     /// Rooms in which a small part is found, one for each thread that may look for one.
     pub(crate) rooms: Rooms<P>,
-    /// The meter on which the workers count the vertices that they relax.
-    pub(crate) meter: &'a Meter,
 }
 
 // Finds the whole tree of a source, or the vertex that is too far.
@@ -111,19 +105,12 @@ fn answer_of<const P: u32, R: Crew>(
     workers: Workers,
     source: u32,
 ) -> Result<SourceAnswer<P>, AllocError>
-    requires { CanFindTree P question.now.limit question.now.graph.now source }
+    requires { CanFindTree P question.now.limit question.now.job.graph.now source }
     ensures { IfOk result (λ found. IsDue
-        (λ s told. IsTreeTold P question.now.limit question.now.graph.now s told)
+        (IsTreeTold P question.now.limit question.now.job.graph.now)
         source (told_by found)) }
 {
-    let job = Job {
-        graph: question.graph,
-        team: Team {
-            delta: question.team.delta,
-            workers,
-        },
-        meter: question.meter,
-    };
+    let job = question.job.by(workers);
     match question.limit {
         None => find_tree::<P, R>(rt, alloc, &job, source),
         Some(limit) => {
@@ -138,9 +125,10 @@ impl<'a, const P: u32> Question for TreeQuestion<'a, P> {
 
     ghost told = { told_by };
 
-    ghost can_ask = { λ question s. CanFindTree P question.limit question.graph.now s };
+    ghost can_ask = { λ question s. CanFindTree P question.limit question.job.graph.now s };
 
-    ghost answers = { λ question s told. IsTreeTold P question.limit question.graph.now s told };
+    ghost answers = { λ question s told.
+        IsTreeTold P question.limit question.job.graph.now s told };
 
     fn progress(written: Summary, count: usize) -> Progress {
         Progress::Sources { written, count }
@@ -152,13 +140,7 @@ impl<'a, const P: u32> Question for TreeQuestion<'a, P> {
         alloc: Global,
         workers: Workers,
         source: u32,
-    ) -> Result<SourceAnswer<P>, AllocError>
-        requires source { CanFindTree P self.now.limit self.now.graph.now source }
-        requires sync { IsSync R.row }
-        ensures { IfOk result (λ found. IsDue
-            (λ s told. IsTreeTold P self.now.limit self.now.graph.now s told)
-            source (told_by found)) }
-    {
+    ) -> Result<SourceAnswer<P>, AllocError> {
         answer_of::<P, R>(rt, alloc, self, workers, source)
     }
 
@@ -167,21 +149,13 @@ impl<'a, const P: u32> Question for TreeQuestion<'a, P> {
         rt: &R,
         alloc: Global,
         source: u32,
-    ) -> Result<SourceAnswer<P>, AllocError>
-        requires source { CanFindTree P self.now.limit self.now.graph.now source }
-        requires sync { IsSync R.row }
-        ensures { IfOk result (λ found. IsDue
-            (λ s told. IsTreeTold P self.now.limit self.now.graph.now s told)
-            source (told_by found)) }
-    {
+    ) -> Result<SourceAnswer<P>, AllocError> {
         answer_of::<P, _>(&Alone::new(rt), alloc, self, Workers::one(), source)
     }
 
     // Where workers are many, makes the text of a tree, and lets go of the tree. Where memory for the text is refused, the tree stays.
-    fn ready(&self, alloc: Global, found: SourceAnswer<P>) -> SourceAnswer<P>
-        ensures { told_by result ≡ told_by found.entry }
-    {
-        if self.team.workers.get() < MANY_WORKERS {
+    fn ready(&self, alloc: Global, found: SourceAnswer<P>) -> SourceAnswer<P> {
+        if self.job.team.workers.get() < MANY_WORKERS {
             return found;
         }
         match found {
@@ -202,9 +176,7 @@ impl<'a, const P: u32> Question for TreeQuestion<'a, P> {
         alloc: Global,
         found: &SourceAnswer<P>,
         out: &mut W,
-    ) -> Result<Summary, BatchError>
-        ensures { AreWritten W.Write (told_by found.now ∷ []) out.old result out.new }
-    {
+    ) -> Result<Summary, BatchError> {
         match found {
             SourceAnswer::Tree(tree) => Ok(Summary {
                 sources: 1,
@@ -240,10 +212,7 @@ impl<'a, const P: u32> Question for TreeQuestion<'a, P> {
         workers: Workers,
         found: &SourceAnswer<P>,
         out: &mut W,
-    ) -> Result<Summary, BatchError>
-        requires sync { IsSync R.row }
-        ensures { AreWritten W.Write (told_by found.now ∷ []) out.old result out.new }
-    {
+    ) -> Result<Summary, BatchError> {
         match found {
             SourceAnswer::Tree(tree) => Ok(Summary {
                 sources: 1,

@@ -15,15 +15,8 @@ returns-in_err-one g c =
 
 pub sum-summary-requires : goal.sum-summary-requires
 sum-summary-requires g c =
-    let sources = c.args.asked.now.sources.now in
-    let i = c.loop-source.source-index in
-    done_fit (g.Q.Question.answers c.args.question.now) g.W.Write (take i sources) (get_or sources i 0 ∷ []) c.args.out.now c.loop-source.out c.answer_source.new.out c.loop-source.summary c.in_ok-one.one
-    c.loop-source.invariant c.in_ok-one.ensures (omega (arith, c.requires.short, length-take i sources))
+    done_fit c.loop-source.invariant c.in_ok-one.ensures (omega (arith, c.requires.short, length-take c.loop-source.source-index c.args.asked.now.sources.now))
 
 pub loop-source-preserved : goal.loop-source-preserved
 loop-source-preserved g c =
-    let sources = c.args.asked.now.sources.now in
-    let i = c.loop-source.source-index in
-    rw (take_more sources i 0 c.loop-source-test.true, c.sum-summary.ensures)
-    (done_both (g.Q.Question.answers c.args.question.now) g.W.Write (take i sources) (get_or sources i 0 ∷ []) c.args.out.now c.loop-source.out c.answer_source.new.out c.loop-source.summary c.in_ok-one.one
-    c.loop-source.invariant c.in_ok-one.ensures)
+    rw (take_more c.args.asked.now.sources.now c.loop-source.source-index 0 c.loop-source-test.true, c.sum-summary.ensures) (done_both c.loop-source.invariant c.in_ok-one.ensures)

@@ -19,8 +19,7 @@ sum-requires g c =
     let sources = c.args.asked.now.sources.now in
     let mid = c.find_and_write-found.new.out in
     let h = rw (c.in_ok-summary.was, c.deref.ensures.value) at c.find_and_write-found.ensures.written in
-    done_fit (g.Q.Question.answers c.args.question.now) g.W.Write few.sources sources c.args.out.now mid c.answer_alone.new.out c.in_ok-summary.summary c.in_ok-more-in-Err.more
-    (record { all = map g.Q.Question.told c.args.waiting.items; are = few.found; text = h }) c.in_ok-more-in-Err.ensures (omega (arith, few.short, c.requires.few))
+    done_fit {front = few.sources} (record { all = map g.Q.Question.told c.args.waiting.items; are = few.found; text = h }) c.in_ok-more-in-Err.ensures (omega (arith, few.short, c.requires.few))
 
 pub returns-in_ok-more-in-Err : goal.returns-in_ok-more-in-Err
 returns-in_ok-more-in-Err g c = λ (front : List ℕ) are.
@@ -31,7 +30,6 @@ returns-in_ok-more-in-Err g c = λ (front : List ℕ) are.
       front = front ++ sources;
       back = [];
       parts = sym (append-nil (front ++ sources));
-      done = rw c.sum.ensures (done_both (g.Q.Question.answers c.args.question.now) g.W.Write front sources c.args.out.now mid c.answer_alone.new.out c.in_ok-summary.summary c.in_ok-more-in-Err.more
-          (record { all = map g.Q.Question.told c.args.waiting.items; are = are; text = h }) c.in_ok-more-in-Err.ensures);
+      done = rw c.sum.ensures (done_both {front = front} (record { all = map g.Q.Question.told c.args.waiting.items; are = are; text = h }) c.in_ok-more-in-Err.ensures);
       found = rw c.new.ensures.items tt;
     }

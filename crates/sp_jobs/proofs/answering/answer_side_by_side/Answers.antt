@@ -19,46 +19,39 @@ answer_group-requires-clause-sources g c κs lives =
 
 pub answer_group-requires-clause-waiting : goal.answer_group-requires-clause-waiting
 answer_group-requires-clause-waiting g c κs lives =
-    between_few g.Q.Question.told (g.Q.Question.answers c.args.question.now) c.args.asked.now.sources.now g.W.Write c.args.out.now c.loop-rest.out c.loop-rest.out c.loop-rest.summary c.loop-rest.waiting.items
-    c.loop-rest.rest.now c.loop-rest.invariant c.requires.short
+    between_few c.loop-rest.rest.now c.loop-rest.invariant c.requires.short
 
 pub returns-in_err-more : goal.returns-in_err-more
 returns-in_err-more g c =
     let p = err_from_is_err_and c.from_residual.result c.from_residual.ensures.1 in
     let cut = sym (two_parts c.loop-rest.rest.now c.split_at.result.0.now c.split_at.result.1.now _ c.split_at.ensures.front c.split_at.ensures.back) in
-    rw (p.1, p.2) (between_refused g.Q.Question.told (g.Q.Question.answers c.args.question.now) c.args.asked.now.sources.now g.W.Write c.args.out.now c.loop-rest.out c.answer_group.new.out c.loop-rest.summary c.loop-rest.waiting.items
-    c.loop-rest.rest.now c.split_at.result.0.now c.split_at.result.1.now _ c.loop-rest.invariant cut c.in_err-more.ensures)
+    rw (p.1, p.2) (between_refused c.answer_group.new.out c.loop-rest.rest.now c.split_at.result.0.now c.split_at.result.1.now _ c.loop-rest.invariant cut c.in_err-more.ensures)
 
 pub sum-summary-requires : goal.sum-summary-requires
 sum-summary-requires g c =
     let cut = sym (two_parts c.loop-rest.rest.now c.split_at.result.0.now c.split_at.result.1.now _ c.split_at.ensures.front c.split_at.ensures.back) in
-    step_fits g.Q.Question.told (g.Q.Question.answers c.args.question.now) c.args.asked.now.sources.now g.W.Write c.args.out.now c.loop-rest.out c.answer_group.new.out c.loop-rest.summary c.loop-rest.waiting.items
-    c.loop-rest.rest.now c.split_at.result.0.now c.split_at.result.1.now c.in_ok-more.field-0 c.loop-rest.invariant cut c.in_ok-more.ensures c.requires.short
+    step_fits c.answer_group.new.out c.loop-rest.rest.now c.split_at.result.0.now c.split_at.result.1.now c.in_ok-more.field-0 c.loop-rest.invariant cut c.in_ok-more.ensures c.requires.short
 
 pub loop-rest-preserved : goal.loop-rest-preserved
 loop-rest-preserved g c =
     let cut = sym (two_parts c.loop-rest.rest.now c.split_at.result.0.now c.split_at.result.1.now _ c.split_at.ensures.front c.split_at.ensures.back) in
-    rw c.sum-summary.ensures (between_step g.Q.Question.told (g.Q.Question.answers c.args.question.now) c.args.asked.now.sources.now g.W.Write c.args.out.now c.loop-rest.out c.answer_group.new.out c.loop-rest.summary c.loop-rest.waiting.items
-    c.loop-rest.rest.now c.split_at.result.0.now c.split_at.result.1.now c.in_ok-more.field-0 c.loop-rest.invariant cut c.in_ok-more.ensures)
+    rw c.sum-summary.ensures (between_step c.answer_group.new.out c.loop-rest.rest.now c.split_at.result.0.now c.split_at.result.1.now c.in_ok-more.field-0 c.loop-rest.invariant cut c.in_ok-more.ensures)
 
 pub returns-in_err-last : goal.returns-in_err-last
 returns-in_err-last g c =
     let p = err_from_is_err_and c.from_residual-in_err-last.result c.from_residual-in_err-last.ensures.1 in
     let none : length c.loop-rest.rest.now ≡ 0 = grind (arith, nat_tests, c.loop-rest-test.false, c.is_empty.ensures) in
     let h = subst (λ l. AreWritten g.W.Write (map g.Q.Question.told l) c.loop-rest.out (Err c.in_err-last.field-0.0) c.write_group.new.out) c.deref.ensures.value c.in_err-last.ensures in
-    rw (p.1, p.2) (last_refused g.Q.Question.told (g.Q.Question.answers c.args.question.now) c.args.asked.now.sources.now g.W.Write c.args.out.now c.loop-rest.out c.write_group.new.out c.loop-rest.summary c.loop-rest.waiting.items
-    _ (rw (none_left c.loop-rest.rest.now none) at c.loop-rest.invariant) h)
+    rw (p.1, p.2) (last_refused c.write_group.new.out _ (rw (none_left c.loop-rest.rest.now none) at c.loop-rest.invariant) h)
 
 pub sum-requires : goal.sum-requires
 sum-requires g c =
     let none : length c.loop-rest.rest.now ≡ 0 = grind (arith, nat_tests, c.loop-rest-test.false, c.is_empty.ensures) in
     let h = rw c.deref.ensures.value at c.in_ok-last.ensures in
-    last_fits g.Q.Question.told (g.Q.Question.answers c.args.question.now) c.args.asked.now.sources.now g.W.Write c.args.out.now c.loop-rest.out c.write_group.new.out c.loop-rest.summary c.loop-rest.waiting.items
-    c.in_ok-last.last (rw (none_left c.loop-rest.rest.now none) at c.loop-rest.invariant) h c.requires.short
+    last_fits c.write_group.new.out c.in_ok-last.last (rw (none_left c.loop-rest.rest.now none) at c.loop-rest.invariant) h c.requires.short
 
 pub returns : goal.returns
 returns g c =
     let none : length c.loop-rest.rest.now ≡ 0 = grind (arith, nat_tests, c.loop-rest-test.false, c.is_empty.ensures) in
     let h = rw c.deref.ensures.value at c.in_ok-last.ensures in
-    rw c.sum.ensures (between_last g.Q.Question.told (g.Q.Question.answers c.args.question.now) c.args.asked.now.sources.now g.W.Write c.args.out.now c.loop-rest.out c.write_group.new.out c.loop-rest.summary c.loop-rest.waiting.items
-    c.in_ok-last.last (rw (none_left c.loop-rest.rest.now none) at c.loop-rest.invariant) h)
+    rw c.sum.ensures (between_last c.write_group.new.out c.in_ok-last.last (rw (none_left c.loop-rest.rest.now none) at c.loop-rest.invariant) h)
