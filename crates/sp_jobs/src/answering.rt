@@ -45,7 +45,9 @@ impl<'a, 'l, L> Asked<'a, 'l, L> {
         sources: &'a [u32],
         count: usize,
     ) -> Asked<'a, 'l, L>
-        ensures { result.sources.now ≡ sources.now }
+        ensures sources { result.sources.now ≡ sources.now }
+        ensures count { result.count ≡ count }
+        ensures workers { result.workers ≡ job.now.team.workers }
     {
         Asked {
             sources,

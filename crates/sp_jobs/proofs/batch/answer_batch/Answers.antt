@@ -18,4 +18,4 @@ returns-clause-batch g c =
     let network = c.requires.network in
     batch_of_same g.row.P c.args.limit (directed c.args.settings.now.direction (graph_of c.args.file)) c.args.sources.now g.W.Write
     (record { layout = c.requires.layout; most = network.most; arcs = are_arcs c.args.settings.now.direction c.args.file.n c.args.file.arcs.items network.arcs; numbered = c.requires.sources; limit_within = c.requires.limit; within = rw c.n.ensures at c.in_default.ensures.none })
-    c.in_ok-graph.graph c.args.out.now c.answer_trees.new.out c.answer_trees.result c.in_ok-graph.ensures.arcs (rw c.of-asked.ensures at c.answer_trees.ensures)
+    c.in_ok-graph.graph c.args.out.now c.answer_trees.new.out c.answer_trees.result c.in_ok-graph.ensures.arcs (rw c.of-asked.ensures.sources at c.answer_trees.ensures)

@@ -21,4 +21,4 @@ returns-clause-matrix g c =
     let targets = c.args.targets.now in
     let ok : AreLists graph sources targets = record { arcs = are_arcs c.args.settings.now.direction c.args.file.n c.args.file.arcs.items c.requires.network.arcs; numbered_sources = c.requires.sources; numbered_targets = c.requires.targets; within = record { each_source = rw c.n-vertices.ensures at c.in_default.ensures.none; each_target = rw c.n-vertices.ensures at c.in_default-first_above.ensures.none } } in
     matrix_of_same g.row.P graph sources targets g.W.Write ok c.in_ok-graph.graph c.args.out.now c.answer_rows.new.out c.answer_rows.result
-    c.in_ok-graph.ensures.arcs (rw c.of-asked.ensures at c.answer_rows.ensures)
+    c.in_ok-graph.ensures.arcs (rw c.of-asked.ensures.sources at c.answer_rows.ensures)
