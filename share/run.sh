@@ -22,9 +22,14 @@ run() {
 
 # tune PROGRAM WORD..: asks something of the C library, where nothing else is asked of it (docs/BENCHMARKS.md): large lists in large pages,
 # and that lists which are given back stay for those that come next, where one thread makes them. (Of several, each would keep its own.)
+# Of `tree` no more than 8 MiB stay where nothing follows them.
 tune() {
     kept=
-    if keeps_lists "${2-}" "$@"; then kept=:glibc.malloc.mmap_threshold=1073741824:glibc.malloc.trim_threshold=1073741824; fi
+    if keeps_lists "${2-}" "$@"; then
+        left=1073741824
+        if [ "${2-}" = tree ]; then left=8388608; fi
+        kept=:glibc.malloc.mmap_threshold=1073741824:glibc.malloc.trim_threshold=$left
+    fi
     export GLIBC_TUNABLES="glibc.malloc.hugetlb=1$kept"
 }
 
