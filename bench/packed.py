@@ -13,6 +13,7 @@ Usage: python3 bench/packed.py [--vertices N] [--runs K] [--keep FOLDER] [--buil
 
 import argparse
 import collections
+import hashlib
 import os
 import re
 import shutil
@@ -79,27 +80,43 @@ def make_files(programs, kept, folder, vertices):
     return files, told
 
 
-def output(spt, words):
-    return subprocess.run(parts.as_users_run(spt, words), check=True, stdout=subprocess.PIPE).stdout
+def digest(file):
+    """A sum of what comes of a file. (What this program held of it would count in the peaks of those that it runs.)"""
+    found = hashlib.sha256()
+    for piece in iter(lambda: file.read(1 << 16), b""):
+        found.update(piece)
+    return found.hexdigest()
+
+
+def digest_at(path):
+    with open(path, "rb") as file:
+        return digest(file)
+
+
+def answer(spt, words):
+    """A sum of what a command writes."""
+    with subprocess.Popen(parts.as_users_run(spt, words), stdout=subprocess.PIPE) as process:
+        found = digest(process.stdout)
+    if process.returncode != 0:
+        sys.exit(f"packed: {' '.join(words)} ended with status {process.returncode}")
+    return found
 
 
 def compare(programs, files, jobs):
     """That answers are those of the other form, and packed graphs the one that there is."""
-    with open(files.packed, "rb") as file:
-        packed = file.read()
+    packed = digest_at(files.packed)
     by_name = {job.name: job for job in jobs}
     for workers in WORKERS:
         crew = ["--workers", str(workers)]
         for name in ("pack", "again"):
-            if output(programs.spt, [*by_name[name].words, *crew]) != packed:
+            if answer(programs.spt, [*by_name[name].words, *crew]) != packed:
                 sys.exit(f"packed: other bytes: {by_name[name].title}, {whole.named(workers)}")
         for one, other in SAME:
-            if output(programs.spt, [*by_name[one].words, *crew]) != output(programs.spt, [*by_name[other].words, *crew]):
+            if answer(programs.spt, [*by_name[one].words, *crew]) != answer(programs.spt, [*by_name[other].words, *crew]):
                 sys.exit(f"packed: other answers: {by_name[other].title}, {whole.named(workers)}")
     subprocess.run([programs.plain, "pairs", files.gr, files.near, files.lines], check=True, stdout=subprocess.DEVNULL)
-    with open(files.lines, "rb") as file:
-        if file.read() != output(programs.spt, by_name["text"].words):
-            sys.exit("packed: other lines than those of the plain program")
+    if digest_at(files.lines) != answer(programs.spt, by_name["text"].words):
+        sys.exit("packed: other lines than those of the plain program")
 
 
 # ## Running
