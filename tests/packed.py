@@ -174,6 +174,8 @@ def questions(draw, n, folder):
     limit = draw.choice(([], [], ["--within", str(draw.randint(0, 3000))]))
     yield "tree", [*named("--source", some(3)), *limit, *crew("mean", "1", "1000")]
     yield "pairs", [asked, *crew("mean", "3", "4294967295")]
+    one = put(f"{folder}/one.pairs", "p pairs 1\nq {} {}\n".format(*draw.choice(pairs)))
+    yield "pairs", [one, *crew("mean")]
     yield "matrix", [*named("--source", some(2)), *named("--target", some(4)), *crew("mean", "2")]
     yield "nearest", [*named("--source", some(3)), *limit, *crew("mean", "7")]
 

@@ -195,6 +195,14 @@ impl Graph {
         self.arcs.as_slice()
     }
 
+    /// Returns the arcs alone, sorted, in the list in which they stood: nothing is copied.
+    pub fn into_arcs(self) -> Vec<Arc>
+        ensures { result.items ≡ self.arcs }
+    {
+        let Graph { arcs, .. } = self;
+        arcs
+    }
+
     /// Returns the arcs that leave `v`, by rising head, then by rising length. It takes two look-ups.
     pub fn row(&self, v: u32) -> &[Arc]
         requires { IsVertex self.now.n v }

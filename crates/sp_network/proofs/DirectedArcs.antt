@@ -1,12 +1,11 @@
 -- What a direction keeps of a network.
 use Rattle.std.proofs.Common.{◌≡◌, ℕ, ◌≤◌, List, length, arith}
 use Rattle.std.specs.Prelude.{All}
-use Rattle.std.proofs.lemmas.List.{length-append, length-map}
-use Rattle.std.proofs.lemmas.List.Elements.{All-append}
+use Rattle.std.proofs.lemmas.List.{length-map}
 use Rattle.sp_paths.specs.declared.arc.Arc.{Arc}
 use Rattle.sp_paths.specs.Paths.{IsArc}
 use Rattle.sp_turned.specs.Turned.{turned, turned_arc}
-use Rattle.sp_turned.proofs.TurnedArcs.{turned_are_arcs}
+use Rattle.sp_turned.proofs.TurnedArcs.{turned_are_arcs, with_turned_length, with_turned_are_arcs}
 use Rattle.sp_dimacs.specs.declared.formats.TheConstants.{MOST_ARCS}
 use Rattle.sp_dimacs.specs.declared.graphs.GrFile.{GrFile}
 use Rattle.sp_dimacs.specs.Graph.{IsNetwork, IsNetworkUpTo}
@@ -20,13 +19,13 @@ as_long arcs = length-map arcs turned_arc
 few : (way : Direction) (arcs : List Arc) → length arcs ≤ most_of way → length (directed_arcs way arcs) ≤ MOST_ARCS
 few AsGiven arcs within = within
 few Towards arcs within = rw as_long within
-few BothWays arcs within = rw (length-append, as_long) (omega (arith, within))
+few BothWays arcs within = rw with_turned_length (omega (arith, within))
 
 -- Arcs of a graph are some in each direction.
 pub are_arcs : (way : Direction) (n : ℕ) (arcs : List Arc) → All (IsArc n) arcs → All (IsArc n) (directed_arcs way arcs)
 are_arcs AsGiven n arcs are = are
 are_arcs Towards n arcs are = turned_are_arcs n arcs are
-are_arcs BothWays n arcs are = All-append (IsArc n) arcs (turned arcs) are (turned_are_arcs n arcs are)
+are_arcs BothWays n arcs are = with_turned_are_arcs n arcs are
 
 -- A network whose arcs lead in a direction is one, where its text announces no more than it may.
 pub directed_network : (way : Direction) (P : ℕ) (file made : GrFile) → made.n ≡ file.n → made.arcs.items ≡ directed_arcs way file.arcs.items → IsNetworkUpTo P (most_of way) file → IsNetwork P made

@@ -1,5 +1,5 @@
 -- The network that a text spells, of lines or packed.
-use Rattle.std.specs.Prelude.{◌≡◌, ◌==◌, ℕ, Bool, true, false, List, [], ◌∷◌, ◌++◌, Option, Some, None, Result, Ok, Err, IfOk, IfErr}
+use Rattle.std.specs.Prelude.{◌≡◌, ◌==◌, ℕ, Bool, true, false, List, [], ◌∷◌, Option, Some, None, Result, Ok, Err, IfOk, IfErr}
 use Rattle.sp_word.specs.Word.{max_pred}
 use Rattle.sp_device.specs.Failing.{Failing, Never}
 use Rattle.sp_paths.specs.declared.arc.Arc.{Arc}
@@ -15,15 +15,15 @@ use Rattle.sp_network.specs.declared.faults.NetworkFault.{NetworkFault}
 use Rattle.sp_network.specs.declared.faults.NetworkFault.TheVariants.{Text, Packed}
 use Rattle.sp_network.specs.declared.directions.Direction.{Direction}
 use Rattle.sp_network.specs.declared.directions.Direction.TheVariants.{AsGiven, Towards, BothWays}
-use Rattle.sp_turned.specs.Turned.{turned}
+use Rattle.sp_turned.specs.Turned.{turned, with_turned}
 
 -- ## Directions
 
--- the arcs as they are, each turned round, or both
+-- the arcs as they are, each turned round, or each with the same turned round behind it
 abbrev pub directed_arcs : Direction → List Arc → List Arc
 directed_arcs AsGiven arcs = arcs
 directed_arcs Towards arcs = turned arcs
-directed_arcs BothWays arcs = arcs ++ turned arcs
+directed_arcs BothWays arcs = with_turned arcs
 
 -- the graph with its arcs as they are, turned, or both
 abbrev pub directed : Direction → Graph → Graph

@@ -5,7 +5,7 @@ ghost use Rattle.sp_network.specs.Network.{directed, most_of};
 
 use crate::network::Network;
 use sp_dimacs::{GrFile, MOST_ARCS, MOST_ARCS_BOTH_WAYS};
-use sp_turned::{append_turned, turn_by};
+use sp_turned::{insert_turned, turn_by};
 use sp_word::Workers;
 use std::alloc::AllocError;
 use std::marker::Sync;
@@ -18,7 +18,7 @@ pub enum Direction {
     AsGiven,
     /// From head to tail: a walk from a vertex is one towards it in the graph of the file.
     Towards,
-    /// From tail to head, and back: each arc of the file stands for two. A loop stands twice.
+    /// From tail to head, and back: each arc of the file stands for two, one behind the other. A loop stands twice.
     BothWays,
 }
 
@@ -49,7 +49,7 @@ impl Direction {
         match self {
             Direction::AsGiven => {}
             Direction::Towards => turn_by(rt, &mut file.arcs, workers),
-            Direction::BothWays => append_turned(&mut file.arcs)?,
+            Direction::BothWays => insert_turned(&mut file.arcs)?,
         }
         Ok(file)
     }

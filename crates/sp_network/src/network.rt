@@ -64,6 +64,12 @@ impl Network {
         self.file.n
     }
 
+    /// Returns whether it is known where rows end, so that `build` takes no time. The contract promises nothing about the result,
+    /// which affects only the time.
+    pub fn knows_rows(&self) -> bool {
+        self.rows.is_some()
+    }
+
     /// Returns the number of vertices and the arcs alone.
     pub fn into_file(self) -> GrFile
         ensures { result ≡ self }

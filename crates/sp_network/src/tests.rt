@@ -278,14 +278,14 @@ fn arcs_in_each_direction(rt: HostRuntime) -> Result<(), Fail> {
     assert!(rt; has(&towards, 4, &round));
     let all = [
         (1, 2, 3),
-        (1, 3, 3),
-        (2, 4, 2),
-        (3, 4, 2),
-        (1, 4, 6),
         (2, 1, 3),
+        (1, 3, 3),
         (3, 1, 3),
+        (2, 4, 2),
         (4, 2, 2),
+        (3, 4, 2),
         (4, 3, 2),
+        (1, 4, 6),
         (4, 1, 6),
     ];
     let both = Direction::BothWays
@@ -323,14 +323,14 @@ fn files_in_each_direction(rt: HostRuntime) -> Result<(), Fail> {
     assert!(rt; towards);
     let all = [
         (1, 2, 3),
-        (1, 3, 3),
-        (1, 4, 6),
-        (2, 4, 2),
-        (3, 4, 2),
         (2, 1, 3),
+        (1, 3, 3),
         (3, 1, 3),
+        (1, 4, 6),
         (4, 1, 6),
+        (2, 4, 2),
         (4, 2, 2),
+        (3, 4, 2),
         (4, 3, 2),
     ];
     let both = leads(&rt, alloc, UpTo::whole(&words), Direction::BothWays, &all);

@@ -2,3 +2,5 @@ pub mod TextsToPairs
 pub mod SlotSteps
 pub mod PairLines
 pub mod SamePairs
+pub mod NearPairs
+pub mod TurnedPairs

@@ -14,7 +14,7 @@ use Rattle.sp_pairs.specs.Slots.{IsOpen, IsClosed, slot_of, IsHeld, pair_at, Are
 
 -- ## One answer more
 
-told_held : (P : ℕ) (g : Graph) (pair : ℕ × ℕ) (t : Told) → IsPair g pair.0 pair.1 (max_dist P) (answer_of t) → IsHeld P g pair (slot_of t)
+pub told_held : (P : ℕ) (g : Graph) (pair : ℕ × ℕ) (t : Told) → IsPair g pair.0 pair.1 (max_dist P) (answer_of t) → IsHeld P g pair (slot_of t)
 told_held P g pair (told.Found d p) is = λ closed. is
 told_held P g pair (told.TooFar v) is = λ closed. is
 told_held P g pair told.NoWalk is = λ closed. is

@@ -12,6 +12,9 @@ use sp_serial::Rooms;
 use sp_word::Crew;
 use std::alloc::{AllocError, Global};
 
+// Of so few pairs each looks itself for the next one of its source: a table of all vertices would take longer.
+const FEW: usize = 64;
+
 /// What is known of a pair, in 16 bytes: fields lie in the order in which they stand here.
 #[derive(Clone, Copy)]
 pub(crate) enum Slot {
@@ -26,8 +29,8 @@ pub(crate) enum Slot {
     NoWalk,
 }
 
-// Returns the slot in which an answer is kept.
-fn slot_of(answer: PairAnswer) -> Slot
+/// Returns the slot in which an answer is kept.
+pub(crate) fn slot_of(answer: PairAnswer) -> Slot
     ensures { result ≡ slot_of answer }
 {
     match answer {
@@ -47,6 +50,32 @@ fn is_open(slot: &Slot) -> bool
     }
 }
 
+// Returns the first place behind this one whose pair has the same source, or the number of pairs.
+fn place_behind(pairs: &[(u32, u32)], place: usize) -> usize
+    requires { place < length pairs.now }
+{
+    let source = pairs[place].0;
+    for behind in place + 1..pairs.len() {
+        if pairs[behind].0 == source {
+            return behind;
+        }
+    }
+    pairs.len()
+}
+
+// Makes an open slot for each of few pairs, without a table.
+fn open_few(alloc: Global, pairs: &[(u32, u32)]) -> Result<Vec<Slot>, AllocError>
+    ensures { IfOk result (λ slots. AreAllOpen pairs.now slots.items) }
+{
+    let mut slots = Vec::new(alloc);
+    for place in 0..pairs.len() {
+        slots.push(Slot::Open {
+            next: place_behind(pairs, place),
+        })?;
+    }
+    Ok(slots)
+}
+
 // Makes an open slot for each pair. From the last pair to the first, a table tells for each vertex where the next pair with
 // this source stands.
 fn open_slots(alloc: Global, n: u32, pairs: &[(u32, u32)]) -> Result<Vec<Slot>, AllocError>
@@ -54,6 +83,9 @@ fn open_slots(alloc: Global, n: u32, pairs: &[(u32, u32)]) -> Result<Vec<Slot>, 
     ensures { IfOk result (λ slots. AreAllOpen pairs.now slots.items) }
 {
     let count = pairs.len();
+    if count <= FEW {
+        return open_few(alloc, pairs);
+    }
     let mut next_of_source = vec![in alloc; count; n as usize]?;
     let mut slots = vec![in alloc; Slot::Open { next: count }; count]?;
     for done in 0..count {

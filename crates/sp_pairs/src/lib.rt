@@ -2,8 +2,10 @@
 #![tactic(auto)]
 
 mod asking;
+mod near;
 mod pair_lines;
 mod pairs;
+mod towards;
 
 pub use pairs::{run_pairs, run_pairs_told};
 pub use sp_jobs::{BatchError, BucketWidth, Listener, Nobody, Progress, Role, Settings, Summary};

@@ -9,12 +9,12 @@ ghost use Rattle.sp_jobs.specs.Answers.{is_early};
 ghost use Rattle.sp_jobs.specs.Answered.{wrote_by};
 ghost use Rattle.sp_pairs.specs.Pairs.{IsPairUpTo, IsFirstPairAbove, ArePairsDone, PairsAnswered, PairsOfSome, MayFail};
 
-use crate::asking::find_answers;
 use crate::pair_lines::write_pairs;
+use crate::towards::find_slots;
 use sp_dimacs::{PairsFile, Read, Write, read_pairs};
-use sp_jobs::{BatchError, BucketWidth, Job, Listener, Nobody, Role, Settings, Summary};
+use sp_jobs::{BatchError, BucketWidth, Listener, Nobody, Role, Settings, Summary};
 use sp_network::{Direction, Network, Peeked};
-use sp_word::{Crew, Meter, Workers};
+use sp_word::{Crew, Workers};
 use std::alloc::Global;
 
 // Returns the first number that isn't a vertex, of a pair the source before the target, if one isn't.
@@ -53,14 +53,7 @@ fn answer_pairs<const P: u32, R: Crew, W: Write, L: Listener>(
     if let Some((number, role)) = first_pair_above(&list.pairs, file.n()) {
         return Err(BatchError::NoSuchVertex(number, role));
     }
-    let graph = settings.build(rt, alloc, file)?;
-    let uncounted = Meter::new();
-    let job = Job {
-        graph: &graph,
-        team: settings.team_for(&graph),
-        meter: settings.listener.meter().unwrap_or(&uncounted),
-    };
-    let slots = find_answers::<P, R, L>(rt, alloc, &job, settings.listener, &list.pairs)?;
+    let slots = find_slots::<P, R, L>(rt, alloc, file, &list.pairs, settings)?;
     write_pairs(&list.pairs, &slots, out)
 }
 

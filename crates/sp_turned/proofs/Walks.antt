@@ -51,7 +51,7 @@ turned_contains arcs a (k, below, is) = (
 )
 
 -- an arc of a graph is one of the other, turned round
-turned_has : (g h : Graph) → IsTurned g h → (a : Arc) → Contains g.arcs a → Contains h.arcs (turned_arc a)
+pub turned_has : (g h : Graph) → IsTurned g h → (a : Arc) → Contains g.arcs a → Contains h.arcs (turned_arc a)
 turned_has g h is a has = Contains-permutation (turned g.arcs) h.arcs (turned_arc a) is.arcs (turned_contains g.arcs a has)
 
 back_walk : (g h : Graph) → IsTurned g h → (s v d : ℕ) → HasWalk g s v d → HasWalk h v s d

@@ -1,6 +1,6 @@
 //! Lists of arcs, turned round.
-ghost use Rattle.std.specs.Prelude.{◌≡◌, ◌++◌, IfOk};
-ghost use Rattle.sp_turned.specs.Turned.{turned, turned_arc};
+ghost use Rattle.std.specs.Prelude.{◌≡◌, IfOk, OnErr};
+ghost use Rattle.sp_turned.specs.Turned.{turned, turned_arc, with_turned};
 ghost use denote.Param.Send.{IsSync};
 
 use sp_graph::useful_workers;
@@ -8,6 +8,13 @@ use sp_paths::Arc;
 use sp_word::Workers;
 use std::alloc::AllocError;
 use std::thread::{Threads, join_mut};
+
+// Stands where no arc has come yet.
+const NONE: Arc = Arc {
+    tail: 0,
+    head: 0,
+    len: 0,
+};
 
 /// Returns the arc from the head to the tail, of the same length.
 pub fn turned_arc(arc: &Arc) -> Arc
@@ -60,16 +67,21 @@ pub fn turn_by<R: Threads + Sync>(rt: &R, arcs: &mut [Arc], workers: Workers)
     turn_parts(rt, arcs, threads);
 }
 
-/// Appends to a list each of its arcs turned round: a loop stands twice then. The call fails only if there is no memory for
-/// twice the arcs.
-pub fn append_turned(arcs: &mut Vec<Arc>) -> Result<(), AllocError>
-    ensures { IfOk result
-        (λ _. arcs.new.items ≡ arcs.old.items ++ turned arcs.old.items) }
+/// Puts behind each arc of a list the same arc turned round: a loop stands twice then. The call fails only if there is no memory
+/// for twice the arcs.
+#[tactic(auto, using(std::proofs::lemmas::Grind::common_steps, crate::proofs::TurnedArcs::first_stay, crate::proofs::TurnedArcs::next_moved))]
+pub fn insert_turned(arcs: &mut Vec<Arc>) -> Result<(), AllocError>
+    ensures inserted { IfOk result (λ _. arcs.new.items ≡ with_turned arcs.old.items) }
+    ensures kept { OnErr result (arcs.new.items ≡ arcs.old.items) }
 {
-    let count = arcs.len();
-    arcs.reserve_exact(count)?;
-    for place in 0..count {
-        arcs.push(turned_arc(&arcs[place]))?;
+    let mut left = arcs.len();
+    arcs.reserve_exact(left)?;
+    arcs.resize(2 * left, NONE)?;
+    while left > 0 {
+        left -= 1;
+        let arc = arcs[left];
+        arcs[2 * left] = arc;
+        arcs[2 * left + 1] = turned_arc(&arc);
     }
     Ok(())
 }

@@ -7,7 +7,7 @@ mod laws;
 mod turning;
 mod ways;
 
-pub use arcs::{append_turned, turn, turn_by, turned_arc};
+pub use arcs::{insert_turned, turn, turn_by, turned_arc};
 pub use laws::{both_ways_turned, both_ways_walks, turned_twice, turned_walks};
 pub use turning::{turned, turned_alone};
 pub use ways::{both_ways, both_ways_alone};

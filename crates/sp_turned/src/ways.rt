@@ -1,19 +1,20 @@
 //! Graphs whose arcs lead both ways.
-ghost use Rattle.std.specs.Prelude.{◌≡◌, ◌++◌, ◌*◌, ◌<◌, ◌^◌, length, All, IfOk, OnOk};
+ghost use Rattle.std.specs.Prelude.{◌≡◌, ◌*◌, ◌<◌, ◌^◌, length, All, IfOk, OnOk};
 ghost use Rattle.sp_paths.specs.Paths.{IsArc};
 ghost use Rattle.sp_graph.specs.Order.{IsInOrder};
-ghost use Rattle.sp_turned.specs.Turned.{IsBothWays, turned};
+ghost use Rattle.sp_turned.specs.Turned.{IsBothWays, with_turned};
 
-use crate::arcs::append_turned;
+use crate::arcs::turned_arc;
 use sp_graph::Graph;
 use sp_paths::Arc;
 use sp_word::Workers;
 use std::alloc::{AllocError, Global};
 use std::thread::Threads;
 
-// Returns the arcs of a graph, and each of them turned round, unless these are 2^32 or more.
+// Returns the arcs of a graph, behind each the same turned round, unless these are 2^32 or more.
+#[tactic(auto, using(std::proofs::lemmas::Grind::common_steps, crate::proofs::TurnedArcs::with_turned_push))]
 fn both_arcs(alloc: Global, graph: &Graph) -> Result<Vec<Arc>, AllocError>
-    ensures both { IfOk result (λ arcs. arcs.items ≡ graph.now.arcs ++ turned graph.now.arcs) }
+    ensures both { IfOk result (λ arcs. arcs.items ≡ with_turned graph.now.arcs) }
     ensures arcs { IfOk result (λ arcs. All (IsArc graph.now.n) arcs.items) }
     ensures few { OnOk result (2 * length graph.now.arcs < 2 ^ 32) }
 {
@@ -22,8 +23,10 @@ fn both_arcs(alloc: Global, graph: &Graph) -> Result<Vec<Arc>, AllocError>
         return Err(AllocError);
     }
     let mut arcs = Vec::with_capacity(alloc, 2 * m)?;
-    arcs.extend_from_slice(graph.arcs())?;
-    append_turned(&mut arcs)?;
+    for arc in graph.arcs() {
+        arcs.push(*arc)?;
+        arcs.push(turned_arc(arc))?;
+    }
     Ok(arcs)
 }
 
@@ -33,6 +36,7 @@ fn both_arcs(alloc: Global, graph: &Graph) -> Result<Vec<Arc>, AllocError>
 /// It takes linear time, except that sorting a row of `l` arcs takes `l log l`. As many threads work as there are
 /// workers, or fewer, as in `Graph::from_arcs_by`. The call fails if twice the arcs are 2^32 or more, and else only if
 /// there is no memory for two lists of so many arcs and for `n + 1` indices.
+#[tactic(auto, using(crate::proofs::TurnedArcs::made_both))]
 pub fn both_ways<R: Threads + Sync>(
     rt: &R,
     alloc: Global,
@@ -49,6 +53,7 @@ pub fn both_ways<R: Threads + Sync>(
 }
 
 /// Returns the graph whose arcs lead both ways, as `both_ways` does, by the calling thread alone.
+#[tactic(auto, using(crate::proofs::TurnedArcs::made_both))]
 pub fn both_ways_alone(alloc: Global, graph: &Graph) -> Result<Graph, AllocError>
     ensures both { IfOk result (λ other. IsBothWays graph.now other) }
     ensures order { IfOk result (λ other. IsInOrder other.arcs) }

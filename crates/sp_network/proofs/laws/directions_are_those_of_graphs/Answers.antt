@@ -1,6 +1,7 @@
-use Rattle.std.proofs.Common.{◌++◌, refl}
+use Rattle.std.proofs.Common.{refl}
 use Rattle.std.proofs.lemmas.List.Sorted.{IsPermutation-refl}
 use Rattle.sp_turned.specs.Turned.{turned}
+use Rattle.sp_turned.proofs.TurnedArcs.{with_turned_same}
 use Rattle.sp_network.proofs.laws.directions_are_those_of_graphs.Goals as goal
 
 pub returns-clause-given : goal.returns-clause-given
@@ -10,4 +11,4 @@ pub returns-clause-towards : goal.returns-clause-towards
 returns-clause-towards c = λ g. record { n = refl; arcs = IsPermutation-refl (turned g.arcs) }
 
 pub returns-clause-both : goal.returns-clause-both
-returns-clause-both c = λ g. record { n = refl; arcs = IsPermutation-refl (g.arcs ++ turned g.arcs) }
+returns-clause-both c = λ g. record { n = refl; arcs = with_turned_same g.arcs }

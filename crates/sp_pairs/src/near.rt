@@ -1,0 +1,117 @@
+//! Pairs of a turned graph whose ends lie near each other, found in the graph as it is: a walk to the target there is one
+//! from the target here.
+ghost use Rattle.std.specs.Prelude.{◌≡◌, ◌≤◌, ◌↔◌, All, IfOk, IfSome, IsTrue};
+ghost use Rattle.sp_word.specs.Word.{max_dist};
+ghost use Rattle.sp_paths.specs.Paths.{IsVertex, IsArc, IsLeast};
+ghost use Rattle.sp_pairs.specs.Near.{IsFirstArc, IsNext, ComesNoLater, IsTurnedAnswer};
+
+use sp_answer::PairAnswer;
+use sp_graph::Graph;
+use sp_paths::Arc;
+use sp_serial::Room;
+use std::alloc::AllocError;
+
+// About how many vertices a search for a pair may relax: so many take less than a millisecond.
+const MOST: usize = 1 << 13;
+
+// Returns the least length of a walk from a vertex to another, where it is found near the first.
+fn distance<const P: u32>(room: &mut Room<P>, from: u32, to: u32) -> Result<Option<u64>, AllocError>
+    requires from { IsVertex room.old.n from }
+    requires to { IsVertex room.old.n to }
+    ensures graph { room.new ≡ room.old }
+    ensures least { IfOk result (λ found. IfSome found (IsLeast room.old from to)) }
+    ensures most { IfOk result (λ found. IfSome found (λ dist. dist ≤ max_dist P)) }
+{
+    let Some(answers) = room.find(from, &[to], MOST)? else {
+        return Ok(None);
+    };
+    match answers.first() {
+        Some(PairAnswer::Found { dist, pred: _ }) => Ok(Some(*dist)),
+        Some(PairAnswer::TooFar(_) | PairAnswer::NoWalk) | None => Ok(None),
+    }
+}
+
+// Returns whether a walk of this length to a vertex, which is the least one from the arc's tail, may go by this arc first. There is
+// no answer where the vertex isn't found near the arc's head.
+fn is_first_arc<const P: u32>(
+    room: &mut Room<P>,
+    arc: &Arc,
+    to: u32,
+    dist: u64,
+) -> Result<Option<bool>, AllocError>
+    requires arc { IsArc room.old.n arc.now }
+    requires to { IsVertex room.old.n to }
+    ensures graph { room.new ≡ room.old }
+    ensures first { IfOk result (λ found. IfSome found
+        (λ is. IsTrue is ↔ IsFirstArc room.old to dist arc.now)) }
+{
+    let Some(rest) = distance(room, arc.head, to)? else {
+        return Ok(None);
+    };
+    Ok(Some(rest <= dist && dist - rest == arc.len as u64))
+}
+
+// Returns whether there is a vertex, of a number that is no greater than this one.
+fn comes_no_later(vertex: Option<u32>, other: u32) -> bool
+    ensures { IsTrue result ↔ ComesNoLater vertex other }
+{
+    match vertex {
+        Some(vertex) => vertex <= other,
+        None => false,
+    }
+}
+
+// Returns the smallest vertex to which a least walk of this length to a vertex goes first, of the heads of a row. There is none
+// where the vertex isn't found near one of them.
+fn next_of<const P: u32>(
+    room: &mut Room<P>,
+    row: &[Arc],
+    to: u32,
+    dist: u64,
+) -> Result<Option<u32>, AllocError>
+    requires row { All (IsArc room.old.n) row.now }
+    requires to { IsVertex room.old.n to }
+    ensures graph { room.new ≡ room.old }
+    ensures next { IfOk result (λ found. IfSome found (IsNext room.old to dist row.now)) }
+{
+    let mut next = None;
+    for arc in row {
+        if comes_no_later(next, arc.head) {
+            continue;
+        }
+        let Some(is_first) = is_first_arc(room, arc, to, dist)? else {
+            return Ok(None);
+        };
+        if is_first {
+            next = Some(arc.head);
+        }
+    }
+    Ok(next)
+}
+
+/// Returns the answer for a target of a source in the graph whose arcs are those of this one turned round, if the source is found
+/// near the target here. The room is one of this graph.
+pub(crate) fn near_answer<const P: u32>(
+    room: &mut Room<P>,
+    graph: &Graph,
+    source: u32,
+    target: u32,
+) -> Result<Option<PairAnswer>, AllocError>
+    requires room { room.old ≡ graph.now }
+    requires source { IsVertex graph.now.n source }
+    requires target { IsVertex graph.now.n target }
+    ensures graph { room.new ≡ room.old }
+    ensures answer { IfOk result
+        (λ found. IfSome found (IsTurnedAnswer graph.now source target (max_dist P))) }
+{
+    let Some(dist) = distance(room, target, source)? else {
+        return Ok(None);
+    };
+    if source == target {
+        return Ok(Some(PairAnswer::Found { dist: 0, pred: 0 }));
+    }
+    let Some(pred) = next_of(room, graph.row(target), source, dist)? else {
+        return Ok(None);
+    };
+    Ok(Some(PairAnswer::Found { dist, pred }))
+}
