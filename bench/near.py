@@ -27,7 +27,7 @@ u32, u64, size = ctypes.c_uint32, ctypes.c_uint64, ctypes.c_size_t
 
 class Place(ctypes.Structure):
     """spt_graph"""
-    _fields_ = [("at", ctypes.c_void_p), ("full", ctypes.c_bool)]
+    _fields_ = [("at", ctypes.c_void_p), ("state", ctypes.c_uint64)]
 
 
 class Answer(ctypes.Structure):

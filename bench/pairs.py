@@ -44,7 +44,7 @@ JOBS = [
 
 
 def solve(program, *words):
-    return parts.run(program, words)["solve"][0]
+    return whole.run_telling([program, *map(str, words)])["solve"]
 
 
 def distances(path):

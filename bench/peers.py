@@ -5,7 +5,7 @@ Usage: python3 bench/peers.py [--size N] [--sources K] [--workers W] [--library 
                              [--figure FILE]
 
 The graphs are a road-like grid of about N vertices and a random graph of N arcs (bench/graphs.py; N is 300000 where none is given),
-each with K sources drawn by lot. A row of the table is a program:
+each with K randomly chosen sources. A row of the table is a program:
 
   solve    seconds a source, the median of the sources: the graph stands in the program's own form before
   whole    seconds of the whole job: the .gr file is read, all sources are solved, what was found is written to a file
@@ -15,8 +15,8 @@ each with K sources drawn by lot. A row of the table is a program:
 spt, SciPy, Boost and LEMON find predecessors too; igraph and NetworkX find distances alone. spt writes trees as text, Boost and LEMON
 distances in binary. igraph, NetworkX and SciPy are taken where this Python can import them (Debian: python3-igraph,
 python3-networkx, python3-scipy), Boost and LEMON where a C++ compiler finds their headers (libboost-dev, liblemon-dev). What isn't
-installed is told below the table, and so is whose distances are others than spt's; then the status is 1. --figure draws the table
-as bars, into a picture (SVG).
+installed is printed below the table, and so is any program whose distances differ from spt's; then the status is 1. --figure draws the
+road-like rows as bars, into a picture (SVG).
 """
 
 import argparse
@@ -42,6 +42,8 @@ SEED = 1
 UNREACHED = 2**64 - 1
 # NetworkX has some objects of Python for each arc: it is left out where there are more vertices.
 MOST_OF_NETWORKX = 100_000
+# The names beside bars.
+SHORT = {"spt, its Python package": "spt", "spt, the program": "spt", "spt, the program, 4 workers": "spt, 4 threads"}
 NATIVE = {"Boost": ("boost/graph/dijkstra_shortest_paths.hpp", "peer_boost"), "LEMON": ("lemon/dijkstra.h", "peer_lemon")}
 
 # A graph: its number of vertices, tails, heads and lengths, and its file; what is asked, and a folder for files.
@@ -196,11 +198,11 @@ def cells(seconds, ours):
     return ["", ""] if seconds is None else [f"{seconds:.4f}", f"{ours / seconds:.2f}"]
 
 
-def panels(title, rows, count):
-    """The bars of a graph: a tree of a graph in memory, and the whole job."""
-    for asked, field in (("one tree, of a graph in memory", "solve"), (f"{count} trees, from file to file", "whole")):
-        bars = [(name, getattr(taken, field)) for name, taken in rows if getattr(taken, field) is not None]
-        yield f"{title}: {asked}", bars
+def panels(rows, count):
+    """The bars of a graph: one tree of a graph in memory, and the whole job."""
+    for asked, field in (("One tree, graph in memory", "solve"), (f"{count} trees, from file to file", "whole")):
+        bars = [(SHORT.get(name, name), getattr(taken, field)) for name, taken in rows if getattr(taken, field) is not None]
+        yield asked, bars
 
 
 def compare(title, job, peers):
@@ -217,7 +219,7 @@ def compare(title, job, peers):
         print(f"| {' | '.join([title, name, *cells(taken.solve, solve), *cells(taken.whole, whole)])} |", flush=True)
         if taken.distances != rows[0][1].distances:
             remarks.append(f"{name} DISAGREES on the graph `{title}`")
-    return list(panels(title, rows, len(job.sources))), remarks
+    return list(panels(rows, len(job.sources))), remarks
 
 
 def measure(chosen, folder):
@@ -233,11 +235,11 @@ def measure(chosen, folder):
     for kind, n in (("roads", chosen.size), ("random", max(1, chosen.size // 4))):
         job = read_job(kind, n, chosen.sources, folder)
         its_bars, its_remarks = compare(f"{kind}, {n:,} vertices, {len(job.tails):,} arcs", job, peers)
-        bars += its_bars
+        bars += its_bars if kind == "roads" else []
         remarks += its_remarks
     if chosen.figure:
         with open(chosen.figure, "w") as file:
-            file.write(figure.drawn("Shortest-path trees: time taken, shorter is better", bars))
+            file.write(figure.drawn(f"A road-like grid of {chosen.size:,} vertices: time taken", bars))
     print("\n" + "\n".join(dict.fromkeys(remarks)) if remarks else "\nAll distances agree.")
     return 1 if any("DISAGREES" in it for it in remarks) else 0
 

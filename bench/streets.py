@@ -3,9 +3,9 @@
 
 Usage: python3 bench/streets.py [--side N] [--runs K] [--picture FILE] [--library LIBRARY]
 
-The map is a town by lot in the form of OSMnx (examples/streets.py) with N times N junctions: a frame of pandas whose edges have two ends
+The map is a randomly generated town in OSMnx's form (examples/streets.py) N blocks wide: a frame of pandas whose edges have two ends
 with numbers beyond 32 bits and a time in seconds that is a fraction. Each side makes its graph of the frame, finds the time from a junction
-in the middle to every other, and makes a frame of these times; the picture (docs/RECIPES.md) is the same for both, and drawn once. Medians of some
+in the middle to every other, and makes a frame of these times; the picture (docs/PYTHON.md) is the same for both, and drawn once. Medians of some
 runs are printed. Each time must be NetworkX's up to half a thousandth of a second for each street of the way. A Python with pandas, NetworkX
 and matplotlib is needed (Debian: python3-pandas, python3-networkx, python3-matplotlib).
 """
@@ -22,7 +22,6 @@ HOME = os.path.dirname(os.path.dirname(os.path.realpath(__file__)))
 sys.dont_write_bytecode = True
 # OpenStreetMap's own numbers of junctions are beyond 2^33 by now
 BEYOND = 9_000_000_000
-METRES_A_SECOND = {"residential": 30 / 3.6, "primary": 60 / 3.6}
 UNIT = 0.001
 STEPS = ["a graph of the frame", "times from a junction", "a frame of the times"]
 
@@ -30,10 +29,10 @@ STEPS = ["a graph of the frame", "times from a junction", "a frame of the times"
 def street_map(side):
     """The edges of a town as a frame, its junctions with their coordinates, and the junction in the middle."""
     import pandas
-    from streets import town
+    from streets import SPEEDS, town
 
     streets = town(side)
-    rows = [(tail + BEYOND, head + BEYOND, edge["length"] / METRES_A_SECOND[edge["highway"]]) for tail, head, edge in streets.edges(data=True)]
+    rows = [(tail + BEYOND, head + BEYOND, edge["length"] / (SPEEDS[edge["highway"]] / 3.6)) for tail, head, edge in streets.edges(data=True)]
     edges = pandas.DataFrame(rows, columns=["u", "v", "travel_time"])
     places = pandas.DataFrame.from_dict({node + BEYOND: its for node, its in streets.nodes(data=True)}, orient="index")
     return edges, places, 500_000_000 + BEYOND + side * (side // 2) + side // 2
@@ -82,7 +81,7 @@ def agree(times, others, junctions):
 
 
 def drawn(edges, places, times, depot, path):
-    """Draws the picture of docs/RECIPES.md; the seconds that it takes."""
+    """Draws the map of docs/PYTHON.md, and returns the seconds that it takes."""
     import matplotlib
     import numpy
 

@@ -21,7 +21,7 @@ NAME is one of
   memory    the peaks on both graphs (a peak counts what this program took before the start, some 20 MiB)
 
 `--plain` times the C++ program alone, on `roads`, `random` and `sources`. Without `--built-spt` the program is built by
-`./spt`, without `--built` that of the parts by `bench/parts.py`; `--no-parts` leaves the parts out. Graphs are found or made
+`./spt`, without `--built` that of the parts by the Rattle kit; `--no-parts` leaves the parts out. Graphs are found or made
 in the folder that `--keep` names, and stay there.
 """
 

@@ -1,9 +1,6 @@
-#!/usr/bin/env python3
 """The kit's command rt as a module, for what works over the libraries that `rt ci` has just proved, which no other `rt` takes.
 
-Usage: python3 build/kit.py
-
-tells whether this kit has all that the scripts call of it, or in one line what is gone. So does each script as it begins.
+Where this kit lacks what the scripts call, each script says so in one line as it begins.
 """
 
 import importlib.machinery
@@ -12,14 +9,12 @@ import os
 import shutil
 import sys
 
-HOME = os.path.dirname(os.path.dirname(os.path.realpath(__file__)))
 # what the scripts call: of the gate, of the other commands, and of a crate
 CALLED = {
     "rt": ["Crate", "KIT", "checked", "edited", "in_lanes", "must_fail", "need", "rtlib", "unread"],
     "rtlib": ["Crate", "RATTLE", "crates_below", "fmt", "guarded", "lock", "stop_on_unread", "text_of"],
     "rtlib.Crate": ["below", "build_rlib", "build_static", "call", "count", "cuts_libraries", "has_tests", "run", "stamp", "verdict_on_tests", "words"],
 }
-OF_A_CRATE = ["folder", "is_program", "name", "out", "rlib"]
 
 
 def load(name):
@@ -45,19 +40,3 @@ def gone(module):
     places = {module.__name__: module, **({"rtlib": below} if below else {})}
     places["rtlib.Crate"] = getattr(places.get("rtlib"), "Crate", None)
     return [f"{place}.{name}" for place, its in places.items() if its for name in CALLED[place] if not hasattr(its, name)]
-
-
-def main():
-    rt = load("rt")
-    os.chdir(HOME)
-    crate = rt.rtlib.crates_below(HOME)[0]
-    missing = [f"crate.{name}" for name in OF_A_CRATE if not hasattr(crate, name)]
-    if missing:
-        sys.exit(f"kit: a crate of this kit has no {', '.join(missing)}, which scripts of build/ and tests/ read")
-    print("kit: this kit has all that the scripts call")
-    return 0
-
-
-if __name__ == "__main__":
-    sys.dont_write_bytecode = True
-    sys.exit(main())

@@ -9,13 +9,15 @@
  *     allowed, including NULL.
  *   - The lists that a call writes overlap no other list of the call.
  *   - During the call, no other thread writes the call's lists, or reads those that the call writes.
- *   - A place for a graph (spt_graph) started as zeros, only this library has written it, and only one call at a time uses it.
- * Several threads may call at once, even with the same arcs: calls share only the graphs that are kept, and these are only
- * read.
+ *   - A place for a graph (spt_graph) started as zeros, and only this library has written it.
+ *
+ * Any calls may run at the same time, in any threads, even with the same arcs; but a call that is given a place which another call
+ * is using changes nothing and returns SPT_IN_USE. So each thread that queries a graph needs a place of its own, which
+ * spt_graph_share fills with the same graph. No call waits for another.
  *
  * A call that takes a `const spt_graph *` leaves the place as it was, and doesn't write a place that keeps no graph. If the place
- * keeps a graph, the call takes it out and puts it back, so even then only one call at a time may use the place. Behind the place
- * a call may keep memory for the next one (spt_graph_pair).
+ * keeps a graph, the call uses the place until it returns. Behind the place a call may keep memory for the next one
+ * (spt_graph_pair).
  *
  * A program or a language that calls the functions by their symbols, without this header, must pass no null pointer, not even
  * with 0 places. */
@@ -27,11 +29,14 @@
 #include <stdint.h>
 
 /* The version of this header. SPT_VERSION_NUMBER grows with it; spt_version() returns the version of the library. */
-#define SPT_VERSION "1.4.0"
+#define SPT_VERSION "1.5.0"
 #define SPT_VERSION_MAJOR 1
-#define SPT_VERSION_MINOR 4
+#define SPT_VERSION_MINOR 5
 #define SPT_VERSION_PATCH 0
 #define SPT_VERSION_NUMBER (SPT_VERSION_MAJOR * 10000 + SPT_VERSION_MINOR * 100 + SPT_VERSION_PATCH)
+
+/* The number in the soname, libspt.so.1. It changes only when programs that are already linked would no longer work. */
+#define SPT_ABI 1
 
 #ifdef __cplusplus
 extern "C" {
@@ -51,11 +56,12 @@ typedef enum spt_status {
     SPT_NO_SUCH_VERTEX = 4, /* sources[index] is 0 or above n; those before it are vertices */
     SPT_TOO_FAR = 5,        /* some least length is above spt_reach(n): vertex is the smallest vertex with such a length */
     SPT_MEMORY = 6,         /* malloc or realloc failed; the call has freed what it had allocated */
-    SPT_BAD_TEXT = 7,       /* the text spells no graph; kind, letter, and line or byte describe its first fault */
+    SPT_BAD_TEXT = 7,       /* the text spells no graph; kind, letter, and line or byte describe its first error */
     SPT_LONG_TEXT = 8,      /* the text has more than 2^62 bytes */
     SPT_WRONG = 9,          /* the lists hold a different tree: vertex is the smallest vertex at which they differ */
     SPT_NO_GRAPH = 10,      /* the place keeps no graph */
-    SPT_BAD_LIMIT = 11      /* limit is above spt_reach(n). Since 1.2 */
+    SPT_BAD_LIMIT = 11,     /* limit is above spt_reach(n). Since 1.2 */
+    SPT_IN_USE = 12         /* another call is using the place, and this call has changed nothing. Since 1.5 */
 } spt_status;
 
 /* Returns a status in a few words, for messages, or "unknown status" for any other number. */
@@ -73,6 +79,7 @@ static inline const char *spt_status_text(uint32_t status) {
     case SPT_WRONG: return "not the shortest-path tree";
     case SPT_NO_GRAPH: return "no graph is kept";
     case SPT_BAD_LIMIT: return "limit above the greatest distance";
+    case SPT_IN_USE: return "place in use by another call";
     default: return "unknown status";
     }
 }
@@ -80,7 +87,7 @@ static inline const char *spt_status_text(uint32_t status) {
 /* Returns the version of the library, as SPT_VERSION_NUMBER gives that of the header. Since 1.1. */
 uint32_t spt_version(void);
 
-/* The distance of a vertex to which no walk leads; its predecessor is 0. */
+/* The distance of a vertex that no path reaches; its predecessor is 0. */
 #define SPT_UNREACHED UINT64_MAX
 
 /* What spt_graph_matrix writes for a target that is too far. Since 1.2. */
@@ -89,15 +96,15 @@ uint32_t spt_version(void);
 /* The limit of spt_graph_nearest that leaves nothing out. Since 1.2. */
 #define SPT_NO_LIMIT UINT64_MAX
 
-/* The answer of a call. vertex is set with SPT_TOO_FAR and SPT_WRONG, and index (from 0) with SPT_BAD_ARC and
+/* The result of a call. vertex is set with SPT_TOO_FAR and SPT_WRONG, and index (from 0) with SPT_BAD_ARC and
  * SPT_NO_SUCH_VERTEX; otherwise they are 0. */
 typedef struct spt_answer {
     uint32_t status, vertex;
     uint64_t index;
 } spt_answer;
 
-/* The answer of a call for several sources: the first `done` of them have their trees. If that isn't all of them, status, vertex
- * and index say why the next one has no tree, or what the call refused. */
+/* The result of a call for several sources: the first `done` of them have their trees. If that isn't all of them, status, vertex
+ * and index say why the next one has no tree, or why the call was refused. */
 typedef struct spt_batch {
     uint32_t status, vertex;
     uint64_t index, done;
@@ -108,8 +115,8 @@ typedef struct spt_batch {
 uint64_t spt_reach(uint32_t n);
 
 /* Finds the shortest-path tree from source in the graph of n vertices with these m arcs, which may come in any order; parallel
- * arcs and loops are allowed. dist[v - 1] becomes the least length of a walk from source to v, and pred[v - 1] the vertex before
- * v on such a walk, the smallest-numbered one if there are several; both are 0 for source.
+ * arcs and loops are allowed. dist[v - 1] becomes the least length of a path from source to v, and pred[v - 1] the vertex before
+ * v on such a path, the smallest-numbered one if there are several; both are 0 for source.
  *
  * delta is ignored, except that one above spt_reach(n) is refused (SPT_BAD_DELTA): pass 0. The call finds the width of its buckets
  * itself.
@@ -126,8 +133,8 @@ spt_answer spt_tree(const spt_arc *arcs, size_t m, uint32_t n, uint32_t source, 
 spt_batch spt_trees(const spt_arc *arcs, size_t m, uint32_t n, const uint32_t *sources, size_t k, uint64_t delta,
                     uint64_t *dist, size_t dist_places, uint32_t *pred, size_t pred_places);
 
-/* The answer for a target. With SPT_OK it has the target's distance and predecessor, as in the tree, or SPT_UNREACHED and 0 if no
- * walk leads to the target and no vertex is too far. With SPT_TOO_FAR pred is the smallest vertex that is too far, and the target
+/* The result for a target. With SPT_OK it has the target's distance and predecessor, as in the tree, or SPT_UNREACHED and 0 if no
+ * path reaches the target and no vertex is too far. With SPT_TOO_FAR pred is the smallest vertex that is too far, and the target
  * has no distance up to spt_reach(n); a target that has one is found even if other vertices are too far. index is set with
  * SPT_BAD_ARC; with SPT_NO_SUCH_VERTEX it is 0 for source and 1 for target. A field that the status doesn't use is 0. */
 typedef struct spt_found {
@@ -146,46 +153,56 @@ spt_answer spt_check(const spt_arc *arcs, size_t m, uint32_t n, uint32_t source,
                      const uint64_t *dist, size_t dist_places, const uint32_t *pred, size_t pred_places);
 
 /* A place that keeps a graph between calls, prepared once. A place whose bytes are all 0 keeps none, so it starts as
- * `spt_graph graph = {0};`, and from then on only the functions below may write it. It may be moved, for example by memcpy, but
- * the copy that is left behind must not be used again. Only one call at a time may use a place, and no call may be given one
- * place twice: spt_graph_share gives each thread a place of its own with the same graph. */
+ * `spt_graph graph = {0};`, and from then on only the functions below may write it. It may be moved, for example by memcpy, while no
+ * call uses it, but the copy that is left behind must not be used again.
+ *
+ * From its start to its end a call uses the places that it is given. Each function below that takes a place returns SPT_IN_USE if
+ * another call is using the place, or if one place is given twice; then no place and no list has changed. SPT_IN_USE is reported
+ * before any other refusal.
+ *
+ * What a call does to a place that it finds free or in use is proved. That calls in several threads exclude each other, and what one
+ * place given twice leads to, is tested: it rests on the processor's atomic exchange of `state`. */
 typedef struct spt_graph {
     void *at;
-    bool full;
+    uint64_t state; /* for the library alone: 0 if the place keeps no graph, 1 if it keeps one, 2 while a call uses it */
 } spt_graph;
 
 /* Keeps the graph of n vertices with these m arcs, in place of what was kept. The arcs are copied, which takes about 12 bytes for
- * each arc and 4 for each vertex. The refusals are SPT_BAD_SIZE (n is 0 or above 4294967294), SPT_BAD_ARC (index is that of the
- * arc) and SPT_MEMORY, tested in this order; after a refusal the place keeps what it kept. */
+ * each arc and 4 for each vertex. The refusals are SPT_IN_USE, SPT_BAD_SIZE (n is 0 or above 4294967294), SPT_BAD_ARC (index is that
+ * of the arc) and SPT_MEMORY, tested in this order; after a refusal the place keeps what it kept. */
 spt_answer spt_graph_new(const spt_arc *arcs, size_t m, uint32_t n, spt_graph *graph);
 
 /* Keeps the graph of `from` in `to` as well, in place of what that kept; if `from` keeps none, `to` keeps none either. The call
- * allocates a few bytes, and copies no arc. After SPT_MEMORY both places keep what they kept. Each place has memory of its own for
- * near targets and small parts (spt_graph_pair), so keep a place for each thread rather than one for each call. */
+ * allocates a few bytes, and copies no arc. After SPT_IN_USE (one of the places is in use) and SPT_MEMORY both places keep what they
+ * kept. Each place has memory of its own for near targets and small parts (spt_graph_pair), so keep a place for each thread rather
+ * than one for each call. Threads that fill their places from one place at the same time can get SPT_IN_USE: fill the places before
+ * the threads start, or call again. */
 spt_answer spt_graph_share(const spt_graph *from, spt_graph *to);
 
-/* Lets the place keep no graph any more. The graph's memory is freed with the last place that keeps it. A place that keeps none
- * may be freed again.
+/* Lets the place keep no graph any more, and returns SPT_OK. If another call is using the place, returns SPT_IN_USE, and the place
+ * keeps its graph. The graph's memory is freed with the last place that keeps it. A place that keeps none may be freed again. Before
+ * 1.5 the function returned nothing.
  *
  * It is proved that the place then keeps none, that no call uses memory which was freed, and that none is freed twice. That all
  * memory is freed in the end is tested, here and after SPT_MEMORY, and isn't proved. */
-void spt_graph_free(spt_graph *graph);
+uint32_t spt_graph_free(spt_graph *graph);
 
 /* Works like spt_trees on the graph that is kept, without testing and sorting its arcs again. The place still keeps the graph,
  * whatever the status is. If it keeps none, the status is SPT_NO_GRAPH, and nothing is changed. */
 spt_batch spt_graph_trees(const spt_graph *graph, const uint32_t *sources, size_t k, uint64_t delta,
                           uint64_t *dist, size_t dist_places, uint32_t *pred, size_t pred_places);
 
-/* Works like spt_pair on the graph that is kept. The status is SPT_NO_GRAPH if the place keeps none.
+/* Works like spt_pair on the graph that is kept. The status is SPT_NO_GRAPH if the place keeps none, and SPT_IN_USE if another call
+ * is using it.
  *
- * If the target is near, the call costs what it touches, however large the graph is: behind the place it keeps 8 bytes for each
- * vertex, which the first such call allocates and later ones use again, until spt_graph_free. spt_graph_within, spt_graph_part,
+ * If the target is near, the call takes little time, however large the graph is: behind the place it keeps 8 bytes for each vertex,
+ * which the first such call allocates and later ones use again, until spt_graph_free. spt_graph_within, spt_graph_part,
  * spt_graph_nearest with a limit and spt_graph_matrix use them as well. If there is no memory for them the calls do without.
  * Since 1.1; it keeps this memory since 1.3. */
 spt_found spt_graph_pair(const spt_graph *graph, uint32_t source, uint32_t target, uint64_t delta);
 
-/* Finds the part of the tree from source that lies within limit, in the graph that is kept: dist and pred as spt_tree writes them
- * for each vertex whose least length is at most limit, and SPT_UNREACHED and 0 for every other. A vertex beyond limit plays no part,
+/* Finds the part of the tree from source that is within limit, in the graph that is kept: dist and pred as spt_tree writes them
+ * for each vertex whose least length is at most limit, and SPT_UNREACHED and 0 for every other. Vertices beyond limit have no effect,
  * so the status is never SPT_TOO_FAR. The call goes no farther than limit, so a small part of a large graph takes little time.
  *
  * dist and pred each need at least n places. The refusals are SPT_NO_GRAPH, SPT_BAD_SIZE, SPT_BAD_DELTA, SPT_BAD_LIMIT (limit is
@@ -194,16 +211,16 @@ spt_found spt_graph_pair(const spt_graph *graph, uint32_t source, uint32_t targe
 spt_answer spt_graph_within(const spt_graph *graph, uint32_t source, uint64_t limit, uint64_t delta,
                             uint64_t *dist, size_t dist_places, uint32_t *pred, size_t pred_places);
 
-/* How many vertices a part has: with SPT_OK they are listed, and with SPT_BAD_SIZE so many places are needed. With any other status
- * count is 0. Since 1.3. */
+/* The number of vertices in a part: with SPT_OK they are listed, and with SPT_BAD_SIZE each list needs a place for each of them. With
+ * any other status count is 0. Since 1.3. */
 typedef struct spt_part {
     uint32_t status;
     uint64_t count;
 } spt_part;
 
-/* Lists the part of the tree from source that lies within limit, in the graph that is kept: vertex[0] to vertex[count - 1] become the
+/* Lists the part of the tree from source that is within limit, in the graph that is kept: vertex[0] to vertex[count - 1] become the
  * vertices whose least length is at most limit, source among them, by rising number, and dist[i] and pred[i] what spt_tree writes for
- * vertex[i]. So a small part takes little time, however large the graph is, where spt_graph_within writes n places.
+ * vertex[i]. So a small part takes little time, however large the graph is, while spt_graph_within writes n places.
  *
  * If a list has fewer than count places, the status is SPT_BAD_SIZE and count says how many are needed, so a call with 0 places finds
  * the number. The refusals are SPT_NO_GRAPH, SPT_BAD_LIMIT (limit is above spt_reach(n)), SPT_NO_SUCH_VERTEX (source is none),
@@ -212,11 +229,11 @@ typedef struct spt_part {
 spt_part spt_graph_part(const spt_graph *graph, uint32_t source, uint64_t limit, uint32_t *vertex, size_t vertex_places,
                         uint64_t *dist, size_t dist_places, uint32_t *pred, size_t pred_places);
 
-/* Finds the nearest of k sources for each vertex v of the graph that is kept: dist[v - 1] becomes the least length of a walk to v
- * from any source, pred[v - 1] the vertex before v on such a walk, the smallest-numbered one if there are several, and root[v - 1]
- * the source to which the predecessors lead back. A source has 0, 0 and itself, also if another source's walk reaches it. The order
- * of the sources plays no part, nor does how often one is named; without a source, no vertex is reached. SPT_UNREACHED, 0 and 0
- * stand for a vertex to which no walk leads or which lies beyond limit; SPT_NO_LIMIT leaves nothing out.
+/* Finds the nearest of k sources for each vertex v of the graph that is kept: dist[v - 1] becomes the least length of a path to v
+ * from any source, pred[v - 1] the vertex before v on such a path, the smallest-numbered one if there are several, and root[v - 1]
+ * the source to which the predecessors lead back. A source has 0, 0 and itself, even if a path from another source reaches it. The order
+ * of the sources and repetitions make no difference; without a source, no vertex is reached. A vertex that no path reaches, or that
+ * is beyond limit, has SPT_UNREACHED, 0 and 0; SPT_NO_LIMIT leaves nothing out.
  *
  * dist, pred and root each need at least n places. The refusals are those of spt_graph_within, in the same order, with index that of
  * the source; and, only with SPT_NO_LIMIT, SPT_TOO_FAR: some vertex is farther than spt_reach(n) from every source that leads there,
@@ -226,7 +243,7 @@ spt_answer spt_graph_nearest(const spt_graph *graph, const uint32_t *sources, si
                              uint32_t *root, size_t root_places);
 
 /* Finds the distances of l targets from each of k sources in the graph that is kept: dist[i * l + j] becomes that of targets[j] from
- * sources[i]. It is SPT_UNREACHED if no walk leads to the target and no vertex is too far, and SPT_BEYOND if the target has no
+ * sources[i]. It is SPT_UNREACHED if no path reaches the target and no vertex is too far, and SPT_BEYOND if the target has no
  * distance up to spt_reach(n) and some vertex is too far. Each row ends as soon as its targets' distances are final, so near targets
  * take little time.
  *
@@ -236,7 +253,7 @@ spt_answer spt_graph_nearest(const spt_graph *graph, const uint32_t *sources, si
 spt_batch spt_graph_matrix(const spt_graph *graph, const uint32_t *sources, size_t k, const uint32_t *targets, size_t l,
                            uint64_t delta, uint64_t *dist, size_t dist_places);
 
-/* The numbers of vertices and arcs of the graph that is kept with SPT_OK; both are 0 with SPT_NO_GRAPH. */
+/* The numbers of vertices and arcs of the graph that is kept with SPT_OK; both are 0 with SPT_NO_GRAPH and SPT_IN_USE. */
 typedef struct spt_counts {
     uint32_t status, n;
     uint64_t m;
@@ -245,32 +262,33 @@ typedef struct spt_counts {
 /* Returns the numbers of vertices and arcs of the graph that is kept. Since 1.1. */
 spt_counts spt_graph_counts(const spt_graph *graph);
 
-/* Keeps in the first place the graph of the second with each arc turned round, in place of what was kept: a walk to v in the one
- * graph is a walk from v in the other, so a question that starts at v is answered for the ways towards v. The refusals are
- * SPT_NO_GRAPH (`from` keeps none) and SPT_MEMORY; after a refusal both places keep what they kept. Since 1.4. */
+/* Keeps in the first place the graph of the second with each arc turned round, in place of what was kept: a path to v in the one
+ * graph is a path from v in the other, so a query from v finds the paths towards v. The refusals are
+ * SPT_IN_USE (one of the places is in use), SPT_NO_GRAPH (`from` keeps none) and SPT_MEMORY; after a refusal both places keep what
+ * they kept. Since 1.4. */
 spt_answer spt_graph_turned(spt_graph *graph, const spt_graph *from);
 
 /* Works like spt_graph_turned, but the first place then keeps the arcs of `from` and, for each of them, one from its head to its
- * tail of the same length: a loop stands twice, and so does an arc that already had its opposite. SPT_MEMORY is the answer, too, to
- * a graph of 2147483648 arcs or more. Since 1.4. */
+ * tail of the same length: a loop appears twice, and so does an arc that already had its opposite. A graph of 2147483648 arcs
+ * or more is refused with SPT_MEMORY, too. Since 1.4. */
 spt_answer spt_graph_both_ways(spt_graph *graph, const spt_graph *from);
 
-/* What packed bytes are: with SPT_OK the numbers of vertices and arcs of their graph, and with SPT_BAD_TEXT their first fault. A
- * field that the status doesn't use is 0. Since 1.4. */
+/* The result of loading packed bytes: with SPT_OK the numbers of vertices and arcs of their graph, and with SPT_BAD_TEXT their first
+ * error. A field that the status doesn't use is 0. Since 1.4. */
 typedef struct spt_packed {
     uint32_t status, n;
     uint64_t m;
     uint32_t kind;   /* 5 OutOfRange, 6 TooMany, 7 TooFew, 10 OtherForm, 11 OtherSum */
     uint32_t letter; /* the field out of range: 'N' or 'M' a count, 'E' the end of a row, 'V' a head, 'W' a length; otherwise 0 */
-    uint64_t byte;   /* the number of bytes before the word at which the fault is */
+    uint64_t byte;   /* the number of bytes before the word with the error */
 } spt_packed;
 
-/* Keeps the graph that was packed into these bytes (by spt_graph_save or `spt pack`), in place of what was kept. The bytes are
- * tested whole, so the graph is the one that was packed, or the first fault is reported as `spt` would: SPT_BAD_TEXT. The other
- * refusals are SPT_LONG_TEXT and SPT_MEMORY; after a refusal the place keeps what it kept. Since 1.4. */
+/* Keeps the graph that was packed into these bytes (by spt_graph_save or `spt pack`), in place of what was kept. All bytes
+ * are checked: either the graph is the one that was packed, or the status is SPT_BAD_TEXT and the first error is the one that `spt`
+ * would report. The other refusals are SPT_IN_USE, SPT_LONG_TEXT and SPT_MEMORY; after a refusal the place keeps what it kept. Since 1.4. */
 spt_packed spt_graph_load(spt_graph *graph, const uint8_t *bytes, size_t len);
 
-/* How many bytes a packed graph has: with SPT_OK so many are written, and with SPT_BAD_SIZE so many are needed. With any other
+/* The number of bytes of a packed graph: with SPT_OK they are written, and with SPT_BAD_SIZE there is no room for them. With any other
  * status count is 0. Since 1.4. */
 typedef struct spt_saved {
     uint32_t status;
@@ -284,8 +302,8 @@ typedef struct spt_saved {
  * status isn't SPT_OK the bytes are unchanged, and those behind the packed graph are in any case. Since 1.4. */
 spt_saved spt_graph_save(const spt_graph *graph, uint8_t *bytes, size_t room);
 
-/* What a text is: with SPT_OK and SPT_BAD_SIZE the numbers of vertices and arcs of its graph, and with SPT_BAD_TEXT its first
- * fault. A field that the status doesn't use is 0. */
+/* The result of reading a text: with SPT_OK and SPT_BAD_SIZE the numbers of vertices and arcs of its graph, and with SPT_BAD_TEXT its
+ * first error. A field that the status doesn't use is 0. */
 typedef struct spt_text {
     uint32_t status, n;
     uint64_t m;

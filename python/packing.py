@@ -31,10 +31,15 @@ TIME = (1980, 1, 1, 0, 0, 0)
 
 def build_wheel(wheel_directory: str, config_settings: Any = None, metadata_directory: Optional[str] = None) -> str:
     """Puts the wheel into a folder, and answers its name."""
-    names = [name for name in sorted(os.listdir(f"{FOLDER}/spt")) if name.endswith((".py", ".typed"))]
     library = _library()
-    files = {**{f"spt/{name}": _bytes("spt", name) for name in names}, "spt/libspt.so": library}
+    files = {**{name: _bytes(name) for name in _sources()}, "spt/libspt.so": library}
     return _packed(wheel_directory, f"py3-none-{platform_of(library)}", files)
+
+
+def _sources() -> list[str]:
+    """The files of the package, and the module that NetworkX reads while it is imported."""
+    found = (os.path.relpath(os.path.join(at, name), FOLDER) for at, _, names in os.walk(f"{FOLDER}/spt") for name in names)
+    return sorted([*(name for name in found if name.endswith((".py", ".typed"))), "_spt_networkx.py"])
 
 
 def _bytes(*path: str) -> bytes:
@@ -93,6 +98,7 @@ def _packed(folder: str, tag: str, files: dict[str, bytes]) -> str:
     name = f"{project['name']}-{project['version']}"
     with open(f"{HOME}/LICENSE", "rb") as licence:
         told = {"LICENSE": licence.read(), "METADATA": _metadata(project).encode()}
+    told["entry_points.txt"] = _bytes("spt.dist-info", "entry_points.txt")
     told["WHEEL"] = f"Wheel-Version: 1.0\nGenerator: spt\nRoot-Is-Purelib: false\nTag: {tag}\n".encode()
     files = {**files, **{f"{name}.dist-info/{it}": text for it, text in told.items()}}
     record = f"{name}.dist-info/RECORD"

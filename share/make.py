@@ -19,7 +19,7 @@ HELP = os.path.join(os.path.dirname(HERE), "tests", "help")
 FILE = "OUT"
 
 # What the manual page is of, and when that was made so; both change with a release.
-DATE = "2026-11-25"
+DATE = "2026-11-30"
 # the widest room beside a list for its terms
 WIDEST = 24
 VERSION = os.path.join(os.path.dirname(HERE), "crates", "sp_order", "src", "words.rt")
@@ -144,7 +144,7 @@ def manual(of_all):
     whole = help_of("spt")
     with open(VERSION) as it:
         version = re.search(r'\.version\("([^"]*)"\)', it.read())[1]
-    told, statuses, example = whole.split("\n\nOptions:\n")[1].split("\n\n", 1)[1].split("\n\n")
+    told, statuses, example, documents = whole.split("\n\nOptions:\n")[1].split("\n\n", 1)[1].split("\n\n")
     page = '.\\" Made by share/make.py from what spt --help prints.\n'
     page += f'.TH SPT 1 "{DATE}" "spt {version}" "User Commands"\n.nh\n.ad l\n'
     page += ".SH NAME\nspt \\- shortest\\-path trees of road networks\n.SH SYNOPSIS\n"
@@ -157,7 +157,7 @@ def manual(of_all):
     page += f".SH EXIT STATUS\n{roff(statuses.partition(chr(10))[2])}"
     page += f".SH EXAMPLES\n{roff(example.partition(chr(10))[2])}"
     page += "".join(f".SS spt {command.name}\n{roff(command.example)}" for command in of_all)
-    return page + ".SH SEE ALSO\n.BR zcat (1),\n.BR parallel (1)\n"
+    return page + f".SH SEE ALSO\n.BR zcat (1),\n.BR parallel (1)\n{roff(documents)}"
 
 
 # ## Completions

@@ -12,6 +12,7 @@ line is 'N passed, M failed'.
 
 import functools
 import os
+import re
 import shutil
 import subprocess
 import sys
@@ -136,11 +137,12 @@ def refusals(folder, run):
 
 
 def tell_program(count):
-    """docs/CLUSTERS.md says how each script finds its program, as the script itself does."""
-    page = read(f"{HOME}/docs/CLUSTERS.md")
+    """docs/USAGE.md says how to name the program for each script, as the script itself does."""
+    page = read(f"{HOME}/docs/USAGE.md")
+    page = re.search(r"^## Several processes, several machines$.*?(?=^## )", page, re.M | re.S)[0]
     for script, named, told in (("trees_by_parallel.sh", "${SPT:-spt}", "SPT=$PWD/spt"), ("trees_by_dask.py", '"--program", default="spt"', "--program $PWD/spt")):
         known = named in read(f"{HOME}/examples/cluster/{script}") and f"`{told}`" in page
-        count.of(f"docs/CLUSTERS.md says which program {script} runs: {told}", known and script in page.split("## GNU parallel")[0])
+        count.of(f"docs/USAGE.md says which program {script} runs: {told}", known and script in page)
 
 
 def main():

@@ -8,6 +8,7 @@ this isn't root, what can't be done is left out, and said so; with SPT_ALL=1 tha
 system too, where it has none of that name, and removed again. The last line is 'N passed, M failed'.
 """
 
+import glob
 import gzip
 import hashlib
 import os
@@ -18,6 +19,7 @@ import sys
 import tempfile
 
 sys.dont_write_bytecode = True
+from document_readme import targets_of  # noqa: E402
 from share import below, is_library_made  # noqa: E402
 from harness import HOME, Count, parts, put, read, read_bytes  # noqa: E402
 
@@ -30,9 +32,13 @@ WANTED = [
     "share/man/man1/spt.1.gz",
     "share/doc/spt/copyright",
     "share/doc/spt/changelog.gz",
-    "share/doc/spt/CHANGELOG.md.gz",
-    "share/doc/spt/USAGE.md.gz",
-    "share/doc/spt/EMBEDDING.md.gz",
+    "share/doc/spt/README.md",
+    "share/doc/spt/CHANGELOG.md",
+    "share/doc/spt/docs/USAGE.md",
+    "share/doc/spt/docs/PYTHON.md",
+    "share/doc/spt/docs/C.md",
+    "share/doc/spt/examples/town.gr",
+    "share/doc/spt/examples/cluster/trees_by_parallel.sh",
     "share/bash-completion/completions/spt",
     "share/zsh/vendor-completions/_spt",
     "share/fish/vendor_completions.d/spt.fish",
@@ -43,6 +49,8 @@ WANTED = [
     "lib/pkgconfig/spt.pc",
     "lib/python3/dist-packages/spt/__init__.py",
     "lib/python3/dist-packages/spt/py.typed",
+    "lib/python3/dist-packages/spt/_networkx/__init__.py",
+    "lib/python3/dist-packages/_spt_networkx.py",
 ]
 # A program in C over the library, and what it prints.
 C = r"""
@@ -58,6 +66,11 @@ int main(void) {
 }
 """
 PYTHON = "import spt; print(spt.__file__, list(spt.Graph(3, [(1, 2, 7), (2, 3, 1)]).tree(1).distances))"
+# what NetworkX finds of the package, as it looks for its backends
+BACKEND = """
+from importlib.metadata import entry_points, version
+print(version("spt"), *(it.load().__name__ for group in ("backends", "backend_info") for it in entry_points(group=f"networkx.{group}")))
+"""
 
 
 def run(*words, **known):
@@ -118,6 +131,16 @@ def control(count, package, folder):
     with gzip.open(f"{unpacked}/usr/share/man/man1/spt.1.gz") as it, open(f"{HOME}/share/spt.1", "rb") as page:
         count.of("the manual page", it.read() == page.read())
     count.of("who owns it", set(re.findall(r"^\S+ (\S+)", run("dpkg-deb", "-c", package)[1], re.M)) == {"root/root"})
+
+
+def documents(count, folder):
+    """Each link of a document leads to a file of the package, and the examples are those of the sources."""
+    place = f"{folder}/unpacked/usr/share/doc/spt"
+    for page in [f"{place}/README.md", f"{place}/CHANGELOG.md", *glob.glob(f"{place}/docs/*.md")]:
+        for target in targets_of(read(page)):
+            path = target.partition("#")[0] or os.path.basename(page)
+            count.of(f"{page}: the link {target}", os.path.exists(os.path.join(os.path.dirname(page), path)))
+    count.of("the examples", run("diff", "-r", "-x", "__pycache__", f"{HOME}/examples", f"{place}/examples") == (0, ""))
 
 
 def is_between(changes):
@@ -214,6 +237,8 @@ def works(count, root, known):
     asked = {**known, "PYTHONPATH": f"{root}/usr/lib/python3/dist-packages"} if root else known
     told = run(python, "-c", PYTHON, env=asked, cwd="/")
     count.of(f"import spt: {told}", told == (0, f"{root}/usr/lib/python3/dist-packages/spt/__init__.py [0, 7, 8]\n"))
+    told, version = run(python, "-c", BACKEND, env=asked, cwd="/"), run(f"{HOME}/spt", "--version")[1].split()[-1]
+    count.of(f"the backend of NetworkX: {told}", told == (0, f"{version} spt._networkx get_info\n"))
 
 
 def install_below(count, package, root):
@@ -253,6 +278,7 @@ def packages(count, folder):
         return left_out(count, "dpkg-deb isn't installed, or the library isn't made")
     package = build(count, folder)
     control(count, package, folder)
+    documents(count, folder)
     judge(count, package, folder)
     versions(count, package, folder)
     count.of("no folder", run(f"{HOME}/build/deb", f"{folder}/none")[0] == 1)

@@ -1,13 +1,13 @@
 #!/usr/bin/env python3
-"""Runs each recipe of docs/RECIPES.md as it stands there, and compares what it prints with what stands below it.
+"""Runs each recipe of docs/PYTHON.md, and compares what it prints with the output that the page shows.
 
 Usage: python3 tests/document_recipes.py
 
-A recipe is a block `python`; the block `text` behind it, if there is one, is what it prints, and a block `csv` before it the file
-that is named there. It is run by this Python or the system's, whichever has what it imports; where neither has, it is left out,
-and said so (Debian: python3-networkx, python3-pandas, python3-matplotlib, python3-osmnx, python3-tqdm); with SPT_ALL=1 that
-counts as failed. Pictures that a recipe draws must be pictures, and stand in docs/ where they are shown. The last line is 'N
-passed, M failed'.
+A recipe is a block `python`. The block `text` after it, if there is one, is what it prints, and a block `csv` before it is the file
+that the line above names. This Python or the system's runs it, whichever has what it imports. If neither has, the recipe is left out
+and named (Debian: python3-networkx, python3-pandas, python3-matplotlib, python3-osmnx, python3-tqdm); with SPT_ALL=1 that
+counts as failed. Pictures that a recipe draws must be pictures, and docs/ must have those that the page shows. The page has at most
+500 lines of at most 130 columns. The last line is 'N passed, M failed'.
 """
 
 import json
@@ -22,13 +22,25 @@ from harness import HOME, Count, put, read, read_bytes  # noqa: E402
 
 SYSTEM = "/usr/bin/python3"
 SECONDS = 300
-BLOCK = re.compile(r"^## ([^\n]*)$|^This is `([^`]*)`:$|^```(csv|python|text)\n(.*?)^```$", re.M | re.S)
-# what someone who looks for a recipe looks for
+# What comes before a recipe that leaves NetworkX's shortest paths to spt: where NetworkX is older than 3.4, which can't, they are left
+# to it all the same.
+BACKEND = f"""
+import sys
+sys.path.insert(0, {HOME + "/tests/python"!r})
+import os
+os.environ["NETWORKX_BACKEND_PRIORITY"] = "spt"
+import networkx
+if not hasattr(networkx, "config"):
+    import as_networkx
+    vars(networkx).update(as_networkx.functions())
+"""
+BLOCK = re.compile(r"^## ([^\n]*)$|This is `([^`]*)`:$|^```(csv|python|text)\n(.*?)^```$", re.M | re.S)
+# words that somebody would search for
 WORDS = ("isochrone", "OpenStreetMap", "one-way", "undirected", "OSMnx", "NetworkX", "GeoJSON", "CSV", "catchment", "matrix")
 
 
 def recipes(page):
-    """The heading, the program, the files and what is printed of each recipe."""
+    """The heading, the program, the files and the output of each recipe."""
     title, name, files, found = "", None, {}, []
     for heading, named, kind, text in BLOCK.findall(page):
         title, name = heading or title, named or name
@@ -46,13 +58,13 @@ def imported(program):
 
 
 def lacks(python, modules):
-    """Which of these modules a Python doesn't have."""
+    """The modules that a Python lacks, of these."""
     look = "import importlib.util, sys; print(*(it for it in sys.argv[1:] if importlib.util.find_spec(it) is None))"
     return subprocess.run([python, "-c", look, *modules], capture_output=True, text=True).stdout.split()
 
 
 def lines(text):
-    """The lines of a text, whose ends may be blank."""
+    """The lines of a text, without blanks at their ends."""
     return [line.rstrip() for line in text.strip("\n").split("\n")]
 
 
@@ -70,7 +82,7 @@ def add_files(count, title, folder, page):
 
 
 def add_recipe(count, prefix, recipe, page):
-    """Runs a recipe, and answers what is missing for it."""
+    """Runs a recipe. Returns the modules that are missing for it."""
     title, program, files, wanted = recipe
     pythons = list({os.path.realpath(it): it for it in (sys.executable, SYSTEM) if os.path.exists(it)}.values())
     needed = [*imported(program), *(["networkx", "numpy"] if "streets" in program else [])]
@@ -83,6 +95,7 @@ def add_recipe(count, prefix, recipe, page):
     with tempfile.TemporaryDirectory() as folder:
         for name, text in files.items():
             put(f"{folder}/{name}", text)
+        program = BACKEND + program if "NETWORKX_BACKEND" in program else program
         done = subprocess.run([python, "-c", program], cwd=folder, env=known, capture_output=True, text=True, timeout=SECONDS)
         count.of(f"{title}: {done.stderr}", done.returncode == 0)
         count.of(f"{title}: printed\n{done.stdout}", wanted is None or lines(done.stdout) == lines(wanted))
@@ -92,7 +105,7 @@ def add_recipe(count, prefix, recipe, page):
 
 
 def main():
-    count, page, left_out = Count(), read(f"{HOME}/docs/RECIPES.md"), {}
+    count, page, left_out = Count(), read(f"{HOME}/docs/PYTHON.md"), {}
     with tempfile.TemporaryDirectory() as prefix:
         made = subprocess.run([f"{HOME}/build/libraries", prefix], capture_output=True, text=True)
         count.of(f"the library: {made.stderr}", made.returncode == 0)
@@ -102,8 +115,10 @@ def main():
                 left_out.setdefault(", ".join(missing), []).append(recipe[0])
     for missing, titles in left_out.items():
         print(f"left out, since no Python has {missing}: {', '.join(titles)}")
+    lengths = list(map(len, page.splitlines()))
+    count.of(f"docs/PYTHON.md has {len(lengths)} lines of up to {max(lengths)} columns", len(lengths) <= 500 and max(lengths) <= 130)
     for word in WORDS:
-        count.of(f"docs/RECIPES.md has no word {word!r}", word.lower() in page.lower())
+        count.of(f"docs/PYTHON.md has no word {word!r}", word.lower() in page.lower())
     if os.environ.get("SPT_ALL") == "1":
         count.of(f"left out: {left_out}", not left_out)
     return count.end() or not count.passed

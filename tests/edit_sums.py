@@ -1,5 +1,6 @@
 #!/usr/bin/env python3
-"""Tests what the sums of dist/edits stand on: build/stated.py must find what the crates below a crate state to it, and nothing else.
+"""Tests what the sums of dist/edits stand on: which edits a table has, what the crates below a crate state to it (build/stated.py), and for
+which crates a run keeps a sum.
 
 Usage: python3 tests/edit_sums.py
 
@@ -10,9 +11,8 @@ import sys
 import tempfile
 
 sys.dont_write_bytecode = True
-from harness import HOME, Count, put  # noqa: E402
-
-sys.path.insert(0, f"{HOME}/build")
+import edits  # noqa: E402
+from harness import Count, put  # noqa: E402
 from stated import stated_to  # noqa: E402
 
 HEADS = """ghost use Rattle.std.specs.Prelude.{\u25cc\u2261\u25cc, \u25cc<\u25cc};
@@ -57,6 +57,17 @@ UNTOLD = [
 ]
 
 
+ONE = "file: src/lib.rt\nold: 1 }\nnew: 2 }\ntwin: 1  }\n"
+TWO = "file: specs/Two.antt\nold: n = 2\nnew: n = 3\n"
+# tables that aren't read
+WRONG = {
+    "a name twice": f"edit: one\n{ONE}\nedit: one\n{TWO}",
+    "a name of two words": f"edit: one two\n{ONE}",
+    "a line before any name": ONE,
+    "a line of another kind": f"edit: one\nfle: src/lib.rt\n{ONE}",
+}
+
+
 class Made:
     """A crate with its folder and its library, over others."""
 
@@ -82,8 +93,38 @@ def told(folder, changed=None, own=OWN):
     return stated_to(high)
 
 
+def is_refused(folder, table):
+    put(f"{folder}/edits.txt", table)
+    try:
+        edits.table_of(folder)
+    except SystemExit:
+        return True
+    return False
+
+
+def read_tables(count, folder):
+    """Each edit of a table, with the functions that it changes; a table that isn't well formed is refused, so that no edit goes unseen."""
+    for name, text in {"src/lib.rt": "pub fn one() -> u64 { 1 }\n", "specs/Two.antt": "n = 2\n", "edits.txt": f"edit: one\n{ONE}\nedit: two\n{TWO}"}.items():
+        put(f"{folder}/{name}", text)
+    count.of("the table", edits.table_of(folder) == {"one": ONE, "two": TWO})
+    names = {it.name: [function.name for function in it.functions] for it in edits.edits_of(Made("made", folder, []))}
+    count.of(f"the functions {names}", names == {"one": ["one"], "two": []})
+    for why, table in WRONG.items():
+        count.of(f"{why} is read", is_refused(folder, table))
+
+
+def keep_sums(count):
+    """A crate keeps its sum only where each of its edits was refused."""
+    sums = {"all": "a", "some": "b", "wrong": "c", "both": "d", "before": "e"}
+    outcomes = {"all": [True, True], "some": [True, None, None], "wrong": [True, False], "both": [False, None]}
+    count.of("what is kept", edits.told(sums, outcomes) == {"all": "a", "some": "left", "before": "e"})
+
+
 def main():
     count = Count()
+    keep_sums(count)
+    with tempfile.TemporaryDirectory() as folder:
+        read_tables(count, folder)
     with tempfile.TemporaryDirectory() as folder:
         count.of("without a library nothing is told", stated_to(Made("high", folder, [Made("low", f"{folder}/none", [])])) is None)
         before = told(folder)

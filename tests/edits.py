@@ -61,6 +61,8 @@ INHERENT = re.compile(r"(?:impl(?:<.*?>)?|(?:pub )?trait) (\w+)")
 JOBS = ["--jobs", "1"]
 KEPT = f"{HOME}/dist/edits"
 MADE = f"{HOME}/.spt/edits"
+# how a comment line begins, by the ending of its file
+COMMENT = {".rt": "//", ".antt": "--"}
 # in place of the sum of a crate for some of whose edits there was no time
 LEFT = "left"
 # more than any crate has edits
@@ -349,16 +351,26 @@ def tell_doubted(doubted, twins, shown, said):
 
 
 def sum_of(crate):
-    """Of all that the answers of a crate's edits stand on: the edits, the crate's sources, what the crates below state, the kit's logic; None
-    where a library below isn't at hand."""
+    """The digest of everything that the answers of a crate's edits depend on: the edits, the crate's sources without comments, what the crates
+    below state, and the kit's logic. None if a library below isn't at hand."""
     stated = stated_to(crate)
     if stated is None:
         return None
-    script = 'home=$1; . "$home/build/program.sh"; digest_alone "$2"; rt version | grep -o "logic .*"'
-    said = subprocess.run(["sh", "-c", script, "sh", HOME, crate.name], capture_output=True, check=True).stdout + stated.encode()
-    for edit in edits_of(crate):
-        said += f"{edit.name}\n{edit.text}".encode()
-    return hashlib.sha256(said).hexdigest()
+    logic = subprocess.run(["rt", "version"], capture_output=True, check=True, text=True).stdout.partition("logic ")[2]
+    said = [logic, *sources_of(crate), stated, *(f"{edit.name}\n{edit.text}" for edit in edits_of(crate))]
+    return hashlib.sha256("\n".join(said).encode()).hexdigest()
+
+
+def sources_of(crate):
+    """The crate's line in crates.txt, and each of its files with its name and without comment lines, which change no answer."""
+    with open(f"{HOME}/crates.txt") as file:
+        yield from (line for line in file if re.match(rf"{crate.name}[ :]", line))
+    script = 'home=$1; . "$home/build/program.sh"; cd "$home"; find_sources "$2"'
+    found = subprocess.run(["sh", "-c", script, "sh", HOME, crate.name], capture_output=True, check=True, text=True).stdout
+    for path in sorted(found.rstrip("\0").split("\0")):
+        with open(os.path.join(HOME, path)) as file:
+            lines = [line for line in file if not line.lstrip().startswith(COMMENT.get(os.path.splitext(path)[1], "\0"))]
+        yield f"{path}\n{''.join(lines)}"
 
 
 def kept_sums(*places):

@@ -73,7 +73,8 @@ def faults(folder):
     yield Case("a folder", ["replay", folder], "", f"spt: replay: line 1: 9 Read\nspt: {folder}: Is a directory (os error 21)\n", 6)
     yield Case("a missing graph", ["tree", none, f"{folder}/diamond.ss", "--delta", "3"], "", f"spt: gr: {missing}", 6)
     yield Case("a missing tree", ["check", f"{folder}/diamond.gr", none], "", f"spt: tree: {missing}", 6)
-    told = "spt: delta out of range\nspt: with --pred-bits 28 delta is from 1 to 68719476734, or mean\n"
+    farthest = "--pred-bits 20 allows up to 17592186044414"
+    told = f"spt: delta out of range\nspt: delta is from 1 to 68719476734 with --pred-bits 28, or mean; {farthest}\n"
     yield Case("a delta out of range", ["tree", "none.gr", "none.ss", "--delta", "68719476735"], "", told, 1)
 
 

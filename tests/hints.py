@@ -14,6 +14,7 @@ import gzip
 import io
 import lzma
 import os
+import resource
 import shutil
 import subprocess
 import sys
@@ -58,12 +59,15 @@ PAIRS = "a file of pairs has one `p pairs K`, and `q S T` for each of its K pair
 BLOCK = "a tree file has one `p spt N S`, `v V D P` for each vertex, and `e R`, separated by one space"
 OFFERS = "a file of offers has one `p off N K`, and `o A V D P` for each offer"
 RUN = "a replay file has one `p rep N K`, and lines i, o, r, a and s: see spt replay --help"
+MOST_OFFERS = "a file of offers has at most 1048576 offers"
+MOST_CALLS = "a replay file has at most 1048576 calls and 16777216 steps"
 NO_PROBLEM = f"no `p sp N M` line; {GR}"
 COMMENT = "comments begin with `c` and a blank"
 LENGTHS = "lengths are whole numbers from 1 to 4294967295"
 SPELLING = "numbers consist of digits only: no sign, no decimal point, no leading 0"
 FROM_ZERO = "vertices are numbered from 1; if yours start at 0, add 1 to each"
 ARCS = "M is a number from 0 to 1073741824; with --both-ways, to 536870912"
+FARTHEST = "; --pred-bits 20 allows up to 17592186044414"
 TOO_FAR = "an x line: a vertex was too far from its source"
 
 
@@ -362,6 +366,10 @@ def lines(count, program, folder):
         told = run(program, "replay", path)
         line = 2 + text.count("\n")
         count.of(f"replay, {text}: {told}", told == (2, "", f"spt: replay: line {line}: 5 OutOfRange {field}\nspt: {path}: {wanted}\n"))
+    for command, text, wanted in (("offers", "p off 1 1\n" + "o 1 1 5 3\n" * 1048577, MOST_OFFERS), ("replay", "p rep 1 1\n" + "r 1 1\n" * 1048577, MOST_CALLS)):
+        path = put(f"{folder}/many", text.encode())
+        told = run(program, command, path)
+        count.of(f"{command}, too many lines: {told}", told == (2, "", f"spt: {command}: line 1048578: 6 TooMany\nspt: {path}: {wanted}\n"))
     path = put(f"{folder}/offers", b"p off 1 2\no 1 1 1\n")
     told = run(program, "offers", path)
     count.of(f"an offer of nothing: {told}", told == (2, "", f"spt: offers: line 2: 2 BadLine\nspt: {path}: {OFFERS}\n"))
@@ -386,11 +394,49 @@ def words(count, program, folder):
     for layout, most in (("32", 4294967294), ("28", 68719476734), ("24", 1099511627774)):
         for command in ("tree", "pairs"):
             told = run(program, command, GRAPH, SOURCES, "--delta", str(most + 1), "--pred-bits", layout)
-            wanted = f"spt: delta out of range\nspt: with --pred-bits {layout} delta is from 1 to {most}, or mean\n"
+            wanted = f"spt: delta out of range\nspt: delta is from 1 to {most} with --pred-bits {layout}, or mean{FARTHEST}\n"
             count.of(f"delta {most + 1} in layout {layout}: {told}", told == (1, "", wanted))
         told = run(program, "tree", GRAPH, SOURCES, "--delta", "mean", "--within", str(most + 1), "--pred-bits", layout)
-        wanted = f"spt: limit out of range\nspt: with --pred-bits {layout} the limit is from 0 to {most}\n"
+        wanted = f"spt: limit out of range\nspt: the limit is from 0 to {most} with --pred-bits {layout}{FARTHEST}\n"
         count.of(f"limit {most + 1} in layout {layout}: {told}", told == (1, "", wanted))
+
+
+def several(count, program, folder):
+    """Of faults that are told of no file alone: what a user does about them."""
+    once = "spt: standard input twice\nspt: only one file can be standard input; give the other by its path\n"
+    for words in (("tree", "-", "-", "--delta", "3"), ("check", "-", "-"), ("matrix", GRAPH, "-", "-")):
+        told = run(program, *words)
+        count.of(f"{' '.join(words)}: {told}", told == (1, "", once))
+    steps = put(f"{folder}/steps.rep", "p rep 1 1\n" + 61 * "s 1\n")
+    told = run(program, "replay", steps, "--svg")
+    wanted = "spt: replay: more than 60 steps\nspt: a picture shows at most 60 steps; without --svg the report has them all\n"
+    count.of(f"a picture of 61 steps: {told}", told == (2, "", wanted))
+    main, other = os.openpty()
+    done = subprocess.run([program, "pack", GRAPH], stdout=other, stderr=subprocess.PIPE, timeout=SECONDS)
+    os.close(other)
+    os.close(main)
+    wanted = b"spt: output is a terminal\nspt: a packed graph is no text; give a file with -o\n"
+    count.of(f"pack to a terminal: {done}", (done.returncode, done.stderr) == (1, wanted))
+
+
+def memory(count, program, folder):
+    """What is told where memory is short."""
+    graph = put(f"{folder}/large.gr", "p sp 100000000 0\n")
+    few = "there is too little free memory; with several sources, fewer --workers need less"
+    cases = [
+        (("tree", graph, "--source", "1", "--delta", "3"), few),
+        (("matrix", graph, "--source", "1", "--target", "2"), few),
+        (("nearest", graph, "--source", "1"), "there is too little free memory; spt nearest --help says how much is needed"),
+        (("check", graph, TREE), "there is too little free memory; spt check --help says how much is needed"),
+        (("pack", graph), "there is too little free memory for this file"),
+    ]
+
+    def begin():
+        resource.setrlimit(resource.RLIMIT_AS, (200 << 20, 200 << 20))
+
+    for words, wanted in cases:
+        told = run(program, *words, preexec_fn=begin)
+        count.of(f"{words[0]} in little memory: {told}", told == (5, "", f"spt: memory\nspt: {wanted}\n"))
 
 
 # a name, how a line shows it, and how the shell has it
@@ -445,4 +491,4 @@ def unread(count, program, folder):
 
 
 if __name__ == "__main__":
-    sys.exit(try_all(__doc__, (forms, plain, reasons, layouts, packed, vertices, lines, words, names, unread)))
+    sys.exit(try_all(__doc__, (forms, plain, reasons, layouts, packed, vertices, lines, words, several, memory, names, unread)))

@@ -5,12 +5,13 @@ Usage: python3 tests/library_c.py [--archive ARCHIVE] [--program PROGRAM]
 
 The library is installed below a folder by build/libraries, and found there by pkg-config where that is there. The programs try
 every refusal, memory refused at each request, and the trees of the example and of a graph of 100,000 vertices, which must be the
-bytes of `spt tree`, by one thread and by four at once; and a graph that is kept and shared by four threads. They run under the
-sanitizers of addresses and of undefined behaviour, that of the kept graph also under the one of threads. What the header gives is
-tried in C and in C++. The library must show `spt_*` alone, each by the version that brought it, also to a program that was linked
-with a library without versions; take nothing but memory from outside, and have no data that is written. The examples of
-docs/EMBEDDING.md must print what stands below them there. A tool that isn't there is left out, and said so; with SPT_ALL=1 it
-counts as failed, and so does it where there is no compiler at all. The last line is 'N passed, M failed'.
+bytes of `spt tree`, by one thread and by four at once; a graph that is kept and shared by four threads; a place that is in use,
+and one that four threads use at once. They run under the sanitizers of addresses and of undefined behaviour, those of kept graphs
+with threads also under the one of threads. What the header gives is tried in C and in C++. The library must show `spt_*` alone,
+each by the version that brought it, also to a program that was linked with a library without versions; take nothing but memory from
+outside, and have no data that is written. The examples of docs/C.md must print what stands below them there. A tool that
+isn't there is left out, and said so; with SPT_ALL=1 it counts as failed, and so does it where there is no compiler at all. The last
+line is 'N passed, M failed'.
 """
 
 import os
@@ -28,6 +29,9 @@ COMPILERS = {"gcc": "g++", "clang": "clang++"}
 STRICT = ["-std=c11", "-D_GNU_SOURCE", "-O1", "-g", "-pthread", "-Wall", "-Wextra", "-Werror"]
 STRICT_CXX = ["-x", "c++", "-std=c++11", "-O1", "-g", "-Wall", "-Wextra", "-Werror"]
 SANITIZED = ["-fsanitize=address,undefined", "-fno-sanitize-recover=all"]
+THREADS = ["-fsanitize=thread"]
+# the sanitizer of threads doesn't see the atomic steps of the library, so it leaves out the memory that these order
+UNSEEN = ["env", "TSAN_OPTIONS=ignore_noninstrumented_modules=1"]
 WRAPPED = ["-Wl,--wrap=malloc,--wrap=realloc,--wrap=free"]
 # what the library takes from the C library
 TAKEN = {"malloc", "realloc", "free", "memcpy", "memmove", "memset"}
@@ -108,16 +112,17 @@ def great_graph(folder, program):
 
 def try_compiler(count, compiler, prefix, folder, great, wanted):
     static, shared = flags(prefix, True), flags(prefix, False)
-    for name, more in (("refusals", []), ("near", []), ("packed", []), ("memory", WRAPPED), ("header", [])):
+    for name, more in (("refusals", []), ("near", []), ("packed", []), ("memory", WRAPPED), ("in_use", WRAPPED), ("header", [])):
         program = build(count, compiler, folder, name, static, *SANITIZED, *more)
         if program:
             add_counts(count, f"{compiler} {name}", [program])
     try_cxx(count, COMPILERS[compiler], static, folder)
-    # what threads do to a graph that they share, seen by two sanitizers
-    for watched in (SANITIZED, ["-fsanitize=thread"]):
-        program = build(count, compiler, folder, "graph", static, *watched)
+    # what threads do to a graph and to a place that they share, seen by two sanitizers
+    for name, link, watched in (("graph", static, SANITIZED), ("graph", static, THREADS), ("threads", static, SANITIZED),
+                                ("threads", shared, THREADS)):
+        program = build(count, compiler, folder, name, link, *watched)
         if program:
-            add_counts(count, f"{compiler} graph {watched[0]}", [program])
+            add_counts(count, f"{compiler} {name} {watched[0]}", [*UNSEEN, program])
     for kind, link in (("static", static), ("shared", shared)):
         program = build(count, compiler, folder, "tree", link, *SANITIZED)
         if program:
@@ -195,18 +200,18 @@ def inspect(count, prefix):
 
 
 def try_page(count, compiler, prefix, folder):
-    """Each C example of docs/EMBEDDING.md prints what stands in the next block."""
-    with open(f"{HOME}/docs/EMBEDDING.md") as it:
+    """Each C example of docs/C.md prints what stands in the next block."""
+    with open(f"{HOME}/docs/C.md") as it:
         examples = re.findall(r"^```c\n(.*?)^```\n.*?^```text\n(.*?)^```\n", it.read(), re.M | re.S)
-    count.of("examples of docs/EMBEDDING.md", bool(examples))
+    count.of("examples of docs/C.md", bool(examples))
     for number, (source, wanted) in enumerate(examples, 1):
         path = f"{folder}/example{number}"
         with open(f"{path}.c", "w") as it:
             it.write(source)
         status, _, err = told([compiler, *STRICT, "-o", path, f"{path}.c", *flags(prefix, False)])
-        count.of(f"example {number} of docs/EMBEDDING.md: {err.decode()}", status == 0)
+        count.of(f"example {number} of docs/C.md: {err.decode()}", status == 0)
         if status == 0:
-            count.of(f"example {number} of docs/EMBEDDING.md", told([path]) == (0, wanted.encode(), b""))
+            count.of(f"example {number} of docs/C.md", told([path]) == (0, wanted.encode(), b""))
 
 
 def try_all(count, chosen, folder):

@@ -1,12 +1,12 @@
 #!/usr/bin/env python3
-"""Runs tests/python and the examples of the package, of README.md and of docs/EMBEDDING.md, by this Python and by the system's.
+"""Runs tests/python and the examples of the package, of README.md and of docs/PYTHON.md, by this Python and by the system's.
 
 Usage: python3 tests/library_python.py [--archive ARCHIVE]
 
-The library is made by build/libraries. The tests of Dijkstra's algorithm that SciPy and NetworkX ship are run against the package
-too, by pytest (tests/python/theirs.py); those of which are left out, and why, is printed. Tests that need what isn't installed are left out, and
-said so (Debian: python3-scipy, python3-networkx, python3-pandas, python3-tqdm, python3-pytest, python3-hypothesis); with SPT_ALL=1 what no Python
-ran counts as failed. The last line is 'N passed, M failed'.
+build/libraries makes the library. pytest also runs the tests of Dijkstra's algorithm that SciPy and NetworkX ship against the package
+(tests/python/theirs.py), and prints which are left out, and why. Tests that need something that isn't installed are left out and named (Debian:
+python3-scipy, python3-networkx, python3-pandas, python3-tqdm, python3-pytest, python3-hypothesis); with SPT_ALL=1, what no Python ran counts as
+failed. The last line is 'N passed, M failed'.
 """
 
 import argparse
@@ -24,15 +24,15 @@ SECONDS = 600
 
 EXAMPLES = """
 import doctest, sys
-import spt, spt._graph, spt._library, spt._trees
-told = [doctest.testmod(module) for module in (spt, spt._graph, spt._library, spt._trees)]
+import spt, spt._graph, spt._library, spt._names, spt._trees
+told = [doctest.testmod(module) for module in (spt, spt._graph, spt._library, spt._names, spt._trees)]
 told += [doctest.testfile(page, module_relative=False) for page in sys.argv[1:]]
 print(sum(one.attempted - one.failed for one in told), "passed,", sum(one.failed for one in told), "failed")
 """
 
 
 def run(python, prefix, *words):
-    """What a Python with the package prints, and errors."""
+    """The output and the errors of a Python with the package."""
     known = {**os.environ, "PYTHONPATH": f"{HOME}/python", "PYTHONDONTWRITEBYTECODE": "1"}
     known["SPT_LIBRARY"] = f"{prefix}/lib/libspt.so"
     told = {"stdout": subprocess.PIPE, "stderr": subprocess.STDOUT, "text": True}
@@ -40,10 +40,10 @@ def run(python, prefix, *words):
 
 
 def add_tests(count, python, prefix):
-    """Counts the tests, and answers which were left out and which weren't."""
+    """Counts the tests. Returns those that were left out and those that weren't."""
     text = run(python, prefix, "-m", "unittest", "discover", "-v")
     told = re.findall(r"^(\w+) \((\w+)\.(\w+)[\w.]*\) \.\.\. (.*)$", text, re.M)
-    # (a file that is left out is told as a test of unittest's loader)
+    # (a file that is left out is reported as a test of unittest's loader)
     outcomes = [(f"all of {name}" if module == "unittest" else f"{kind}.{name}", outcome) for name, module, kind, outcome in told]
     for name, outcome in outcomes:
         if not outcome.startswith("skipped"):
@@ -61,7 +61,7 @@ def add_tests(count, python, prefix):
 
 
 def add_last_line(count, text):
-    """Adds the counts of a text's last line, and answers how many passed; None where it has no such line."""
+    """Adds the counts of a text's last line. Returns how many passed; None if it has no such line."""
     last = re.search(r"^(\d+) passed, (\d+) failed\n\Z", text, re.M)
     if last:
         count.passed, count.failed = count.passed + int(last[1]), count.failed + int(last[2])
@@ -71,13 +71,13 @@ def add_last_line(count, text):
 
 
 def add_examples(count, python, prefix):
-    pages = [f"{HOME}/{page}" for page in ("README.md", "python/README.md", "docs/EMBEDDING.md")]
+    pages = [f"{HOME}/{page}" for page in ("README.md", "python/README.md", "docs/PYTHON.md")]
     text = run(python, prefix, "-c", EXAMPLES, *pages)
     count.of(f"examples by {python}", add_last_line(count, text))
 
 
 def add_theirs(count, python, prefix):
-    """Counts the tests that SciPy and NetworkX ship, and answers whose were run and whose weren't."""
+    """Counts the tests that SciPy and NetworkX ship. Returns whose weren't run and whose were."""
     text = run(python, prefix, "theirs.py")
     count.of(f"tests that others ship, by {python}", add_last_line(count, text) is not None)
     counts = re.findall(r"^tests of (\w+) [\d.]+\w*: (\d+) ran", text, re.M)

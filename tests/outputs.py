@@ -5,7 +5,8 @@ Usage: python3 tests/outputs.py [--program PROGRAM]
 
 FILE takes the text of a command that was done, with status 0, 3 or 4, and standard output stays empty. Where a command is refused,
 the disk is full, or a signal ends the program, FILE holds what it held. No other file is left there but by a signal, and that one
-keeps no later run from its work. Links lead to the file that is replaced; devices and pipes are written to. A file that is replaced
+keeps no later run from its work. Links lead to the file that is replaced; devices and pipes are written to. A file that
+the command reads is never replaced, by whatever name. A file that is replaced
 hands on its mode. However many runs have the same FILE, each status is true, FILE has the whole text of one of them at each moment,
 and no file of the user's is touched. What the system is asked for, and what follows where it refuses, is seen by strace, where that
 is there. The last line is 'N passed, M failed'.
@@ -138,6 +139,115 @@ def links(count, program, folder):
         told = run(program, *tree(f"{inner}/link"))
         stays = os.path.islink(f"{inner}/link") and os.listdir(inner) == ["link"]
         count.of(f"a link to itself: {told}", told == (6, "", CANNOT_WRITE) and stays)
+
+
+# words before -o, and by each option or place what that input is for its command; FILE is the input that -o names
+INPUTS = [
+    ("tree FILE one.ss --delta 3", "g.gr", "the graph"),
+    ("tree g.gr FILE --delta mean", "one.ss", "the file of sources"),
+    ("tree FILE --source 1 --delta mean", "g.gr", "the graph"),
+    ("pairs FILE one.pairs --delta 3", "g.gr", "the graph"),
+    ("pairs g.gr FILE --delta 3", "one.pairs", "the file of pairs"),
+    ("matrix FILE --source 1 --target 2", "g.gr", "the graph"),
+    ("matrix g.gr FILE two.ss", "one.ss", "the file of sources"),
+    ("matrix g.gr one.ss FILE", "two.ss", "the file of targets"),
+    ("matrix g.gr --source 1 FILE", "two.ss", "the file of targets"),
+    ("nearest FILE --source 1", "g.gr", "the graph"),
+    ("nearest g.gr FILE", "one.ss", "the file of sources"),
+    ("check FILE g.tree", "g.gr", "the graph"),
+    ("check g.gr FILE", "g.tree", "the tree file"),
+    ("check g.gr FILE --all", "g.tree", "the tree file"),
+    ("pack FILE", "g.gr", "the graph"),
+    ("pack FILE --towards", "g.packed", "the graph"),
+    ("replay FILE", "run.rep", "the replay file"),
+    ("replay FILE --svg", "run.rep", "the replay file"),
+    ("offers FILE", "made.off", "the file of offers"),
+]
+TEXTS = {
+    "g.gr": read(GRAPH),
+    "one.ss": read(SOURCES),
+    "two.ss": "p aux sp ss 1\ns 2\n",
+    "one.pairs": "p pairs 1\nq 1 4\n",
+    "g.tree": read(TREE),
+    "run.rep": "p rep 1 1\n",
+    "made.off": "p off 1 1\no 1 1 2 3\n",
+}
+
+
+def told_in(program, folder, words, given=None, output=subprocess.PIPE):
+    """Status, output and errors of a run in a folder, with this file as standard input."""
+    with open(given or os.devnull, "rb") as file:
+        done = subprocess.run([program, *words], cwd=folder, stdin=file, stdout=output, stderr=subprocess.PIPE, text=True, timeout=SECONDS)
+    return done.returncode, done.stdout or "", done.stderr
+
+
+def inputs(count, program, folder):
+    """A file of the command isn't replaced by its output, whatever names both have: that is told before any file is read."""
+    with tempfile.TemporaryDirectory(dir=folder) as inner:
+        for name, text in TEXTS.items():
+            put(f"{inner}/{name}", text)
+        packed = subprocess.run([program, "pack", f"{inner}/g.gr"], capture_output=True, timeout=SECONDS).stdout
+        put(f"{inner}/g.packed", packed)
+        os.mkdir(f"{inner}/sub")
+        for name in os.listdir(inner):
+            if name != "sub":
+                os.symlink(f"../{name}", f"{inner}/sub/link_{name}")
+                os.link(f"{inner}/{name}", f"{inner}/sub/hard_{name}")
+        os.symlink("link_g.gr", f"{inner}/sub/next_g.gr")
+        held = held_in(inner)
+        for line, name, role in INPUTS:
+            ways = [name, f"./{name}", f"sub/../{name}", f"{inner}/{name}", f"sub/link_{name}", f"sub/hard_{name}"]
+            tries = [(name, out, name, None) for out in ways]
+            tries += [(f"sub/hard_{name}", name, f"sub/hard_{name}", None), (f"sub/link_{name}", f"sub/hard_{name}", f"sub/link_{name}", None)]
+            tries += [("-", name, "standard input", f"{inner}/{name}"), ("-", f"sub/link_{name}", "standard input", f"{inner}/sub/hard_{name}")]
+            for path, out, shown, given in tries:
+                words = [path if word == "FILE" else word for word in line.split()]
+                told = told_in(program, inner, [*words, "-o", out], given)
+                wanted = (1, "", f"spt: output is an input\nspt: -o names {role}, {shown}; name another file\n")
+                count.of(f"{' '.join(words)} -o {out}: {told}", told == wanted and held_in(inner) == held)
+        told = told_in(program, inner, ["tree", "sub/next_g.gr", "one.ss", "--delta", "3", "--output=./sub/link_g.gr"])
+        count.of(f"a link to a link: {told}", told[0] == 1 and held_in(inner) == held)
+        # standard output that is one of the files, by its path
+        with open(f"{inner}/g.gr", "a") as end:
+            told = told_in(program, inner, ["tree", "g.gr", "one.ss", "--delta", "3", "-o", "/dev/stdout"], output=end)
+        count.of(f"standard output by its path: {told}", told[0] == 1 and held_in(inner) == held)
+        # what is wrong besides is told later
+        for words in ("tree no.gr one.ss --delta 3 -o one.ss", "tree g.gr one.ss --delta 68719476735 -o g.gr", "tree one.ss g.gr --delta 3 -o g.gr"):
+            told = told_in(program, inner, words.split())
+            count.of(f"{words}: {told}", told[0] == 1 and told[2].startswith("spt: output is an input\n") and held_in(inner) == held)
+
+
+def held_in(folder):
+    """The names below a folder, and what its files hold."""
+    found = {}
+    for where, folders, names in os.walk(folder):
+        found.update({os.path.join(where, name): None for name in folders})
+        for name in names:
+            with open(os.path.join(where, name), "rb") as file:
+                found[os.path.join(where, name)] = file.read()
+    return found
+
+
+def others(count, program, folder):
+    """Any other file is written: one that is new, one with the same text, and one with the same name elsewhere. A device may be both."""
+    words = ["tree", "g.gr", "one.ss", "--delta", "3", "-o"]
+    with tempfile.TemporaryDirectory(dir=folder) as inner:
+        for name, text in TEXTS.items():
+            put(f"{inner}/{name}", text)
+        put(f"{inner}/copy.gr", TEXTS["g.gr"])
+        put(f"{inner}/sub/g.gr", HELD)
+        for out in ("new.gr", "copy.gr", "sub/g.gr", "two.ss"):
+            told = told_in(program, inner, [*words, out])
+            count.of(f"into {out}: {told}", told == (0, "", "") and read(f"{inner}/{out}") == TEXTS["g.tree"] and read(f"{inner}/g.gr") == TEXTS["g.gr"])
+        told = told_in(program, inner, ["tree", "-", "one.ss", "--delta", "3", "-o", "new.gr"], f"{inner}/g.gr")
+        count.of(f"standard input, into another file: {told}", told == (0, "", "") and read(f"{inner}/new.gr") == TEXTS["g.tree"])
+        told = told_in(program, inner, ["tree", "g.gr", "--source", "1", "--delta", "3", "-o", "one.ss"])
+        count.of(f"into a file that this run doesn't read: {told}", told == (0, "", "") and read(f"{inner}/one.ss") == TEXTS["g.tree"])
+        told = told_in(program, inner, ["tree", "/dev/null", "--source", "1", "--delta", "3", "-o", "/dev/null"])
+        wanted = "spt: gr: line 1: 3 NoProblem\n"
+        count.of(f"a device as both: {told}", told[0] == 2 and told[2].startswith(wanted))
+        told = told_in(program, inner, ["tree", "-", "--source", "1", "--delta", "3", "-o", "/dev/null"])
+        count.of(f"a device as standard input and as the output: {told}", told[0] == 2 and told[2].startswith(wanted))
 
 
 def parts(folder, pid):
@@ -345,7 +455,7 @@ def writers(count, program, folder):
 
 def signals(count, program, folder):
     """Run as ./spt does it, a signal leaves nothing behind: one for the run alone, and one for all that the terminal runs."""
-    before = ("sh", "-c", 'run=$1; shift; . "$run"; run "$@"', "sh", f"{HOME}/share/run.sh")
+    before = ("sh", "-c", '. "$1"; shift; run "$@"', "sh", f"{HOME}/share/run.sh")
     for number in (signal.SIGTERM, signal.SIGINT, signal.SIGHUP):
         for to_all in (False, True):
             with tempfile.TemporaryDirectory(dir=folder) as inner:
@@ -398,5 +508,5 @@ def asked(count, program, folder):
 
 
 if __name__ == "__main__":
-    tests = (done, undone, unmade, straight, links, killed, signals, two_at_once, own_names, modes, writers, asked)
+    tests = (done, undone, unmade, straight, links, inputs, others, killed, signals, two_at_once, own_names, modes, writers, asked)
     sys.exit(try_all(__doc__, tests))

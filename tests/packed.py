@@ -319,15 +319,17 @@ def pieces(count, tried, folder, chosen):
 
 
 def outputs(count, tried, folder, chosen):
-    """A packed graph goes to a file, also to the one that is read; where the graph is refused the file stays as it was."""
+    """A packed graph goes to a file, but not to the one that is read; where the graph is refused the file stays as it was."""
     data = packed(4, arcs_of(DIAMOND))
-    for name, held in (("text", DIAMOND), ("packed", data)):
-        path = put(f"{folder}/own", held)
+    for name, held in (("text", DIAMOND.encode()), ("packed", data)):
+        path, out = put(f"{folder}/own", held), f"{folder}/other"
+        told = ask(tried, "pack", path, "-o", out)
+        count.of(f"{name} into another file: {told}", told == (0, b"", "") and read_bytes(out) == data)
         told = ask(tried, "pack", path, "-o", path)
-        count.of(f"{name} into its own file: {told}", told == (0, b"", "") and read_bytes(path) == data)
-    path = put(f"{folder}/own", data[:50])
-    told = ask(tried, "pack", path, "-o", path)
-    count.of(f"a refused graph: {told}", told == (2, b"", "spt: gr: byte 48: 7 TooFew") and read_bytes(path) == data[:50])
+        count.of(f"{name} into its own file: {told}", told == (1, b"", "spt: output is an input") and read_bytes(path) == held)
+    path, out = put(f"{folder}/own", data[:50]), put(f"{folder}/other", b"before")
+    told = ask(tried, "pack", path, "-o", out)
+    count.of(f"a refused graph: {told}", told == (2, b"", "spt: gr: byte 48: 7 TooFew") and read_bytes(out) == b"before")
     told = ask(tried, "pack", put(f"{folder}/own", data), "-o", "/dev/null")
     count.of(f"no device: {told}", told == (0, b"", ""))
 

@@ -28,8 +28,6 @@ LIKE_SPECIFIED = "it takes what run_batch takes, whose parameters are specified,
 LIKE_MATRIX = "it takes what run_batch_told takes, and the targets"
 # what does the same for one forest
 LIKE_NEAREST = "it takes what run_batch_told takes"
-# what a struct can't hold: the kit can't fit a method to its trait's where it takes a struct with a lifetime and a layout
-OF_A_TRAIT = "a method of a trait takes no struct with a lifetime and a layout"
 # what stands between a function whose parameters are specified and what it calls
 BETWEEN = "it hands on what the function above takes"
 EXCEPTIONS = {
@@ -43,10 +41,8 @@ EXCEPTIONS = {
     ("sp_phase", "run_pair_with"): SPECIFIED,
     ("sp_jobs", "run_batch"): SPECIFIED,
     ("sp_jobs", "run_batch_told"): LIKE_SPECIFIED,
-    ("sp_jobs", "answer_trees"): OF_A_TRAIT,
     ("sp_jobs", "answer_batch"): BETWEEN,
     ("sp_pairs", "run_pairs"): SPECIFIED,
-    ("sp_jobs", "answer_rows"): OF_A_TRAIT,
     ("sp_jobs", "answer_matrix"): BETWEEN,
     ("sp_jobs", "run_matrix_told"): LIKE_MATRIX,
     ("sp_jobs", "run_nearest_told"): LIKE_NEAREST,

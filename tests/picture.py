@@ -1,6 +1,6 @@
 #!/usr/bin/env python3
 """Pictures of runs, as `spt replay FILE --svg` writes them: beside the reports of the examples, and beside a plain machine on
-programmes drawn by lot.
+randomly generated programmes.
 
 Each must be well-formed and have a bar for each call of the report, with its text, once; a mark for each step, of the plain machine's
 kind; and for each lost exchange a line to the store that beat it and one to the load whose word it expected. A run of 60 steps has
@@ -30,7 +30,7 @@ from cases.shared import GREATEST  # noqa: E402
 from harness import HOME, Count, run as started  # noqa: E402
 
 SVG = "{http://www.w3.org/2000/svg}"
-TOO_MANY = "spt: replay: more than 60 steps\n"
+TOO_MANY = "spt: replay: more than 60 steps\nspt: a picture shows at most 60 steps; without --svg the report has them all\n"
 WIDEST = 2500  # with numbers of at most 10 digits
 FARTHEST_NAME = 700  # from one name of a lane to the next
 # how wide a picture of 60 steps with the longest numbers of a layout is at most

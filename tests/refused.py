@@ -39,7 +39,10 @@ OUTSIDE = 9
 
 FAULT = re.compile(r"((line|byte) [1-9][0-9]*: 8 Memory\n)?")
 MORE = "M in the line `p sp N M` must be the number of `a` lines"
-MEMORY = re.compile(r"spt: (memory|(gr|ss|targets|pairs|tree|replay|offers): line [1-9][0-9]*: 8 Memory|gr: byte [0-9]+: 8 Memory)\n")
+MEMORY = re.compile(
+    r"spt: (memory|(gr|ss|targets|pairs|tree|replay|offers): line [1-9][0-9]*: 8 Memory|gr: byte [0-9]+: 8 Memory)\n"
+    r"(spt: there is too little free memory[^\n]*\n)?"
+)
 # each byte of an output is a character, since packed graphs aren't text
 BYTES = "latin-1"
 

@@ -33,7 +33,7 @@ INSTALLED = [
 # where it was built here or released from these sources
 PACKAGE = "lib/python3/dist-packages"
 LIBRARY = ["include/spt.h", "lib/libspt.a", "lib/libspt.so", "lib/libspt.so.1", "lib/pkgconfig/spt.pc"]
-LIBRARY += [f"{PACKAGE}/spt/__init__.py", f"{PACKAGE}/spt/libspt.so"]
+LIBRARY += [f"{PACKAGE}/spt/__init__.py", f"{PACKAGE}/spt/libspt.so", f"{PACKAGE}/spt/_networkx/__init__.py", f"{PACKAGE}/_spt_networkx.py"]
 
 COMMANDS = {"tree", "pairs", "matrix", "nearest", "check", "pack", "replay", "offers"}
 
@@ -300,11 +300,11 @@ def newest(path):
 
 def tell_versions(count):
     """The documents and the line above name the version of the C library that the release needs, and no older one."""
-    for file, pages in (("spt", ["README.md", "docs/CLUSTERS.md", "share/run.sh"]), ("library/libspt.so", ["docs/EMBEDDING.md"])):
+    for file, pages in (("spt", ["docs/USAGE.md", "share/run.sh"]), ("library/libspt.so", ["docs/C.md"])):
         needed = newest(f"{HOME}/dist/{file}")
         for page in pages:
             with open(f"{HOME}/{page}") as it:
-                told = re.findall(r"GNU C\s+library (\d+)\.(\d+) or\s+later", it.read())
+                told = re.findall(r"GNU\s+C\s+library\s+(\d+)\.(\d+)\s+or\s+later", it.read())
             count.of(f"{page}: {told}, {file} needs {needed}", told != [] and all(tuple(map(int, it)) == needed for it in told))
 
 

@@ -26,8 +26,6 @@ SECONDS = 30
 SOON = 5
 SIGNALS = (signal.SIGINT, signal.SIGTERM, signal.SIGHUP, signal.SIGKILL)
 SHELLS = [shell for shell in ("dash", "bash") if shutil.which(shell)]
-# bash as it was: it keeps in a file what later ones pass by a pipe
-AS_OLD = {"BASH_COMPAT": "5.0"}
 # how often a run is killed, and within which time
 KILLS = 100
 WITHIN = 0.03
@@ -120,15 +118,15 @@ def each_signal(count, top, command):
 
 def at_any_time(count, top, command):
     """Killed at times of the first few ms, alone and with its group, no run leaves anything, whatever it was about to do."""
-    for shell, known in [(shell, {}) for shell in SHELLS] + [(shell, AS_OLD) for shell in SHELLS if shell == "bash"]:
+    for shell in SHELLS:
         place = Place(top)
         for number in range(KILLS):
-            process = place.start(shell, command, "tree", "-o", "out", **known)
+            process = place.start(shell, command, "tree", "-o", "out")
             time.sleep(WITHIN * number / KILLS)
             (os.killpg if number % 2 else os.kill)(process.pid, signal.SIGKILL)
             wait(process)
         left = f"{os.listdir(place.folder)[:3]}, {os.listdir(place.temporary)[:3]}"
-        count.of(f"{shell}, {known}, killed within {WITHIN} s: left: {left}", place.is_clean())
+        count.of(f"{shell}, killed within {WITHIN} s: left: {left}", place.is_clean())
 
 
 def places(count, top, command):
@@ -168,7 +166,7 @@ def ends(count, top, command):
 
 
 def without(count, top, command):
-    """Without an option for output no process is made aside; without setsid, or room for temporary files, all goes on."""
+    """Without an option for output no process is made aside; without setsid all goes on."""
     place = Place(top)
     tools = tempfile.mkdtemp(dir=top)
     for name in ("mktemp", "mkfifo", "setsid", "sleep"):
@@ -180,15 +178,10 @@ def without(count, top, command):
         process, told = begin(place, command, *words, **known)
         status = wait(process)
         count.of(f"{words}: {status}, {told}", status == 3 and not os.path.exists(f"{top}/called") and place.is_clean("out"))
-    for more in ({}, AS_OLD):
-        process, told = begin(place, command, "tree", "-o", "out", **known, **more)
-        count.of(f"no setsid: {told}, {more}", wait(process) == 3 and place.is_clean("out"))
+    process, told = begin(place, command, "tree", "-o", "out", **known)
+    count.of(f"no setsid: {told}", wait(process) == 3 and place.is_clean("out"))
     called = read(f"{top}/called").split()
     count.of(f"no file is made aside: {called}", "setsid" in called and not {"mktemp", "mkfifo"} & set(called))
-    for shell in SHELLS:
-        words = [shell, command, "tree", "-o", "out"]
-        process, told = begin(place, *words, **AS_OLD, TMPDIR="/nowhere", ENDS=f"{place.folder}/out")
-        count.of(f"{shell}, no room for temporary files: {told}", wait(process) == 3 and place.is_clean("out"))
 
 
 def program(count, top):

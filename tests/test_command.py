@@ -1,12 +1,11 @@
 #!/usr/bin/env python3
-"""Calls ./test itself: its help, its list, names that are some and that are none; and `./test program` in a small repository.
+"""Calls ./test itself: what it can't try it refuses, and `./test program`, in a small repository, reports each failure.
 
 Usage: python3 tests/test_command.py
 
 All is done without the Rattle kit on the path. The last line is 'N passed, M failed'.
 """
 
-import glob
 import os
 import shutil
 import subprocess
@@ -17,8 +16,7 @@ sys.dont_write_bytecode = True
 from harness import HOME, Count, put  # noqa: E402
 
 PLAIN = "/usr/bin:/bin"
-COLUMNS = 80
-NAMES = ["one", "two", "refused", "edit_coverage", "kit_calls", "edits", "twins", "harness"]
+NAMES = ["one", "two", "refused", "edit_coverage", "edit_sums", "edits", "twins", "harness"]
 SCRIPT = 'import sys\nprint("tried", *sys.argv[1:])\nprint("3 passed, {} failed")\n'
 
 
@@ -29,32 +27,14 @@ def test(*words, home=HOME):
 
 
 def ask(count):
-    """Help and list, and what is refused with a hint and before anything is tried."""
-    for word in ("--help", "-h"):
-        status, output, errors = test(word)
-        is_help = all(f"./test {it}" in output for it in ("program", "quick", "NAME..", "--list", "--help"))
-        count.of(f"{word}: {status}, {output}, {errors}", status == 0 and is_help and "failed\n" not in output and errors == "")
-        count.of(f"{word} at {COLUMNS} columns", max(map(len, output.split("\n"))) <= COLUMNS)
-    status, output, errors = test("--list")
-    listed = [line.split()[0] for line in output.split("\n") if line.startswith("  ")]
-    scripts = [os.path.basename(it)[:-3] for it in sorted(glob.glob(f"{HOME}/tests/*.py"))]
-    wanted = [*(it for it in scripts if it != "harness"), *sorted(os.listdir(f"{HOME}/crates"))]
-    count.of(f"--list: {set(listed) ^ set(wanted)}, {errors}", status == 0 and sorted(listed) == sorted(wanted))
-    for words in (["nonsense"], ["--nonsense"], ["clauses", "nonsense"], ["harness"], ["."], [".."], ["crates/sp_word"], ["program", "x"], ["--help", "x"], [""]):
+    """What can't be tried is refused with a hint, and isn't counted as passed."""
+    for words in (["nonsense"], ["--nonsense"], ["clauses", "nonsense"], ["harness"], ["."], ["crates/sp_word"], ["program", "x"], [""]):
         status, output, errors = test(*words)
         is_told = errors.startswith("test: ") and "./test --" in errors and errors.count("\n") == 1
         count.of(f"{words}: {status}, {output}, {errors}", (status, output) == (1, "") and is_told)
-    for words in ([], ["quick"], ["sp_word"], ["clauses", "sp_word"]):
+    for words in ([], ["quick"], ["clauses", "sp_word"]):
         status, output, errors = test(*words)
         count.of(f"{words} without the kit: {status}, {output}, {errors}", (status, output) == (1, "") and "`./test program`" in errors)
-
-
-def name_scripts(count):
-    """A script by each of its names."""
-    for words in (["parameters"], ["parameters.py"], ["tests/parameters.py"], ["parameters", "clauses"]):
-        status, output, errors = test(*words)
-        last = output.strip().split("\n")[-1]
-        count.of(f"{words}: {status}, {output}, {errors}", status == 0 and last.endswith(" passed, 0 failed") and output.count("passed") == len(words) + 1)
 
 
 def repository(home):
@@ -96,7 +76,6 @@ def run_program(count, home):
 def main():
     count = Count()
     ask(count)
-    name_scripts(count)
     with tempfile.TemporaryDirectory() as folder:
         run_program(count, f"{folder}/a repository")
     return count.end()

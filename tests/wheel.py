@@ -9,6 +9,7 @@ name the version of the GNU C library that its symbols need, and leave nothing i
 failed'.
 """
 
+import configparser
 import os
 import re
 import shutil
@@ -33,6 +34,17 @@ print(*sorted({{line.split()[-1] for line in open("/proc/self/maps") if "libspt"
 print(spt.__version__)
 for vertex in range(1, 5):
     print("v", vertex, *tree.pair(vertex))
+"""
+
+
+# what NetworkX finds of the package, as it looks for its backends, and what that says where there is no NumPy
+BACKEND = """
+from importlib.metadata import entry_points
+(backend,), (info,) = (entry_points(group=f"networkx.{group}") for group in ("backends", "backend_info"))
+told = info.load()()
+backend = backend.load()
+print(told["backend_name"], len(told["functions"]), all(hasattr(backend, name) for name in told["functions"]))
+print(backend.can_run("has_path", (), {}))
 """
 
 
@@ -88,8 +100,13 @@ def add_installed(count, python, place):
     count.of(f"the package by {python}: {text}", status == 0 and package.startswith(f"{place}/lib"))
     count.of(f"the library by {python}: {library}", library == f"{os.path.dirname(package)}/libspt.so")
     count.of(f"the tree by {python}: {tree}", tree == rows())
+    status, text = run(f"{place}/bin/python", "-c", BACKEND)
+    wanted = "spt 27 True\nNumPy isn't installed, which spt needs as a backend\n"
+    count.of(f"the backend of NetworkX by {python}: {text}", (status, text) == (0, wanted))
     shown = re.search(r"^Version: (.*)$", run(f"{place}/bin/pip", "show", "spt")[1], re.M)
-    count.of(f"versions by {python}: {told}", bool(shown) and {told, shown[1]} == {version()})
+    with open(f"{HOME}/python/spt.dist-info/METADATA") as it:
+        kept = re.search(r"^Version: (.*)$", it.read(), re.M)[1]
+    count.of(f"versions by {python}: {told}", bool(shown) and {told, shown[1], kept} == {version()})
     status, text = run(f"{place}/bin/python", f"{HOME}/tests/python/test_graph.py", PYTHONDONTWRITEBYTECODE="1")
     count.of(f"tests/python/test_graph.py by {python}:\n{text}", status == 0 and bool(re.search(r"^OK$", text, re.M)))
     status, text = run(f"{place}/bin/pip", "uninstall", "--yes", "spt")
@@ -142,7 +159,10 @@ def add_table(count):
 
     with open(f"{HOME}/python/pyproject.toml", "rb") as it:
         wanted = tomllib.load(it)["project"]
-    extras = wanted.pop("optional-dependencies")
+    extras, points = wanted.pop("optional-dependencies"), configparser.ConfigParser(delimiters="=")
+    points.read(f"{HOME}/python/spt.dist-info/entry_points.txt")
+    told = {group: dict(points[group]) for group in points.sections()}
+    count.of(f"entry points, in pyproject.toml and beside it: {told}", told == wanted.pop("entry-points"))
     count.of("how pyproject.toml is read", packing.table("project") == wanted)
     count.of("which extras pyproject.toml has", packing.table("project.optional-dependencies") == extras)
 

@@ -37,7 +37,7 @@ _BYTES = {"I": 4, "Q": 8}
 
 
 def address(view: memoryview) -> int:
-    """The address of a list, which may be read-only. It stays valid while the view lives."""
+    """Returns the address of a list, which may be read-only. It stays valid while the view lives."""
     told = _Buffer()
     _get(view, ctypes.byref(told), 0)
     at = told.buf
@@ -46,17 +46,17 @@ def address(view: memoryview) -> int:
 
 
 def filled(format: str, places: int, number: int) -> memoryview:
-    """A new list of this format ('I' or 'Q') in which each number is this one."""
+    """Returns a new list of this format ('I' or 'Q') that holds the same number everywhere."""
     return memoryview(array.array(format, [number]) * places)
 
 
 def zeros(format: str, places: int) -> memoryview:
-    """A new list of this format ('I' or 'Q') that C may write to."""
+    """Returns a new list of this format ('I' or 'Q') that C may write to."""
     return filled(format, places, 0)
 
 
 def is_buffer(given: Any) -> bool:
-    """Whether it is an array, a memoryview, or any other list laid out in memory as in C."""
+    """Whether it is an array, a memoryview, or any other list with C's layout in memory."""
     try:
         memoryview(given)
     except TypeError:
@@ -65,7 +65,7 @@ def is_buffer(given: Any) -> bool:
 
 
 def words(numbers: Any) -> memoryview:
-    """A flat list of unsigned 32-bit numbers: the given list itself if it is one and has no gaps, otherwise a copy.
+    """Returns a flat list of unsigned 32-bit numbers: the given list itself if it is one and has no gaps, otherwise a copy.
 
     ValueError: a number is below 0 or above 4294967295. TypeError: it isn't a list of integers.
     """
@@ -86,14 +86,14 @@ def words(numbers: Any) -> memoryview:
 
 
 def kept(numbers: Any) -> memoryview:
-    """Like `words`, but in a list that nobody can write to: a copy of what is given, unless that is `bytes`, which never change."""
+    """Like `words`, but returns a list that nobody can write to: a copy, unless the numbers are in `bytes`, which never change."""
     found = words(numbers)
     is_others = is_buffer(numbers) and found.obj is memoryview(numbers).obj and not isinstance(found.obj, bytes)
     return in_bytes(found.tobytes(), "I") if is_others else found.toreadonly()
 
 
 def column(numbers: Any, format: str) -> memoryview:
-    """A flat, read-only list of this format ('I' or 'Q'): the given list itself if it is read-only, otherwise a copy.
+    """Returns a flat, read-only list of this format ('I' or 'Q'): the given list itself if it is read-only, otherwise a copy.
 
     Unsigned numbers of the same size are accepted under any of C's names: NumPy calls 64-bit ones 'L'. ValueError: it has several
     dimensions. TypeError: it isn't a list of such numbers.
@@ -107,18 +107,18 @@ def column(numbers: Any, format: str) -> memoryview:
 
 
 def in_bytes(given: Any, format: str) -> memoryview:
-    """The numbers of this format ('I' or 'Q') that have these bytes."""
+    """Returns the numbers of this format ('I' or 'Q') with these bytes."""
     view = memoryview(given)
     return _bytes(view, _BYTES[format]).cast(format) if view.nbytes else zeros(format, 0).toreadonly()
 
 
 def _kind(view: memoryview) -> str:
-    """C's letter for the numbers; numbers in the other byte order keep the sign that says so."""
+    """Returns C's letter for the numbers; numbers in the other byte order keep the sign for it."""
     return view.format.lstrip("@=<")
 
 
 def _bytes(view: memoryview, size: int) -> memoryview:
-    """The bytes of a list: in place if they have no gaps and are aligned for numbers of this size, otherwise a copy."""
+    """Returns the bytes of a list: in place if they have no gaps and are aligned for numbers of this size, otherwise a copy."""
     is_plain = view.c_contiguous and len(view.format) == 1 and address(view) % size == 0
     return view.cast("B") if is_plain else memoryview(view.tobytes())
 

@@ -18,18 +18,17 @@ class SptError(Exception):
 
 
 def _again(kind: type[SptError], told: tuple[Any, ...]) -> SptError:
-    """The exception with this message; its fields are set afterwards."""
+    """Returns the exception with this message; its fields are set afterwards."""
     return kind.__new__(kind, *told)
 
 
 class Fault(SptError, ValueError):
-    """The first error in a text or a packed graph: where it is, its kind, the field that is out of range, if any, and a hint, if
-    there is one.
+    """The first error in a text or a packed graph: its place, its kind, the field that is out of range, if any, and perhaps a hint.
 
-    Of a text `line` is the number of the line, from 1, and `byte` is None; of a packed graph `byte` is the number of bytes before the
-    word, and `line` is None. The kinds are those that the program `spt` reports; the fields are 'U' and 'V' (vertices), 'W' (a
-    length), 'N' and 'M' (the numbers of vertices and arcs), and 'E' (the end of a vertex's row). The hint, the second line of the
-    message, says why or what to do, like the program's.
+    In a text, `line` is the number of the line, from 1, and `byte` is None. In a packed graph, `byte` is the number of bytes before
+    the wrong word, and `line` is None. The kinds are those that the program `spt` reports. The fields are 'U' and 'V' (vertices),
+    'W' (a length), 'N' and 'M' (the numbers of vertices and arcs), and 'E' (the end of a vertex's row). The hint, the second line
+    of the message, says why or what to do, like the program's.
     """
 
     def __init__(
@@ -49,7 +48,7 @@ class Fault(SptError, ValueError):
 
 
 class BadArc(SptError, ValueError):
-    """The arc at this index, from 0, has an end that is not a vertex, or an invalid length. The arcs before it are valid."""
+    """The arc at `index`, from 0, has an end that is not a vertex, or an invalid length. The arcs before it are valid."""
 
     def __init__(self, n: int, index: int, arc: tuple[Any, ...], why: Optional[str] = None) -> None:
         self.index, self.arc = index, arc
@@ -57,11 +56,17 @@ class BadArc(SptError, ValueError):
 
 
 class NoSuchVertex(SptError, ValueError):
-    """A source or target that is not a vertex: 0, above the number of vertices, or not a name in a graph that has names."""
+    """A source or target is not a vertex: it is 0 or above the number of vertices, or not a name in a graph with names.
 
-    def __init__(self, n: int, vertex: Any, has_names: bool = False) -> None:
+    If the name is a number, and there is one that is the same as text, or the other way round, the message says so.
+    """
+
+    def __init__(self, n: int, vertex: Any, has_names: bool = False, other: Any = None) -> None:
         self.vertex = vertex
-        if has_names:
+        if other is not None:
+            kind = "text" if isinstance(other, str) else "a number"
+            told = f"{vertex!r} is not a vertex name in this graph of {n} vertices, which has {other!r}, {kind}"
+        elif has_names:
             told = f"{vertex!r} is not a vertex name in this graph of {n} vertices, which has names (Graph.names)"
         else:
             told = f"{vertex} is not a vertex of a graph with {n} vertices{': vertices are numbered from 1' if vertex == 0 else ''}"
@@ -69,7 +74,7 @@ class NoSuchVertex(SptError, ValueError):
 
 
 class BadDelta(SptError, ValueError):
-    """A bucket width below 1 or above `reach(n)`."""
+    """`delta` is below 1 or above `reach(n)`."""
 
     def __init__(self, n: int, delta: int, most: int) -> None:
         self.delta = delta
@@ -77,7 +82,7 @@ class BadDelta(SptError, ValueError):
 
 
 class BadLimit(SptError, ValueError):
-    """A `within` below 0 or above `reach(n)`, in the unit of the graph."""
+    """`within` is below 0 or above `reach(n)`, in the unit of the graph."""
 
     def __init__(self, n: int, limit: Any, most: Any) -> None:
         self.limit = limit
@@ -85,8 +90,10 @@ class BadLimit(SptError, ValueError):
 
 
 class TooFar(SptError, ArithmeticError):
-    """The distance of `vertex`, the smallest such vertex, is above `reach(n)`, so this source has no tree. `source` is None for
-    the nearest of several sources."""
+    """The distance of `vertex`, the smallest such vertex, is above `reach(n)`, so this source has no tree.
+
+    `source` is None if the distance is that from the nearest of several sources.
+    """
 
     def __init__(self, source: Any, vertex: Any, unit: Optional[float] = None, towards: bool = False) -> None:
         self.source, self.vertex = source, vertex

@@ -1,4 +1,4 @@
-"""The files of a graph: its text or its packed form, and beside the packed one the names and the unit, in JSON."""
+"""The files of a graph: its text or its packed form, and beside a packed file its names and unit, in JSON."""
 
 from __future__ import annotations
 
@@ -16,19 +16,27 @@ from typing import Any, BinaryIO, Callable, Iterator, Optional, Tuple
 
 from ._terms import Terms
 
-# how the file beside a packed graph begins: with the number of its form
+# the JSON file beside a packed graph begins with the number of its form
 _FORM = 1
 _FRONT = b'{"spt": '
-# the names that JSON gives back as they were
+# the names that JSON restores as they were
 _PLAIN = (str, int, float, bool, type(None))
-# the bytes of the sum with which a packed graph ends
+# a packed graph ends with a sum of this many bytes
 _SUM = 16
 
 
 def given_file(file: Any) -> Tuple[bytes, str, Optional[str]]:
-    """The bytes of a file, what it is called in faults, and its path, None if it was open. Names that end in .gz are of gzip."""
+    """Returns the bytes of a file, its name in errors, and its path; None if it was open, or the bytes were given themselves.
+
+    It is a gzip file if it ends in .gz. TypeError: it is open for reading text.
+    """
+    if isinstance(file, (bytes, bytearray, memoryview)):
+        return bytes(file), "gr", None
     if hasattr(file, "read"):
-        return file.read(), str(getattr(file, "name", "gr")), None
+        data, name = file.read(), str(getattr(file, "name", "gr"))
+        if isinstance(data, str):
+            raise TypeError(f"{name} is open for reading text: open it for bytes, with mode 'rb'")
+        return data, name, None
     path = os.fspath(file)
     with gzip.open(path) if path.endswith(".gz") else open(path, "rb") as opened:
         return opened.read(), path, path
@@ -38,14 +46,14 @@ def given_file(file: Any) -> Tuple[bytes, str, Optional[str]]:
 
 
 def beside(path: str) -> str:
-    """The path of the names and the unit of a packed graph."""
+    """Returns the path of the JSON file for a packed graph."""
     return f"{path}.json"
 
 
 def text_of(terms: Terms, packed: memoryview) -> Optional[str]:
-    """The names and the unit of the graph that has these words, as the file beside has them; None if there are none.
+    """Returns the text of the JSON file for the graph with these words; None if it has no names and no unit.
 
-    TypeError: JSON wouldn't give a name back as it was.
+    TypeError: JSON can't restore a name as it was.
     """
     if terms.names is None and terms.unit is None:
         return None
@@ -59,20 +67,20 @@ def _sum(packed: Any) -> str:
 
 
 def _plain(number: int, name: Any) -> Any:
-    """A name in a form that JSON gives back as it was: of a number of NumPy, the plain number."""
+    """Returns a name in a form that JSON restores as it was: for a number of NumPy, the plain number."""
     plain = name.item() if hasattr(name, "dtype") and hasattr(name, "item") else name
     if type(plain) not in _PLAIN or isinstance(plain, float) and not math.isfinite(plain):
         raise TypeError(
-            f"vertex {number} has the name {name!r}, a {type(name).__name__}, which a file can't give back:"
+            f"vertex {number} has the name {name!r}, a {type(name).__name__}, which JSON can't restore:"
             " names to be saved are strings, numbers, True, False and None"
         )
     return plain
 
 
 def terms_of(path: Optional[str], n: int, m: int, packed: bytes) -> Terms:
-    """The names and the unit of the packed graph in this file, which are in the file beside it, if there is one.
+    """Returns the names and the unit of the packed graph in this file. They are in the JSON file beside it, if there is one.
 
-    ValueError: the file beside has no names and unit, or those of another graph.
+    ValueError: the JSON file isn't one that `save` writes, or it belongs to another graph.
     """
     if path is None:
         return Terms(n, None, None)
@@ -120,14 +128,17 @@ def _are_names(names: Any, n: int) -> bool:
 
 
 def save(file: Any, terms: Terms, packed: memoryview) -> None:
-    """Writes the words of a packed graph to a file, and the names and the unit, if there are any, beside it.
+    """Writes the words of a packed graph to a file, and the names and the unit, if there are any, to the JSON file beside it.
 
-    TypeError: JSON wouldn't give a name back as it was. ValueError: there are names or a unit, and no path to write them beside.
-    FileExistsError: another file has their name.
+    TypeError: JSON can't restore a name as it was. ValueError: there are names or a unit, but the file has no path of its own.
+    FileExistsError: another file has the name of the JSON file. FileNotFoundError, IsADirectoryError, NotADirectoryError: there
+    can't be a file of this path.
     """
     text = text_of(terms, packed)
     is_open = hasattr(file, "write")
     path = "" if is_open else os.fspath(file)
+    if not is_open:
+        _refuse_folders(path)
     if not is_open and _is_replaced(path):
         _refuse_others(path)
         _replace(path, packed, text)
@@ -143,12 +154,24 @@ def save(file: Any, terms: Terms, packed: memoryview) -> None:
 
 
 def _is_replaced(path: str) -> bool:
-    """Whether a file of this name is replaced as a whole: devices and pipes are written to."""
+    """Whether a file of this name is replaced as a whole. Devices and pipes are written to instead."""
     return os.path.isfile(path) or not os.path.exists(path)
 
 
+def _refuse_folders(path: str) -> None:
+    """IsADirectoryError: it is a folder. FileNotFoundError, NotADirectoryError: there is no folder that a file of this name is in."""
+    if os.path.isdir(path) or path.endswith(os.sep):
+        raise IsADirectoryError(f"{path} is a folder: save to a file in it, such as {os.path.join(path, 'graph.spt')}")
+    folder = os.path.dirname(os.path.realpath(path))
+    if os.path.isdir(folder):
+        return
+    if os.path.exists(folder):
+        raise NotADirectoryError(f"can't save to {path}: {folder} is a file, not a folder")
+    raise FileNotFoundError(f"can't save to {path}: there is no folder {folder}; make it first")
+
+
 def _refuse_others(path: str) -> None:
-    """FileExistsError: a file that isn't one of ours has the name of the one beside."""
+    """FileExistsError: `save` didn't write the file that has the name of the JSON file."""
     try:
         with open(beside(path), "rb") as file:
             is_ours = file.read(len(_FRONT)) == _FRONT
@@ -159,9 +182,9 @@ def _refuse_others(path: str) -> None:
 
 
 def _replace(path: str, packed: memoryview, text: Optional[str]) -> None:
-    """Puts a packed graph into a file, and the text beside it; where there is none, takes that of an earlier graph away.
+    """Puts a packed graph into a file, and the text into its JSON file; without a text, removes the JSON file of an earlier graph.
 
-    Both are written to new files first, so that the old ones stay as they were unless all was written.
+    Both are written to new files first, so that the old ones stay as they were unless everything was written.
     """
     with contextlib.ExitStack() as stack:
         put_graph = stack.enter_context(_new(path, packed))
@@ -176,9 +199,10 @@ def _replace(path: str, packed: memoryview, text: Optional[str]) -> None:
 
 @contextlib.contextmanager
 def _new(path: str, data: memoryview) -> Iterator[Callable[[], None]]:
-    """A new file with these bytes in the folder of `path`, and a function that puts it there; else it is taken away again.
+    """Makes a new file with these bytes in the folder of `path`, and yields a function that puts it in place of `path`.
 
-    A link leads to the file that is replaced, which hands on its mode.
+    Without that call the new file is removed again. If `path` is a link, the file that it leads to is replaced. The new file gets
+    the mode of the old one.
     """
     place = os.path.realpath(path)
     new = os.path.join(os.path.dirname(place), f".spt-{os.getpid()}-{secrets.token_hex(8)}.part")
@@ -200,7 +224,7 @@ def _new(path: str, data: memoryview) -> Iterator[Callable[[], None]]:
 
 
 def _sync(opened: BinaryIO) -> None:
-    """Has a file on the disk, where its file system can tell."""
+    """Waits until a file is on the disk, if its file system supports that."""
     try:
         os.fsync(opened.fileno())
     except OSError as told:
@@ -209,12 +233,12 @@ def _sync(opened: BinaryIO) -> None:
 
 
 def _write(file: Any, data: memoryview) -> None:
-    """Writes all of it to an open file, which may take less at a time."""
+    """Writes all data to an open file, which may take less at a time."""
     left = data.cast("B")
     while left:
         taken = file.write(left)
         if taken is None and not isinstance(file, io.RawIOBase):
-            # (some files of others' making don't say)
+            # (some classes of files return nothing)
             taken = len(left)
         if not taken:
             raise OSError(f"{len(left)} bytes are left that the file doesn't take")

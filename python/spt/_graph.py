@@ -16,23 +16,25 @@ from ._faults import KINDS, BadArc, BadDelta, Fault, SptError, TooFar
 from ._files import given_file, save, terms_of
 from ._hints import is_packed, second_line, word_line
 from ._kept import Kept, failure
-from ._lengths import arc_fault, numbers_of, refuse_frame, unit_of
+from ._lengths import Scale, arc_fault, numbers_of, refuse_frame, scale_of
 from ._library import (
     BAD_ARC, BAD_TEXT, HAS_NEAR, HAS_PACKED, HAS_PAIR, HAS_PART, MOST_VERTICES, NO_LIMIT, OK, TOO_FAR, WRONG, Batch, Found, Part,
     library, reach,
 )
+from ._names import Names, names_for
 from ._packed import turned
-from ._share import Pace, Progress, in_order
+from ._share import Pace, Progress, Workers, in_order, workers_of
 from ._terms import Terms
-from ._trees import BEYOND, UNREACHED, Forest, Matrix, Pair, Tree, in_rows, pair_of, pickled
+from ._trees import BEYOND, UNREACHED, Forest, Matrix, Pair, Route, Tree, in_rows, pair_of, pickled
 
 __all__ = ["BEYOND", "UNREACHED", "Forest", "Graph", "Matrix", "Pair", "Tree"]
 
-# where a graph is read from, or written to
+# where a graph is written to, and where one is read from
 File = Union[str, "os.PathLike[str]", BinaryIO]
+Given = Union[File, bytes, bytearray, memoryview]
 # the most places in the trees of one call to the library, unless a single tree has more
 _MOST_PLACES = 1 << 22
-# how long, in seconds per vertex and arc, a path is searched pair by pair before a tree is computed, in about twice the time
+# how long, in seconds per vertex and arc, a path is searched pair by pair before a tree is computed, which takes about twice as long
 _SECONDS_EACH = 5e-8
 
 
@@ -50,7 +52,7 @@ def _want_packed() -> None:
 
 
 def _unpacked(data: Any, name: str) -> Kept:
-    """The graph of packed bytes. Fault: the first error in them."""
+    """Returns the graph of packed bytes. Fault: they have an error; it is the first one."""
     _want_packed()
     view = memoryview(data)
     kept, told = Kept.of_packed(view)
@@ -63,20 +65,20 @@ def _unpacked(data: Any, name: str) -> Kept:
 
 
 def _is_set(name: str, given: Any) -> bool:
-    """A choice that is True or False. TypeError: it is anything else, such as a vertex or a column."""
+    """Returns a choice as a bool. TypeError: it isn't True or False, but for example a vertex or a column."""
     if not _is_choice(given):
         raise TypeError(f"{name} must be True or False, not {given!r}")
     return bool(given)
 
 
 def _is_choice(given: Any) -> bool:
-    """Whether it is True or False, also one of NumPy's."""
+    """Whether it is True or False, of Python or of NumPy."""
     kind = getattr(getattr(given, "dtype", None), "kind", None)
     return isinstance(given, bool) or bool(kind == "b" and not given.ndim)
 
 
 def _column_of(both_ways: Any) -> Any:
-    """The name of the column that tells which rows lead both ways; None if that is said of all. TypeError: it is no name."""
+    """Returns the name of the column for `both_ways`; None if it is True or False for all rows. TypeError: it can't be a name."""
     if _is_choice(both_ways):
         return None
     try:
@@ -88,7 +90,7 @@ def _column_of(both_ways: Any) -> Any:
     return both_ways
 
 
-# the trees of a block of sources, up to the first source without one, and why it has none
+# the trees of a block of sources, up to the first source without one, and the reason why it has none
 _Solved = Tuple[List[Tree], Optional[Exception]]
 
 
@@ -102,21 +104,24 @@ def _each(solved: _Solved) -> Iterator[Tree]:
 class Graph:
     """A graph with the vertices 1 to n, or with named vertices (`from_frame`, `from_networkx`).
 
-    `arcs` are triples of tail, head and length, a NumPy array of shape (m, 3), or all their numbers in one flat list: an
-    array('I'), a memoryview. With `both_ways` each of them leads back as well, from its head to its tail. Several threads may use one
+    `arcs` are triples of tail, head and length, a NumPy array of shape (m, 3), or all their numbers in one flat list, such as an
+    array('I') or a memoryview. With `both_ways` each arc also leads back, from its head to its tail. Several threads may use one
     graph. It can be copied and pickled.
 
-    The library keeps the graph in its own form, ready for each tree, and the Graph also keeps a copy of the numbers, 12 bytes per
-    arc, for `arcs` and `check`, so the list that was given may change afterwards. A graph that is loaded, turned or made both ways
-    makes these numbers only when they are asked for.
+    The library keeps the graph in its own form, ready for each tree. The Graph also keeps a copy of the numbers, 12 bytes per arc,
+    for `arcs` and `check`, so you may change your list afterwards. A graph that was loaded, turned or made both ways makes these
+    numbers when they are first needed.
 
     Lengths are whole numbers from 1 to 4294967295. With `unit` they may be any numbers above 0, and each is rounded to a whole
-    number of units, `round(length / unit)`. Answers are exact for the rounded lengths, so the length of a walk of k arcs is within
-    k half units of the true one. `within`, `floats`, frames and matrices are then in the lengths' own unit: seconds, for example,
-    for lengths in seconds with `unit=0.01`, a hundredth.
+    number of units, `round(length / unit)`. Results are exact for the rounded lengths, so the length of a path of k arcs is within
+    k half units of the true one. `within`, `floats`, frames and matrices are then in the unit of your lengths: in seconds, for
+    example, if these are seconds and `unit=0.01`. Lengths of 0, and what rounds to 0, are refused; with `zero="unit"` each of them
+    counts as one unit, or as 1 without a unit.
+
+    `nodes` are names for all vertices, in the order of their numbers, those without an arc among them (`named`); arcs have numbers.
 
     BadArc: an arc is invalid, or its length rounds to 0 or is too long in the unit. ValueError: there are no vertices or too many,
-    or an array has the wrong shape. TypeError: the numbers given are not whole.
+    or an array has the wrong shape. TypeError: the numbers are not whole.
 
     >>> graph = Graph(3, [(1, 2, 7), (2, 3, 1), (1, 3, 9)])
     >>> graph.n, graph.m
@@ -128,28 +133,39 @@ class Graph:
     [0, 15, 17]
     """
 
-    # whether its trees are those of walks towards their sources: of a twin whose arcs are turned
+    # whether its trees have the paths towards their sources, as in a twin with reversed arcs
     _towards = False
 
-    def __init__(self, n: int, arcs: Any = (), *, unit: Optional[float] = None, both_ways: bool = False) -> None:
+    def __init__(
+        self,
+        n: int,
+        arcs: Any = (),
+        *,
+        unit: Optional[float] = None,
+        both_ways: bool = False,
+        zero: Optional[str] = None,
+        nodes: Any = None,
+    ) -> None:
         both_ways = _is_set("both_ways", both_ways)
         refuse_frame(n)
         n = operator.index(n)
         if not 1 <= n <= MOST_VERTICES:
             raise ValueError(f"a graph has 1 to {MOST_VERTICES} vertices, not {n}")
-        unit = unit_of(unit)
-        self._keep(Terms(n, None, unit), numbers_of(n, arcs, unit), both_ways)
+        scale, names = scale_of(unit, zero), nodes
+        if nodes is not None:
+            names = names_for(nodes if isinstance(nodes, Names) else _convert.nodes_of(nodes), n)
+        self._keep(Terms(n, names, scale.unit), numbers_of(n, arcs, scale), both_ways)
 
     @classmethod
     def _of(cls, terms: Terms, numbers: memoryview, both_ways: bool = False) -> Graph:
-        """The graph with these numbers."""
+        """Returns the graph with these numbers."""
         graph = cls.__new__(cls)
         graph._keep(terms, numbers, both_ways)
         return graph
 
     @classmethod
     def _with(cls, terms: Terms, kept: Kept) -> Graph:
-        """The graph that the library keeps already."""
+        """Returns the graph that the library already keeps."""
         graph = cls.__new__(cls)
         graph._terms, graph._kept = terms, kept
         return graph
@@ -176,25 +192,24 @@ class Graph:
 
     @property
     def arcs(self) -> memoryview:
-        """The numbers of the arcs, three for each: tail, head, length. They are read-only.
+        """The numbers of the arcs, three for each: tail, head and length. They are read-only.
 
-        They have the order in which they were given. Those of a graph that was loaded, turned or made both ways stand by rising
-        tail, then head, then length, and are made when they are first asked for.
+        Their order is that of the arcs you gave. If the graph was loaded, turned or made both ways, they are ordered by tail, then
+        head, then length, and are made when they are first needed.
         """
         return self._kept.numbers()
 
     @property
     def names(self) -> Optional[Tuple[Any, ...]]:
-        """The names of the vertices, that of vertex v at index v - 1; None if they have no names.
+        """The names of the vertices, with that of vertex v at index v - 1; None if they have no names.
 
-        If there are names, all calls take and return vertices by name; lists of numbers (`Tree.predecessors`) still hold
-        numbers.
+        If there are names, all calls take and return vertices by name. Lists such as `Tree.predecessors` still hold numbers.
         """
         return self._terms.names
 
     @property
     def unit(self) -> Optional[float]:
-        """The length that counts as 1, in the unit of the lengths that were given; None if these were used as they are."""
+        """The length that counts as 1, in the unit of the given lengths; None if these are used as they are."""
         return self._terms.unit
 
     def __repr__(self) -> str:
@@ -219,23 +234,22 @@ class Graph:
         return cls._with(terms, _unpacked(packed, "gr"))
 
     def _numbered(self, unit: Optional[float]) -> Graph:
-        """The same graph without names, and in another unit."""
+        """Returns the same graph without names, and in another unit."""
         twin = self.__copy__()
         twin._terms = Terms(self.n, None, unit)
         return twin
 
     @classmethod
-    def read(cls, file: File, *, both_ways: bool = False) -> Graph:
-        """The graph of a .gr file (DIMACS: `p sp N M`, then `a TAIL HEAD LENGTH`), by the proved reader, or of a packed file.
+    def read(cls, file: Given, *, both_ways: bool = False) -> Graph:
+        """Reads a .gr file (DIMACS: `p sp N M`, then `a TAIL HEAD LENGTH`) with the proved reader, or a packed file.
 
-        `file` is a path (of a gzip file if it ends in .gz) or a file open for reading bytes. If its first byte is 0x89 it is packed,
-        as for each command of `spt`, and read as by `load`. With `both_ways` each arc leads back as well. Fault: the file has an
-        error; the first one is reported.
+        `file` is a path (of a gzip file if it ends in .gz), a file open for reading bytes, or the bytes themselves. If its first byte
+        is 0x89, it is taken for a packed file, as by each command of `spt`, and read as by `load`. With `both_ways` each arc also
+        leads back. Fault: the file has an error; the first one is reported.
 
-        >>> import io
-        >>> Graph.read(io.BytesIO(b"p sp 2 1\\na 1 2 3\\n"))
+        >>> Graph.read(b"p sp 2 1\\na 1 2 3\\n")
         Graph of 2 vertices and 1 arcs
-        >>> Graph.read(io.BytesIO(b"p sp 2 1\\na 1 2 0\\n"))
+        >>> Graph.read(b"p sp 2 1\\na 1 2 0\\n")
         Traceback (most recent call last):
         spt._faults.Fault: gr: line 2: 5 OutOfRange W
         lengths are whole numbers from 1 to 4294967295
@@ -245,13 +259,14 @@ class Graph:
         return cls._loaded(data, name, path, both_ways) if is_packed(data) else cls._parsed(data, name, both_ways)
 
     @classmethod
-    def load(cls, file: File, *, both_ways: bool = False) -> Graph:
-        """The graph of a packed file, as `save` and `spt pack` write it. It is tested whole, in far less time than a text is read.
+    def load(cls, file: Given, *, both_ways: bool = False) -> Graph:
+        """Reads a packed file, which `save` or `spt pack` wrote. This checks the whole file, and is far faster than reading text.
 
-        `file` is a path (of a gzip file if it ends in .gz) or a file open for reading bytes. Names and a unit come from the file
-        beside, `file` and `.json`, if there is one; an open file has none. With `both_ways` each arc leads back as well. Fault: the
-        file isn't packed, or was cut or changed; the first error is reported. ValueError: the file beside belongs to another graph.
-        SptError: the library is older than 1.4.
+        `file` is a path (of a gzip file if it ends in .gz), a file open for reading bytes, or the bytes themselves. Names and a unit
+        come from the JSON file beside it, the path with .json added, if there is one; an open file and bytes have none. With
+        `both_ways` each arc also leads back.
+        Fault: the file isn't packed, or was cut or changed; the first error is reported. ValueError: the JSON file belongs to
+        another graph. SptError: the library is older than 1.4.
 
         >>> import io
         >>> file = io.BytesIO()
@@ -272,16 +287,16 @@ class Graph:
         return cls._with(terms, kept.both_ways() if both_ways else kept)
 
     def save(self, file: File) -> None:
-        """Packs the graph into a file, from which `load`, `read` and each command of `spt` take it.
+        """Packs the graph into a file, which `load`, `read` and each command of `spt` accept.
 
-        `file` is a path (of a gzip file if it ends in .gz) or a file open for writing bytes. The bytes are those of `spt pack`, the
-        same for each order of the arcs. Names and a unit go into a file beside, `file` and `.json`; if the graph has none, the one
-        that `save` wrote there for an earlier graph is taken away. Each file is replaced as a whole, once both are written. `load`
-        gives back the names as they were, but for numbers of NumPy, which become plain ones.
+        `file` is a path (of a gzip file if it ends in .gz) or a file open for writing bytes. The bytes are those that `spt pack`
+        writes, whatever the order of the arcs. Names and a unit go into a JSON file beside it, the path with .json added. If the
+        graph has neither, `save` removes the JSON file that it wrote there for an earlier graph. Each file is replaced as a whole,
+        once both are written. `load` restores the names as they were, except that numbers of NumPy become plain ones.
 
-        TypeError: a name is no string, number, True, False or None, so JSON wouldn't give it back. ValueError: the graph has names
-        or a unit, and `file` is open or a device, so there is no place for them. FileExistsError: the file beside isn't one that
-        `save` wrote. SptError: there are more than 1073741824 arcs, or the library is older than 1.4.
+        TypeError: a name is not a string, a number, True, False or None, so JSON can't restore it. ValueError: the graph has names
+        or a unit, and `file` is open or a device, so there is no place for them. FileExistsError: `save` didn't write the JSON file
+        that is there. FileNotFoundError, IsADirectoryError: there is no such folder, or `file` is one. SptError: there are more than 1073741824 arcs, or the library is older than 1.4.
 
         >>> import os, tempfile
         >>> roads = {"u": ["Depot", "Mill"], "v": ["Mill", "Quay"], "minutes": [2.5, 4]}
@@ -293,11 +308,24 @@ class Graph:
         _want_packed()
         save(file, self._terms, self._kept.packed())
 
-    def turned(self) -> Graph:
-        """The graph with each arc turned round, from its head to its tail: the walks to a vertex are those from it, backwards.
+    def named(self, names: Any) -> Graph:
+        """Returns the same graph, whose vertices have these names, in the order of their numbers.
 
-        It is made at the first call, or at the first question with `towards=True`, and kept as long as this graph. SptError: the
-        library is older than 1.4.
+        `names` is `Names`, which several graphs may share, or anything that these are made of. ValueError: there are more or fewer
+        names than vertices.
+
+        >>> Graph(3, [(1, 2, 7), (2, 3, 1)]).named(["Depot", "Mill", "Quay"]).path("Depot", "Quay")
+        ['Depot', 'Mill', 'Quay']
+        """
+        given, twin = names_for(names, self.n), self.__copy__()
+        twin._terms = Terms(self.n, given, self.unit)
+        return twin
+
+    def turned(self) -> Graph:
+        """Returns the graph with each arc reversed. Its paths from a vertex are the paths to that vertex in this graph, backwards.
+
+        It is made at the first call, or at the first call of any kind with `towards=True`, and kept as long as this graph.
+        SptError: the library is older than 1.4.
 
         >>> list(Graph(3, [(1, 2, 7), (2, 3, 1)]).turned().arcs)
         [2, 1, 7, 3, 2, 1]
@@ -308,7 +336,7 @@ class Graph:
         return twin
 
     def _facing(self, towards: bool) -> Graph:
-        """The graph that is asked: this one, or its twin for the ways towards sources."""
+        """Returns the graph to search: this one, or its reversed twin for paths towards sources."""
         if not _is_set("towards", towards):
             return self
         twin = self.turned()
@@ -330,51 +358,72 @@ class Graph:
         return cls._of(Terms(told.n, None, None), numbers[: 3 * told.m].toreadonly(), both_ways)
 
     @classmethod
-    def from_scipy(cls, matrix: Any, *, unit: Optional[float] = None, both_ways: bool = False) -> Graph:
-        """The graph of a matrix as `scipy.sparse.csgraph` reads it; row i is vertex i + 1.
+    def from_scipy(
+        cls, matrix: Any, *, unit: Optional[float] = None, both_ways: bool = False, zero: Optional[str] = None
+    ) -> Graph:
+        """Makes the graph of a matrix, which is read as `scipy.sparse.csgraph` reads it; row i is vertex i + 1.
 
-        Lengths are whole numbers from 1, or use a `unit` (`Graph`). Duplicate entries of a COO matrix are summed. 0, `inf` and NaN
-        in a dense matrix are not arcs, nor are masked entries in a masked one, nor `inf` and NaN in a sparse one. ValueError: an
-        entry is not a length. A 0 that is stored in a sparse matrix would be an arc of length 0, so it is refused too, except on
-        the diagonal, where it changes nothing. With `both_ways` each arc leads back as well, as to SciPy with `directed=False`.
+        Lengths are whole numbers from 1, or any numbers above 0 with a `unit` (`Graph`). Duplicate entries of a COO matrix are summed.
+        In a dense matrix 0, `inf` and NaN are not arcs, nor are masked entries in a masked one, nor `inf` and NaN in a sparse one.
+        With `both_ways` each arc also leads back, as in SciPy with `directed=False`.
+
+        ValueError: an entry is not a length. A 0 that a sparse matrix stores, or a masked one doesn't mask, would be an arc of length
+        0, so it is refused too, except on the diagonal, where it changes nothing. With `zero="unit"` such a 0, and what rounds to
+        0, counts as one unit (`Graph`).
         """
-        both_ways, unit = _is_set("both_ways", both_ways), unit_of(unit)
-        n, arcs = _convert.arcs_of_matrix(matrix, unit)
-        return cls._of(Terms(n, None, unit), arcs, both_ways) if n else cls(n)
+        both_ways, scale = _is_set("both_ways", both_ways), scale_of(unit, zero)
+        n, arcs = _convert.arcs_of_matrix(matrix, scale)
+        return cls._of(Terms(n, None, scale.unit), arcs, both_ways) if n else cls(n)
 
     @classmethod
-    def from_networkx(cls, graph: Any, weight: Any = "weight", *, unit: Optional[float] = None) -> Graph:
-        """The graph of a NetworkX graph; its nodes become the names of the vertices.
+    def from_networkx(
+        cls, graph: Any, weight: Any = "weight", *, unit: Optional[float] = None, zero: Optional[str] = None
+    ) -> Graph:
+        """Makes the graph of a NetworkX graph, whose nodes become the names of the vertices, also those without an edge.
 
-        The attribute `weight` of an edge is its length, a whole number from 1, or any number above 0 with a `unit` (`Graph`). If
-        `weight` is a function, it is called with the two ends of an edge and the dict of its attributes (in a multigraph, the dict
-        of all edges between the two, by key), and returns the length, or None to leave the edge out; as in NetworkX, it is called
-        both ways along an undirected edge. If it is None, each length is 1. An edge of an undirected graph is two arcs.
-        ValueError: an edge has no such attribute, or one that is not a length; or the function returns something that is not.
+        The attribute `weight` of an edge is its length, a whole number from 1, or any number above 0 with a `unit` (`Graph`). With
+        `zero="unit"` lengths of 0, and what rounds to 0, count as one unit. If
+        `weight` is a function, it gets the two ends of an edge and the dict of its attributes (in a multigraph, the dict of all
+        edges between the two, by key). It returns the length, or None to leave the edge out. As in NetworkX, it is called for both
+        directions of an undirected edge. If `weight` is None, each length is 1. An undirected edge becomes two arcs. ValueError: an
+        edge has no such attribute, or the attribute, or what the function returns, is not a length.
 
         To read a missing attribute as 1, as NetworkX does, use `lambda tail, head, data: data.get("weight", 1)`; in a multigraph,
         such as those of OSMnx, use `lambda tail, head, data: min(edge.get("weight", 1) for edge in data.values())`.
         """
-        unit = unit_of(unit)
-        names, arcs = _convert.arcs_of_networkx(graph, weight, unit)
-        return cls._named(names, arcs, unit)
+        scale = scale_of(unit, zero)
+        names, arcs = _convert.arcs_of_networkx(graph, weight, scale)
+        return cls._named(names, arcs, scale.unit)
 
     @classmethod
     def from_frame(
-        cls, edges: Any, tail: Any, head: Any, length: Any, *, unit: Optional[float] = None, both_ways: Any = False
+        cls,
+        edges: Any,
+        tail: Any,
+        head: Any,
+        length: Any,
+        *,
+        unit: Optional[float] = None,
+        both_ways: Any = False,
+        zero: Optional[str] = None,
+        nodes: Any = None,
     ) -> Graph:
-        """The graph of a pandas frame, or of any mapping of columns: each row is an arc, from the name in one column to the name in
-        another.
+        """Makes the graph of a pandas frame, or of any mapping of columns. Each row is an arc.
 
-        The values in the columns `tail` and `head` are the names of the vertices: numbers, strings, anything that can be a dict
-        key. The column `length` has whole numbers from 1, or any numbers above 0 with a `unit` (`Graph`). The index levels of a
-        frame count as columns too, so the edges of OSMnx can be used as they are.
+        The columns `tail` and `head` have the names of the vertices at the arc's ends: numbers, strings, or anything else that can
+        be a dict key. The column `length` has whole numbers from 1, or any numbers above 0 with a `unit` (`Graph`). The index levels
+        of a frame count as columns too, so the edges of OSMnx can be used as they are. With `zero="unit"` lengths of 0, and what
+        rounds to 0, count as one unit.
 
-        A row leads one way. With `both_ways=True` each leads back as well. If `both_ways` is the name of a column, those rows lead
-        back that have True there, or 1; the others have False or 0.
+        A row leads one way. With `both_ways=True` each row leads both ways. If `both_ways` is the name of a column, rows with True
+        or 1 there lead both ways, and rows with False or 0 one way.
 
-        BadArc: the length in some row is invalid. KeyError: there is no such column. ValueError: a name is missing, the column
-        `both_ways` has anything else, or the columns have different numbers of rows.
+        `nodes` are names of vertices, as a list, or a column or the index of a frame; a vertex that no row names exists too. They
+        come first in `names`, in this order, and then the other names in the order in which the rows have them.
+
+        BadArc: the length in a row is invalid. KeyError: there is no such column. ValueError: a name is missing, `nodes` has one
+        twice, names are text in one column and numbers in another, the column `both_ways` has other values, or the columns have
+        different numbers of rows.
 
         >>> roads = {"u": ["Depot", "Mill"], "v": ["Mill", "Quay"], "minutes": [2.5, 4]}
         >>> graph = Graph.from_frame(roads, "u", "v", "minutes", unit=0.5)
@@ -383,37 +432,39 @@ class Graph:
         >>> roads["two-way"] = [True, False]
         >>> Graph.from_frame(roads, "u", "v", "minutes", unit=0.5, both_ways="two-way").path("Mill", "Depot")
         ['Mill', 'Depot']
+        >>> Graph.from_frame(roads, "u", "v", "minutes", unit=0.5, nodes=["Farm", "Mill"]).names
+        ('Farm', 'Mill', 'Depot', 'Quay')
         """
-        unit, back = unit_of(unit), _column_of(both_ways)
-        names, arcs = _convert.arcs_of_frame(edges, (tail, head, length), unit, back)
-        return cls._named(names, arcs, unit, back is None and bool(both_ways))
+        scale, back = scale_of(unit, zero), _column_of(both_ways)
+        names, arcs = _convert.arcs_of_frame(edges, (tail, head, length), scale, back, nodes)
+        return cls._named(names, arcs, scale.unit, back is None and bool(both_ways))
 
     @classmethod
     def _named(cls, names: Any, arcs: memoryview, unit: Optional[float], both_ways: bool = False) -> Graph:
-        """The graph whose vertices have these names, in the order of their numbers."""
+        """Returns the graph whose vertices have these names, in the order of their numbers."""
         if not len(names):
             raise ValueError(f"a graph has 1 to {MOST_VERTICES} vertices, not 0")
         return cls._of(Terms(len(names), names, unit), arcs, both_ways)
 
     def to_scipy(self) -> Any:
-        """A SciPy sparse array (csr, float64); row i is vertex i + 1. Of parallel arcs it has the shortest.
+        """Returns a SciPy sparse array (csr, float64); row i is vertex i + 1. It has the shortest of parallel arcs.
 
-        Its lengths are in the unit of those that were given, each a whole multiple of `unit`.
+        Its lengths are in the unit of the given lengths, and each is a whole multiple of `unit`.
         """
         return self._terms.told(_convert.matrix_of_arcs(self.n, self.arcs))
 
     def tree(
         self, source: Any, *, within: Optional[float] = None, delta: Optional[int] = None, towards: bool = False
     ) -> Tree:
-        """The tree from a source, or its part within a distance.
+        """Returns the shortest-path tree from a source, or its part within a distance.
 
-        If `within` is given, vertices farther than this count as unreachable, and the search goes no farther: a small part takes
-        little time, however large the graph is, as long as none of the lists is asked for. `delta` is ignored, except that one out of
-        range is refused. The distance of an unreachable vertex is UNREACHED, 2^64 - 1, which wraps around in
-        sums (`Tree.masked`, `Tree.floats`).
+        With `within`, vertices farther away count as unreachable, and the search goes no farther. A small part takes little time
+        however large the graph is, as long as you use none of the lists. `delta` is ignored, except that it is refused if it is out
+        of range. The distance of an unreachable vertex is UNREACHED, 2^64 - 1, which wraps around in sums (`Tree.masked`,
+        `Tree.floats`).
 
-        With `towards` the distance of a vertex is that of a walk from it to the source, and its predecessor is the next vertex on
-        that walk, the smallest-numbered if there are several. This is answered in the graph `turned`, which takes memory of its own.
+        With `towards` the distance of a vertex is that from it to the source, and its predecessor is the next vertex on that path,
+        the smallest-numbered if there are several. The search uses the graph `turned`, which takes memory of its own.
 
         NoSuchVertex, BadDelta, BadLimit: an argument is invalid. TooFar: a distance is above `reach(n)`, and `within` isn't given.
         MemoryError: there is not enough memory.
@@ -441,34 +492,37 @@ class Graph:
         sources: Iterable[Any],
         *,
         within: Optional[float] = None,
-        workers: int = 1,
+        workers: Workers = 1,
         delta: Optional[int] = None,
         progress: Progress = None,
         towards: bool = False,
     ) -> Iterator[Tree]:
-        """The trees from several sources, in the order of the sources, computed by `workers` threads.
+        """Yields the trees from several sources, in the order of the sources; `workers` threads compute them.
 
-        Each tree is as from `tree`, with UNREACHED (2^64 - 1) for unreachable vertices, and with `towards` that of the walks to its
-        source; an exception is raised when its source is due. A tree that is kept may share its memory with neighbouring trees.
-        Nothing starts before the first tree is requested. If `progress` is given, it is called every few trees, by the consuming
-        thread, with the number of trees found and their total.
+        With `workers="all"` there is one thread for each processor, and at most 64.
+
+        Each tree is the one that `tree` returns, with UNREACHED (2^64 - 1) for unreachable vertices, and with `towards` that of the
+        paths to its source. An exception is raised when its source is due. A tree may share its memory with neighbouring trees.
+        Nothing starts before you take the first tree. The consuming thread calls `progress`, if there is one, every few trees with
+        the number of trees found and their total.
 
         >>> [tree.distances[2] for tree in Graph(3, [(1, 2, 7), (2, 3, 1)]).trees([1, 2], workers=2)]
         [8, 1]
         """
-        limit, asked, facing = self._terms.limit(within), self._asked(sources, workers), self._facing(towards)
-        pace = Pace(_MOST_PLACES // self.n)
-        blocks = in_order(len(asked), workers, pace, lambda at, end: facing._solve(asked[at:end], limit, delta), progress)
+        limit, threads = self._terms.limit(within), workers_of(workers)
+        asked = [self._terms.number(source) for source in sources]
+        facing, pace = self._facing(towards), Pace(_MOST_PLACES // self.n)
+        blocks = in_order(len(asked), threads, pace, lambda at, end: facing._solve(asked[at:end], limit, delta), progress)
         return itertools.chain.from_iterable(map(_each, blocks))
 
     def nearest(
         self, sources: Iterable[Any], *, within: Optional[float] = None, delta: Optional[int] = None, towards: bool = False
     ) -> Forest:
-        """The distance of each vertex from the nearest of the sources, and the source from which it is reached.
+        """Returns the distance of each vertex from the nearest of the sources, and that source.
 
-        The order of the sources does not matter, nor does naming one more than once; without sources, no vertex is reached. If
-        `within` is given, vertices farther than this count as unreachable. With `towards` it is the source that is reached soonest
-        from the vertex, and walks are as in `tree`. The exceptions are those of `tree`; a TooFar names no source.
+        The order of the sources does not matter, and one may appear more than once. Without sources, no vertex is reached. With
+        `within`, vertices farther away count as unreachable. With `towards`, distances are those to the nearest source, and paths
+        are as in `tree`. The exceptions are those of `tree`; a TooFar names no source.
 
         >>> graph = Graph(4, [(1, 2, 3), (1, 3, 3), (2, 4, 2), (3, 4, 2)])
         >>> list(graph.nearest([2, 3]).sources)
@@ -492,26 +546,27 @@ class Graph:
         sources: Iterable[Any],
         targets: Iterable[Any],
         *,
-        workers: int = 1,
+        workers: Workers = 1,
         delta: Optional[int] = None,
         progress: Progress = None,
         towards: bool = False,
     ) -> Matrix:
-        """The distances of the targets from each source, computed row by row by `workers` threads; with `towards` those from each
-        target to each source.
+        """Returns the distance of each target from each source, or, with `towards`, from each target to each source.
 
-        NumPy treats it as an array (uint64) with a row for each source and a column for each target, with UNREACHED (2^64 - 1)
+        NumPy treats it as an array (uint64) with a row for each source and a column for each target. It has UNREACHED (2^64 - 1)
         for an unreachable target, and BEYOND (2^64 - 2) if the target has no distance up to `reach(n)` and some vertex is too far;
         `Matrix.floats`, `Matrix.masked` and `Matrix.frame` have neither. Without NumPy, `distances` is a `memoryview` of that
-        shape, or a flat one if it is empty. The search of a row goes no farther than its targets. If `progress` is given, it is
-        called every few rows, by the calling thread, with the number of rows found and their total.
-        NoSuchVertex, BadDelta, MemoryError: as for `tree`.
+        shape, or a flat one if it is empty.
+
+        `workers` threads compute the rows; "all" is one for each processor, at most 64. The search of a row goes no farther than its targets. The calling thread calls
+        `progress`, if there is one, every few rows with the number of rows found and their total. NoSuchVertex, BadDelta,
+        MemoryError: as for `tree`.
 
         >>> graph = Graph(4, [(1, 2, 3), (1, 3, 3), (2, 4, 2), (3, 4, 2)])
         >>> graph.matrix([1, 2], [4, 2]).tolist(), graph.matrix([4], [1, 2], towards=True).tolist()
         ([[5, 3], [2, 0]], [[5, 2]])
         """
-        rows = words(self._asked(sources, workers))
+        threads, rows = workers_of(workers), words([self._terms.number(source) for source in sources])
         columns, width = words([self._terms.number(target) for target in targets]), self._width(delta)
         _want_near()
         facing, many = self._facing(towards), len(columns)
@@ -520,17 +575,18 @@ class Graph:
         def call(at: int, end: int) -> Batch:
             return facing._kept.matrix(rows[at:end], columns, width, distances[at * many : end * many])
 
-        for told in in_order(len(rows), workers, Pace(len(rows)), call, progress):
+        for told in in_order(len(rows), threads, Pace(len(rows)), call, progress):
             if told.status != OK:
                 raise facing._refused(told.status, told.vertex, told.index, None)
         begins, ends = (tuple(map(self._terms.name, it)) for it in (rows, columns))
         return Matrix(begins, ends, in_rows(distances, len(rows), many), self._terms, facing._towards)
 
     def pair(self, source: Any, target: Any, *, towards: bool = False) -> Optional[Pair]:
-        """The distance and predecessor of a target; None if no walk leads to it. The search ends as soon as they are known.
+        """Returns the distance of a target, as a number of units, and its predecessor; None if there is no path.
 
-        With `towards` they are the distance from the target to the source, and the next vertex on that walk, which is then called
-        `next`, too.
+        The search ends as soon as they are known. `length` of the result is the distance in the unit of your lengths (`Pair`).
+        With `towards` they are the distance from the target to the source, and the next vertex on that path, which is then also
+        called `next`.
 
         >>> graph = Graph(3, [(1, 2, 7), (2, 3, 1)])
         >>> graph.pair(1, 3), graph.pair(3, 1, towards=True)
@@ -539,10 +595,10 @@ class Graph:
         begin, end = self._terms.number(source), self._terms.number(target)
         facing = self._facing(towards)
         found = facing._pair(begin, end)
-        return found and pair_of(found[0], self._terms.name(found[1]), facing._towards)
+        return found and pair_of(found[0], self._terms.name(found[1]), facing._towards, self._terms)
 
     def _pair(self, source: int, target: int) -> Optional[Tuple[int, int]]:
-        """The distance of a target, and the number of the vertex before it."""
+        """Returns the distance of a target, and the number of the vertex before it."""
         if not HAS_PAIR:
             tree = self._tree(source)
             told = Found(OK, tree.predecessors[target - 1], tree.distances[target - 1])
@@ -552,12 +608,28 @@ class Graph:
             raise self._refused(told.status, told.pred, told.index, source)
         return None if told.dist == UNREACHED else (told.dist, told.pred)
 
+    def route(self, source: Any, target: Any, *, towards: bool = False) -> Optional[Route]:
+        """Returns the vertices of a shortest path, as `path` does, with its distance; None if there is no path.
+
+        The search goes as far as the target: once for its distance, and once within that for the path.
+
+        >>> graph = Graph(3, [(1, 2, 2.5), (2, 3, 4)], unit=0.5)
+        >>> graph.route(1, 3), graph.route(3, 1)
+        (Route(vertices=(1, 2, 3), distance=13, length=6.5), None)
+        """
+        begin, end, facing = self._terms.number(source), self._terms.number(target), self._facing(towards)
+        found = facing._pair(begin, end)
+        if found is None:
+            return None
+        walk = facing._tree(begin, found[0]).walk(begin, end)
+        return Route(tuple(walk or ()), found[0], self._terms.told(found[0]))
+
     def path(self, source: Any, target: Any, *, towards: bool = False) -> Optional[list[Any]]:
-        """The vertices of a shortest walk, with the smallest-numbered predecessors; None if no walk leads to the target.
+        """Returns the vertices of a shortest path, the one with the smallest-numbered predecessors; None if there is no path.
 
         They are in the order of travel: from the source to the target, or, with `towards`, from the target to the source.
 
-        A short walk takes little time. A long one may take up to about twice as long as the tree: for several targets from one
+        A short path takes little time. A long one may take up to about twice as long as a tree, so for several targets of one
         source use its `tree`.
 
         >>> graph = Graph(3, [(1, 2, 7), (2, 3, 1)])
@@ -569,7 +641,7 @@ class Graph:
         return path and [self._terms.name(it) for it in (path if towards else reversed(path))]
 
     def _path(self, begin: int, target: int) -> Optional[list[int]]:
-        """The numbers of the vertices from a target back to the source."""
+        """Returns the numbers of the vertices from a target back to the source."""
         path = [target]
         end = perf_counter() + (self.n + self.m) * _SECONDS_EACH
         while path[-1] != begin:
@@ -587,9 +659,9 @@ class Graph:
         return path
 
     def check(self, tree: Tree) -> Any:
-        """None if this is the tree from its source, otherwise the lowest vertex whose distance or predecessor is wrong.
+        """Returns None if this is the tree from its source, otherwise the lowest vertex whose distance or predecessor is wrong.
 
-        A tree with `towards` is checked as one of walks to its source. ValueError: it has more or fewer entries than the graph has
+        A tree with `towards` must have the paths to its source. ValueError: it has more or fewer entries than the graph has
         vertices. TypeError: its distances aren't unsigned 64-bit numbers, or its predecessors aren't unsigned 32-bit numbers.
 
         >>> graph = Graph(2, [(1, 2, 7)])
@@ -609,19 +681,13 @@ class Graph:
         return self._terms.name(told.vertex) if told.status == WRONG else None
 
     def _width(self, delta: Optional[int]) -> int:
-        """The width of a bucket in the form that the library takes."""
+        """Returns the width of a bucket, as the library takes it."""
         if delta is not None and not 1 <= delta <= reach(self.n):
             raise BadDelta(self.n, delta, reach(self.n))
         return delta or 0
 
-    def _asked(self, sources: Iterable[Any], workers: int) -> list[int]:
-        """The numbers of the sources. ValueError: there are no workers."""
-        if workers < 1:
-            raise ValueError(f"{workers} workers: at least 1 is needed")
-        return [self._terms.number(source) for source in sources]
-
     def _solve(self, sources: list[int], limit: Optional[int], delta: Optional[int]) -> _Solved:
-        """The trees of sources, or their parts within a limit, up to the first source that has none, and why it has none."""
+        """Returns the trees of sources, or their parts within a limit, up to the first source without one, and the reason."""
         n, k, width = self.n, len(sources), self._width(delta)
         if limit is not None:
             return self._parts(sources, limit, width)
@@ -637,7 +703,7 @@ class Graph:
     def _call(
         self, sources: Iterable[Any], delta: int, distances: memoryview, predecessors: memoryview
     ) -> tuple[int, Optional[Exception]]:
-        """How many sources have their trees, and why the next one has none."""
+        """Returns how many sources have their trees, and why the next one has none."""
         asked = words(sources)
         told = self._kept.trees(asked, delta, distances, predecessors)
         if told.status == OK:
@@ -646,7 +712,7 @@ class Graph:
         return told.done, self._refused(told.status, told.vertex, told.index, source)
 
     def _parts(self, sources: list[int], limit: int, delta: int) -> _Solved:
-        """The parts of the trees of sources, up to the first source that has none, and why it has none."""
+        """Returns the parts of the trees of sources, up to the first source without one, and the reason."""
         _want_near()
         trees: list[Tree] = []
         for source in sources:
@@ -657,7 +723,7 @@ class Graph:
         return trees, None
 
     def _part(self, source: int, limit: int, delta: int) -> Tree:
-        """The part of the tree of a source: the vertices in it if these are few, or a list of all."""
+        """Returns a part of the tree of a source: a list of its vertices if these are few, else of all vertices."""
         name = self._terms.name(source)
         told, listed = self._kept.part(source, limit) if HAS_PART else (Part(OK), None)
         if told.status != OK:
@@ -671,10 +737,10 @@ class Graph:
         return Tree(name, distances.toreadonly(), predecessors.toreadonly(), self._terms, self._towards)
 
     def _refused(self, status: int, vertex: int, index: int, source: Optional[int]) -> Exception:
-        """The exception for a status. Sources, delta and limit were checked before the call."""
+        """Returns the exception for a status. Sources, delta and limit were checked before the call."""
         if status == BAD_ARC:
             arc = tuple(self.arcs[3 * index : 3 * index + 3])
-            return BadArc(self.n, index, arc, arc_fault(self.n, arc, None))
+            return BadArc(self.n, index, arc, arc_fault(self.n, arc, Scale()))
         return self._too_far(vertex, source, self._towards) if status == TOO_FAR else failure(status)
 
     def _too_far(self, vertex: int, source: Optional[int], towards: bool) -> TooFar:

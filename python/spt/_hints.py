@@ -1,4 +1,4 @@
-"""The second line of a Fault: what the program `spt` says about an invalid line of a graph file, or word of a packed one."""
+"""The second line of a Fault: the hint of the program `spt` for an invalid line of a graph file, or word of a packed one."""
 
 from __future__ import annotations
 
@@ -22,7 +22,7 @@ _OTHER_FORM = "changed by a transfer in text mode, or of a newer form; copy it a
 _CHANGED = "the packed graph was cut or changed; copy it again, or pack it again by spt pack"
 # the numbers that are known without the line
 _RANGES = {"N": f"N is a number from 1 to {MOST_VERTICES}", "M": f"M is a number from 0 to {_MOST_ARCS}", "W": _LENGTHS}
-# how files begin that are not plain text, what they are, and how to read them
+# the first bytes of files that are not plain text, what these files are, and how to read them
 _FORMS = (
     (b"\x1f\x8b", "compressed with gzip", "gzip.open(path), or a name that ends in .gz"),
     (b"BZh", "compressed with bzip2", "bz2.open(path)"),
@@ -44,7 +44,7 @@ _OTHERS = (
 
 
 def second_line(text: bytes, number: int, kind: str, field: Optional[str]) -> Optional[str]:
-    """The hint for the line with this number, from 1, of a graph's text that has this fault; None if there is none."""
+    """Returns the hint for this error in the line with this number, from 1, of a graph's text; None if there is none."""
     other = _other_form(text)
     if other:
         return other
@@ -59,7 +59,7 @@ def second_line(text: bytes, number: int, kind: str, field: Optional[str]) -> Op
 
 
 def word_line(data: bytes, byte: int, kind: str, field: Optional[str]) -> str:
-    """The hint for the word of a packed graph behind so many bytes, which has this fault."""
+    """Returns the hint for this error in the word of a packed graph that begins at this byte."""
     if not is_packed(data) and data:
         return _other_form(data) or _NOT_PACKED
     if kind == "OtherForm":
@@ -68,12 +68,12 @@ def word_line(data: bytes, byte: int, kind: str, field: Optional[str]) -> str:
 
 
 def is_packed(data: bytes) -> bool:
-    """Whether a file that begins like this is packed, as the commands of the program tell."""
+    """Whether the commands of the program take a file with this beginning for a packed one."""
     return data[:1] == b"\x89"
 
 
 def _other_form(data: bytes) -> Optional[str]:
-    """What a file is that is neither plain text nor a packed graph, and how to read it; None if that isn't known."""
+    """Returns the kind of a file that is neither plain text nor a packed graph, and how to read it; None if it isn't known."""
     return next((f"{what}; give {reader}" for begin, what, reader in _FORMS if data.startswith(begin)), None)
 
 
@@ -82,7 +82,7 @@ def _of_vertex(vertices: Optional[int]) -> str:
 
 
 def _of_range(line: bytes, field: Optional[str], vertices: Optional[int]) -> Optional[str]:
-    """The hint for a number that is out of range."""
+    """Returns the hint for a number that is out of range."""
     if field in _RANGES:
         return _RANGES[field]
     fields = line.split()
@@ -91,7 +91,7 @@ def _of_range(line: bytes, field: Optional[str], vertices: Optional[int]) -> Opt
 
 
 def _of_form(line: bytes, vertices: Optional[int]) -> str:
-    """The hint for a line that has no known form, or comes before the problem line."""
+    """Returns the hint for a line that has no known form, or comes before the problem line."""
     try:
         told = " ".join(line.decode().split())
     except UnicodeDecodeError:
@@ -110,7 +110,7 @@ def _of_form(line: bytes, vertices: Optional[int]) -> str:
 
 
 def _of_number(fields: list[str], place: int, vertices: Optional[int]) -> str:
-    """The hint for a field that is not a number."""
+    """Returns the hint for a field that is not a number."""
     field = fields[place]
     if re.fullmatch(r"\d*|\+.*", field, re.ASCII) or fields[0] == "p":
         return _SPELLING

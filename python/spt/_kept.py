@@ -11,7 +11,7 @@ from typing import Any, Callable, Iterator, List, Optional, Sequence, Tuple
 
 from ._buffers import address, in_bytes, zeros
 from ._faults import SptError
-from ._library import BAD_SIZE, MEMORY, OK, Answer, Batch, Found, Packed, Part, Place, library
+from ._library import BAD_SIZE, IN_USE, MEMORY, OK, Answer, Batch, Found, Packed, Part, Place, library
 from ._packed import numbers_of
 
 # a list of the vertices of a part, their distances and their predecessors
@@ -21,14 +21,18 @@ MOST_PACKED = 1 << 30
 
 
 class _Handle:
-    """A place that keeps a graph, for one call at a time, and lists for the parts that its calls find."""
+    """A handle on a graph for one call at a time, with lists for the parts of trees that its calls find.
+
+    The library refuses a place that another call is using (IN_USE). Here that can't happen: a thread takes a handle out of the list
+    for its call, and fills a new one under a lock.
+    """
 
     def __init__(self) -> None:
         self.place = Place()
         self.lists: Optional[Listed] = None
 
     def listed(self, places: int) -> Listed:
-        """Lists with so many places."""
+        """Returns lists with this number of places."""
         if self.lists is None:
             self.lists = zeros("I", places), zeros("Q", places), zeros("I", places)
         return self.lists
@@ -40,23 +44,26 @@ def _free(handles: List[_Handle]) -> None:
 
 
 def failure(status: int) -> Exception:
-    """The exception for a status that says nothing about what was given."""
+    """Returns the exception for a status that isn't about the arguments."""
     if status == MEMORY:
         return MemoryError("spt: no memory for a graph or a tree")
+    if status == IN_USE:
+        return SptError("another call of the library is using this graph's place")
     return SptError(f"the library returned status {status}")
 
 
 class Kept:
-    """A handle that keeps a graph of n vertices and m arcs, in the library's own form, until it is released.
+    """A graph of n vertices and m arcs that the library keeps in its own form until this object is released.
 
-    Several threads may use it: each call has a handle of its own for the same graph, which then waits for the next call, so that near
-    targets and small parts cost what they touch. There are as many as calls at once, and each may hold 8 bytes for each vertex.
+    Several threads may use it. Each call takes a handle on the graph that no other call is using, and returns it for later calls, so
+    that a near target or a small part takes time only for what the search touches. There are as many handles as there were calls at
+    once, and each may hold 8 bytes per vertex.
     """
 
     def __init__(self) -> None:
         self._place, self._lock = Place(), threading.Lock()
         self._waiting: List[_Handle] = []
-        # what is made once it is asked for, by one thread alone
+        # held while something is made at its first use, so that only one thread makes it
         self._once = threading.Lock()
         self._numbers: Optional[memoryview] = None
         self._turned: Optional[Kept] = None
@@ -66,13 +73,13 @@ class Kept:
 
     def _has(self, n: int, m: int) -> None:
         self.n, self.m = n, m
-        # how many vertices a part in a list may have, and the least limit, if any, that was found to be too great for that
+        # how many vertices a part in a list may have, and the least limit, if any, that was too great for that
         self._places = n // 64 + 64
         self._large: Optional[int] = None
 
     @classmethod
     def of_arcs(cls, n: int, arcs: memoryview) -> Tuple[Kept, Answer]:
-        """The graph with these arcs, whose numbers it keeps as well, and the result of making it."""
+        """Returns the graph with these arcs, whose numbers it keeps too, and the result of making it."""
         kept = cls()
         told: Answer = library.spt_graph_new(address(arcs), len(arcs) // 3, n, byref(kept._place))
         kept._has(n, len(arcs) // 3)
@@ -81,18 +88,18 @@ class Kept:
 
     @classmethod
     def of_packed(cls, data: memoryview) -> Tuple[Kept, Packed]:
-        """The graph that was packed into these bytes, and the result of making it."""
+        """Returns the graph that was packed into these bytes, and the result of making it."""
         kept = cls()
         told: Packed = library.spt_graph_load(byref(kept._place), address(data), data.nbytes)
         kept._has(told.n, told.m)
         return kept, told
 
     def both_ways(self) -> Kept:
-        """The graph of these arcs and, for each of them, one that leads back."""
+        """Returns the graph with these arcs and, for each of them, one that leads back."""
         return self._made(library.spt_graph_both_ways, 2 * self.m)
 
     def turned(self) -> Kept:
-        """The graph with its arcs turned round. It is made once, and kept as long as this one."""
+        """Returns the graph with its arcs reversed. It is made once, and kept as long as this one."""
         with self._once:
             if self._turned is None:
                 self._turned = self._made(library.spt_graph_turned, self.m)
@@ -109,7 +116,7 @@ class Kept:
         return made
 
     def packed(self) -> memoryview:
-        """The words of the packed graph."""
+        """Returns the words of the packed graph."""
         if self.m > MOST_PACKED:
             raise SptError(f"a graph of {self.m} arcs can't be packed: a packed graph has at most {MOST_PACKED}")
         made = zeros("I", self.n + 2 * self.m + 9)
@@ -122,18 +129,18 @@ class Kept:
 
     @property
     def has_numbers(self) -> bool:
-        """Whether the numbers of its arcs are there already."""
+        """Whether the numbers of its arcs have been made."""
         return self._numbers is not None
 
     def numbers(self) -> memoryview:
-        """The numbers of its arcs: those that it was made of, else, made once, in the order of the packed graph."""
+        """Returns the numbers of its arcs: those that it was made from, else, made once, in the order of the packed graph."""
         with self._once:
             if self._numbers is None:
                 self._numbers = numbers_of(self.packed())
             return self._numbers
 
     def trees(self, sources: memoryview, delta: int, distances: memoryview, predecessors: memoryview) -> Batch:
-        """Writes the trees of the sources, up to the first that has none."""
+        """Writes the trees of the sources, up to the first source without one."""
         with self._shared() as (own, status):
             if status != OK:
                 return Batch(status)
@@ -144,7 +151,7 @@ class Kept:
         return told
 
     def pair(self, source: int, target: int) -> Found:
-        """One target of a source. The search ends when it is found."""
+        """Finds one target of a source. The search ends when it is found."""
         with self._shared() as (own, status):
             if status != OK:
                 return Found(status)
@@ -160,7 +167,7 @@ class Kept:
         return told
 
     def part(self, source: int, limit: int) -> Tuple[Part, Optional[Listed]]:
-        """The list of a part of a tree; None if it isn't a small one."""
+        """Returns the list of a part of a tree; None if it isn't a small one."""
         if self._large is not None and limit >= self._large:
             return Part(OK), None
         with self._shared() as (own, status):
@@ -192,7 +199,7 @@ class Kept:
 
     @contextmanager
     def _shared(self) -> Iterator[Tuple[_Handle, int]]:
-        """A handle for a single call, and the status of making it."""
+        """Yields a handle for a single call, and the status of making it."""
         try:
             own, status = self._waiting.pop(), OK
         except IndexError:
@@ -207,6 +214,6 @@ class Kept:
 
 
 def _slices(*lists: memoryview) -> Iterator[int]:
-    """The address and the length of each list."""
+    """Yields the address and the length of each list."""
     for numbers in lists:
         yield from (address(numbers), len(numbers))

@@ -1,13 +1,15 @@
-"""The functions of spt.h, through ctypes. A call releases the GIL."""
+"""The functions of spt.h, called through ctypes. A call releases the GIL."""
 
 from __future__ import annotations
 
 import ctypes
 import os
 
-from ctypes import POINTER, c_bool, c_size_t, c_uint32, c_uint64, c_void_p
+from ctypes import POINTER, c_size_t, c_uint32, c_uint64, c_void_p
 
 OK, BAD_SIZE, BAD_DELTA, BAD_ARC, NO_SUCH_VERTEX, TOO_FAR, MEMORY, BAD_TEXT, LONG_TEXT, WRONG, NO_GRAPH, BAD_LIMIT = range(12)
+# a library before 1.5 has no such status
+IN_USE = 12
 MOST_VERTICES = 2**32 - 2
 NAME = "libspt.so.1"
 
@@ -62,7 +64,7 @@ class Saved(ctypes.Structure):
 class Place(ctypes.Structure):
     """spt_graph"""
 
-    _fields_ = [("at", c_void_p), ("full", c_bool)]
+    _fields_ = [("at", c_void_p), ("state", c_uint64)]
 
 
 class Text(ctypes.Structure):
@@ -83,12 +85,12 @@ _FUNCTIONS = {
     "spt_reach": ([c_uint32], c_uint64),
     "spt_graph_new": ([*_SLICE, c_uint32, POINTER(Place)], Answer),
     "spt_graph_share": ([POINTER(Place), POINTER(Place)], Answer),
-    "spt_graph_free": ([POINTER(Place)], None),
+    "spt_graph_free": ([POINTER(Place)], c_uint32),
     "spt_graph_trees": ([POINTER(Place), *_SLICE, c_uint64, *_SLICE, *_SLICE], Batch),
     "spt_check": ([*_SLICE, c_uint32, c_uint32, *_SLICE, *_SLICE], Answer),
     "spt_gr": ([*_SLICE, *_SLICE], Text),
 }
-# functions that a library of a version before 1.4 may lack
+# functions that a library older than 1.4 may lack
 _LATER = {
     "spt_graph_pair": ([POINTER(Place), c_uint32, c_uint32, c_uint64], Found),
     "spt_graph_within": ([POINTER(Place), c_uint32, c_uint64, c_uint64, *_SLICE, *_SLICE], Answer),
@@ -116,7 +118,7 @@ def _load() -> ctypes.CDLL:
             function = getattr(library, name)
             function.argtypes, function.restype = given, told
     except (OSError, AttributeError) as error:
-        raise LibraryNotFound(f"spt: {error}; set SPT_LIBRARY to the path of libspt.so (docs/EMBEDDING.md)") from error
+        raise LibraryNotFound(f"spt: {error}; set SPT_LIBRARY to the path of libspt.so (docs/PYTHON.md)") from error
     return library
 
 
@@ -130,7 +132,7 @@ NO_LIMIT = 2**64 - 1
 
 
 def reach(n: int) -> int:
-    """The greatest distance that a tree of n vertices can hold; 0 if there is no graph of n vertices.
+    """Returns the greatest distance that a tree of n vertices can hold; 0 if there is no graph of n vertices.
 
     >>> reach(4)
     17592186044414

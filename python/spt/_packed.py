@@ -8,12 +8,12 @@ import operator
 
 from ._buffers import zeros
 
-# how many words stand before the ends of rows, and how many behind the arcs
+# the numbers of words before the ends of rows, and after the arcs
 _FRONT, _SUM = 4, 4
 
 
 def numbers_of(words: memoryview) -> memoryview:
-    """The numbers of the arcs of a packed graph, given as its words, in its order, in a read-only list."""
+    """Returns the numbers of the arcs of a packed graph, given as its words, in its order, in a read-only list."""
     n, m = words[2], words[3]
     ends, rows = words[_FRONT : _FRONT + 1 + n], words[_FRONT + 1 + n : len(words) - _SUM]
     numbers = zeros("I", 3 * m)
@@ -29,13 +29,13 @@ def numbers_of(words: memoryview) -> memoryview:
 
 
 def _tails(ends: memoryview) -> memoryview:
-    """The tail of each arc, by where the rows of vertices end, the first of which stands behind a 0."""
+    """Returns the tail of each arc, from a 0 and the ends of the vertices' rows."""
     counts = map(operator.sub, ends[1:], ends)
     return memoryview(array.array("I", itertools.chain.from_iterable(map(itertools.repeat, itertools.count(1), counts))))
 
 
 def turned(numbers: memoryview) -> memoryview:
-    """The numbers of arcs with their ends exchanged."""
+    """Returns the numbers of arcs with their ends exchanged."""
     made = zeros("I", len(numbers))
     made[0::3], made[1::3], made[2::3] = numbers[1::3], numbers[0::3], numbers[2::3]
     return made.toreadonly()

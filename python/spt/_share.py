@@ -1,16 +1,20 @@
-"""Rows computed by threads in short calls to the library, so that an interrupt ends them soon and progress can be reported."""
+"""Threads that compute rows in short calls to the library, so that an interrupt ends them soon and progress can be reported."""
 
 from __future__ import annotations
 
+import operator
+import os
 import threading
 
 from collections import deque
 from concurrent.futures import Future
 from queue import SimpleQueue
 from time import perf_counter
-from typing import Any, Callable, Generic, Iterator, Optional, TypeVar
+from typing import Any, Callable, Generic, Iterator, Literal, Optional, TypeVar, Union
 
 T = TypeVar("T")
+# how many threads compute: a number from 1, or "all" for one on each processor
+Workers = Union[int, Literal["all"]]
 # called to report progress: how many rows are done, and how many there are
 Progress = Optional[Callable[[int, int], Any]]
 
@@ -18,10 +22,32 @@ Progress = Optional[Callable[[int, int], Any]]
 _AIM = 0.05
 # by what factor the number of rows may grow from one call to the next
 _GROWTH = 8
+# how many threads "all" is at most, as in the program
+_MOST_WORKERS = 64
+
+
+def workers_of(given: Any) -> int:
+    """Returns the number of threads. ValueError: it is below 1, or a text other than "all". TypeError: it isn't a whole number."""
+    if isinstance(given, str):
+        if given != "all":
+            raise ValueError(f'workers {given!r}: must be a number from 1, or "all" for all processors')
+        return min(_processors(), _MOST_WORKERS)
+    try:
+        workers = operator.index(given)
+    except TypeError:
+        raise TypeError(f'workers {given!r}: must be a number from 1, or "all" for all processors') from None
+    if workers < 1:
+        raise ValueError(f"{workers} workers: at least 1 is needed")
+    return workers
+
+
+def _processors() -> int:
+    """Returns the number of processors that this process may use."""
+    return len(os.sched_getaffinity(0)) if hasattr(os, "sched_getaffinity") else os.cpu_count() or 1
 
 
 class Pace:
-    """How many rows a call should have, judging by how long earlier calls took; at most `most`."""
+    """Chooses how many rows a call should have, from the time that earlier calls took; at most `most`."""
 
     def __init__(self, most: int) -> None:
         self._most, self.rows = max(1, most), 1
@@ -33,10 +59,10 @@ class Pace:
 
 
 class _Crew(Generic[T]):
-    """Threads that call a function for the rows they are given, until they are let go.
+    """Threads that call a function for blocks of rows until they are let go.
 
-    Unlike with the threads of `concurrent.futures`, the process can end without waiting for them: a call for one row of a large
-    graph takes a while, and the library only writes to lists that live as long as the call.
+    Unlike the threads of `concurrent.futures`, they don't keep the process from ending: a call for one row of a large graph takes a
+    while, and the library only writes to lists that live as long as the call.
     """
 
     def __init__(self, threads: int, call: Callable[[int, int], T]) -> None:
@@ -69,10 +95,10 @@ class _Crew(Generic[T]):
 
 
 def in_order(total: int, workers: int, pace: Pace, call: Callable[[int, int], T], progress: Progress) -> Iterator[T]:
-    """The results of a call for each block of rows, in the order of the rows.
+    """Yields the results of a call for each block of rows, in the order of the rows.
 
-    Blocks are processed by `workers` threads, with as many again queued. If the consumer stops, for example because of an
-    interrupt, no further call is started, and running calls are not waited for.
+    `workers` threads process the blocks, and as many blocks again are queued. If the consumer stops, for example because of an
+    interrupt, no further call starts, and nothing waits for the running calls.
     """
 
     def timed(begin: int, end: int) -> T:

@@ -1,66 +1,57 @@
-"""How a graph shows its vertices and distances: by number and whole, or by name and in a unit of its own."""
+"""The form in which a graph shows vertices and distances: as whole numbers, or as names and in a unit."""
 
 from __future__ import annotations
 
 import math
 import operator
 
-from functools import cached_property
-from typing import Any, Iterable, Optional
+from typing import Any, Iterable, Optional, Tuple
 
 from ._faults import BadLimit, NoSuchVertex
 from ._library import reach
+from ._names import Names
 
 
 class Terms:
-    """The names of n vertices, that of vertex v at index v - 1, and the unit of lengths; None if there are none.
+    """The names of n vertices, and the unit of lengths; None if there are none.
 
-    The names are a tuple, or a NumPy or pandas array that becomes a tuple only when needed.
+    The names are `Names`, or what these are made of.
     """
 
     def __init__(self, n: int, names: Any, unit: Optional[float]) -> None:
-        self.n, self.unit, self._given, self._index = n, unit, names, None
+        self.n, self.unit, self._index = n, unit, None
+        self._names = names if names is None or isinstance(names, Names) else Names(names)
 
     def __reduce__(self) -> tuple[Any, ...]:
-        return Terms, (self.n, self._given, self.unit)
+        return Terms, (self.n, None if self._names is None else self._names.given, self.unit)
 
     def __eq__(self, other: object) -> bool:
         if self is other:
             return True
-        return isinstance(other, Terms) and (self.unit, self.n, self.names) == (other.unit, other.n, other.names)
+        return isinstance(other, Terms) and (self.unit, self.n, self._names) == (other.unit, other.n, other._names)
 
-    @cached_property
-    def names(self) -> Optional[tuple[Any, ...]]:
-        return self._given if self._given is None or isinstance(self._given, tuple) else tuple(self._given.tolist())
-
-    @cached_property
-    def _numbers(self) -> dict[Any, int]:
-        """The number of each name."""
-        return dict(zip(self.names or (), range(1, self.n + 1)))
+    @property
+    def names(self) -> Optional[Tuple[Any, ...]]:
+        return None if self._names is None else self._names.listed
 
     def __hash__(self) -> int:
         return hash((self.n, self.unit))
 
     def number(self, vertex: Any) -> int:
-        """The number of a vertex. NoSuchVertex: there is none with this name, or with this number if there are no names."""
-        if self._given is None:
-            number = operator.index(vertex)
-            if not 1 <= number <= self.n:
-                raise NoSuchVertex(self.n, number)
-            return number
-        try:
-            return self._numbers[vertex]
-        except (KeyError, TypeError):
-            raise NoSuchVertex(self.n, vertex, True) from None
+        """Returns the number of a vertex. NoSuchVertex: none has this name, or this number if there are no names."""
+        if self._names is not None:
+            return self._names.number(vertex)
+        number = operator.index(vertex)
+        if not 1 <= number <= self.n:
+            raise NoSuchVertex(self.n, number)
+        return number
 
     def name(self, number: int) -> Any:
-        """The name of a vertex, or its number if there are no names; for 0, which is not a vertex, None if there are names."""
-        if self.names is None:
-            return number
-        return self.names[number - 1] if number else None
+        """Returns the name of a vertex, or its number if there are no names; for 0, which is no vertex, None if there are names."""
+        return number if self._names is None else self._names.name(number)
 
     def limit(self, within: Any) -> Optional[int]:
-        """The greatest distance, in the library's numbers, that is not above the given one."""
+        """Returns the greatest distance, as a number of the library, that is not above the given one."""
         if within is None:
             return None
         most = reach(self.n)
@@ -79,20 +70,20 @@ class Terms:
         return limit
 
     def told(self, distances: Any) -> Any:
-        """The library's distances in the unit: for 0.001 they are divided by 1000, not multiplied, which would add stray digits."""
+        """Returns the library's distances in the unit. For 0.001 it divides by 1000, since multiplying would add stray digits."""
         if self.unit is None:
             return distances
         parts = round(1 / self.unit) if self.unit < 1 and 1 / self.unit < math.inf else 0
         return distances / parts if parts and 1 / parts == self.unit else distances * self.unit
 
     def index(self) -> Any:
-        """The vertices as the index of a pandas frame."""
+        """Returns the vertices as the index of a pandas frame."""
         if self._index is None:
-            self._index = index_of(range(1, self.n + 1) if self._given is None else self._given)
+            self._index = index_of(range(1, self.n + 1) if self._names is None else self._names.given)
         return self._index
 
     def column(self, vertices: memoryview) -> Any:
-        """Vertices as a column of a pandas frame, with a missing value for a vertex of 0."""
+        """Returns vertices as a column of a pandas frame, with a missing value for a vertex of 0."""
         import numpy
         import pandas
 
@@ -106,7 +97,7 @@ class Terms:
 
 
 def index_of(vertices: Iterable[Any]) -> Any:
-    """Vertices, by name or number, as the rows or columns of a frame."""
+    """Returns vertices, by name or number, as the rows or columns of a frame."""
     pandas = want_pandas()
     if isinstance(vertices, range):
         return pandas.RangeIndex(vertices.start, vertices.stop, name="vertex")

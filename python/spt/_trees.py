@@ -1,7 +1,8 @@
-"""The library's answers: trees, forests, pairs and matrices."""
+"""The library's results: trees, forests, pairs and matrices."""
 
 from __future__ import annotations
 
+import array
 import pickle
 
 from bisect import bisect_left
@@ -13,36 +14,49 @@ from ._buffers import column, filled, in_bytes
 from ._terms import Terms, index_of, want_pandas
 
 UNREACHED = 2**64 - 1
-"""The distance of a vertex that no walk leads to.
+"""The distance of an unreachable vertex.
 
 It is the greatest 64-bit number, so sums in NumPy's uint64 wrap around: adding 1 gives 0. `Tree.masked` and `Tree.floats` do not
 contain it.
 """
 
 BEYOND = 2**64 - 2
-"""The entry of a matrix for a target whose distance is above `reach(n)`, or that is unreachable while some vertex is that far."""
+"""The entry of a matrix for a target that is farther than `reach(n)`, or that is unreachable while some vertex is that far."""
 
 # how many entries of a list the repr of a tree shows
 _SHOWN = 8
 
 
-class Pair(NamedTuple):
-    """The distance of a target and the vertex before it.
-
-    The distance is a whole number. In a graph with names the vertex is a name, or None if the target is the source.
-    """
-
+class _Pair(NamedTuple):
     distance: int
     predecessor: Any
 
 
-class Onward(Pair):
-    """The distance of a target from which a walk leads towards a source, and the vertex after it, which is the next on that walk.
+class Pair(_Pair):
+    """The distance of a target, as a whole number of units, and the vertex before it.
 
-    It is a Pair, whose `predecessor` is called `next`, too.
+    `length` is the same distance in the unit of the graph's lengths. In a graph with names the vertex is a name, or None if the target
+    is the source.
+
+    >>> import spt
+    >>> pair = spt.Graph(2, [(1, 2, 2.5)], unit=0.5).pair(1, 2)
+    >>> pair, pair.length
+    (Pair(distance=5, predecessor=1), 2.5)
     """
 
-    __slots__ = ()
+    _length: Optional[float] = None
+
+    @property
+    def length(self) -> float:
+        """The distance in the unit of the graph's lengths; without a `unit`, the distance."""
+        return self.distance if self._length is None else self._length
+
+
+class Onward(Pair):
+    """The distance from a target to a source, as a whole number of units, and the next vertex on that path.
+
+    It is a Pair whose `predecessor` is also called `next`.
+    """
 
     @property
     def next(self) -> Any:
@@ -52,22 +66,87 @@ class Onward(Pair):
         return f"Pair(distance={self.distance!r}, next={self.next!r})"
 
 
-def pair_of(distance: int, predecessor: Any, towards: bool) -> Pair:
-    return Onward(distance, predecessor) if towards else Pair(distance, predecessor)
+def pair_of(distance: int, predecessor: Any, towards: bool, terms: Terms) -> Pair:
+    pair = Onward(distance, predecessor) if towards else Pair(distance, predecessor)
+    if terms.unit is not None:
+        pair._length = terms.told(distance)
+    return pair
+
+
+class Part(NamedTuple):
+    """The vertices that are reached, by number, each with its distance, a number of units, and its predecessor.
+
+    They are three read-only lists of equal length.
+    """
+
+    vertices: memoryview
+    distances: memoryview
+    predecessors: memoryview
+
+
+class Route(NamedTuple):
+    """A shortest path: its vertices in the order of travel, its distance as a whole number of units, and its length.
+
+    `length` is the distance in the unit of the graph's lengths, if it has one.
+    """
+
+    vertices: Tuple[Any, ...]
+    distance: int
+    length: float
+
+
+def _reached(distances: memoryview, predecessors: memoryview) -> Part:
+    """Returns the part of two lists with an entry for each vertex, by rising number."""
+    try:
+        import numpy
+    except ImportError:
+        vertices = array.array("I", (at for at, distance in enumerate(distances, 1) if distance != UNREACHED))
+        columns = array.array("Q", (distances[it - 1] for it in vertices)), array.array("I", (predecessors[it - 1] for it in vertices))
+        return Part(*(memoryview(it).toreadonly() for it in (vertices, *columns)))
+    places = numpy.flatnonzero(numpy.asarray(distances) != UNREACHED)
+    vertices = in_bytes((places + 1).astype(numpy.uint32), "I").toreadonly()
+    if len(places) == len(distances):
+        return Part(vertices, distances, predecessors)
+    return Part(vertices, _taken(distances, places), _taken(predecessors, places))
+
+
+def _taken(numbers: memoryview, places: Any) -> memoryview:
+    """Returns the numbers at these places, which are a NumPy array."""
+    import numpy
+
+    return in_bytes(numpy.asarray(numbers).take(places), numbers.format).toreadonly()
+
+
+def _nearest_first(part: Part) -> Part:
+    """Returns a part by rising distance; by number where distances are equal."""
+    try:
+        import numpy
+    except ImportError:
+        order = sorted(range(len(part.vertices)), key=part.distances.__getitem__)
+        lists = (memoryview(array.array(it.format, map(it.__getitem__, order))) for it in part)
+        return Part(*(it.toreadonly() for it in lists))
+    order = numpy.argsort(numpy.asarray(part.distances), kind="stable")
+    return Part(*(_taken(numbers, order) for numbers in part))
 
 
 def _masked(distances: Any, least: int) -> Any:
-    """A NumPy array as a masked array, with everything at or above the least masked."""
+    """Returns a NumPy array as a masked array, with everything at or above the least masked."""
     import numpy
 
     return numpy.ma.MaskedArray(distances, distances >= least, fill_value=numpy.uint64(UNREACHED))  # type: ignore[no-untyped-call]
 
 
 def _floats(distances: Any, least: int, terms: Terms) -> Any:
-    """A NumPy array as floats in the unit, with `inf` for everything at or above the least."""
+    """Returns a NumPy array as floats in the unit, with `inf` for everything at or above the least."""
     import numpy
 
     return numpy.where(distances >= least, numpy.inf, terms.told(distances.astype(float)))
+
+
+def _closed(numbers: Any) -> Any:
+    """Returns a NumPy array, which is read-only from now on."""
+    numbers.flags.writeable = False
+    return numbers
 
 
 class _Reached:
@@ -93,7 +172,7 @@ class _Reached:
         return self.terms
 
     def _values(self) -> tuple[Any, ...]:
-        """The values of the fields; their lists are read-only."""
+        """Returns the values of the fields; their lists are read-only."""
         return tuple(getattr(self, name) for name in self._formats)
 
     def __reduce_ex__(self, protocol: Any) -> tuple[Any, ...]:
@@ -112,7 +191,7 @@ class _Reached:
         return hash(tuple(it.tobytes() if isinstance(it, memoryview) else it for it in self._values()))
 
     def masked(self) -> Any:
-        """The distances as a NumPy masked array (uint64), without a copy; unreachable vertices are masked.
+        """Returns the distances, numbers of units, as a NumPy masked array (uint64), not copied; unreachable vertices are masked.
 
         Sums and means skip them, and `filled()` has UNREACHED for them. The distances are whole numbers, in units of the graph's
         `unit` if it has one.
@@ -122,7 +201,7 @@ class _Reached:
         return _masked(numpy.asarray(self.distances), UNREACHED)
 
     def floats(self) -> Any:
-        """The distances as a new NumPy array (float64), `inf` for unreachable vertices, in the unit of the graph's lengths.
+        """Returns the distances as a new NumPy array (float64), in the unit of the graph's lengths, with `inf` if unreachable.
 
         If the graph has no `unit`, each distance is exact, since none is above `reach(n)`, which is below 2^44, and floats are
         exact for whole numbers up to 2^53. Sums above that are rounded: to even numbers up to 2^54, to multiples of 4 up to 2^55,
@@ -132,11 +211,20 @@ class _Reached:
 
         return _floats(numpy.asarray(self.distances), UNREACHED, self._terms)
 
-    def frame(self) -> Any:
-        """A pandas frame with a row for each vertex, by name or number, in order.
+    @cached_property
+    def lengths(self) -> Any:
+        """The distance of each vertex in the unit of the graph's lengths, in a NumPy array (float64), with `inf` if unreachable.
 
-        Its columns are `distance` (`floats`), `predecessor` and, for a forest, `source`, with missing values where there is none. If
-        the walks lead towards sources, these columns are `distance`, `next` and `to`. ImportError: pandas isn't installed.
+        These are `floats`, computed once; the array is read-only.
+        """
+        return _closed(self.floats())
+
+    def frame(self) -> Any:
+        """Returns a pandas frame with a row for each vertex, by name or number, in order.
+
+        Its columns are `distance` (`floats`), `predecessor` and, for a forest, `source`; a vertex without a predecessor or a source
+        has a missing value there. If paths lead towards sources, the columns are `distance`, `next` and `to`. ImportError: pandas
+        isn't installed.
         """
         index, titles = self._terms.index(), ("next", "to") if self.towards else ("predecessor", "source")
         names = zip(titles, ("predecessors", "sources"))
@@ -144,19 +232,36 @@ class _Reached:
         return want_pandas().DataFrame({"distance": self.floats(), **lists}, index=index)
 
     def _entry(self, number: int) -> Tuple[int, int]:
-        """The distance and predecessor of a vertex, by number."""
+        """Returns the distance and predecessor of a vertex, by number."""
         return self.distances[number - 1], self.predecessors[number - 1]
 
+    def part(self, *, nearest_first: bool = False) -> Part:
+        """Returns the vertices that are reached, by number, with their distances and predecessors, as three lists of equal length.
+
+        They are ordered by number, or, with `nearest_first`, by distance and then by number. A small part of a large graph
+        (`within`) takes only the time for what it reaches. In a graph with names, vertex v is `graph.names[v - 1]`.
+
+        >>> import spt
+        >>> tree = spt.Graph(4, [(1, 3, 2), (3, 2, 4), (1, 4, 9)]).tree(1, within=6)
+        >>> [list(it) for it in tree.part()], list(tree.part(nearest_first=True).vertices)
+        ([[1, 2, 3], [0, 6, 2], [0, 3, 1]], [1, 3, 2])
+        """
+        part = self._reached()
+        return _nearest_first(part) if nearest_first else part
+
+    def _reached(self) -> Part:
+        return _reached(self.distances, self.predecessors)
+
     def pair(self, target: Any) -> Optional[Pair]:
-        """The distance and predecessor of a target; None if no walk leads to it."""
+        """Returns the distance of a target, as a number of units, and its predecessor; None if there is no path (`Pair`)."""
         distance, predecessor = self._entry(self._terms.number(target))
-        return None if distance == UNREACHED else pair_of(distance, self._terms.name(predecessor), self.towards)
+        return None if distance == UNREACHED else pair_of(distance, self._terms.name(predecessor), self.towards, self._terms)
 
     def _shown_predecessors(self) -> str:
         return f"{'next' if self.towards else 'predecessors'} {_shown(self.predecessors, {})}"
 
     def back(self, source: int, target: int) -> Optional[list[int]]:
-        """The numbers of the vertices from a target back to a source, by predecessors; None if no walk leads to the target."""
+        """Returns the numbers of the vertices from a target back to a source, by predecessors; None if there is no path."""
         if self._entry(target)[0] == UNREACHED:
             return None
         path = [target]
@@ -167,7 +272,7 @@ class _Reached:
         return path
 
     def walk(self, source: int, target: int) -> Optional[list[Any]]:
-        """The vertices of the walk between a source and a target, by number, in the order of travel; None if there is none."""
+        """Returns the vertices of the path between the source and target with these numbers, in the order of travel; None if none."""
         path = self.back(source, target)
         return path and [self._terms.name(it) for it in (path if self.towards else reversed(path))]
 
@@ -177,13 +282,13 @@ class Tree(_Reached):
     """The shortest-path tree from a source, or its part within a distance.
 
     `distances` and `predecessors` are lists of unsigned 64-bit and 32-bit numbers, with vertex v at index v - 1: UNREACHED and 0
-    for an unreachable vertex, 0 and 0 for the source. UNREACHED is 2^64 - 1, which wraps around in sums: `masked` and `floats`
-    give the distances without it. The lists are read-only, and `numpy.asarray` takes them without a copy. A tree that is made from
-    other lists copies those that are writable. In a graph with names, `source`, `path`, `pair` and `frame` use the names, and
-    vertex v of the lists is `graph.names[v - 1]`.
+    for an unreachable vertex, 0 and 0 for the source. `distances` count units; `lengths` are in the unit of the graph's lengths.
+    UNREACHED is 2^64 - 1, which wraps around in sums: `masked` and `floats` return the distances without it. The lists are
+    read-only, and `numpy.asarray` takes them without a copy. If you make a tree of other lists, it copies those that are writable.
+    In a graph with names, `source`, `path`, `pair` and `frame` use the names, and vertex v of the lists is `graph.names[v - 1]`.
 
-    If `towards` is True, each distance is that of a walk from the vertex to the source, and the predecessor of a vertex is the next
-    vertex on that walk. Paths list vertices in the order of travel either way.
+    If `towards` is True, each distance is that from the vertex to the source, and the predecessor of a vertex is the next vertex on
+    that path. Paths list vertices in the order of travel either way.
 
     Trees are equal if their sources, distances, predecessors, names, units and directions are equal. They can be dict keys, and can
     be pickled and copied.
@@ -207,9 +312,9 @@ class Tree(_Reached):
 
     @classmethod
     def listed(cls, source: Any, part: Tuple[memoryview, memoryview, memoryview], terms: Terms, towards: bool) -> Tree:
-        """The part of a tree that has these vertices, by rising number, with their distances and predecessors.
+        """Returns the part of a tree with these vertices, by rising number, and their distances and predecessors.
 
-        The lists with an entry for each vertex are made when they are first asked for.
+        The lists with an entry for each vertex are made when they are first needed.
         """
         tree = cls.__new__(cls)
         tree.__dict__.update(source=source, terms=terms, towards=towards, _part=part)
@@ -226,6 +331,10 @@ class Tree(_Reached):
             self.__dict__[each] = whole.toreadonly()
         return self.__dict__[name]
 
+    def _reached(self) -> Part:
+        part = self.__dict__.get("_part")
+        return Part(*part) if part is not None else super()._reached()
+
     def _entry(self, number: int) -> Tuple[int, int]:
         part = self.__dict__.get("_part")
         if part is None:
@@ -240,9 +349,9 @@ class Tree(_Reached):
         return f"Tree {'towards' if self.towards else 'from'} {self.source} over {len(self.distances)} vertices: {told}"
 
     def path(self, target: Any) -> Optional[list[Any]]:
-        """The vertices of the tree's walk between the source and a target, in the order of travel; None if there is none.
+        """Returns the vertices of the tree's path between the source and a target, in the order of travel; None if there is none.
 
-        The walk leads from the source to the target, or, in a tree that is `towards` its source, from the target to the source.
+        The path leads from the source to the target, or, in a tree `towards` its source, from the target to the source.
 
         >>> import spt
         >>> graph = spt.Graph(3, [(1, 2, 5), (2, 3, 5)])
@@ -257,9 +366,9 @@ class Forest(_Reached):
     """The distances from the nearest of several sources, or those within a distance.
 
     `distances`, `predecessors` and `sources` are lists of unsigned numbers, of 64, 32 and 32 bits, with vertex v at index v - 1:
-    its least distance from any source, the smallest vertex before it on such a walk, and the source from which it is reached, to
-    which the predecessors lead back. They are UNREACHED, 0 and 0 for an unreachable vertex, and 0, 0 and the vertex itself for a
-    source. The lists are like those of a `Tree`, and so is `towards`: then `sources` has the source to which the walk leads.
+    its distance from the nearest source, a number of units, the smallest vertex before it on such a path, and that source, to which
+    the predecessors lead back. They are UNREACHED, 0 and 0 for an unreachable vertex, and 0, 0 and the vertex itself for a source.
+    The lists are like those of a `Tree`, and so are `lengths` and `towards`: then `sources` has the source to which the path leads.
 
     >>> import spt
     >>> forest = spt.Graph(4, [(1, 2, 3), (1, 3, 3), (2, 4, 2), (3, 4, 2)]).nearest([3, 1])
@@ -283,18 +392,18 @@ class Forest(_Reached):
         return f"Forest{' towards its sources' if self.towards else ''} over {len(self.distances)} vertices: {told}"
 
     def source(self, target: Any) -> Any:
-        """The source from which a target is reached, or to which its walk leads; None if there is no walk."""
+        """Returns the source from which a target is reached, or to which its path leads; None if there is no path."""
         number = self.sources[self._terms.number(target) - 1]
         return self._terms.name(number) if number else None
 
     def path(self, target: Any) -> Optional[list[Any]]:
-        """The vertices of the walk between a target and its source, in the order of travel (`Tree.path`); None if there is none."""
+        """Returns the vertices of the path between a target and its source, in the order of travel (`Tree.path`); None if none."""
         place = self._terms.number(target)
         return self.walk(self.sources[place - 1], place)
 
 
 def _of_floats(name: str) -> Callable[..., Any]:
-    """A method that applies this one to the floats of a matrix."""
+    """Returns a method that applies this one to the floats of a matrix."""
 
     def call(self: Matrix, *given: Any) -> Any:
         return getattr(self.floats(), name)(*(it.floats() if isinstance(it, Matrix) else it for it in given))
@@ -303,7 +412,7 @@ def _of_floats(name: str) -> Callable[..., Any]:
 
 
 def _of_array(name: str) -> Callable[..., Any]:
-    """A method that applies this one to the array of a matrix."""
+    """Returns a method that applies this one to the array of a matrix."""
 
     def call(self: Matrix, *given: Any) -> Any:
         return getattr(self._array, name)(*(it._array if isinstance(it, Matrix) else it for it in given))
@@ -315,12 +424,12 @@ def _of_array(name: str) -> Callable[..., Any]:
 class Matrix:
     """The distances of targets from sources: a row for each source, a column for each target.
 
-    If `towards` is True, each is the distance of a walk from the target to the source.
+    If `towards` is True, each is the distance from the target to the source.
 
-    `distances` has them as whole numbers, in a NumPy array (uint64), or in a `memoryview` if NumPy isn't installed: UNREACHED if
-    no walk leads to a target, BEYOND if it is too far. `floats`, `masked` and `frame` have neither, and sums, products and
-    quotients of a matrix are those of its `floats`. Otherwise it acts as an array, also for NumPy (`numpy.asarray`): `distances`,
-    or `floats` in a graph with a unit.
+    `distances` has them as whole numbers of units, in a NumPy array (uint64), or in a `memoryview` if NumPy isn't installed: UNREACHED if
+    there is no path, BEYOND if a target is too far. `floats`, `masked` and `frame` have neither, and sums, products and quotients
+    of a matrix are those of its `floats`. Otherwise a matrix acts as an array, also for NumPy (`numpy.asarray`): as `distances`, or
+    as `floats` in a graph with a unit.
 
     >>> import spt
     >>> matrix = spt.Graph(3, [(1, 2, 7), (2, 3, 1)]).matrix([1, 2], [3, 1])
@@ -341,13 +450,13 @@ class Matrix:
         return f"Matrix of {len(self.sources)} sources and {len(self.targets)} targets{more}"
 
     def masked(self) -> Any:
-        """The distances as a NumPy masked array (uint64), without a copy; unreachable and too far targets are masked."""
+        """Returns the distances, numbers of units, as a NumPy masked array (uint64); unreachable and too far targets are masked."""
         import numpy
 
         return _masked(numpy.asarray(self.distances), BEYOND)
 
     def floats(self) -> Any:
-        """The distances as a new NumPy array (float64), in the unit of the graph's lengths (`Tree.floats`).
+        """Returns the distances as a new NumPy array (float64), in the unit of the graph's lengths (`Tree.floats`).
 
         It has `inf` for unreachable and too far targets.
         """
@@ -356,14 +465,22 @@ class Matrix:
         return _floats(numpy.asarray(self.distances), BEYOND, self.terms)
 
     def frame(self) -> Any:
-        """`floats` as a pandas frame, with the sources as rows and the targets as columns.
+        """Returns `floats` as a pandas frame, with the sources as rows and the targets as columns.
 
-        Rows are named `source` and columns `target`, or, in a matrix that is `towards` its sources, `to` and `from`. ImportError:
+        The rows are named `source` and the columns `target`, or, in a matrix `towards` its sources, `to` and `from`. ImportError:
         pandas isn't installed.
         """
         names = ("to", "from") if self.towards else ("source", "target")
         index = [index_of(it).rename(name) for it, name in zip((self.sources, self.targets), names)]
         return want_pandas().DataFrame(self.floats(), index=index[0], columns=index[1])
+
+    @cached_property
+    def lengths(self) -> Any:
+        """The distances in the unit of the graph's lengths, in a NumPy array (float64), with `inf` if unreachable or too far.
+
+        These are `floats`, computed once; the array is read-only.
+        """
+        return _closed(self.floats())
 
     @cached_property
     def _array(self) -> Any:
@@ -405,7 +522,7 @@ class Matrix:
 
 
 def in_rows(distances: memoryview, rows: int, columns: int) -> Any:
-    """The numbers in rows and columns, as a NumPy array if NumPy is installed."""
+    """Returns the numbers in rows and columns, as a NumPy array if NumPy is installed."""
     try:
         import numpy
     except ImportError:
@@ -421,7 +538,7 @@ def _matrix_again(
 
 
 def _shown(numbers: memoryview, names: dict[int, str]) -> str:
-    """The numbers; if there are many, only the first and the last."""
+    """Returns the numbers as text; if there are many, only the first and the last."""
     if len(numbers) > _SHOWN:
         ends = _shown(numbers[: _SHOWN // 2], names), _shown(numbers[-(_SHOWN // 2) :], names)
         return ", ..., ".join(ends)
@@ -429,5 +546,5 @@ def _shown(numbers: memoryview, names: dict[int, str]) -> str:
 
 
 def pickled(numbers: memoryview, protocol: int) -> Any:
-    """A list in a form that can be pickled: from protocol 5 on without a copy."""
+    """Returns a list in a form that can be pickled: from protocol 5 on without a copy."""
     return pickle.PickleBuffer(numbers) if protocol >= 5 else numbers.tobytes()

@@ -141,14 +141,14 @@ static void constants(void) {
     count("pair of none", spt_graph_pair(&none, 1, 1, 0).status == SPT_NO_GRAPH);
     count("counts of none", spt_graph_counts(&none).status == SPT_NO_GRAPH);
     count("trees of none", spt_graph_trees(&none, &one, 1, 0, dist, 4, pred, 4).status == SPT_NO_GRAPH);
-    count("share of none", spt_graph_share(&none, &other).status == SPT_OK && !other.full);
+    count("share of none", spt_graph_share(&none, &other).status == SPT_OK && other.state == 0);
     count("new", spt_graph_new(diamond, 5, 4, &graph).status == SPT_OK);
     const spt_graph *seen = &graph;
     void *at = graph.at;
-    count("pair", spt_graph_pair(seen, 1, 4, 0).dist == 5 && graph.at == at && graph.full);
-    count("counts", spt_graph_counts(seen).m == 5 && graph.at == at && graph.full);
-    count("trees", spt_graph_trees(seen, &one, 1, 0, dist, 4, pred, 4).done == 1 && graph.at == at && graph.full);
-    count("share", spt_graph_share(seen, &other).status == SPT_OK && graph.at == at && graph.full && other.full);
+    count("pair", spt_graph_pair(seen, 1, 4, 0).dist == 5 && graph.at == at && graph.state == 1);
+    count("counts", spt_graph_counts(seen).m == 5 && graph.at == at && graph.state == 1);
+    count("trees", spt_graph_trees(seen, &one, 1, 0, dist, 4, pred, 4).done == 1 && graph.at == at && graph.state == 1);
+    count("share", spt_graph_share(seen, &other).status == SPT_OK && graph.at == at && graph.state == 1 && other.state == 1);
     spt_graph_free(&graph);
     spt_graph_free(&other);
 }

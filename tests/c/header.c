@@ -10,7 +10,7 @@ static void versions(void) {
     snprintf(wanted, sizeof wanted, "%d.%d.%d", SPT_VERSION_MAJOR, SPT_VERSION_MINOR, SPT_VERSION_PATCH);
     count("the parts of the version", !strcmp(wanted, SPT_VERSION));
     int parts = SPT_VERSION_MAJOR * 10000 + SPT_VERSION_MINOR * 100 + SPT_VERSION_PATCH;
-    count("the number of the version", SPT_VERSION_NUMBER == parts && SPT_VERSION_NUMBER >= 10400);
+    count("the number of the version", SPT_VERSION_NUMBER == parts && SPT_VERSION_NUMBER >= 10500);
     count("the library is of this header", spt_version() == SPT_VERSION_NUMBER);
 #if SPT_VERSION_NUMBER < 10400
     count("the preprocessor reads it", 0);
@@ -20,7 +20,8 @@ static void versions(void) {
 /* Each status has a text of its own, and other numbers have another. */
 static void statuses(void) {
     const spt_status all[] = {SPT_OK, SPT_BAD_SIZE, SPT_BAD_DELTA, SPT_BAD_ARC, SPT_NO_SUCH_VERTEX, SPT_TOO_FAR,
-                              SPT_MEMORY, SPT_BAD_TEXT, SPT_LONG_TEXT, SPT_WRONG, SPT_NO_GRAPH, SPT_BAD_LIMIT};
+                              SPT_MEMORY, SPT_BAD_TEXT, SPT_LONG_TEXT, SPT_WRONG, SPT_NO_GRAPH, SPT_BAD_LIMIT,
+                              SPT_IN_USE};
     const uint32_t many = sizeof all / sizeof *all;
     for (uint32_t i = 0; i < many; i++) {
         const char *text = spt_status_text(all[i]);
@@ -49,7 +50,7 @@ static void nulls(void) {
     spt_found pair = spt_pair(NULL, 0, 2, 1, 2, 0);
     count("a pair", pair.status == SPT_OK && pair.dist == SPT_UNREACHED && pair.pred == 0);
 
-    spt_graph graph = {NULL, false};
+    spt_graph graph = {NULL, 0};
     count("a graph of no arcs", spt_graph_new(NULL, 0, 2, &graph).status == SPT_OK);
     trees = spt_graph_trees(&graph, NULL, 0, 0, NULL, 0, NULL, 0);
     count("no sources of a graph", trees.status == SPT_OK && trees.done == 0);

@@ -10,12 +10,21 @@ LIMIT = "spt: L is a whole number from 0 to 17592186044414\n"
 MEAN = "spt: use --delta mean if you know no better width\n"
 SOURCE = "spt: a source is a number from 1 to N; give each its own --source\n"
 DELTA = "spt: D is a whole number from 1 to 17592186044414, or mean\n"
+WORKERS = "spt: W is a number from 1 to 64, or all\n"
+TOO_MANY = "spt: too many files are named; put quotes around a name that has blanks\n"
+COMMAND = "spt: name a command first: tree, pairs, matrix, nearest, check, pack, replay or offers\n"
+SIGN = "spt: numbers are whole, and have no sign\n"
+HYPHEN = "spt: an option of several letters begins with --; write ./ before a file name that begins with -\n"
+WITHIN = "spt: --within is an option of tree, nearest and check\n"
+NOT_BOTH = "spt: give the sources in a file, or each with --source V, but not both\n"
 
 # name, line, text on standard error, what stands below the line on help
 TOLD = [
-    ("unknown command", "solve f.rep", "error: unrecognized subcommand 'solve'\n\nUsage: spt <COMMAND>\n", ""),
+    ("unknown command", "solve f.rep", "error: unrecognized subcommand 'solve'\n\nUsage: spt <COMMAND>\n", COMMAND),
+    ("an option in place of a command", "--within 3", "error: unexpected argument '--within' found\n\nUsage: spt <COMMAND>\n", COMMAND),
+    ("an option before the command", "--delta 3 tree f.rep f.rep", "error: unexpected argument '--delta' found\n\n  tip: 'tree --delta' exists\n\nUsage: spt <COMMAND>\n", COMMAND),
     ("no file", "replay", "error: the following required arguments were not provided:\n  <FILE>\n\nUsage: spt replay <FILE>\n", ""),
-    ("one file too many", "replay f.rep g.rep", "error: unexpected argument 'g.rep' found\n\nUsage: spt replay [OPTIONS] <FILE>\n", ""),
+    ("one file too many", "replay f.rep g.rep", "error: unexpected argument 'g.rep' found\n\nUsage: spt replay [OPTIONS] <FILE>\n", TOO_MANY),
     ("other pred bits", "replay f.rep --pred-bits 21", f"error: invalid value '21' for '--pred-bits <P>'\n{BITS}", ""),
     ("no pred bits", "replay f.rep --pred-bits", f"error: a value is required for '--pred-bits <P>' but none was supplied\n{BITS}", ""),
     (
@@ -132,22 +141,112 @@ TOLD = [
         "other option of a word",
         "tree f.rep f.rep --delta 3 --workers auto",
         "error: invalid value 'auto' for '--workers <W>': invalid digit found in string\n",
-        "",
+        WORKERS,
     ),
     (
         "workers of a beginning of all",
         "tree f.rep f.rep --delta 3 --workers al",
         "error: invalid value 'al' for '--workers <W>': invalid digit found in string\n",
-        "",
+        WORKERS,
     ),
-    ("no workers", "tree f.rep f.rep --delta 3 --workers 0", "error: invalid value '0' for '--workers <W>': 0 is not in 1..=64\n", ""),
-    ("more workers than 64", "pairs f.rep f.rep --delta 3 --workers 65", "error: invalid value '65' for '--workers <W>': 65 is not in 1..=64\n", ""),
+    ("no workers", "tree f.rep f.rep --delta 3 --workers 0", "error: invalid value '0' for '--workers <W>': 0 is not in 1..=64\n", WORKERS),
+    ("more workers than 64", "pairs f.rep f.rep --delta 3 --workers 65", "error: invalid value '65' for '--workers <W>': 65 is not in 1..=64\n", WORKERS),
+    (
+        "no value of delta",
+        "tree f.rep --source 1 --delta --within 3",
+        "error: a value is required for '--delta <D>' but none was supplied\n",
+        DELTA,
+    ),
+    (
+        "no value of the limit",
+        "tree f.rep --source 1 --delta mean --within",
+        "error: a value is required for '--within <L>' but none was supplied\n",
+        LIMIT,
+    ),
+    (
+        "no value of a source",
+        "tree f.rep --source --within 3 --delta mean",
+        "error: a value is required for '--source <V>' but none was supplied\n",
+        SOURCE,
+    ),
+    (
+        "no value of workers",
+        "tree f.rep f.rep --delta 3 --workers",
+        "error: a value is required for '--workers <W>' but none was supplied\n",
+        WORKERS,
+    ),
+    (
+        "no value of the output",
+        "tree f.rep f.rep --delta 3 -o",
+        "error: a value is required for '--output <OUT>' but none was supplied\n",
+        "spt: OUT is the file for the output, or - for standard output\n",
+    ),
+    (
+        "no value of places",
+        "tree f.rep f.rep --delta 3 --sources",
+        "error: a value is required for '--sources <A-B>' but none was supplied\n",
+        "spt: A-B is two numbers with a `-` between them, as in 1-100\n",
+    ),
+    (
+        "a limit of pairs",
+        "pairs f.rep f.rep --delta 3 --within 3",
+        "error: unexpected argument '--within' found\n\nUsage: spt pairs --delta <D> <GR> <PAIRS>\n",
+        WITHIN,
+    ),
+    (
+        "a limit of a matrix",
+        "matrix f.rep f.rep --within 3",
+        "error: unexpected argument '--within' found\n\nUsage: spt matrix <GR> <SOURCES> [TARGETS]\n",
+        WITHIN,
+    ),
+    (
+        "a target of trees",
+        "tree f.rep --target 1 --delta 3",
+        "error: unexpected argument '--target' found\n\nUsage: spt tree --delta <D> <GR> [SS]\n",
+        "spt: --target is an option of matrix\n",
+    ),
+    (
+        "a limit below 0 in a word of its own",
+        "tree f.rep --source 1 --delta mean --within -3",
+        "error: unexpected argument '-3' found\n\nUsage: spt tree [OPTIONS] --delta <D> <GR> [SS]\n",
+        SIGN,
+    ),
+    (
+        "a source below 0",
+        "tree f.rep --source -1 --delta mean",
+        "error: unexpected argument '-1' found\n\nUsage: spt tree [OPTIONS] --delta <D> <GR> [SS]\n",
+        SIGN,
+    ),
+    (
+        "one hyphen before a long option",
+        "tree f.rep f.rep --delta 3 -within 4",
+        "error: unexpected argument '-w' found\n\nUsage: spt tree [OPTIONS] --delta <D> <GR> [SS]\n",
+        HYPHEN,
+    ),
+    (
+        "sources in a file and by number",
+        "tree f.rep f.rep --source 1 --delta 3",
+        "error: the argument '[SS]' cannot be used with '--source <V>'\n\nUsage: spt tree --delta <D> <GR> <SS>\n",
+        NOT_BOTH,
+    ),
+    (
+        "two sources behind one option",
+        "nearest f.rep --source 1 2",
+        "error: the argument '--source <V>' cannot be used with '[SS]'\n\nUsage: spt nearest --source <V> <GR> [SS]\n",
+        NOT_BOTH,
+    ),
+    (
+        "places of sources by number",
+        "tree f.rep --source 1 --sources 1-2 --delta mean",
+        "error: the argument '--source <V>' cannot be used with '--sources <A-B>'\n\nUsage: spt tree --delta <D> --source <V> <GR> [SS]\n",
+        "spt: --sources selects from a file of sources; --source V gives a source itself\n",
+    ),
     # what a terminal would do as it is told
     (
         "control characters",
         "replay f.rep g\x1b[31m\x07\x7f\r\t.rep",
         "error: unexpected argument 'g?[31m????.rep' found\n\nUsage: spt replay [OPTIONS] <FILE>\n",
-        "",
+        TOO_MANY,
     ),
 ]
 
@@ -237,6 +336,12 @@ FILES_IN_ORDER = [
     ("check no.gr no.tree", 6, "gr: cannot open"),
     ("check empty no.tree", 6, "tree: cannot open"),
     ("replay no.rep", 6, "replay: cannot open"),
+    ("tree --delta 1 alone.gr one.ss -o alone.gr", 1, "output is an input"),
+    ("tree --delta 1 bad.gr one.ss -o ./one.ss", 1, "output is an input"),
+    ("tree --delta 1 no.gr bad.gr -o bad.gr", 1, "output is an input"),
+    ("tree --delta 1 no.gr bad.gr -o no.gr", 6, "gr: cannot open"),
+    ("tree --delta 68719476735 bad.gr one.ss -o bad.gr", 1, "output is an input"),
+    ("matrix alone.gr one.ss bad.gr -o bad.gr", 1, "output is an input"),
     ("offers no.off", 6, "offers: cannot open"),
 ]
 
@@ -245,6 +350,6 @@ def cases():
     made = [Case(name, line, REPLAY, 1, text + HELP + more, is_whole=True) for name, line, text, more in TOLD]
     made += [Case("refused words", line, REPLAY, 1, None) for line in REFUSED]
     made += [Case("files in order", line, FILES, status, fault) for line, status, fault in FILES_IN_ORDER]
-    made += [Case(f"version by {word}", word, {}, 0, "spt 0.2.0\n") for word in ("--version", "-V")]
+    made += [Case(f"version by {word}", word, {}, 0, "spt 1.5.0\n") for word in ("--version", "-V")]
     made += [Case("output to standard output", "check alone.gr none.tree -o -", {"alone.gr": ALONE, "none.tree": "p spt 1 1\ne 0\n"}, 3, "no 1 2\n")]
     return made

@@ -1,4 +1,4 @@
-"""The example, and graphs drawn by lot."""
+"""The example, and randomly generated graphs."""
 
 import array
 import heapq

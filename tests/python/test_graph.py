@@ -193,6 +193,17 @@ class Trees(unittest.TestCase):
                     told = [graph.path(60, target) for target in range(1, 121)]
                     self.assertEqual(told, [tree.path(target) for target in range(1, 121)])
 
+    def test_routes_are_paths_with_distances(self):
+        for towards in (False, True):
+            for seed, longest in ((4, 1000), (5, 2), (6, samples.LONGEST)):
+                graph = spt.Graph(120, samples.by_lot(120, 300, seed, longest))
+                tree = graph.tree(60, towards=towards)
+                for target in range(1, 121):
+                    told, path, pair = graph.route(60, target, towards=towards), tree.path(target), tree.pair(target)
+                    self.assertEqual(told, pair and (tuple(path), pair.distance, pair.distance))
+        told = spt.Graph(3, [(1, 2, 2.5), (2, 3, 4)], unit=0.1).named(["Depot", "Mill", "Quay"]).route("Depot", "Quay")
+        self.assertEqual((told.vertices, told.distance, told.length), (("Depot", "Mill", "Quay"), 65, 6.5))
+
     def test_short_paths_ask_for_no_tree(self):
         if spt._library.HAS_PAIR:
             with mock.patch.object(spt._graph, "_SECONDS_EACH", 1), mock.patch.object(spt.Graph, "tree", side_effect=AssertionError):
@@ -311,6 +322,7 @@ class Refusals(unittest.TestCase):
     def test_arcs(self):
         zero = "0 is not a vertex of a graph with 4 vertices: vertices are numbered from 1; if yours start at 0, add 1 to each"
         five, length = "5 is not a vertex of a graph with 4 vertices", "0 is not a length: lengths are whole numbers from 1 to 4294967295"
+        length += '; zero="unit" counts 0 as one unit'
         for bad, why in (((0, 2, 1), zero), ((2, 0, 1), zero), ((5, 1, 1), five), ((1, 5, 1), five), ((1, 2, 0), length)):
             for place in range(6):
                 arcs = [*samples.DIAMOND[:place], bad, *samples.DIAMOND[place:]]

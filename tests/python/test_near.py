@@ -196,6 +196,25 @@ class Near(unittest.TestCase):
             with self.assertRaises(TypeError):
                 self.graph.tree(1, within=wrong)
 
+    def test_lists_of_what_is_reached(self):
+        # few vertices, many, all of them; with NumPy and as without it
+        for hidden in ({}, {"numpy": None}):
+            with mock.patch.dict(sys.modules, hidden):
+                for seed in range(4):
+                    graph = spt.Graph(300, samples.by_lot(300, 900 if seed else 3000, seed))
+                    for told in (graph.tree(7), graph.tree(7, within=30), graph.tree(7, within=900), graph.nearest([7, 9], within=200)):
+                        rows = list(zip(range(1, 301), told.distances, told.predecessors))
+                        wanted = [row for row in rows if row[1] != FAR]
+                        self.assertEqual(list(zip(*told.part())), wanted)
+                        self.assertEqual(list(zip(*told.part(nearest_first=True))), sorted(wanted, key=lambda row: row[1]))
+                        for numbers, format in (*zip(told.part(), "IQI"), *zip(told.part(nearest_first=True), "IQI")):
+                            self.assertEqual((numbers.format, numbers.readonly), (format, True))
+
+    def test_a_small_part_makes_no_list_of_all(self):
+        tree = path().tree(1, within=samples.LONGEST)
+        self.assertEqual([list(it) for it in tree.part()], [[1, 2], [0, samples.LONGEST], [0, 1]])
+        self.assertNotIn("distances", vars(tree))
+
     def test_no_memory(self):
         library = spt._library
         calls = {"spt_graph_share": library.library.spt_graph_share, "spt_graph_free": library.library.spt_graph_free}

@@ -179,7 +179,7 @@ class Dijkstra(unittest.TestCase):
         told = re.match(r"\s*dijkstra\((.*?)\)\n", scipy.sparse.csgraph.dijkstra.__doc__, re.S)[1]
         wanted = [it.split("=") for it in re.split(r",\s*", told)]
         ours = list(inspect.signature(spt.dijkstra).parameters.values())
-        self.assertEqual([it.name for it in ours], [it[0] for it in wanted] + ["delta", "workers", "unit"])
+        self.assertEqual([it.name for it in ours], [it[0] for it in wanted] + ["delta", "workers", "unit", "zero"])
         self.assertEqual({it.kind for it in ours[len(wanted) :]}, {inspect.Parameter.KEYWORD_ONLY})
         for it, (_, *default) in zip(ours, wanted):
             self.assertEqual(it.default, eval(default[0], {"np": numpy}) if default else inspect.Parameter.empty)
@@ -346,9 +346,9 @@ class NetworkX(unittest.TestCase):
             spt.Graph.from_networkx(networkx.path_graph(3))
 
     def test_forms_of_the_docs(self):
-        # each function of docs/EMBEDDING.md, for the kinds of graphs that stand beside it there
-        page = samples.read("docs/EMBEDDING.md")
-        forms = re.findall(r"^(lambda tail, head, data: .*?) +# (.*)$", page, re.M)
+        # each function of docs/PYTHON.md, for the kinds of graphs in its comment
+        page = samples.read("docs/PYTHON.md")
+        forms = re.findall(r"^ {4}(lambda tail, head, data: .*?) +# (.*)$", page, re.M)
         self.assertEqual([kinds for _, kinds in forms], ["Graph, DiGraph", "MultiGraph, MultiDiGraph"])
         for form, kinds in forms:
             self.assertIn(form, " ".join(spt.Graph.from_networkx.__doc__.split()))

@@ -21,6 +21,8 @@ try:
 except ImportError:
     tqdm = None
 
+from spt._kept import failure
+from spt._library import OK
 from spt._share import Pace, in_order
 
 # what would take some 20 seconds of a processor, and says when it is under way, what it raised, and when
@@ -47,6 +49,8 @@ CALLS = {
     "trees": "sum(tree.source for tree in graph.trees(sources, workers=2, progress=progress))",
     "parts of trees": "sum(tree.source for tree in graph.trees(sources, within=10**6, progress=progress))",
 }
+# what the library writes into a place while a call uses it
+IN_USE_STATE = 2
 # an end within 0.2 s on a quiet machine; others may have its processors
 SECONDS = 2
 PATIENCE = 60
@@ -123,8 +127,8 @@ class Far(unittest.TestCase):
 
     @unittest.skipIf(tqdm is None, "tqdm isn't installed")
     def test_tqdm(self):
-        text = re.search(r"^```python\n(from tqdm import tqdm\n.*?)^```$", samples.read("docs/EMBEDDING.md"), re.M | re.S)[1]
-        known, drawn = {"graph": self.graph, "sources": range(1, 301), "targets": [1, 2]}, io.StringIO()
+        text = re.search(r"^with tqdm\(.*?(?=^\w)", samples.read("docs/PYTHON.md"), re.M | re.S)[0]
+        known, drawn = {"graph": self.graph, "shops": range(1, 301), "homes": [1, 2], "tqdm": tqdm.tqdm}, io.StringIO()
         with contextlib.redirect_stderr(drawn):
             exec(text, known)
         self.assertEqual((known["bar"].n, known["matrix"].tolist()), (300, self.graph.matrix(range(1, 301), [1, 2]).tolist()))
@@ -153,6 +157,48 @@ class Far(unittest.TestCase):
             self.graph.matrix(range(1, 31), [1])
         self.assertEqual(sum(rows), 30)
         self.assertLessEqual(max(rows), 2)
+
+
+class OneGraph(unittest.TestCase):
+    """A graph that several threads query at once, each kind of call in each thread; nothing has been asked of it before."""
+
+    CALLS = (
+        lambda graph: graph.tree(5),
+        lambda graph: graph.tree(5, within=300),
+        lambda graph: graph.pair(1, 77),
+        lambda graph: list(graph.trees([3, 4, 5], workers=2)),
+        lambda graph: graph.matrix([1, 2, 3], [9, 8], workers=2).tolist(),
+        lambda graph: graph.nearest([1, 500]),
+        lambda graph: bytes(graph.arcs),
+        lambda graph: (graph.n, graph.m),
+    )
+
+    def test_all_calls_at_once(self):
+        arcs = samples.by_lot(500, 2000, 1)
+        wanted = [call(spt.Graph(500, arcs)) for call in self.CALLS]
+        for _ in range(5):
+            graph, found = spt.Graph(500, arcs), []
+
+            def ask(first):
+                for at in range(2 * len(self.CALLS)):
+                    number = (first + at) % len(self.CALLS)
+                    found.append(self.CALLS[number](graph) == wanted[number])
+
+            threads = [threading.Thread(target=ask, args=(first,)) for first in range(len(self.CALLS))]
+            for thread in threads:
+                thread.start()
+            for thread in threads:
+                thread.join()
+            self.assertEqual((len(found), all(found)), (2 * len(self.CALLS) ** 2, True))
+
+    def test_a_place_in_use(self):
+        # what the package never does: it gives each call a place of its own
+        kept = spt.Graph(500, samples.by_lot(500, 2000, 1))._kept
+        kept._place.state = IN_USE_STATE
+        with self.assertRaisesRegex(spt.SptError, "another call of the library is using"):
+            raise failure(kept.pair(1, 2).status)
+        kept._place.state = 1
+        self.assertEqual(kept.pair(1, 1).status, OK)
 
 
 class Interrupts(unittest.TestCase):

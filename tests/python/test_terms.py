@@ -105,7 +105,7 @@ class Units(unittest.TestCase):
             self.refused(length, 0.5, f"{length!r} is not a length", "leave out")
         self.refused(-2.5, 0.5, "-2.5 is not a length: lengths are above 0")
         self.refused(0.0, 0.5, "0.0 is not a length: lengths are above 0", "0.5")
-        self.refused(0.25, 0.5, "0.25 rounds to 0 in the unit 0.5: use a smaller unit, or 0.5 as the length")
+        self.refused(0.25, 0.5, "0.25 rounds to 0 in the unit 0.5: use a smaller unit, or zero=\"unit\" to count it as 0.5")
         self.refused(1e-300, 0.5, "rounds to 0")
         self.refused(4294967295.75 * 0.5, 0.5, "is more than 4294967295 times the unit 0.5: use a larger unit")
         self.refused(1e300, 1e-3, "use a larger unit")
@@ -186,6 +186,22 @@ class Units(unittest.TestCase):
 
 
 class Names(unittest.TestCase):
+    def test_names_apart(self):
+        names = spt.Names(["Depot", "Mill", ("Quay", 1)])
+        one, other = (spt.Graph(3, [(1, 2, 7), (2, 3, length)]).named(names) for length in (1, 2))
+        self.assertEqual((one.path("Depot", ("Quay", 1)), one.names), (["Depot", "Mill", ("Quay", 1)], tuple(names)))
+        self.assertIs(one._terms._names, other._terms._names)
+        self.assertEqual((names.number("Mill"), names.name(2), names.name(0), len(names)), (2, "Mill", None, 3))
+        self.assertEqual(("Mill" in names, "Church" in names, [] in names), (True, False, False))
+        self.assertEqual((pickle.loads(pickle.dumps(names)), hash(copy.copy(names))), (names, hash(names)))
+        self.assertNotEqual(names, spt.Names(["Depot", "Mill", "Quay"]))
+        with self.assertRaisesRegex(ValueError, "^2 names for 3 vertices: each vertex needs one$"):
+            one.named(["Depot", "Mill"])
+        with self.assertRaisesRegex(ValueError, "^the name 'Mill' appears twice: "):
+            one.named(["Mill", "Mill", "Quay"]).tree("Mill")
+        with self.assertRaisesRegex(spt.NoSuchVertex, "'Church' is not a vertex name in this graph of 3 vertices"):
+            names.number("Church")
+
     def test_calls(self):
         graph = town()
         self.assertEqual((graph.names, graph.n, graph.m), (("Depot", "Mill", "Quay"), 3, 4))

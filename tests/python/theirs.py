@@ -3,15 +3,17 @@
 
 Usage: python3 theirs.py
 
-Lengths that are fractions are told in a unit. A test is left out, by name, where it never asks for Dijkstra's algorithm, and
-where it fails and the package has refused a length of its graph (0, or below). A test of SciPy's that fails is run again with
-SciPy's predecessors, once it is shown that each of them that differs ends a walk as short as ours does, and has the greater
-number: then it passes but for ties. Tests of several sources and Voronoi cells must ask `nearest`, and those with a limit
-`within`. The last line is 'N passed, M failed'.
+SciPy's functions are called as spt.dijkstra, NetworkX's as its backend is, which NetworkX 3.4 does by itself too. Lengths of SciPy's
+that are fractions are told in a unit. A test is left out, by name, where it never asks the package, and where it fails and the
+package has refused a length of its graph (0, or below). A test of SciPy's that fails is run again with SciPy's predecessors, once it
+is shown that each of them that differs ends a walk as short as ours does, and has the greater number: then it passes but for ties.
+Tests of several sources and Voronoi cells must ask `nearest`, and those with a limit `within`. The last line is 'N passed, M failed'.
 """
 
 import importlib
+import os
 import re
+import subprocess
 import sys
 
 try:
@@ -23,12 +25,15 @@ from asked import Asked
 
 SCIPY = ["scipy.sparse.csgraph.tests.test_shortest_path"]
 NETWORKX = [
-    "networkx.algorithms.shortest_paths.tests.test_weighted", "networkx.algorithms.shortest_paths.tests.test_generic",
-    "networkx.algorithms.tests.test_voronoi",
+    "shortest_paths.tests.test_weighted", "shortest_paths.tests.test_generic", "shortest_paths.tests.test_unweighted", "tests.test_voronoi",
+    "tests.test_distance_measures", "tests.test_efficiency", "tests.test_wiener",
+    "centrality.tests.test_closeness_centrality", "centrality.tests.test_harmonic_centrality",
 ]
+# tests of older versions of NetworkX, which has other words since
+OLDER = re.compile("test_bidirectional_shortest_path_src_tgt_not_in_graph")
 # what a test whose name, or that of its class, has these words must ask the package for
 MUST_ASK = {
-    "min_only|MultiSource|Voronoi": "nearest",
+    "min_only|MultiSource.*two_sources|Voronoi": "nearest",
     "dijkstra_limit|dijkstra_predecessor3|single_source_dijkstra_path_length$": "within",
 }
 
@@ -36,7 +41,8 @@ MUST_ASK = {
 class Theirs:
     """What became of each test, as a plugin of pytest."""
 
-    def __init__(self):
+    def __init__(self, is_old):
+        self.is_old = is_old
         self.found, self.asked, self.told = {}, {}, []
 
     def pytest_pyfunc_call(self, pyfuncitem):
@@ -48,6 +54,8 @@ class Theirs:
         except Exception:
             if Asked.refused:
                 pytest.skip(Asked.refused)
+            if self.is_old and OLDER.match(pyfuncitem.name):
+                pytest.skip("newer versions of NetworkX have other words")
             if not Asked.ours:
                 raise
             asked = set(Asked.ours)
@@ -81,9 +89,14 @@ class Theirs:
             self.told.append(f"failed: {report.nodeid}\n{report.longrepr}")
 
 
-def run(title, modules):
+def is_before_backends(networkx):
+    """Whether it is older than 3.4."""
+    return tuple(map(int, networkx.__version__.split(".")[:2])) < (3, 4)
+
+
+def run(title, modules, is_old=False):
     """Prints what became of the tests of the modules; how many passed, and how many failed."""
-    plugin = Theirs()
+    plugin = Theirs(is_old)
     pytest.main(["-p", "no:cacheprovider", "-p", "no:terminal", "--pyargs", *modules], plugins=[plugin])
     print(*plugin.told, sep="\n")
     found = plugin.found
@@ -111,16 +124,36 @@ def of_scipy():
 
 def of_networkx():
     networkx = importlib.import_module("networkx")
-    ours = vars(importlib.import_module("as_networkx"))
-    for name in (it for it in ours if "dijkstra" in it or it == "voronoi_cells"):
-        assert callable(getattr(networkx, name))
-        setattr(networkx, name, ours[name])
-    return run(f"tests of NetworkX {networkx.__version__}", NETWORKX)
+    ours = importlib.import_module("as_networkx")
+    ours.watch()
+    for name, function in ours.functions().items():
+        setattr(networkx, name, function)
+    modules = [f"networkx.algorithms.{it}" for it in NETWORKX]
+    told = run(f"tests of NetworkX {networkx.__version__}", modules, is_before_backends(networkx))
+    print(f"  calls: {sum(ours.Calls.ran.values())} of {len(ours.Calls.ran)} functions ran on spt, {sum(ours.Calls.left.values())} on NetworkX:")
+    for why, times in ours.Calls.left.most_common():
+        print(f"    {times} for {why}")
+    return told
+
+
+def by_its_own_switch():
+    """Runs NetworkX's tests by the switch that it has for backends, from 3.4 on."""
+    networkx = importlib.import_module("networkx")
+    if is_before_backends(networkx):
+        raise ImportError(f"NetworkX {networkx.__version__} has no switch for backends, which 3.4 and later have")
+    known = {**os.environ, "NETWORKX_TEST_BACKEND": "spt", "NETWORKX_FALLBACK_TO_NX": "True"}
+    words = [sys.executable, "-m", "pytest", "-q", "-p", "no:cacheprovider", "--pyargs", *(f"networkx.algorithms.{it}" for it in NETWORKX)]
+    text = subprocess.run(words, env=known, stdout=subprocess.PIPE, stderr=subprocess.STDOUT, text=True).stdout
+    print(f"tests of NetworkX {networkx.__version__} by its own switch: {text.strip().splitlines()[-1]}")
+    passed, failed = (sum(map(int, re.findall(rf"(\d+) {word}", text.strip().splitlines()[-1]))) for word in ("passed", "(?:failed|error)"))
+    if failed or not passed:
+        print(text)
+    return passed, failed or not passed
 
 
 def main():
     counts = [0, 0]
-    for name, tests in (("SciPy", of_scipy), ("NetworkX", of_networkx)):
+    for name, tests in (("SciPy", of_scipy), ("NetworkX", of_networkx), ("NetworkX by its own switch", by_its_own_switch)):
         try:
             if pytest is None:
                 raise ImportError("pytest isn't installed")

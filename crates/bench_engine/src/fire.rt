@@ -1,4 +1,4 @@
-//! Threads under fire: teams of several sizes and the plain program tell the same of random graphs.
+//! Threads under fire: checks that teams of several sizes agree with the plain program on random graphs.
 ghost use Rattle.std.specs.Prelude.{◌≡◌, ◌≤◌, true};
 ghost use Rattle.sp_word.specs.Word.{is_layout, max_pred};
 ghost use Rattle.sp_paths.specs.Paths.{IsVertex};
@@ -24,14 +24,14 @@ const KINDS: [GraphKind; 6] = [
     GraphKind::Long,
 ];
 
-/// How many answers were those of the plain program.
+/// How many answers matched those of the plain program, and how many didn't.
 #[derive(Clone, Copy)]
 struct Score {
     passed: u64,
     failed: u64,
 }
 
-// Whether a run tells what the plain program does.
+// Whether a run's result matches the plain program's answer.
 fn is_same<const P: u32>(told: &Result<Tree<P>, RunError>, plain: &Answer<P>) -> bool {
     match (told, plain) {
         (Err(RunError::TooFar(vertex)), Answer::TooFar(far)) => vertex == far,
@@ -51,7 +51,8 @@ fn is_same<const P: u32>(told: &Result<Tree<P>, RunError>, plain: &Answer<P>) ->
     }
 }
 
-// A team of so many workers. Its buckets are 1 wide, about as wide as an arc, as some arcs, or as wide as can be.
+// A team of this many workers. Its bucket width is 1, part of the longest arc's length, about four times that length, or the
+// greatest width.
 fn team_of<const P: u32>(graph: &Graph, number: u32, workers: u32) -> Option<Team<P>>
     requires { is_layout P ≡ true }
 {
@@ -70,7 +71,7 @@ fn team_of<const P: u32>(graph: &Graph, number: u32, workers: u32) -> Option<Tea
     })
 }
 
-// Lets each team answer for a source of a graph.
+// Lets each team answer for one source of a graph.
 fn shoot<const P: u32, R: AllocGlobal + Print + Threads + Wait + Sync>(
     rt: &R,
     graph: &Graph,
@@ -98,7 +99,7 @@ fn shoot<const P: u32, R: AllocGlobal + Print + Threads + Wait + Sync>(
     Ok(())
 }
 
-// One graph, with the kind and the layout that its number gives.
+// Tests one graph, with the kind and the layout that its number selects.
 fn shoot_at<R: AllocGlobal + Print + Threads + Wait + Sync>(
     rt: &R,
     random: &mut Random,
@@ -117,8 +118,8 @@ fn shoot_at<R: AllocGlobal + Print + Threads + Wait + Sync>(
     }
 }
 
-/// Lets teams of 1, 2, 3, 8 and 64 workers answer for so many random graphs of 1 to 2,000 vertices, and prints how many
-/// answers were those of the plain program.
+/// Lets teams of 1, 2, 3, 8 and 64 workers answer for this many random graphs of 1 to 2,000 vertices, and prints how many answers
+/// matched those of the plain program.
 pub fn fire<R: AllocGlobal + Print + Threads + Wait + Sync>(
     rt: &R,
     graphs: u32,

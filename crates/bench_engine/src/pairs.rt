@@ -1,4 +1,4 @@
-//! Pairs by their parts: a graph and a list of pairs are read, rows are made, and the targets of each source are found.
+//! Times the parts of answering pairs: reading a graph and a list of pairs, making rows, and finding the targets of each source.
 ghost use Rattle.std.specs.Prelude.{◌≤◌};
 ghost use Rattle.sp_word.specs.Word.{max_pred};
 ghost use Rattle.sp_dimacs.specs.Graph.{IsNetwork};
@@ -16,7 +16,7 @@ use std::thread::Threads;
 use std::time::{Clock, Duration, Instant};
 use std::{fs, io};
 
-/// Prints what each part of answering pairs takes, in milliseconds. The pairs of a source stand together.
+/// Prints how long each part of answering pairs takes, in milliseconds. The pairs of a source are next to each other in the list.
 pub fn time_pairs<R: AllocGlobal + Clock + Files + Print + Threads + Wait + Sync>(
     rt: &R,
     graph: &str,
@@ -36,7 +36,7 @@ pub fn time_pairs<R: AllocGlobal + Clock + Files + Print + Threads + Wait + Sync
     time_targets(rt, graph, &pairs, plan)
 }
 
-// The same behind the reading.
+// Does the same after reading.
 fn time_targets<R: AllocGlobal + Clock + Files + Print + Threads + Wait + Sync>(
     rt: &R,
     file: GrFile,
@@ -101,7 +101,7 @@ fn find<R: AllocGlobal + Threads + Wait + Sync>(
     }
 }
 
-// The target of a pair, if it has this source.
+// Returns the target of a pair, if the pair has this source.
 fn target_of(graph: &Graph, pair: (u32, u32), source: u32) -> Option<u32> {
     let (from, to) = pair;
     if from == source && graph.has_vertex(to) {
@@ -111,7 +111,7 @@ fn target_of(graph: &Graph, pair: (u32, u32), source: u32) -> Option<u32> {
     }
 }
 
-// The targets of a source.
+// Returns the targets of a source.
 fn targets_of(
     alloc: Global,
     graph: &Graph,

@@ -1,15 +1,15 @@
-//! The lines that tell a time.
+//! The lines that report times.
 
 use std::io;
 use std::time::Duration;
 
-// Nanoseconds, or the greatest number where there are more.
+// Returns the time in nanoseconds, or the greatest number if it is longer.
 fn nanoseconds(taken: Duration) -> u64 {
     let seconds = taken.as_secs().saturating_mul(1_000_000_000);
     seconds.saturating_add(taken.subsec_nanos() as u64)
 }
 
-/// Prints what one of `count` things took, in nanoseconds, to three places.
+/// Prints how long one of `count` things took, in nanoseconds, with three decimals.
 pub fn print_each<R: Print>(
     rt: &R,
     name: &str,
@@ -25,20 +25,7 @@ pub fn print_each<R: Print>(
     )
 }
 
-/// Prints how many of `count` things were done in a second.
-pub fn print_rate<R: Print>(
-    rt: &R,
-    name: &str,
-    taken: Duration,
-    count: u64,
-    unit: &str,
-) -> io::Result<()> {
-    let microseconds = nanoseconds(taken) / 1000;
-    let rate = count.saturating_mul(1_000_000) / microseconds.max(1);
-    println!(rt; "{name} {rate} {unit}")
-}
-
-/// Prints a number as a share of another, to three places.
+/// Prints a number as a share of another, with three decimals.
 pub fn print_share<R: Print>(
     rt: &R,
     name: &str,

@@ -1,4 +1,4 @@
-//! The whole job by its parts: two files are read, rows are made, and for each source a tree is found and written.
+//! Times the parts of a whole job: reading two files, making rows, and finding and writing a tree for each source.
 ghost use Rattle.std.specs.Prelude.{◌≤◌, All};
 ghost use Rattle.sp_word.specs.Word.{max_pred};
 ghost use Rattle.sp_dimacs.specs.Graph.{IsNetwork};
@@ -40,7 +40,7 @@ pub struct Paths<'a> {
     pub trees: &'a str,
 }
 
-// What the parts of all sources took, and how many vertices were relaxed and reached.
+// How long the parts took for all sources, and how many vertices were relaxed and reached.
 #[derive(Clone, Copy)]
 struct Taken {
     solving: Duration,
@@ -49,7 +49,7 @@ struct Taken {
     reached: u64,
 }
 
-/// Prints what each part of a whole job takes, in milliseconds, and how often a reached vertex was relaxed.
+/// Prints how long each part of a whole job takes, in milliseconds, and how often a reached vertex was relaxed.
 pub fn time_whole<R: AllocGlobal + Clock + Files + Print + Threads + Wait + Sync>(
     rt: &R,
     paths: &Paths,
@@ -68,7 +68,7 @@ pub fn time_whole<R: AllocGlobal + Clock + Files + Print + Threads + Wait + Sync
     time_trees(rt, graph, &sources, plan, paths.trees)
 }
 
-// The same behind the reading.
+// Does the same after reading.
 fn time_trees<R: AllocGlobal + Clock + Files + Print + Threads + Wait + Sync>(
     rt: &R,
     file: GrFile,
@@ -120,7 +120,7 @@ fn answer_all<R: AllocGlobal + Clock + Threads + Wait + Sync, W: Write>(
     Ok(taken)
 }
 
-// The tree of a source.
+// Finds the tree of a source.
 fn solve<R: AllocGlobal + Threads + Wait + Sync>(
     rt: &R,
     graph: &Graph,

@@ -1,4 +1,4 @@
--- What a run answers for one target of its source.
+-- The answer of a run for one target of its source.
 use Rattle.std.specs.Prelude.{ℕ, Option, Some, None}
 use Rattle.sp_word.specs.Word.{Word, Pair, Unreached}
 use Rattle.sp_paths.specs.Paths.{PairAnswer}
@@ -6,12 +6,14 @@ use Rattle.sp_paths.specs.Paths.{Found as FoundPair, TooFar as FarVertex, NoWalk
 use Rattle.sp_answer.specs.declared.pair.PairAnswer.{PairAnswer as Told}
 use Rattle.sp_answer.specs.declared.pair.PairAnswer.TheVariants.{Found, TooFar, NoWalk}
 
+-- This is the program's answer as an answer of the definitions.
 abbrev pub answer_of : Told → PairAnswer
 answer_of (Found d p) = FoundPair d p
 answer_of (TooFar v) = FarVertex v
 answer_of NoWalk = NoWay
 
--- This is the answer that a vertex's word in the tree gives. If it is unreached, the vertex that is too far decides.
+-- This is the answer for a vertex with this word in the tree. If the word is unreached, the vertex that is too far
+-- decides.
 abbrev pub answer_by : Word → (far : Option ℕ) → PairAnswer
 answer_by (Pair d p) far = FoundPair d p
 answer_by Unreached (Some v) = FarVertex v

@@ -8,15 +8,16 @@ pub record TreeTable : Type 0 where
   pub source : ℕ
   pub rows : List (ℕ × Word)
 
--- the tree with one row more
+-- The tree with one more row.
 abbrev pub with_row : TreeTable → (vertex dist pred : ℕ) → TreeTable
 with_row t vertex dist pred = record { n = t.n; source = t.source; rows = t.rows ++ (vertex, Pair dist pred) ∷ [] }
 
--- The word of a vertex among some rows: unreached where it has none.
+-- The word of a vertex among some rows: unreached if it has no row.
 abbrev pub word_in : List (ℕ × Word) → ℕ → Word
 word_in [] v = Unreached
 word_in (row ∷ more) v = if row.0 == v then row.1 else word_in more v
 
+-- The word of a vertex in the tree.
 abbrev pub table_of : TreeTable → ℕ → Word
 table_of t v = word_in t.rows v
 
@@ -30,11 +31,12 @@ abbrev pub AreRows : (max n last : ℕ) → List (ℕ × Word) → Type 0
 AreRows max n last [] = Unit {0}
 AreRows max n last (row ∷ more) = (last < row.0) × (row.0 ≤ n) × IsPairWithin max n row.1 × AreRows max n row.0 more
 
--- The vertex of the last row, or `last` where there is none.
+-- The vertex of the last row, or `last` if there is none.
 abbrev pub last_after : (last : ℕ) → List (ℕ × Word) → ℕ
 last_after last [] = last
 last_after last (row ∷ more) = last_after row.0 more
 
+-- The vertex of the last row, or 0 if there is none.
 abbrev pub last_vertex : List (ℕ × Word) → ℕ
 last_vertex rows = last_after 0 rows
 
@@ -47,11 +49,12 @@ pub record IsTable (P : ℕ) (t : TreeTable) : Type 0 where
   pub source_most : t.source ≤ t.n
   pub rows : AreRows (max_dist P) t.n 0 t.rows
 
--- The rows of the words of `vertex`, `vertex + 1` and so on.
+-- The row of a vertex with this word; an unreached vertex has none.
 abbrev pub row_of : (vertex : ℕ) → Word → List (ℕ × Word)
 row_of vertex Unreached = []
 row_of vertex (Pair d p) = (vertex, Pair d p) ∷ []
 
+-- The rows of the words of `vertex`, `vertex + 1` and so on.
 abbrev pub rows_from : (vertex : ℕ) → List Word → List (ℕ × Word)
 rows_from vertex [] = []
 rows_from vertex (word ∷ more) = row_of vertex word ++ rows_from (vertex + 1) more
@@ -65,7 +68,8 @@ abbrev pub HasPredWithin : (n : ℕ) → Word → Type 0
 HasPredWithin n Unreached = Unit {0}
 HasPredWithin n (Pair d p) = p ≤ n
 
--- The words make a table within the limits of words with P bits for the predecessor, and so many vertices of it are reached.
+-- The words make a table within the limits of words with P bits for the predecessor, and `reached` vertices of it are
+-- reached.
 pub record IsCounted (P : ℕ) (source : ℕ) (words : List Word) (reached : ℕ) : Type 0 where
   pub table : IsTable P (tree_of source words)
   pub count : reached ≡ length (rows_from 1 words)

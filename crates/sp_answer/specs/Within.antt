@@ -14,13 +14,13 @@ pub record IsTreeWithin (g : Graph) (s limit : ℕ) (t : TreeTable) : Type 0 whe
   pub source : t.source ≡ s
   pub tree : EndsInTree g s limit (table_of t)
 
--- The source is no vertex exactly where that is told; no vertex is told to be too far.
+-- The error is NoSuchVertex exactly if the source is no vertex; it is never TooFar.
 abbrev pub IsRefusalWithin : Graph → (s : ℕ) → RunError → Type 0
 IsRefusalWithin g s Memory = IsVertex g.n s
 IsRefusalWithin g s (TooFar v) = ⊥
 IsRefusalWithin g s NoSuchVertex = IsVertex g.n s → ⊥
 
--- The word, where its distance is at most the limit; unreached beyond it.
+-- The word if its distance is at most the limit, and otherwise unreached.
 abbrev pub up_to : (limit : ℕ) → Word → Word
 up_to limit Unreached = Unreached
 up_to limit (Pair d p) = if nat_le d limit then Pair d p else Unreached

@@ -1,7 +1,7 @@
 //! Why a run gave no tree.
 use thiserror::Error;
 
-/// Why a run gave no tree. The fault displays as its number and its name, and the vertex if there is one.
+/// Why a run gave no tree. The error displays as its number and its name, and the vertex if there is one.
 #[derive(Clone, Copy, Debug, PartialEq, Eq, Error)]
 pub enum RunError {
     /// An allocation failed.

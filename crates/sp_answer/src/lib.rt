@@ -1,4 +1,4 @@
-//! What a run from a source answers: its tree, a table of rows, or the answer for one target, or why there is none.
+//! The answer of a run from a source: its tree, as a table of rows, or the answer for one target, or why there is none.
 #![tactic(auto)]
 
 mod answer;

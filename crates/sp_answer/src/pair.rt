@@ -1,4 +1,4 @@
-//! What a run answers for one target of its source.
+//! The answer of a run for one target of its source.
 ghost use Rattle.std.specs.Prelude.{◌≡◌};
 ghost use Rattle.sp_answer.specs.Pair.{answer_of, answer_by};
 
@@ -17,7 +17,7 @@ pub enum PairAnswer {
 }
 
 impl PairAnswer {
-    /// Returns the answer that a vertex's word in the tree gives. If it is unreached, the vertex that is too far decides.
+    /// Returns the answer for a vertex, given its word in the tree. If the word is unreached, the vertex that is too far decides.
     pub fn of_word<const P: u32>(word: Word<P>, far: Option<u32>) -> PairAnswer
         ensures { answer_of result ≡ answer_by word.entry far }
     {

@@ -16,7 +16,7 @@ fn is_reached<const P: u32>(word: Word<P>) -> bool
     word.dist().is_some()
 }
 
-/// Returns the rows of the reached vertices, whose words are given for vertex 1, 2 and so on. It allocates once.
+/// Returns the rows of the reached vertices, given the words of vertex 1, 2 and so on. It allocates once.
 pub fn rows_of<const P: u32>(
     alloc: Global,
     words: &[Word<P>],
@@ -35,7 +35,7 @@ pub fn rows_of<const P: u32>(
     Ok(rows)
 }
 
-// Rows are few where they are at most this part of the vertices.
+// Rows are few if there is at most one for this many vertices.
 const FEW: usize = 16;
 
 // Returns whether the distance of a word is at most the limit.
@@ -65,7 +65,7 @@ fn push_within<const P: u32>(
     }
 }
 
-// Returns the rows of the words up to the limit, or none if they are not few. The list grows with them.
+// Returns the rows of the words up to the limit, or none if the rows are not few. The list grows with the rows.
 fn few_rows<const P: u32>(
     alloc: Global,
     words: &[Word<P>],
@@ -106,8 +106,8 @@ fn counted_rows<const P: u32>(
     Ok(rows)
 }
 
-/// Returns the rows of the vertices whose distances are at most the limit, of words that are given for vertex 1, 2 and so
-/// on. Where they are few it looks at the words once; the list has no more room than they need.
+/// Returns the rows of the vertices whose distances are at most the limit, given the words of vertex 1, 2 and so on. If the rows
+/// are few, it reads the words once. The list has no more room than the rows need.
 pub fn rows_within<const P: u32>(
     alloc: Global,
     words: &[Word<P>],

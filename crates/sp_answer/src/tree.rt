@@ -48,10 +48,10 @@ impl<const P: u32> Tree<P> {
         })
     }
 
-    /// Returns the part within a limit of the tree of a source in which the vertices have these words: a vertex whose distance
-    /// is beyond it has no row.
+    /// Returns the part within a limit of the tree of a source in which the vertices have these words: a vertex with a greater
+    /// distance has no row.
     ///
-    /// It takes linear time, and looks at the words once where few vertices lie within the limit.
+    /// It takes linear time, and reads the words once if few vertices are within the limit.
     pub fn of_words_within(
         alloc: Global,
         source: u32,
@@ -92,7 +92,7 @@ impl<const P: u32> Tree<P> {
         }
     }
 
-    /// Appends a row, whose vertex has a greater number than the vertices of the other rows.
+    /// Appends a row. Its vertex has a greater number than the vertices of the other rows.
     pub fn push_row(&mut self, vertex: u32, dist: u64, pred: u32) -> Result<(), AllocError>
         requires above { last_vertex self.old.rows < vertex }
         requires most { vertex ≤ self.old.n }
@@ -161,7 +161,7 @@ impl<const P: u32> Tree<P> {
         requires most { vertex ≤ self.now.n }
         ensures { result ≡ table_of self.now vertex }
     {
-        // The layout of the words is the fact of the fields that is needed below.
+        // The proof below needs what the fields say about the layout of the words.
         let _ = &self.n;
         match self.word_of_row(vertex) {
             Some(word) => word,

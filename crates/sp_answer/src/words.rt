@@ -40,7 +40,7 @@ fn rows_of_word<const P: u32>(word: Word<P>) -> usize
     }
 }
 
-// Returns how many of the words are not unreached.
+// Returns the number of words that are not unreached.
 fn count_reached<const P: u32>(words: &[Word<P>]) -> usize
     requires { length words.now < 2 ^ 32 }
     ensures count { result ≡ length (rows_from 1 words.now) }
@@ -90,7 +90,7 @@ impl<const P: u32> WordTree<P> {
         self.source
     }
 
-    /// Returns the number of reached vertices, which is that of rows.
+    /// Returns the number of reached vertices, which is the number of rows.
     pub fn reached(&self) -> usize
         ensures reached { result ≡ length self.now.rows }
     {

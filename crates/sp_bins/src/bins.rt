@@ -11,32 +11,32 @@ const SLOTS: usize = 256;
 
 const WHEELS: usize = 8;
 
-// The number of slots that one word of the marks is about, and the number of these words.
+// The number of slots that one word of the marks covers, and the number of these words.
 const MARKED: usize = 64;
 
 const MARKS: usize = SLOTS * WHEELS / MARKED;
 
-// The width of the buckets is looked at anew when so many entries of heads were put.
+// The width of the buckets is reconsidered after this many entries of heads were added.
 const LOT: u64 = 256;
 
 // The widest buckets are 2 to this power wide.
 const WIDEST: u32 = 40;
 
-/// Entries by bucket, in hierarchical wheels like those in which G. Varghese and T. Lauck keep timers ("Hashed and
-/// hierarchical timing wheels", 1987).
+/// Entries by bucket, in hierarchical wheels like those that G. Varghese and T. Lauck use for timers ("Hashed and hierarchical
+/// timing wheels", 1987).
 ///
-/// A slot of the first wheel has the entries of one bucket; a slot of each further wheel has the entries of as many
-/// buckets as the wheel below has slots for. An entry lies in the lowest wheel that distinguishes its bucket from the
-/// lowest one; when a wheel is used up, the next slot of the wheel above is dealt to those below. An entry is therefore
-/// moved at most once for each wheel, however far away its bucket is.
+/// A slot of the first wheel has the entries of one bucket. A slot of each further wheel has the entries of as many buckets as
+/// fit in the wheel below. An entry is in the lowest wheel that distinguishes its bucket from the lowest bucket. When a wheel is
+/// empty, the entries of the next slot of the wheel above move to the wheels below. An entry is therefore moved at most once for
+/// each wheel, however far away its bucket is.
 ///
-/// The buckets find their width as they are worked off. Where many heads fall into their tail's bucket, its vertices are
-/// relaxed in too free an order, and many of them several times: then all buckets become narrower. Where hardly any do,
-/// they become wider.
+/// The width of the buckets adapts during the run. If many heads fall into the bucket of their tail, its vertices are relaxed in
+/// too loose an order, and many of them several times: all buckets then become narrower. If hardly any do, all buckets become
+/// wider.
 ///
-/// Entries lie in chunks of 64, of which one at most is partly filled in each slot, and which are used again before memory is
-/// asked for. So there are chunks for as many entries as waited at a time, and for 63 more for each slot that had one. They
-/// lie in one list, which doubles as it grows and is given back with the bins.
+/// Entries are in chunks of 64. Each slot has at most one chunk that is partly filled, and free chunks are reused before more
+/// memory is allocated. So there are chunks for the greatest number of entries that waited at the same time, and for 63 more for
+/// each slot that had an entry. All chunks are in one list, which doubles as it grows and is freed with the bins.
 #[derive(Drop)]
 pub struct Bins {
     alloc: Global,
@@ -44,15 +44,16 @@ pub struct Bins {
     shift: u32,
     // The bucket that is being emptied.
     lowest: u64,
-    // The slots of all wheels, with the first wheel's first, and the chunks that their entries lie in.
+    // The slots of all wheels, with those of the first wheel first, and the chunks with their entries.
     slots: Vec<Chain>,
     chunks: Chunks,
-    // A bit for each slot, which is set where the slot has an entry.
+    // A bit for each slot, set if the slot has an entry.
     marks: Vec<u64>,
-    // How many entries of heads were put since the width was last looked at, and how many of them into their tail's bucket.
+    // The number of entries of heads that were added since the width was last reconsidered, and how many of them were added to
+    // the bucket of their tail.
     put: u64,
     near: u64,
-    // How many entries were moved when the width was last changed.
+    // The number of entries that were moved when the width last changed.
     moved: u64,
     ghost narrow: { shift < 64 },
     ghost size: { vec_len slots ≡ 2048 },
@@ -64,7 +65,7 @@ fn bit_of(place: usize) -> u64 {
     1 << (place % MARKED)
 }
 
-// Returns the least distance of entries, or the distance itself where it is less.
+// Returns the least distance of the entries, or `dist` if it is less.
 fn least_of(entries: &[Entry], dist: u64) -> u64 {
     let mut least = dist;
     for entry in entries {
@@ -74,7 +75,7 @@ fn least_of(entries: &[Entry], dist: u64) -> u64 {
 }
 
 impl Bins {
-    /// Makes bins whose buckets are 2 to the power of `shift` wide at first.
+    /// Returns empty bins whose buckets are initially 2 to the power of `shift` wide.
     pub fn new(alloc: Global, shift: u32) -> Result<Bins, AllocError> {
         Ok(Bins {
             alloc,
@@ -99,12 +100,12 @@ impl Bins {
         self.lowest << self.shift
     }
 
-    /// Returns the power of 2 that the buckets are wide.
+    /// Returns the width of the buckets, as a power of 2.
     pub fn shift(&self) -> u32 {
         self.shift
     }
 
-    // Returns the slot where the entries of a bucket lie. A bucket below the lowest shares the slot of the lowest.
+    // Returns the slot for the entries of a bucket. A bucket below the lowest one shares its slot.
     fn place_of(&self, bucket: u64) -> usize
         ensures { result < 2048 }
     {
@@ -114,7 +115,7 @@ impl Bins {
         wheel as usize * SLOTS + slot as usize
     }
 
-    // Lays an entry into a slot whose chunks are full, or that has none yet.
+    // Adds an entry to a slot that has no chunk yet, or whose chunks are full.
     #[cold]
     #[inline(never)]
     fn lay_further(&mut self, place: usize, entry: Entry) -> Result<(), AllocError>
@@ -125,7 +126,7 @@ impl Bins {
         Ok(())
     }
 
-    // Lays an entry into the slot of its bucket.
+    // Adds an entry to the slot of its bucket.
     #[inline]
     fn lay(&mut self, entry: Entry) -> Result<(), AllocError> {
         let place = self.place_of(self.bucket_of(entry.dist));
@@ -137,15 +138,15 @@ impl Bins {
         Ok(())
     }
 
-    /// Puts an entry into its bucket.
+    /// Adds an entry to its bucket.
     pub fn put(&mut self, entry: Entry) -> Result<(), AllocError> {
         self.lay(entry)
     }
 
-    /// Puts the entry of a head into its bucket, and takes note of its tail's distance: where both often lie in one bucket,
-    /// buckets are too wide.
+    /// Adds the entry of a head to its bucket, and records whether its tail's distance is in the same bucket: if this happens
+    /// often, buckets are too wide.
     pub fn put_head(&mut self, entry: Entry, tail_dist: u64) -> Result<(), AllocError> {
-        // (a sum in place of a branch, which would often be mispredicted; neither number comes near 2^64)
+        // A sum instead of a branch, which would often be mispredicted. Neither number comes near 2^64.
         let is_near = self.bucket_of(entry.dist) == self.bucket_of(tail_dist);
         self.put = self.put.wrapping_add(1);
         self.near = self.near.wrapping_add(u64::from(is_near));
@@ -167,16 +168,16 @@ impl Bins {
         Ok(())
     }
 
-    /// Replaces a list that was worked off by the entries of the bucket that is being emptied. Where it stays empty,
-    /// `advance` goes on to the next bucket.
+    /// Replaces the entries of a list, all of them processed, by those of the bucket that is being emptied. If the list is then
+    /// empty, `advance` goes on to the next bucket.
     pub fn refill(&mut self, list: &mut Vec<Entry>) -> Result<(), AllocError> {
         list.clear();
         let lowest = self.place_of(self.lowest);
         self.empty(lowest, list)
     }
 
-    /// Makes the buckets 2 to the power of `shift` wide, and the one with this distance the one that is emptied, if
-    /// there is no entry at all.
+    /// Makes the buckets 2 to the power of `shift` wide, and starts with the bucket of this distance. The bins must have no
+    /// entry.
     pub fn open(&mut self, dist: u64, shift: u32) {
         self.shift = shift.min(WIDEST);
         self.lowest = self.bucket_of(dist);
@@ -210,7 +211,7 @@ impl Bins {
         least
     }
 
-    // Lays the entries of a list that is in no slot any more into the slots of their buckets.
+    // Adds the entries of a list that is no longer in a slot to the slots of their buckets.
     fn lay_chain(&mut self, list: Chain) -> Result<(), AllocError> {
         let mut entries = Vec::new(self.alloc);
         let mut left = list;
@@ -225,8 +226,7 @@ impl Bins {
         Ok(())
     }
 
-    // Deals the entries of a slot to the wheels below. The lowest of their buckets is the one that is emptied from then
-    // on.
+    // Moves the entries of a slot to the wheels below. From then on, the lowest of their buckets is being emptied.
     fn deal(&mut self, place: usize) -> Result<(), AllocError>
         requires { place < 2048 }
     {
@@ -238,7 +238,7 @@ impl Bins {
         self.lay_chain(list)
     }
 
-    // Lays entries into the slots of their buckets.
+    // Adds entries to the slots of their buckets.
     fn lay_all(&mut self, entries: &[Entry]) -> Result<(), AllocError> {
         for entry in entries {
             self.lay(*entry)?;
@@ -246,7 +246,7 @@ impl Bins {
         Ok(())
     }
 
-    // Takes the entries out of all slots.
+    // Removes the entries from all slots, and returns them.
     fn take_all(&mut self) -> Result<Vec<Entry>, AllocError> {
         let mut entries = Vec::new(self.alloc);
         for _ in 0..SLOTS * WHEELS {
@@ -258,7 +258,7 @@ impl Bins {
         Ok(entries)
     }
 
-    // Returns the width that suits the heads that were put of late.
+    // Returns the width that suits the heads that were added recently, as a power of 2.
     fn fitting_shift(&self) -> u32
         ensures { result < 64 }
     {
@@ -273,7 +273,7 @@ impl Bins {
         }
     }
 
-    // Gives the buckets another width.
+    // Changes the width of the buckets.
     fn set_shift(&mut self, shift: u32) -> Result<(), AllocError>
         requires { shift < 64 }
     {
@@ -285,11 +285,11 @@ impl Bins {
         self.lay_all(&entries)
     }
 
-    /// Fits the width of the buckets to the heads that were put of late, where no entry of the bucket that is being emptied
-    /// is in hand.
+    /// Adapts the width of the buckets to the heads that were added recently. The caller holds no entry of the bucket that is
+    /// being emptied.
     ///
-    /// All entries are moved for a new width. Buckets become wider only where as many heads were put as the last change
-    /// has moved, so that the moves take no more time than the entries.
+    /// A new width moves all entries. Buckets become wider only if at least as many heads were added as the last change moved, so
+    /// that moving entries takes no more time than adding them.
     pub fn adjust(&mut self) -> Result<(), AllocError> {
         if self.put < LOT {
             return Ok(());

@@ -1,18 +1,18 @@
-//! Lists of entries in chunks that are used again.
+//! Lists of entries in chunks that are reused.
 
 use crate::entry::Entry;
 use std::alloc::{AllocError, Global};
 
-// The number of entries of a chunk.
+// The number of entries in a chunk.
 const CHUNK: usize = 64;
 
-// What stands in a chunk where no entry was put yet.
+// Fills the places of a chunk that have no entry yet.
 const BLANK: Entry = Entry { vertex: 0, dist: 0 };
 
-/// A list of entries in chunks, of which the last alone may have room left.
+/// A list of entries in chunks. Only the last chunk may have room left.
 #[derive(Clone, Copy)]
 pub(crate) struct Chain {
-    // The place behind the last entry, among those of all chunks; 0 where the list is empty.
+    // The place behind the last entry, among the places of all chunks; 0 if the list is empty.
     end: usize,
 }
 
@@ -20,12 +20,12 @@ impl Chain {
     /// The empty list.
     pub const EMPTY: Chain = Chain { end: 0 };
 
-    /// Whether there is no entry.
+    /// Returns whether the list has no entry.
     pub fn is_empty(self) -> bool {
         self.end == 0
     }
 
-    /// Whether a further entry needs a further chunk.
+    /// Returns whether another entry needs another chunk.
     pub fn is_full(self) -> bool {
         self.end % CHUNK == 0
     }
@@ -35,7 +35,7 @@ impl Chain {
         self.end.saturating_sub(1) / CHUNK
     }
 
-    // Returns the place of the last chunk's first entry.
+    // Returns the place of the first entry of the last chunk.
     fn start(self) -> usize {
         self.end.saturating_sub(1) / CHUNK * CHUNK
     }
@@ -43,21 +43,21 @@ impl Chain {
 
 /// The chunks of several lists.
 ///
-/// A chunk that a list is done with is used again before memory is asked for, so there are as many chunks as were in use at a
-/// time. Of entries nothing is promised: places are looked up without a proof that they exist, and an entry would be lost
-/// where one didn't.
+/// A chunk that a list no longer needs is reused before more memory is allocated, so there are as many chunks as were in use at
+/// the same time. The contract promises nothing about entries: places are looked up without a proof that they exist, and an entry
+/// whose place didn't exist would be lost.
 #[derive(Drop)]
 pub(crate) struct Chunks {
-    // The entries of all chunks, one chunk behind the other.
+    // The entries of all chunks, one chunk after the other.
     entries: Vec<Entry>,
-    // For each chunk what its list is without it.
+    // For each chunk, the list without this chunk.
     rests: Vec<Chain>,
-    // The chunks that are in no other list, whether they are full or not.
+    // The chunks that are in no other list, full or not.
     free: Chain,
 }
 
 impl Chunks {
-    /// No chunks yet.
+    /// Returns an empty set of chunks.
     pub fn new(alloc: Global) -> Chunks {
         Chunks {
             entries: Vec::new(alloc),
@@ -71,7 +71,7 @@ impl Chunks {
         self.rests.len()
     }
 
-    /// Puts an entry at the end of a list that isn't full, and returns the list.
+    /// Appends an entry to a list that isn't full, and returns the list.
     pub fn put(&mut self, chain: Chain, entry: Entry) -> Chain {
         let Some(room) = self.entries.get_mut(chain.end) else {
             return chain;
@@ -80,7 +80,7 @@ impl Chunks {
         Chain { end: chain.end + 1 }
     }
 
-    // Makes a chunk behind all others, for a list that is full, and returns the place of its first entry.
+    // Adds a new chunk behind all others, for a list that is full, and returns the place of its first entry.
     fn make(&mut self, chain: Chain) -> Result<usize, AllocError> {
         let start = self.entries.len();
         self.rests.reserve(1)?;
@@ -101,7 +101,7 @@ impl Chunks {
         Some(free.start())
     }
 
-    /// Puts an entry into a further chunk of a list that is full, and returns the list.
+    /// Appends an entry to a list that is full, in another chunk, and returns the list.
     pub fn put_further(&mut self, chain: Chain, entry: Entry) -> Result<Chain, AllocError> {
         let end = match self.take(chain) {
             Some(start) => start,
@@ -123,7 +123,7 @@ impl Chunks {
             .unwrap_or(Chain::EMPTY)
     }
 
-    // Lets a list's last chunk be used again, and returns the list without it.
+    // Frees the last chunk of a list for reuse, and returns the list without it.
     fn give_back(&mut self, chain: Chain) -> Chain {
         let Some(rest) = self.rests.get_mut(chain.chunk()) else {
             return Chain::EMPTY;
@@ -134,7 +134,7 @@ impl Chunks {
         left
     }
 
-    /// Moves the entries of a list's last chunk to the end of another list, and returns what is left.
+    /// Moves the entries of the last chunk of a list to the end of `list`, and returns the remaining chunks.
     pub fn move_last(&mut self, chain: Chain, list: &mut Vec<Entry>) -> Result<Chain, AllocError> {
         list.extend_from_slice(self.last(chain))?;
         Ok(self.give_back(chain))
@@ -146,7 +146,7 @@ mod tests {
     use super::*;
     use std::test::Fail;
 
-    // Puts so many entries into a list.
+    // Returns a list of `entries` entries.
     fn fill(chunks: &mut Chunks, entries: u32) -> Result<Chain, AllocError> {
         let mut chain = Chain::EMPTY;
         for vertex in 0..entries {
@@ -160,7 +160,7 @@ mod tests {
         Ok(chain)
     }
 
-    // Takes all entries out of a list, and counts them.
+    // Removes all entries from a list, and returns their number.
     fn drain(alloc: Global, chunks: &mut Chunks, chain: Chain) -> Result<usize, AllocError> {
         let mut entries = Vec::new(alloc);
         let mut left = chain;
@@ -173,7 +173,7 @@ mod tests {
         Ok(entries.len())
     }
 
-    // Fills two lists and drains them, time and again. It tells whether all entries came each time.
+    // Fills two lists and drains them, again and again. Returns whether all entries came out each time.
     fn come_back(alloc: Global, chunks: &mut Chunks) -> Result<bool, AllocError> {
         let mut all = true;
         for entries in 65..200u32 {
@@ -185,7 +185,7 @@ mod tests {
         Ok(all)
     }
 
-    // Lists of 128 and up to 199 entries never have more than two chunks and four.
+    // A list of 128 entries and one of at most 199 never have more than two chunks and four.
     #[test]
     fn chunks_are_used_again(rt: HostRuntime) -> Result<(), Fail> {
         let mut chunks = Chunks::new(rt.alloc());

@@ -1,6 +1,6 @@
 //! Queued vertices.
 
-/// A vertex, queued with the tentative distance that it had at that time.
+/// A queued vertex, with the tentative distance that it had when it was queued.
 #[derive(Clone, Copy, PartialEq, Eq, Debug)]
 pub struct Entry {
     pub vertex: u32,

@@ -1,4 +1,4 @@
--- What the checks of trees and forests answer.
+-- The results of the checks of trees and forests.
 use Rattle.std.specs.Prelude.{◌≡◌, ℕ, Option, Some, None, Result, Ok, Err}
 use Rattle.sp_word.specs.Word.{max_dist}
 use Rattle.sp_paths.specs.Paths.{Graph}
@@ -22,7 +22,7 @@ IsCertified P g t = IsTreeOf g (max_dist P) t.n t.source (table_of t)
 abbrev pub IsCertifiedWithin : (limit : ℕ) → Graph → TreeTable → Type 0
 IsCertifiedWithin limit g t = IsPartOfTree g limit t.n t.source (table_of t)
 
--- The reported fault is the first one of what is claimed.
+-- The reported fault is the first one of the claim.
 abbrev pub TellsFirst : Graph → (max : ℕ) → (sized : Type 0) → Claim → CheckError → Type 0
 TellsFirst g max sized c (Fault v rule) = IsFirstFault g max sized c v rule
 TellsFirst g max sized c Memory = Unit {0}
@@ -31,6 +31,7 @@ TellsFirst g max sized c Memory = Unit {0}
 abbrev pub TellsFaultUpTo : (P : ℕ) → (limit : Option ℕ) → Graph → TreeTable → CheckError → Type 0
 TellsFaultUpTo P limit g t error = TellsFirst g (max_dist P) (t.n ≡ g.n) (claim_of_tree t limit) error
 
+-- The reported fault is the first one of the tree, without a limit.
 abbrev pub TellsFault : (P : ℕ) → Graph → TreeTable → CheckError → Type 0
 TellsFault P g t error = TellsFaultUpTo P None g t error
 
@@ -40,23 +41,24 @@ TellsForestFault P count limit g f error = TellsFirst g (max_dist P) (IsCounted 
 
 -- ## Faults
 
--- These are the faults of a tree, and of a forest.
+-- These are the faults of a tree.
 abbrev pub FailsOfTree : (P : ℕ) → (limit : Option ℕ) → Graph → TreeTable → (v : ℕ) → Rule → Type 0
 FailsOfTree P limit g t v rule = Fails g (max_dist P) (t.n ≡ g.n) (claim_of_tree t limit) v rule
 
+-- These are the faults of a forest.
 abbrev pub FailsOfForest : (P : ℕ) → (count : ℕ) → (limit : Option ℕ) → Graph → ForestTable → (v : ℕ) → Rule → Type 0
 FailsOfForest P count limit g f v rule = Fails g (max_dist P) (IsCounted g f count) (claim_of_forest f limit) v rule
 
--- This is the fault of wrong numbers.
+-- This is the fault of wrong sizes.
 abbrev pub wrong_size : Option Failure
 wrong_size = Some (record { vertex = 0; rule = Size })
 
--- This is the answer where the earliest fault is known.
+-- This is the result, given the earliest fault, if there is one.
 abbrev pub answer_of : Option Failure → Result (Unit {0}) CheckError
 answer_of None = Ok tt
 answer_of (Some f) = Err (Fault f.vertex f.rule)
 
--- The answer tells the earliest of these faults, or that there is none, unless there is no memory.
+-- The result is the earliest of these faults, or that there is none, unless there is no memory.
 abbrev pub IsAnswer : (ℕ → Rule → Type 0) → Result (Unit {0}) CheckError → Type 0
 IsAnswer F (Ok done) = IsFirstOf F None
 IsAnswer F (Err (Fault v rule)) = IsFirstOf F (Some (record { vertex = v; rule = rule }))

@@ -12,7 +12,7 @@ use Rattle.sp_cert.specs.declared.sources.Sources.TheVariants.{WithoutPred}
 use Rattle.sp_cert.specs.Claims.{IsSource, IsUpTo, IsAbove}
 use Rattle.sp_cert.specs.Rules.{number_of, IsExplained, NoLater}
 
--- This is the earliest of the faults that have the property, or none.
+-- This is the earliest of the faults with the property, or none.
 abbrev pub IsFirstOf : (ℕ → Rule → Type 0) → Option Fault → Type 0
 IsFirstOf P None = (v : ℕ) → (rule : Rule) → P v rule → ⊥
 IsFirstOf P (Some f) = P f.vertex f.rule × ((w : ℕ) → (other : Rule) → P w other → NoLater f.vertex f.rule w other)
@@ -27,6 +27,7 @@ earlier_of None b = b
 earlier_of (Some f) None = Some f
 earlier_of (Some f) (Some g) = if is_later f g then Some g else Some f
 
+-- The arc a comes no later than b: by head, then by length.
 abbrev pub IsNoFurther : Arc → Arc → Type 0
 IsNoFurther a b = (a.head < b.head) ⊎ ((a.head ≡ b.head) × (a.len ≤ b.len))
 
@@ -73,7 +74,7 @@ abbrev pub IsBroken : (Rule → Type 0) → Option Rule → Type 0
 IsBroken P None = (rule : Rule) → P rule → ⊥
 IsBroken P (Some rule) = P rule × ((other : Rule) → P other → number_of rule ≤ number_of other)
 
--- These are the faults at a vertex, where such rules are broken.
+-- These are the faults at a vertex that breaks such rules.
 abbrev pub FaultAt : (ℕ → Rule → Type 0) → (vertex : ℕ) → (v : ℕ) → Rule → Type 0
 FaultAt P vertex v rule = (v ≡ vertex) × P vertex rule
 
@@ -81,13 +82,14 @@ FaultAt P vertex v rule = (v ≡ vertex) × P vertex rule
 abbrev pub FaultOfVertex : (n : ℕ) → (ℕ → Rule → Type 0) → (v : ℕ) → Rule → Type 0
 FaultOfVertex n P v rule = IsVertex n v × P v rule
 
--- These are the faults at an arc's head by the arc, and by all arcs of a list.
+-- These are the faults that an arc shows at its head.
 abbrev pub FaultBy : (max : ℕ) → (limit : Option ℕ) → Table → Arc → (v : ℕ) → Rule → Type 0
 FaultBy max limit words arc v rule = (v ≡ arc.head) × BreaksBy max limit words arc rule
 
+-- These are the faults that the arcs of a list show at their heads.
 abbrev pub FaultOfArc : (max : ℕ) → (limit : Option ℕ) → Table → List Arc → (v : ℕ) → Rule → Type 0
 FaultOfArc max limit words arcs v rule = (arc : Arc) × Contains arcs arc × FaultBy max limit words arc v rule
 
--- These are all faults of words, but for what concerns roots.
+-- These are all faults of words, except those of roots.
 abbrev pub FaultOfWords : Graph → (max : ℕ) → Sources → (limit : Option ℕ) → Table → (v : ℕ) → Rule → Type 0
 FaultOfWords g max sources limit words v rule = FaultOfArc max limit words g.arcs v rule ⊎ FaultOfVertex g.n (BreaksAt g sources limit words) v rule

@@ -4,7 +4,7 @@ use Rattle.sp_paths.specs.Paths.{IsVertex}
 use Rattle.sp_answer.specs.Table.{HasPredWithin}
 use Rattle.sp_forest.specs.ForestTable.{Row, ForestTable, row_in}
 
--- The row is that of its vertex, which is one of the forest's, as its predecessor is unless it is 0.
+-- The row is that of its vertex, a vertex of the forest. Its predecessor is one too, unless it is 0.
 pub record IsOwnRow (f : ForestTable) (row : Row) : Type 0 where
   pub own : row_in f.rows row.0 ≡ Some row
   pub vertex : IsVertex f.n row.0

@@ -23,20 +23,21 @@ number_of OtherRoot = 7
 abbrev pub IsExplained : Graph → Table → (v d p : ℕ) → Type 0
 IsExplained g words v d p = (c q l : ℕ) × (words p ≡ Pair c q) × HasArc g p v l × (c + l ≡ d)
 
--- Roots are told, and the root of v isn't v; or it isn't the root of p.
+-- Roots are given, and the root of v isn't v.
 abbrev pub HasForeignRoot : (roots : Option (ℕ → Option ℕ)) → (v : ℕ) → Type 0
 HasForeignRoot None v = ⊥
 HasForeignRoot (Some roots) v = roots v ≢ Some v
 
+-- Roots are given, and the root of v isn't the root of p.
 abbrev pub HasOtherRoot : (roots : Option (ℕ → Option ℕ)) → (v p : ℕ) → Type 0
 HasOtherRoot None v p = ⊥
 HasOtherRoot (Some roots) v p = roots v ≢ roots p
 
--- The rule fails at the vertex v, where this is claimed, with distances up to max: a source's word isn't (0, 0), or its
--- root isn't itself; an arc from a reached u offers v a pair within max and up to the limit that is less than v's word; v is
--- reached and no source, and its predecessor doesn't explain its distance; no limit is given, v is unreached, and an arc from
--- a reached vertex leads to it beyond max; v's distance is above the limit; v is reached and no source, and its root isn't its
--- predecessor's. The size doesn't concern a single vertex.
+-- The rule fails at the vertex v of this claim, with distances up to max: a source's word isn't (0, 0), or its root isn't
+-- itself; an arc from a reached u offers v a pair within max and up to the limit that is less than v's word; v is reached and no
+-- source, and its predecessor doesn't explain its distance; no limit is given, v is unreached, and an arc from a reached vertex
+-- leads to it beyond max; v's distance is above the limit; v is reached and no source, and its root isn't its predecessor's. The
+-- size doesn't concern a single vertex.
 abbrev pub Breaks : Graph → (max : ℕ) → Claim → (v : ℕ) → Rule → Type 0
 Breaks g max c v Size = ⊥
 Breaks g max c v OwnSource = IsSource c.sources c.words v × ((c.words v ≢ Pair 0 0) ⊎ HasForeignRoot c.roots v)
@@ -46,8 +47,8 @@ Breaks g max c v OnlyTooFar = (c.limit ≡ None) × ((u l d p : ℕ) × HasArc g
 Breaks g max c v BeyondLimit = (d p : ℕ) × (c.words v ≡ Pair d p) × IsAbove c.limit d
 Breaks g max c v OtherRoot = (d p : ℕ) × (c.words v ≡ Pair d p) × (IsSource c.sources c.words v → ⊥) × HasOtherRoot c.roots v p
 
--- The rule fails at v, where this is claimed, and `sized` says that the numbers of vertices and of sources are right. If they
--- aren't, the rule of the size fails, at vertex 0, and no other rule is looked at.
+-- The rule fails at the vertex v of this claim. `sized` says that the numbers of vertices and of sources are right. If they
+-- aren't, the size rule fails, at vertex 0, and no other rule is looked at.
 abbrev pub Fails : Graph → (max : ℕ) → (sized : Type 0) → Claim → (v : ℕ) → Rule → Type 0
 Fails g max sized c v Size = (v ≡ 0) × (sized → ⊥)
 Fails g max sized c v rule = IsVertex g.n v × sized × Breaks g max c v rule
@@ -86,7 +87,7 @@ pub record IsPartOfTree (g : Graph) (limit n s : ℕ) (words : Table) : Type 0 w
 abbrev pub PartRulesAreExact : Type 0
 PartRulesAreExact = (g : Graph) (max limit n s : ℕ) (words : Table) → IsGraph g → IsVertex n s → limit ≤ max → Passes g max (n ≡ g.n) (tree_claim s (Some limit) words) ↔ IsPartOfTree g limit n s words
 
--- The forest has the graph's number of vertices, and as many sources as are counted.
+-- The forest has the graph's number of vertices, and as many sources as counted.
 abbrev pub IsCounted : Graph → ForestTable → (count : ℕ) → Type 0
 IsCounted g f count = (f.n ≡ g.n) × (count ≡ length (sources_in f))
 

@@ -13,7 +13,7 @@ use sp_paths::{Arc, Offer};
 use sp_word::Word;
 use std::thread::Threads;
 
-/// Returns whether the distance of a word is up to the limit, if there is one.
+/// Returns whether the distance of a word is at most the limit, if there is one.
 fn is_in_reach<const P: u32>(limit: Option<u64>, word: Word<P>) -> bool
     ensures { IsTrue result ↔ IsInReach limit word.entry }
 {
@@ -57,7 +57,7 @@ fn fault_by<const P: u32>(words: &[Word<P>], limit: Option<u64>, arc: Arc) -> Op
     }
 }
 
-/// Returns the earliest fault that an arc shows, independently of how the arcs are split into pieces.
+/// Returns the earliest fault that an arc shows. The result doesn't depend on how the arcs are split into pieces.
 pub fn first_of_arcs<const P: u32, R: Threads + Sync>(
     rt: &R,
     words: &[Word<P>],

@@ -27,11 +27,10 @@ use thiserror::Error;
 /// Why a tree or a forest is not certified.
 #[derive(Clone, Copy, Debug, PartialEq, Eq, Error)]
 pub enum CheckError {
-    /// The lowest vertex at which a rule fails, and the lowest rule that fails there. For the rule of the size the
-    /// vertex is 0.
+    /// The lowest vertex at which a rule fails, and the lowest rule that fails there. For the size rule the vertex is 0.
     #[error("rule {rule} fails at vertex {vertex}")]
     Fault { vertex: u32, rule: Rule },
-    /// There was no memory for the words by vertex.
+    /// There was no memory for the words of the vertices.
     #[error("memory")]
     Memory,
 }
@@ -44,7 +43,7 @@ impl From<AllocError> for CheckError {
     }
 }
 
-// Returns the earliest fault of words, but for what concerns roots.
+// Returns the earliest fault of the words, except for faults of roots.
 fn first_of_words<const P: u32, R: Threads + Sync>(
     rt: &R,
     graph: &Graph,
@@ -63,7 +62,7 @@ fn first_of_words<const P: u32, R: Threads + Sync>(
     earlier(of_arcs, of_vertices)
 }
 
-// Returns the fault of wrong numbers.
+// Returns the fault of wrong sizes.
 fn wrong_size() -> Option<Fault>
     ensures { result ≡ wrong_size }
 {
@@ -124,7 +123,7 @@ fn first_of_forest<const P: u32, R: Threads + Sync>(
     Ok(earlier(of_words, of_roots))
 }
 
-// Returns the answer where this is the earliest fault, if there is one.
+// Returns the result of a check, given the earliest fault, if there is one.
 fn told(first: Option<Fault>) -> Result<(), CheckError>
     ensures { result ≡ answer_of first }
 {
@@ -134,10 +133,10 @@ fn told(first: Option<Fault>) -> Result<(), CheckError>
     }
 }
 
-/// Checks whether the tree is the shortest-path tree of its source in the graph, with no vertex that is too far.
+/// Checks whether the tree is the shortest-path tree of its source in the graph, with no vertex too far.
 ///
-/// It takes the time of one pass over the arcs and, for each reached vertex, of a binary search in one row, on all
-/// processors. It allocates 8 bytes for each vertex, and returns `Memory` only if that allocation fails.
+/// It takes one pass over the arcs, and one binary search in a row for each reached vertex, on all processors. It allocates 8
+/// bytes for each vertex, and returns `Memory` only if that allocation fails.
 pub fn check<const P: u32, R: Threads + Sync>(
     rt: &R,
     alloc: Global,
@@ -153,7 +152,7 @@ pub fn check<const P: u32, R: Threads + Sync>(
 
 /// Checks whether the tree is the part of the shortest-path tree of its source within a distance.
 ///
-/// Time and memory are those of `check`.
+/// It takes as much time and memory as `check`.
 pub fn check_within<const P: u32, R: Threads + Sync>(
     rt: &R,
     alloc: Global,
@@ -170,10 +169,11 @@ pub fn check_within<const P: u32, R: Threads + Sync>(
     told(first_of_tree(rt, alloc, graph, tree, Some(limit))?)
 }
 
-/// Checks whether the forest is that of its sources, the vertices whose row has predecessor 0, of which there are `count`: the
-/// forest in the graph, with no vertex that is too far, or its part within a limit; and whether each vertex has its root.
+/// Checks whether the forest is that of its sources in the graph: the whole forest, with no vertex too far, or its part within a
+/// limit. The sources are the vertices whose row has predecessor 0, and there must be `count` of them. Each vertex must have its
+/// root.
 ///
-/// It takes the time of `check` and, for each reached vertex, of a binary search among the rows. It allocates as `check` does.
+/// It takes the time of `check`, and one binary search among the rows for each reached vertex. It allocates what `check` does.
 pub fn check_forest<const P: u32, R: Threads + Sync>(
     rt: &R,
     alloc: Global,

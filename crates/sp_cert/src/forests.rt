@@ -14,7 +14,7 @@ use sp_word::Word;
 use std::alloc::{AllocError, Global};
 use std::thread::Threads;
 
-/// Returns the words of the vertices 1, 2 and so on.
+/// Returns the words of vertices 1, 2 and so on.
 pub fn words_of_forest<const P: u32>(
     alloc: Global,
     forest: &Forest<P>,
@@ -44,7 +44,7 @@ pub fn count_of_sources<const P: u32>(forest: &Forest<P>) -> usize
     count
 }
 
-// Returns the rule that a row breaks by its root, if any.
+// Returns the rule that a row's root breaks, if any.
 fn broken_by_root<const P: u32>(forest: &Forest<P>, row: &(u32, Word<P>, u32)) -> Option<Rule>
     requires { IsOwnRow forest.now row.now }
     ensures { IsBroken (BreaksRoot (table_of forest.now) (root_of forest.now) row.now.0) result }
@@ -66,7 +66,7 @@ fn broken_by_root<const P: u32>(forest: &Forest<P>, row: &(u32, Word<P>, u32)) -
     }
 }
 
-// Returns the fault that a row shows by its root, if any.
+// Returns the fault that a row's root shows, if any.
 fn fault_by_root<const P: u32>(forest: &Forest<P>, row: &(u32, Word<P>, u32)) -> Option<Fault>
     requires { IsOwnRow forest.now row.now }
     ensures { IsFirstOf
@@ -79,7 +79,7 @@ fn fault_by_root<const P: u32>(forest: &Forest<P>, row: &(u32, Word<P>, u32)) ->
     }
 }
 
-/// Returns the earliest fault that the root of a vertex shows, independently of how the rows are split into pieces.
+/// Returns the earliest fault that the root of a vertex shows. The result doesn't depend on how the rows are split into pieces.
 pub fn first_of_roots<const P: u32, R: Threads + Sync>(rt: &R, forest: &Forest<P>) -> Option<Fault>
     ensures { IsFirstOf (FaultOfVertex forest.now.n
         (BreaksRoot (table_of forest.now) (root_of forest.now))) result }

@@ -6,7 +6,7 @@ pub fn checked_table()
     ensures { RulesAreExact }
 {}
 
-/// States that the rules hold exactly for the part of a tree within a limit, and for a forest, of which a limit may be given.
+/// States that the rules hold exactly for the part of a tree within a limit, and for a forest, with or without a limit.
 pub fn checked_forest()
     ensures part { PartRulesAreExact }
     ensures forest { ForestRulesAreExact }

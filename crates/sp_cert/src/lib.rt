@@ -1,4 +1,4 @@
-//! A checker of shortest-path trees and forests, which any program may have made.
+//! A checker of shortest-path trees and forests made by any program.
 #![tactic(auto)]
 
 mod arcs;

@@ -5,20 +5,20 @@ ghost use Rattle.sp_cert.specs.Rules.{number_of};
 
 use std::fmt;
 
-/// A rule that a tree or a forest satisfies. It displays as its number.
+/// A rule that a tree or a forest satisfies. `Display` prints its number.
 #[derive(Clone, Copy, Debug, PartialEq, Eq)]
 pub enum Rule {
-    /// There are as many vertices as in the graph, and in a forest as many sources as are counted.
+    /// There are as many vertices as in the graph, and in a forest as many sources as counted.
     Size = 1,
     /// A source's word is (0, 0), and its root is itself.
     OwnSource = 2,
-    /// No arc from a reached vertex offers its head a pair within the greatest distance, and the limit if there is one, that
-    /// is less than its word.
+    /// No arc from a reached vertex offers its head a lesser pair within the greatest distance, and within the limit if there is
+    /// one.
     NoLesserOffer = 3,
-    /// A reached vertex other than a source names a reached predecessor, which has an arc to it whose length is the
-    /// difference of the two distances.
+    /// A reached vertex other than a source names a reached predecessor with an arc to it. The arc's length is the difference of
+    /// the two distances.
     NamesPredecessor = 4,
-    /// Where no limit is given, no arc from a reached vertex to an unreached one has a sum beyond the greatest distance.
+    /// Without a limit, no arc from a reached vertex to an unreached one has a sum beyond the greatest distance.
     OnlyTooFar = 5,
     /// No distance is above the limit.
     BeyondLimit = 6,

@@ -9,7 +9,7 @@ use sp_word::Word;
 /// Which vertices are sources.
 #[derive(Clone, Copy)]
 pub enum Sources {
-    /// This vertex alone.
+    /// Only this vertex.
     One(u32),
     /// The reached vertices that have predecessor 0.
     WithoutPred,

@@ -25,7 +25,7 @@ fn has_arc(row: &[Arc], head: u32, len: u64) -> bool
         .is_ok()
 }
 
-// Returns whether `pred` is reached and has an arc to the vertex that makes its distance `dist`.
+// Returns whether `pred` is reached and has an arc to the vertex that gives the distance `dist`.
 fn is_explained<const P: u32>(
     graph: &Graph,
     words: &[Word<P>],
@@ -111,7 +111,7 @@ fn fault_at<const P: u32>(
     }
 }
 
-/// Returns the earliest fault that a vertex shows, independently of how the vertices are split into pieces.
+/// Returns the earliest fault that a vertex shows. The result doesn't depend on how the vertices are split into pieces.
 pub fn first_of_vertices<const P: u32, R: Threads + Sync>(
     rt: &R,
     graph: &Graph,

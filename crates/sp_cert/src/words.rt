@@ -7,7 +7,7 @@ use sp_answer::Tree;
 use sp_word::Word;
 use std::alloc::{AllocError, Global};
 
-/// Returns the words of the vertices 1, 2 and so on.
+/// Returns the words of vertices 1, 2 and so on.
 pub fn words_of<const P: u32>(alloc: Global, tree: &Tree<P>) -> Result<Vec<Word<P>>, AllocError>
     ensures size { IfOk result (λ words. length words.items ≡ tree.now.n) }
     ensures words { IfOk result (λ words. (v : ℕ) → IsVertex tree.now.n v

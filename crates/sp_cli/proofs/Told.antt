@@ -46,6 +46,7 @@ shut paths files fault.DeltaOutOfRange is = absurd is
 shut paths files fault.LimitOutOfRange is = absurd is
 shut paths files fault.InputTwice is = absurd is
 shut paths files fault.NoPlaces is = absurd is
+shut paths files (fault.OutputIsInput role) is = absurd is
 shut paths files (fault.CannotOpen kind) is = (kind, refl, is)
 shut paths files (fault.Input kind e) is = absurd is
 shut paths files (fault.Packed e) is = absurd is

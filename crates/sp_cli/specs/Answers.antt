@@ -27,6 +27,7 @@ IsOfTexts P way job graph sources s answer = (gr ss : List ℕ) → HasText s gr
 abbrev pub IsOfSomeTexts : (P : ℕ) → (way : Direction) → JobDone → Sources → Scene → Result Summary BatchError → Type 0
 IsOfSomeTexts P way job sources s answer = IfOk answer (λ summary. IsOfSomeIn s P way job (asked_of sources) (Ok summary))
 
+-- The answer belongs to the texts of the files, if they are known; and if everything was written, it belongs to some texts.
 abbrev pub IsOfSources : (P : ℕ) → (way : Direction) → JobDone → (graph : List ℕ) → Sources → Scene → Result Summary BatchError → Type 0
 IsOfSources P way job graph sources s answer = IsOfTexts P way job graph sources s answer × IsOfSomeTexts P way job sources s answer
 

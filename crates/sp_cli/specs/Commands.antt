@@ -29,6 +29,7 @@ pub record IsInGraph {C : Type 0} (reads : Found → C → Type 0) (found : Foun
   pub options : IsAskedFor found command.options
   pub own : reads found command.own
 
+-- A command line lacks the graph, a valid option for runs, or something that the command itself needs.
 abbrev pub LacksInGraph : (lacks : Found → Type 0) → Found → Type 0
 LacksInGraph lacks found = LacksValue found (codes "GR") ⊎ (LacksOptions found ⊎ lacks found)
 

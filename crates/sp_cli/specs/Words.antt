@@ -10,15 +10,19 @@ use Rattle.sp_options.specs.Within.{HasLimit, LacksLimit}
 
 -- ## Arguments
 
+-- The arguments of `tree`.
 abbrev pub tree_rules : List Rule
 tree_rules = file_rule (codes "GR") ∷ (sources_rules ++ within_rule ∷ width_rule ∷ running_rules)
 
+-- The arguments of `pairs`.
 abbrev pub pairs_rules : List Rule
 pairs_rules = file_rule (codes "GR") ∷ file_rule (codes "PAIRS") ∷ width_rule ∷ running_rules
 
+-- The arguments of `matrix`.
 abbrev pub matrix_rules : List Rule
 matrix_rules = file_rule (codes "GR") ∷ (lists_rules ++ mean_rule ∷ running_rules)
 
+-- The arguments of `nearest`.
 abbrev pub nearest_rules : List Rule
 nearest_rules = file_rule (codes "GR") ∷ (sources_rules ++ within_rule ∷ mean_rule ∷ running_rules)
 
@@ -28,5 +32,6 @@ nearest_rules = file_rule (codes "GR") ∷ (sources_rules ++ within_rule ∷ mea
 abbrev pub AreNamedWithin : Found → Sources → (limit : Option ℕ) → Type 0
 AreNamedWithin found sources limit = AreNamed found sources × HasLimit found limit
 
+-- A command line names no sources, or its limit is invalid.
 abbrev pub LacksSources : Found → Type 0
 LacksSources found = NamesNone found ⊎ LacksLimit found

@@ -1,4 +1,4 @@
-//! What a command says of its own, besides its words: what its job answers in a graph.
+//! What each command adds besides its words: what its job answers in a graph.
 ghost use denote.Param.Send.{IsSync};
 ghost use Rattle.std.specs.Prelude.{◌≡◌, ℕ, true, false, List, Option, Result, Some, IfOk, MatchResult, codes};
 ghost use Rattle.sp_word.specs.Word.{is_layout};
@@ -24,24 +24,25 @@ pub trait Answer<const P: u32> {
     /// The paths of its files besides the graph.
     ghost paths: { Self → Paths };
 
-    /// The greatest distance that is told, if there is a limit.
+    /// The greatest distance to report, if there is a limit.
     ghost within: { Self → Option ℕ };
 
-    /// A word for places spells none.
+    /// The word for places is invalid.
     ghost placeless: { Self → Type 0 };
 
-    /// What its job answers, with the graph of this path, its arcs in this direction.
+    /// What the command's job answers in the graph with this path, with its arcs in this direction.
     ghost answers: { Self → Direction → (graph : List ℕ)
         → Scene → Result Summary BatchError → Type 0 };
 
-    /// Returns the greatest distance that is told, or a fault if words with `P` bits of predecessor have no such distance.
+    /// Returns the greatest distance to report, or a fault if words with `P` bits of predecessor can't hold that
+    /// distance.
     fn limit(&self) -> Result<Option<u64>, Fault>
         requires { is_layout P ≡ true }
         ensures exactly { MatchResult result (λ _. IsLimit P (within self.now))
             (λ fault. ¬ (IsLimit P (within self.now)) × (fault ≡ LimitOutOfRange)) }
         ensures limit { IfOk result (λ asked. asked ≡ within self.now) };
 
-    /// Returns whether a word for places spells none.
+    /// Returns whether the word for places is invalid.
     fn lacks_places(&self) -> bool
         ensures lacking { result ≡ true → placeless self.now }
         ensures none { result ≡ false → ¬ (placeless self.now) };
@@ -50,7 +51,8 @@ pub trait Answer<const P: u32> {
     fn is_input(&self, file: FileKind) -> bool
         ensures { result ≡ true → paths self.now file ≡ Some (codes "-") };
 
-    /// Opens its files, and runs its job: by the calling thread alone where there is one worker, else by threads that may wait for one
+    /// Opens the command's files and runs its job. If there is one worker, the calling thread runs it alone; otherwise
+    /// threads run it that may wait for one another.
     /// another.
     fn answer<R: Threads + Wait + Sync, F: Inputs, W: Write>(
         &self,
@@ -66,6 +68,6 @@ pub trait Answer<const P: u32> {
             place.now W.Write out.old out.new result }
         ensures untouched { IsUntouched out.old out.new result };
 
-    /// Returns the progress that all of this is written, of so many.
+    /// Returns the progress after this much has been written, out of this many in all.
     fn progress(written: Summary, count: usize) -> Progress;
 }

@@ -1,5 +1,5 @@
-//! What a command is that runs a job in a graph: what all of them have, and the part that is its own, of which it says what its words
-//! are (`Command`) and what its job answers (`Answer`).
+//! Commands that run a job in a graph: what all of them share, and the part of their own. Each command says in that
+//! part what its words are (`Command`) and what its job answers (`Answer`).
 ghost use Rattle.std.specs.Prelude.{◌≡◌, ◌∷◌, [], true};
 ghost use Rattle.sp_command.specs.Causes.{NamesInputTwice};
 ghost use Rattle.sp_command.specs.Reading.{IsLacking, IsNamed, IsUnnamed};
@@ -22,9 +22,9 @@ use std::thread::Threads;
 pub struct InGraph<'a, C> {
     /// The path of the graph.
     pub graph: &'a str,
-    /// The options that say how runs are made.
+    /// The options for its runs.
     pub options: RunOptions,
-    /// What is the command's own.
+    /// The command's own part.
     pub own: C,
 }
 
@@ -36,6 +36,8 @@ impl<'a, C: Command<'a>> Commands<'a> for InGraph<'a, C> {
     ghost unnamed = { IsUnnamed C.spelled (LacksInGraph C.lacks) };
 
     ghost lacking = { IsLacking C.spelled (LacksInGraph C.lacks) };
+
+    ghost paths = { λ given. paths_in given.graph.now (C.paths given.own) };
 
     fn add_to(program: clap::Command<'a>, alloc: Global) -> BuiltCommand<'a> {
         C::add_to(program, alloc)
@@ -118,7 +120,7 @@ impl<const P: u32, C: Answer<P>> Run<P> for InGraph<'_, C> {
     }
 }
 
-// Returns whether standard input is named for two of a command's files. No command has targets and pairs.
+// Returns whether two of a command's files are both standard input. No command has both targets and pairs.
 #[tactic(auto, using(crate::proofs::Opening::both_lists))]
 fn names_input_twice<const P: u32, C: Answer<P>>(graph: &str, own: &C) -> bool
     ensures { result ≡ true → NamesInputTwice (paths_in graph.now (C.paths own.now)) }

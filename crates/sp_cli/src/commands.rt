@@ -1,7 +1,8 @@
 //! The commands of the program.
 //!
-//! Each command is a type in a file of its own, in this crate or in one below, with its arguments, its help and what it does. To add a
-//! command, write such a file, and put its type into `AnyCommand`: one that runs a job in a graph as its own part of `InGraph`.
+//! Each command is a type in a file of its own, in this crate or in one below it, with its arguments, its help and what
+//! it does. To add a command, write such a file, and add its type to `AnyCommand`. A command that runs a job in a graph
+//! is written as its own part of `InGraph`.
 use crate::command::InGraph;
 use crate::matrix::MatrixCommand;
 use crate::nearest::NearestCommand;
@@ -10,7 +11,7 @@ use crate::tree::TreeCommand;
 use sp_command::OneOf;
 use sp_tools::{CheckCommand, OffersCommand, PackCommand, ReplayCommand};
 
-/// A command of the program, with its options and the paths of its files. The commands stand in the order of the help.
+/// A command of the program, with its options and the paths of its files. The commands are in the order of the help.
 pub type AnyCommand<'a> = OneOf<
     InGraph<'a, TreeCommand<'a>>,
     OneOf<

@@ -1,7 +1,7 @@
-//! The program `spt`, over any files and any streams.
+//! The program `spt`, for any files and any streams.
 //!
-//! This crate has the commands `tree`, `pairs`, `matrix` and `nearest`, and `sp_tools` has the others. `run_command` runs the command that a command line
-//! names, by `sp_order`, which does so for any type of commands.
+//! This crate has the commands `tree`, `pairs`, `matrix` and `nearest`; `sp_tools` has the others. `run_command` runs
+//! the command that a command line names. It uses `sp_order`, which does so for any type of commands.
 #![tactic(auto)]
 
 mod answer;

@@ -1,4 +1,4 @@
-//! The command `spt matrix`, which writes the distance from each source of a list to each target of another.
+//! The command `spt matrix`, which writes the distance from each source in a list to each target in another.
 ghost use denote.Param.Send.{IsSync};
 ghost use Rattle.std.specs.Prelude.{◌≡◌, true, None, codes};
 ghost use Rattle.sp_word.specs.Word.{is_layout};
@@ -21,11 +21,11 @@ use std::sync::Wait;
 use std::thread::Threads;
 
 const WORKERS_LONG: &str = "\
-The most threads to use, from 1 to 64 including the main thread, or
-`all` for one per processor, at most 64: a good choice if they are
-free. Each finds the lines of a different source. No more threads are
-started than there are processors, and none for a small graph. The
-output is the same for any number";
+The maximum number of threads, from 1 to 64 including the main thread,
+or `all` for one per processor, at most 64: a good choice if they are
+free. Each thread finds the lines of a different source. No more
+threads are started than there are processors, and none for a small
+graph. The output is the same for any number";
 
 /// What the command `matrix` asks for.
 #[derive(Drop)]
@@ -43,13 +43,15 @@ impl<'a> Command<'a> for MatrixCommand<'a> {
 
     ghost lacks = { ListsNone };
 
+    ghost paths = { λ given. list_paths given.lists };
+
     const ABOUT: &'static str = "Write the distance from each source to each target";
 
     const LONG_ABOUT: &'static str = "\
 Write the distance from each source to each target
 
-The distance is the length of a shortest walk from the source to the target. The
-predecessor is the vertex before the target on a shortest walk; if there are
+The distance is the length of a shortest path from the source to the target. The
+predecessor is the vertex before the target on a shortest path; if there are
 several, the one with the smallest number. The run from a source goes no farther
 than the targets require. The output is the same for any delta and any number of
 workers.";
@@ -63,8 +65,8 @@ of sources, and with --target no file of targets:
   spt matrix GR TARGETS --source V ..
   spt matrix GR SOURCES --target V ..
   spt matrix GR --source V .. --target V ..
-The files are read in the order in which they are named, and all sources and
-then all targets are checked, before anything is written.
+The files are read in the order in which they are named; all sources and then
+all targets are checked before anything is written.
 
 For each source, in the order of its list, and for each target, in the order of
 its list, one line is written, as `spt pairs` writes it for that pair:
@@ -73,12 +75,12 @@ its list, one line is written, as `spt pairs` writes it for that pair:
   x S V         T has no distance that fits (see --pred-bits), and V is the
                 smallest vertex that is too far and has an arc from a vertex
                 whose distance fits (exit status 4 at the end)
-  n S T         T has no distance, and there is no such V: no walk leads from S
+  n S T         T has no distance, and there is no such V: no path leads from S
                 to T
 The lines of a source are written as soon as they and those before them are
 known.
 
-It takes as much memory as `spt tree` does, plus 8 bytes per target, and another
+It needs as much memory as `spt tree` does, plus 8 bytes per target, and another
 28 bytes per target for each row that a worker is computing; the number of lines
 does not matter.
 
@@ -115,6 +117,7 @@ Other errors are
   spt: delta out of range            it does not fit in a word (see --pred-bits)
                                      (exit status 1)
   spt: standard input twice          two of the files are `-` (exit status 1)
+  spt: output is an input            -o names one of the files (exit status 1)
   spt: sources are not A-B           A and B are numbers, 1 <= A <= B
                                      (exit status 1)
   spt: source V: no such vertex      the first source above N, else the first

@@ -1,4 +1,4 @@
-//! The command `spt nearest`, which writes how far each vertex is from the nearest of several sources.
+//! The command `spt nearest`, which writes the distance from each vertex's nearest source, out of several.
 ghost use denote.Param.Send.{IsSync};
 ghost use Rattle.std.specs.Prelude.{◌≡◌, true, codes};
 ghost use Rattle.sp_word.specs.Word.{is_layout};
@@ -20,18 +20,18 @@ use std::sync::Wait;
 use std::thread::Threads;
 
 const WORKERS_LONG: &str = "\
-The most threads to use, from 1 to 64 including the main thread, or
-`all` for one per processor, at most 64: a good choice if they are
-free. All work on a single run. No more threads are started than there
-are processors, and none for a small graph. The output is the same for
-any number";
+The maximum number of threads, from 1 to 64 including the main thread,
+or `all` for one per processor, at most 64: a good choice if they are
+free. All threads work on a single run. No more threads are started
+than there are processors, and none for a small graph. The output is
+the same for any number";
 
 /// What the command `nearest` asks for.
 #[derive(Drop)]
 pub struct NearestCommand<'a> {
     /// The sources.
     pub sources: Sources<'a>,
-    /// The greatest distance that is written, if there is one.
+    /// The greatest distance to report, if there is one.
     pub within: Within,
 }
 
@@ -44,13 +44,15 @@ impl<'a> Command<'a> for NearestCommand<'a> {
 
     ghost lacks = { LacksSources };
 
+    ghost paths = { λ near. source_paths near.sources };
+
     const ABOUT: &'static str = "Write the nearest source of each vertex";
 
     const LONG_ABOUT: &'static str = "\
 Write the nearest source of each vertex
 
-The distance of a vertex is the length of a shortest walk from any of the
-sources. Its predecessor is the vertex before it on such a walk; if there are
+The distance of a vertex is the length of a shortest path from any of the
+sources. Its predecessor is the vertex before it on such a path; if there are
 several, the one with the smallest number. Its root is the source to which the
 predecessors lead. The order of the sources does not matter, nor does naming one
 more than once. The output is the same for any delta and any number of workers.";
@@ -65,16 +67,16 @@ One block is written, the forest of all sources:
   p near N K    there are N vertices, and K sources, each counted once
   v V D P S     vertex V has distance D, predecessor P and root S (0, 0 and
                 itself for a source), in ascending order of V; a vertex that no
-                walk leads to has no line
+                path leads to has no line
   e R           the number of v lines is R
 or, if a vertex is too far, that is, its distance does not fit (see
 --pred-bits), one line with the smallest such V that has an arc from a vertex
 whose distance fits (exit status 4):
   x V
-With --within L vertices farther than L have no line, there is no x line, and
+With --within L, vertices farther than L have no line, there is no x line, and
 the run goes no farther.
 
-It makes one run, and takes as much memory as `spt tree` does for one source,
+It makes one run, and needs as much memory as `spt tree` does for one source,
 plus at most 16 bytes per vertex and 12 per source.
 
 Example: if diamond.gr is the graph of the example in `spt tree --help`, and
@@ -104,6 +106,7 @@ Other errors are
   spt: limit out of range            it does not fit in a word (see --pred-bits)
                                      (exit status 1)
   spt: standard input twice          both files are `-` (exit status 1)
+  spt: output is an input            -o names one of the files (exit status 1)
   spt: sources are not A-B           A and B are numbers, 1 <= A <= B
                                      (exit status 1)
   spt: source V: no such vertex      the first source above N; nothing is

@@ -1,4 +1,4 @@
-//! The command `spt pairs`, which writes the distance from source to target for each pair of a list.
+//! The command `spt pairs`, which writes the distance from source to target for each pair in a list.
 ghost use denote.Param.Send.{IsSync};
 ghost use Rattle.std.specs.Prelude.{◌≡◌, true, None, Some, codes};
 ghost use Rattle.sp_word.specs.Word.{is_layout};
@@ -21,15 +21,15 @@ use std::sync::Wait;
 use std::thread::Threads;
 
 const WORKERS_LONG: &str = "\
-The most threads to use, from 1 to 64 including the main thread, or
-`all` for one per processor, at most 64: a good choice if they are
+The maximum number of threads, from 1 to 64 including the main thread,
+or `all` for one per processor, at most 64: a good choice if they are
 free. No more threads are started than there are processors, and none
 for a small graph. The output is the same for any number";
 
 /// What the command `pairs` asks for.
 #[derive(Drop)]
 pub struct PairsCommand<'a> {
-    /// The path of the pairs.
+    /// The path of the file of pairs.
     pub pairs: &'a str,
 }
 
@@ -42,27 +42,29 @@ impl<'a> Command<'a> for PairsCommand<'a> {
 
     ghost lacks = { λ found. first_value found (codes "PAIRS") ≡ None };
 
+    ghost paths = { pairs_paths };
+
     const ABOUT: &'static str = "Write the distance for each pair of source and target";
 
     const LONG_ABOUT: &'static str = "\
 Write the distance for each pair of source and target
 
-The distance is the length of a shortest walk from the source to the target. The
-predecessor is the vertex before the target on a shortest walk; if there are
+The distance is the length of a shortest path from the source to the target. The
+predecessor is the vertex before the target on a shortest path; if there are
 several, the one with the smallest number. There is one run for each source,
-wherever its pairs stand, and it goes no farther than its targets require. The
-output is the same for any delta and any number of workers.";
+wherever its pairs are in the file, and it goes no farther than its targets
+require. The output is the same for any delta and any number of workers.";
 
     const AFTER_HELP: &'static str = after_help!(
         "\
 The graph is a file as described in `spt tree --help`. The pairs are in a
-file of their own, with its fields separated by blanks:
+file of their own, with fields separated by blanks:
   p pairs K     there are K pairs, at most 1048576; it comes first, and only
                 once
   q S T         a pair of source S and target T; there are K of these lines
   c ...         a comment; so is a blank line
-Both files are read, the graph first, all numbers are checked, and all answers
-are found, before anything is written.
+Both files are read, the graph first; all numbers are checked and all answers
+are found before anything is written.
 
 For each pair, in the order of the file, one line is written:
   d S T D P     target T has distance D and predecessor P from source S; S
@@ -70,10 +72,10 @@ For each pair, in the order of the file, one line is written:
   x S V         T has no distance that fits (see --pred-bits), and V is the
                 smallest vertex that is too far and has an arc from a vertex
                 whose distance fits (exit status 4 at the end)
-  n S T         T has no distance, and there is no such V: no walk leads from S
+  n S T         T has no distance, and there is no such V: no path leads from S
                 to T
 
-It takes as much memory as `spt tree` does for one source, plus 28 bytes per
+It needs as much memory as `spt tree` does for one source, plus 28 bytes per
 pair.
 
 Example: if diamond.gr is the graph of the example in `spt tree --help`, and
@@ -99,6 +101,7 @@ Other errors are
   spt: delta out of range            it does not fit in a word (see --pred-bits)
                                      (exit status 1)
   spt: standard input twice          both files are `-` (exit status 1)
+  spt: output is an input            -o names one of the files (exit status 1)
   spt: memory                        nothing is written (exit status 5)
   spt: write failed                  part of the output may have been written
                                      (exit status 6)

@@ -1,4 +1,4 @@
-//! Where a command's job runs: the files that its words name, and who is told of its progress.
+//! The environment of a command's job: the files that its words name, and the listener for its progress.
 ghost use Rattle.std.specs.Prelude.{◌≡◌, ℕ, true, false, List, Some, IfOk, IfErr, codes};
 ghost use Rattle.sp_command.specs.Causes.{StaysClosed};
 ghost use Rattle.sp_command.specs.Scene.{IsOpened};
@@ -13,8 +13,8 @@ use sp_network::{Direction, Peeked};
 use sp_options::{Sources, Teller, Watched};
 use sp_word::Workers;
 
-/// Returns what a job answers by the crew that its settings ask for: for one worker by the calling thread alone, which waits for no
-/// other, else by the runtime, whose threads may wait for one another.
+/// Returns what a job answers with the crew that its settings ask for. If there is one worker, this is the calling
+/// thread alone, which waits for no other thread; otherwise it is the runtime, whose threads may wait for one another.
 #[macro_export]
 macro_rules! by_crew {
     ($rt:ident, $settings:ident, $crew:ident => $answer:expr) => {{
@@ -27,8 +27,8 @@ macro_rules! by_crew {
     }};
 }
 
-/// The files of a command line, the path of the graph and the direction of its arcs, the greatest distance that is told, if there is a limit, the number of
-/// threads that may work, and who hears of the progress.
+/// The files of a command line, the path of the graph and the direction of its arcs, the greatest distance to report
+/// (if there is a limit), the greatest number of threads, and the teller for the progress.
 pub struct Place<'a, F> {
     pub graph: &'a str,
     pub direction: Direction,
@@ -52,7 +52,7 @@ impl<F> Drop for Place<'_, F> {
 }
 
 impl<'a, F: Inputs> Place<'a, F> {
-    /// Returns the settings of a job with buckets of this width.
+    /// Returns the settings of a job whose buckets have this width.
     pub fn settings<const P: u32>(&self, width: BucketWidth<P>) -> Settings<'a, P, Teller<'a, F>>
         ensures { result.direction ≡ self.now.direction }
     {
@@ -64,7 +64,7 @@ impl<'a, F: Inputs> Place<'a, F> {
         }
     }
 
-    /// Opens a file at its start, as a device that tells how much of it is read.
+    /// Opens a file at its start, as a device that reports how much of it has been read.
     pub fn open(&self, kind: FileKind, path: &str) -> Result<Watched<'a, 'a, F::File, F>, Fault>
         ensures opened { IfOk result
             (IsOpened ⟦<Watched<'static, 'static, F::File, F> as Read>⟧
@@ -75,7 +75,7 @@ impl<'a, F: Inputs> Place<'a, F> {
         Ok(Watched::new(file, kind, self.teller))
     }
 
-    /// Opens the graph at its start, as such a device, whose first byte shows the form of the file.
+    /// Opens the graph at its start, as such a device, so that its first byte can show the form of the file.
     pub fn open_graph(&self) -> Result<Peeked<Watched<'a, 'a, F::File, F>>, Fault>
         ensures opened { IfOk result
             (IsOpened ⟦<Peeked<Watched<'static, 'static, F::File, F>> as Read>⟧
@@ -86,7 +86,7 @@ impl<'a, F: Inputs> Place<'a, F> {
         Ok(Peeked::new(self.open(FileKind::Graph, self.graph)?))
     }
 
-    /// Opens a list at its start, if it stands in a file.
+    /// Opens a list at its start, if it is in a file.
     pub fn open_list<'l>(
         &self,
         kind: FileKind,
@@ -107,7 +107,7 @@ impl<'a, F: Inputs> Place<'a, F> {
     }
 }
 
-/// Returns whether the word for the places of a list spells none.
+/// Returns whether the word for the places of a list is invalid.
 pub fn lacks_places(list: &Sources<'_>) -> bool
     ensures lacking { result ≡ true → LackPlaces list.now }
     ensures none { result ≡ false → ¬ (LackPlaces list.now) }
@@ -118,7 +118,7 @@ pub fn lacks_places(list: &Sources<'_>) -> bool
     }
 }
 
-/// Returns whether a list is to be read from standard input.
+/// Returns whether a list is read from standard input.
 pub fn is_input(list: &Sources<'_>) -> bool
     ensures { result ≡ true → path_of list.now ≡ Some (codes "-") }
 {

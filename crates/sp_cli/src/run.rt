@@ -15,9 +15,9 @@ use std::fmt::Display;
 use std::sync::Wait;
 use std::thread::Threads;
 
-/// Runs the command that the words name, where the first word is the program's name, and returns the exit status. The
-/// command's output goes to `out`, or to the file that the words name for it, and the text of a fault to `err`; whether
-/// `err` takes that text changes no status.
+/// Runs the command that the words name, and returns the exit status. The first word is the program's name. The
+/// command's output goes to `out`, or to the file that the words name for it. The text of a fault goes to `err`; a
+/// failure to write it changes no status.
 pub fn run_command<R: Threads + Wait + Sync, F: Outputs, W: Write, E: Write>(
     rt: &R,
     alloc: Global,

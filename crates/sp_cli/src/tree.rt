@@ -1,4 +1,4 @@
-//! The command `spt tree`, which writes the shortest-path tree of each source of a list.
+//! The command `spt tree`, which writes the shortest-path tree of each source in a list.
 ghost use denote.Param.Send.{IsSync};
 ghost use Rattle.std.specs.Prelude.{◌≡◌, true, codes};
 ghost use Rattle.sp_word.specs.Word.{is_layout};
@@ -20,10 +20,10 @@ use std::sync::Wait;
 use std::thread::Threads;
 
 const WORKERS_LONG: &str = "\
-The most threads to use, from 1 to 64 including the main thread, or
-`all` for one per processor, at most 64: a good choice if they are
-free. All work on one tree, or each on its own tree if there are
-several sources. No more threads are started than there are
+The maximum number of threads, from 1 to 64 including the main thread,
+or `all` for one per processor, at most 64: a good choice if they are
+free. All threads work on one tree, or each on its own tree if there
+are several sources. No more threads are started than there are
 processors, and none for a small graph. The output is the same for any
 number";
 
@@ -32,7 +32,7 @@ number";
 pub struct TreeCommand<'a> {
     /// The sources whose trees are written.
     pub sources: Sources<'a>,
-    /// The greatest distance that is told.
+    /// The greatest distance to report, if there is one.
     pub within: Within,
 }
 
@@ -45,13 +45,15 @@ impl<'a> Command<'a> for TreeCommand<'a> {
 
     ghost lacks = { LacksSources };
 
+    ghost paths = { λ tree. source_paths tree.sources };
+
     const ABOUT: &'static str = "Write the shortest-path tree of each source";
 
     const LONG_ABOUT: &'static str = "\
 Write the shortest-path tree of each source
 
-The distance of a vertex is the length of a shortest walk from the source. Its
-predecessor is the vertex before it on a shortest walk; if there are several,
+The distance of a vertex is the length of a shortest path from the source. Its
+predecessor is the vertex before it on a shortest path; if there are several,
 the one with the smallest number. So each source has exactly one tree, and the
 output is the same for any delta and any number of workers.";
 
@@ -65,7 +67,7 @@ fields separated by blanks:
   a U V W       an arc from U to V of length W, 1 to 4294967295; there are M of
                 these lines
   c ...         a comment; so is a blank line
-or a packed file (see `spt pack --help`), which is read sooner. With --both-ways
+or a packed file (see `spt pack --help`), which loads faster. With --both-ways,
 M is at most 536870912.
 The sources are in a .ss file:
   p aux sp ss K there are K sources, at most 1048576; it comes first, and only
@@ -78,18 +80,18 @@ anything is written. One of them may be `-` for standard input.
 For each source, in the order of the file, a block is written:
   p spt N S     the tree of source S, over N vertices
   v V D P       vertex V has distance D and predecessor P (0 and 0 for the
-                source), in ascending order of V; a vertex that no walk leads to
+                source), in ascending order of V; a vertex that no path leads to
                 has no line
   e R           the number of v lines is R
 or, if a vertex is too far, that is, its distance does not fit (see
 --pred-bits), one line with the smallest such V that has an arc from a vertex
 whose distance fits (exit status 4 at the end):
   x S V
-With --within L a block has only the vertices at distances up to L, and there
-are no x lines. With --towards D is the length of a shortest walk from V to S,
-and P is the vertex behind V on it.
+With --within L, a block has only the vertices at distances up to L, and there
+are no x lines. With --towards, D is the length of a shortest path from V to S,
+and P is the vertex after V on it.
 
-It takes at most 28 bytes of memory per vertex, 24 per arc and 8 per source,
+It needs at most 28 bytes of memory per vertex, 24 per arc and 8 per source,
 plus 4 MB; if several workers run several sources, another 16 bytes per vertex
 and the text of two trees for each worker.
 
@@ -118,8 +120,8 @@ and with --within 3 it is
   e 3
 
 An error in a file is reported with its line, as in
-`spt: gr: line 2: 5 OutOfRange V`; FILE is gr or ss. One in a packed graph is
-reported with its byte, as `spt pack --help` describes:
+`spt: gr: line 2: 5 OutOfRange V`; FILE is gr or ss. An error in a packed graph
+is reported with its byte, as `spt pack --help` describes:
 ",
         faults: "  6 TooMany        more than M arcs or K sources
   7 TooFew         fewer than M arcs or K sources
@@ -132,6 +134,7 @@ Other errors are
   spt: limit out of range            it does not fit in a word (see --pred-bits)
                                      (exit status 1)
   spt: standard input twice          both files are `-` (exit status 1)
+  spt: output is an input            -o names one of the files (exit status 1)
   spt: sources are not A-B           A and B are numbers, 1 <= A <= B
                                      (exit status 1)
   spt: source V: no such vertex      the first source above N; nothing is

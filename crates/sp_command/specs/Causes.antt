@@ -31,6 +31,18 @@ MayBeOtherwise paths files error = (path : List ℕ) × (paths role.Graph ≡ So
 abbrev pub NamesInputTwice : Paths → Type 0
 NamesInputTwice paths = (one : FileKind) × (other : FileKind) × (one ≢ other) × (paths one ≡ Some (codes "-")) × (paths other ≡ Some (codes "-"))
 
+-- The command has a file of this kind. Nothing says that an output of this path goes to another file.
+abbrev pub MayBeOutput : Paths → Files → (output : List ℕ) → FileKind → Type 0
+MayBeOutput paths files output file = (path : List ℕ) × (paths file ≡ Some path) × (files.same output path ≢ Some false)
+
+-- A file of this kind, if the command has one, isn't known to be the one to which an output of this path goes.
+abbrev pub IsSpared : Paths → Files → (output : List ℕ) → FileKind → Type 0
+IsSpared paths files output file = (path : List ℕ) → paths file ≡ Some path → files.same output path ≢ Some true
+
+-- No file of the command is known to be the one to which an output of this path goes.
+abbrev pub SparesInputs : Paths → Files → (output : List ℕ) → Type 0
+SparesInputs paths files output = (file : FileKind) → IsSpared paths files output file
+
 -- Something in the scene brings the fault about, where a command has these paths, and its words or the texts of its
 -- files may bring about these faults of its own. No command tells a fault of the words that `clap` finds, or of a file
 -- for the output.
@@ -43,6 +55,7 @@ IsBorneOut paths own s fault.WriteFailed = s.failed ≡ true
 IsBorneOut paths own s fault.Memory = Unit {0}
 IsBorneOut paths own s (fault.Usage error) = ⊥
 IsBorneOut paths own s fault.CannotWrite = ⊥
+IsBorneOut paths own s (fault.OutputIsInput file) = ⊥
 IsBorneOut paths own s other = own other
 
 -- A file of this kind, with this path, wasn't opened, and nothing says that it is.

@@ -38,12 +38,14 @@ status_of_word packed.Memory = status.Memory
 status_of_word packed.Read = status.Failed
 status_of_word _ = status.Refused
 
+-- The exit status for a fault.
 abbrev pub status_of : Fault → Status
 status_of (fault.Usage error) = status.Usage
 status_of fault.DeltaOutOfRange = status.Usage
 status_of fault.LimitOutOfRange = status.Usage
 status_of fault.InputTwice = status.Usage
 status_of fault.NoPlaces = status.Usage
+status_of (fault.OutputIsInput file) = status.Usage
 status_of (fault.CannotOpen file) = status.Failed
 status_of (fault.Input file error) = status_of_kind error.kind
 status_of (fault.Packed error) = status_of_word error.kind

@@ -19,6 +19,7 @@ use Rattle.sp_command.specs.declared.faults.Fault.TheVariants as fault
 
 -- ## The text of a line
 
+-- The byte that ends a line.
 abbrev pub newline : List ℕ
 newline = 10 ∷ []
 
@@ -92,6 +93,7 @@ line_of (fault.Usage error) = None
 line_of fault.DeltaOutOfRange = Some (codes "spt: delta out of range" ++ newline)
 line_of fault.LimitOutOfRange = Some (codes "spt: limit out of range" ++ newline)
 line_of fault.InputTwice = Some (codes "spt: standard input twice" ++ newline)
+line_of (fault.OutputIsInput file) = Some (codes "spt: output is an input" ++ newline)
 line_of fault.NoPlaces = Some (codes "spt: sources are not A-B" ++ newline)
 line_of (fault.CannotOpen file) = Some (concat (codes "spt: " ∷ word_of file ∷ codes ": cannot open" ∷ newline ∷ []))
 line_of (fault.Input file error) = Some (input_line file error)
@@ -130,5 +132,6 @@ MayShow w text old new = (new ≡ old) ⊎ (Appends (w.written old) (w.written n
 abbrev pub is_plain : ℕ → Bool
 is_plain byte = byte == 10 || nat_le 32 byte && nat_le byte 126
 
+-- A text of bytes that are line ends or characters that a terminal can show.
 abbrev pub IsPlain : List ℕ → Type 0
 IsPlain text = list_all is_plain text ≡ true

@@ -2,6 +2,7 @@
 use Rattle.std.specs.Prelude.{ℕ, Bool, ◌==◌, ◌&&◌, ◌||◌, nat_le}
 use Rattle.std.specs.Char.{is_control}
 
+-- A number is in the range from the first to the last.
 abbrev pub is_between : (first last : ℕ) → ℕ → Bool
 is_between first last c = nat_le first c && nat_le c last
 

@@ -27,6 +27,7 @@ valued_rule name = record (new_rule name) { long = Some name; value_names = 1 }
 abbrev pub output_rule : Rule
 output_rule = record (valued_rule (codes "output")) { short = Some 111 }
 
+-- The values of the option for the layout.
 abbrev pub spellings : List (List ℕ)
 spellings = codes "20" ∷ codes "24" ∷ codes "28" ∷ codes "32" ∷ []
 
@@ -63,6 +64,7 @@ AreWhole [] (w ∷ whole) = ⊥
 AreWhole (o ∷ own) [] = ⊥
 AreWhole (o ∷ own) (w ∷ whole) = IsWhole o w × AreWhole own whole
 
+-- A program with further commands of these shapes, in this order.
 abbrev pub with_subcommands : App → List Shape → App
 with_subcommands app [] = app
 with_subcommands app (shape ∷ shapes) = with_subcommands (with_subcommand app shape) shapes

@@ -8,16 +8,18 @@ use Rattle.sp_command.specs.declared.faults.Fault.{Fault}
 -- ## Files
 
 -- For each path, the files have the text of its file, if that is known; whether the file is opened for certain; and
--- when its device may fail. And the output of a command may go to a terminal, or goes elsewhere for certain.
+-- when its device may fail. And the output of a command may go to a terminal, or goes elsewhere for certain. For the path of
+-- an output and that of an input, they have whether both lead to one regular file, if that is known.
 pub record Files : Type 0 where
   pub text : List ℕ → Option (List ℕ)
   pub opens : List ℕ → Bool
   pub failing : List ℕ → Failing
   pub may_show : Bool
+  pub same : (output input : List ℕ) → Option Bool
 
 -- Of the files of a system nothing is known.
 abbrev pub unknown_files : Files
-unknown_files = record { text = λ path. None; opens = λ path. false; failing = λ path. Anytime; may_show = true }
+unknown_files = record { text = λ path. None; opens = λ path. false; failing = λ path. Anytime; may_show = true; same = λ output input. None }
 
 -- An opened file gives the text of its path, if that text is known. It hasn't failed, and fails only as files of that
 -- path do.
@@ -36,6 +38,7 @@ pub record Scene : Type 0 where
   pub after : Option (List ℕ)
   pub failed : Bool
 
+-- The scene with these files, these texts before and after, and this mark of failure.
 abbrev pub scene : Files → (before after : Option (List ℕ)) → (failed : Bool) → Scene
 scene files before after failed = record { files = files; before = before; after = after; failed = failed }
 

@@ -11,6 +11,7 @@ bits_in Bits24 = 24
 bits_in Bits28 = 28
 bits_in Bits32 = 32
 
+-- The text that names a layout on the command line.
 abbrev pub spelling_of : PredBits → List ℕ
 spelling_of Bits20 = codes "20"
 spelling_of Bits24 = codes "24"

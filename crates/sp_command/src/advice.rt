@@ -34,7 +34,7 @@ pub enum Advice<'a> {
     FractionOfLength,
     /// The spelling of a number.
     Spelling,
-    /// A field is a number from a first one to a last.
+    /// A field is a number in a range, from `first` to `last`.
     Range {
         field: u8,
         first: u64,
@@ -48,17 +48,17 @@ pub enum Advice<'a> {
     Blocks,
     /// The file of a tree ends too early.
     CutTree,
-    /// A source was too far for its layout. This is a layout that reaches farther, if there is one.
+    /// A source was too far for its layout. The value is a layout that reaches farther, if there is one.
     TooFar(Option<PredBits>),
     /// The greatest numbers of arcs.
     Arcs,
-    /// The file begins with the byte of a packed graph, and is none.
+    /// The file begins with the byte of a packed graph, but isn't one.
     NoPackedGraph,
-    /// The second word of a packed graph is another one.
+    /// The second word isn't that of a packed graph.
     OtherForm,
     /// A packed graph was cut or changed.
     Changed,
-    /// A packed graph stands in the place of a file of this kind.
+    /// A packed graph was given in place of a file of this kind.
     Packed(FileKind),
 }
 
@@ -171,7 +171,7 @@ fn problem(file: FileKind) -> &'static str {
     }
 }
 
-// Returns what the number of counted lines of a file must equal.
+// Returns what the number of counted lines of a file must equal, or how many there may be.
 fn count(file: FileKind) -> &'static str {
     match file {
         FileKind::Graph => "M in the line `p sp N M` must be the number of `a` lines",
@@ -179,7 +179,9 @@ fn count(file: FileKind) -> &'static str {
             "K in the line `p aux sp ss K` must be the number of `s` lines"
         }
         FileKind::Pairs => "K in the line `p pairs K` must be the number of `q` lines",
-        FileKind::Tree | FileKind::Replay | FileKind::Offers => "the file has too many lines",
+        FileKind::Replay => "a replay file has at most 1048576 calls and 16777216 steps",
+        FileKind::Offers => "a file of offers has at most 1048576 offers",
+        FileKind::Tree => "the file has too many lines",
     }
 }
 

@@ -1,9 +1,10 @@
-//! Commands, and several of them as one.
-ghost use Rattle.std.specs.Prelude.{◌≡◌, ◌⊎◌, ◌++◌, ◌∷◌, [], ℕ, List, IfOk, IfErr, MatchOption};
+//! Commands, and choices of several commands.
+ghost use Rattle.std.specs.Prelude.{◌≡◌, ◌⊎◌, ◌++◌, ◌∷◌, [], ℕ, List, IfOk, IfErr, MatchOption, option_map};
 ghost use Rattle.clap.specs.Matches.{found_of};
 ghost use Rattle.clap.specs.Simple.{Shape};
 ghost use Rattle.clap.specs.Walk.{Rule};
 ghost use Rattle.clap.specs.declared.parser.matches.Found.{Found};
+ghost use Rattle.sp_command.specs.Causes.{Paths};
 ghost use Rattle.sp_command.specs.Either.{either_of};
 ghost use Rattle.sp_command.specs.Reading.{IsLacking, IsNamed, IsRefusedFor, IsUnnamed};
 ghost use Rattle.sp_command.specs.Rules.{AddsCommands, IsBuilt, shape_with};
@@ -19,69 +20,77 @@ use std::alloc::{AllocError, Global};
 use std::sync::Wait;
 use std::thread::Threads;
 
-/// A command, or the program, as it is built for `clap`, unless memory is refused.
+/// A command or the program, built for `clap`; or an error if an allocation failed.
 pub type BuiltCommand<'a> = Result<clap::Command<'a>, AllocError>;
 
 /// A command that a command line can name.
 pub trait Command<'a>: Drop {
-    /// The word that names it.
+    /// The word that names the command.
     ghost spelled: { List ℕ };
 
-    /// The arguments that it has besides the layout and the file of its output, as `clap` reads them.
+    /// The command's arguments besides the layout and the output file, as `clap` reads them.
     ghost rules: { List Rule };
 
-    /// The command that is read of what `clap` has found in its words.
+    /// Reading what `clap` found in the command's words gives this command.
     ghost reads: { Found → Self → Type 0 };
 
-    /// What `clap` has found lacks something that the command needs.
+    /// What `clap` found lacks something that the command needs.
     ghost lacks: { Found → Type 0 };
 
-    /// What it does.
+    /// The path of the command's file of each kind, if it has one.
+    ghost paths: { Self → Paths };
+
+    /// What the command does.
     const ABOUT: &'static str;
 
-    /// What it does, in full.
+    /// What the command does, in full.
     const LONG_ABOUT: &'static str;
 
-    /// The text that ends its help: its files, what it writes, an example, faults and exit statuses.
+    /// The text at the end of the command's help: its files, what it writes, an example, faults and exit statuses.
     const AFTER_HELP: &'static str;
 
-    /// Returns the word that names it.
+    /// Returns the word that names the command.
     fn word() -> &'static str
         ensures { result.now ≡ spelled };
 
-    /// Builds it with its name, and the arguments that it has besides the layout and the file of its output.
+    /// Builds the command with its name and its arguments, except for the layout and the output file.
     fn build(alloc: Global) -> BuiltCommand<'a>
         ensures { IfOk result (IsBuilt spelled rules) };
 
-    /// Reads its arguments, or finds a fault in words that `clap` accepted.
+    /// Reads the command's arguments. Words that `clap` accepted can still lack something that the command needs: then
+    /// the result is `None` or an error.
     fn read(alloc: Global, given: &ArgMatches<'a>) -> Result<Option<Self>, Error>
         ensures read { IfOk result (λ found.
             MatchOption found (lacks (found_of given.now)) (reads (found_of given.now))) }
         ensures refused { IfErr result (IsRefusedFor (lacks (found_of given.now))) };
 
-    /// Returns the path of its file of this kind, if it has one.
-    fn path_of(&self, file: FileKind) -> Option<&'a str>;
+    /// Returns the path of the command's file of this kind, if it has one.
+    fn path_of(&self, file: FileKind) -> Option<&'a str>
+        ensures { option_map (λ path. path.now) result ≡ paths self.now file };
 }
 
 /// One command, or a choice of several. A value is one of them.
 pub trait Commands<'a>: Drop {
-    /// The commands as `clap` reads them, each without the layout and the file of its output.
+    /// The commands as `clap` reads them, each without the layout and the output file.
     ghost shapes: { List Shape };
 
-    /// The command of this name that is read of what `clap` has found in its words.
+    /// Reading what `clap` found in the words of the command with this name gives this command.
     ghost named: { (name : List ℕ) → Found → Self → Type 0 };
 
-    /// No command has this name, or what `clap` has found lacks something that the command needs.
+    /// No command has this name, or what `clap` found lacks something that the command needs.
     ghost unnamed: { (name : List ℕ) → Found → Type 0 };
 
-    /// A command has this name, and what `clap` has found lacks something that it needs.
+    /// A command has this name, and what `clap` found lacks something that it needs.
     ghost lacking: { (name : List ℕ) → Found → Type 0 };
+
+    /// The path of the command's file of each kind, if it has one.
+    ghost paths: { Self → Paths };
 
     /// Adds each command to the program.
     fn add_to(program: clap::Command<'a>, alloc: Global) -> BuiltCommand<'a>
         ensures { IfOk result (AddsCommands program.entry shapes) };
 
-    /// Reads the arguments of the command that has this name.
+    /// Reads the arguments of the command with this name.
     fn read_named(alloc: Global, name: &str, given: &ArgMatches<'a>) -> Result<Option<Self>, Error>
         ensures read { IfOk result (λ found. MatchOption found
             (unnamed name.now (found_of given.now)) (named name.now (found_of given.now))) }
@@ -90,8 +99,9 @@ pub trait Commands<'a>: Drop {
     /// Returns the word that names the command.
     fn name(&self) -> &'a str;
 
-    /// Returns the path of its file of this kind, if it has one.
-    fn path(&self, file: FileKind) -> Option<&'a str>;
+    /// Returns the path of the command's file of this kind, if it has one.
+    fn path(&self, file: FileKind) -> Option<&'a str>
+        ensures { option_map (λ path. path.now) result ≡ paths self.now file };
 }
 
 impl<'a, C: Command<'a>> Commands<'a> for C {
@@ -102,6 +112,8 @@ impl<'a, C: Command<'a>> Commands<'a> for C {
     ghost unnamed = { IsUnnamed C.spelled C.lacks };
 
     ghost lacking = { IsLacking C.spelled C.lacks };
+
+    ghost paths = { C.paths };
 
     fn add_to(program: clap::Command<'a>, alloc: Global) -> BuiltCommand<'a> {
         let command = C::build(alloc)?
@@ -149,6 +161,8 @@ impl<'a, A: Commands<'a>, B: Commands<'a>> Commands<'a> for OneOf<A, B> {
     ghost unnamed = { λ name found. A.unnamed name found × B.unnamed name found };
 
     ghost lacking = { λ name found. A.lacking name found ⊎ B.lacking name found };
+
+    ghost paths = { either_of A.paths B.paths };
 
     fn add_to(program: clap::Command<'a>, alloc: Global) -> BuiltCommand<'a> {
         B::add_to(A::add_to(program, alloc)?, alloc)

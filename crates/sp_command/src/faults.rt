@@ -1,4 +1,4 @@
-//! The faults that keep a command from being carried out, and the exit statuses.
+//! The faults that stop a command, and the exit statuses.
 ghost use Rattle.std.specs.Prelude.{◌≡◌, ◌≤◌, ◌⊎◌, false, IfOk, IfErr, codes};
 ghost use Rattle.sp_command.specs.Faults.{code_of, is_done, status_of};
 ghost use Rattle.sp_command.specs.Causes.{StaysClosed};
@@ -91,7 +91,7 @@ impl FileKind {
         Ok((gr, self.open(files, path)?))
     }
 
-    /// Returns the word for such a file.
+    /// Returns the word for a file of this kind.
     pub fn word(self) -> &'static str
         ensures { result.now ≡ word_of self }
     {
@@ -106,7 +106,7 @@ impl FileKind {
         }
     }
 
-    /// Returns where standard input appears in a command's words if it is this file, and no list of targets stands behind it.
+    /// Returns where standard input appears in a command's words if it is this file and no list of targets follows it.
     pub fn place(self) -> &'static str
         ensures { result.now ≡ place_of self }
     {
@@ -117,7 +117,7 @@ impl FileKind {
         }
     }
 
-    /// Returns the fault of a command whose file has this fault.
+    /// Returns the fault of a command if its file has this error.
     pub fn fault(self, error: DimacsError) -> Fault
         ensures { result ≡ Input self error }
     {
@@ -131,36 +131,38 @@ impl fmt::Display for FileKind {
     }
 }
 
-/// Why a command wasn't carried out.
+/// Why a command failed.
 #[derive(Debug, Drop)]
 pub enum Fault {
     /// The words name no valid command.
     Usage(clap::Error),
-    /// The delta is greater than the greatest distance of the words.
+    /// The delta is greater than the greatest distance of the layout.
     DeltaOutOfRange,
-    /// The distance within which answers are wanted is greater than the greatest distance of the words.
+    /// The limit on distances is greater than the greatest distance of the layout.
     LimitOutOfRange,
-    /// Standard input was named for both files.
+    /// Standard input was named for two files.
     InputTwice,
+    /// The output would replace this input file.
+    OutputIsInput(FileKind),
     /// The places of sources aren't spelled as two numbers.
     NoPlaces,
-    /// A file couldn't be opened.
+    /// A file could not be opened.
     CannotOpen(FileKind),
-    /// A file's text has a fault, its device failed, or there was no memory for its values.
+    /// A file's text has an error, reading it failed, or there was no memory for its values.
     Input { file: FileKind, error: DimacsError },
-    /// A packed graph has a fault, its device failed, or there was no memory for its words.
+    /// A packed graph has an error, reading it failed, or there was no memory for its words.
     Packed(PackedFault),
-    /// A source, or a target, is no vertex of the graph.
+    /// A source or a target isn't a vertex of the graph.
     NoSuchVertex(u32, FileKind),
-    /// A run has more steps than a picture shows.
+    /// A run has more steps than a picture can show.
     TooManySteps,
-    /// The output would go to a terminal, and isn't text.
+    /// The output isn't text, and would go to a terminal.
     ToTerminal,
     /// An allocation failed.
     Memory,
-    /// The output failed.
+    /// Writing the output failed.
     WriteFailed,
-    /// The file of the output can't be created, or can't be given its name.
+    /// The output file could not be created, or could not be given its name.
     CannotWrite,
 }
 
@@ -174,6 +176,7 @@ impl Fault {
             Fault::Usage(_) => Status::Usage,
             Fault::DeltaOutOfRange | Fault::LimitOutOfRange => Status::Usage,
             Fault::InputTwice | Fault::NoPlaces | Fault::ToTerminal => Status::Usage,
+            Fault::OutputIsInput(_) => Status::Usage,
             Fault::CannotOpen(_) | Fault::WriteFailed | Fault::CannotWrite => Status::Failed,
             Fault::Input { error, .. } => match error.kind {
                 Kind::Memory => Status::Memory,

@@ -1,8 +1,8 @@
-//! The texts of help that commands share.
+//! Help texts that several commands share.
 
-/// Builds the end of a help text: a text, the kinds of faults of a file's lines, including those of the command,
-/// further information, and the exit statuses, including those of the command and the names of what it reads and
-/// writes.
+/// Builds the end of a help text: an introduction, the kinds of errors in a file's lines (including the command's own),
+/// further information, and the exit statuses (including the command's own). The exit statuses name what the command
+/// reads and writes.
 #[macro_export]
 macro_rules! after_help {
     (

@@ -1,4 +1,4 @@
-//! Second lines of faults: the reason that the system gave, or advice.
+//! The second lines of error messages: the system's reason, or advice.
 use crate::advice::Advice;
 use crate::commands::Commands;
 use crate::faults::{Fault, FileKind};
@@ -17,13 +17,13 @@ pub enum Encoding {
     Xz,
     Zstd,
     Zip,
-    /// Text after a byte order mark.
+    /// Text that begins with a byte order mark.
     Marked,
     Utf16,
 }
 
 impl Encoding {
-    /// Returns the encoding of a file that begins with these bytes, if it is one of these.
+    /// Returns the encoding of a file that begins with these bytes, if it is one of the above.
     pub fn of(beginning: &[u8]) -> Option<Encoding> {
         match beginning {
             [0x1f, 0x8b, ..] => Some(Encoding::Gzip),
@@ -37,7 +37,7 @@ impl Encoding {
         }
     }
 
-    // Returns the program that makes plain text of it.
+    // Returns the program that turns such a file into plain text.
     fn tool(self) -> &'static str {
         match self {
             Encoding::Gzip => "zcat",
@@ -65,7 +65,7 @@ impl fmt::Display for Encoding {
     }
 }
 
-/// What is wrong with the places of sources that a command line names.
+/// What is wrong with the places of sources on a command line.
 #[derive(Clone, Copy, Debug, PartialEq, Eq)]
 pub enum PlacesFault {
     /// They are not two numbers.
@@ -86,10 +86,10 @@ impl fmt::Display for PlacesFault {
     }
 }
 
-/// Where a number is given that is no vertex of its graph.
+/// Where the command was given a number that isn't a vertex of the graph.
 #[derive(Clone, Copy, Debug)]
 pub enum Naming<'a> {
-    /// In an option, as `--source`.
+    /// In an option, such as `--source`.
     Option(&'a str),
     /// On a line of a file, as a source.
     Source { path: &'a str, line: u64 },
@@ -101,15 +101,21 @@ pub enum Naming<'a> {
     UnseenTarget,
 }
 
-/// The second line of a fault. It displays with its line end.
+const ONCE: &str = "only one file can be standard input; give the other by its path";
+
+const STEPS: &str = "a picture shows at most 60 steps; without --svg the report has them all";
+
+const TERMINAL: &str = "a packed graph is no text; give a file with -o";
+
+/// The second line of an error message. It displays with its line end.
 #[derive(Clone, Copy, Debug)]
 pub enum Hint<'a> {
-    /// The system's reason for not opening, reading or writing.
+    /// The system's reason for a failure to open, read or write.
     Reason {
         name: &'a str,
         reason: io::Error,
     },
-    /// The program that makes plain text of a command's file, and the place of that file in the command's words.
+    /// The program that turns a command's file into plain text, and the place of that file in the command's words.
     Encoding {
         command: &'a str,
         place: &'a str,
@@ -127,13 +133,13 @@ pub enum Hint<'a> {
         path: &'a str,
         advice: Advice<'a>,
     },
-    /// Where a number is given that is no vertex, and how many vertices there are, as far as that can be found.
+    /// Where the command was given a number that isn't a vertex; and the number of vertices, if it can be found.
     Vertex {
         naming: Naming<'a>,
         vertex: u32,
         vertices: Option<u64>,
     },
-    /// What is wrong with a word for places of sources.
+    /// What is wrong with the word for places of sources.
     Places {
         word: &'a str,
         why: PlacesFault,
@@ -146,16 +152,30 @@ pub enum Hint<'a> {
     Limit(PredBits),
     /// The range of the limit in general.
     AnyLimit,
-    /// What can take the place of a file of sources.
+    /// The output would go to an input file, which has this path.
+    SameFile {
+        file: FileKind,
+        path: &'a str,
+    },
+    /// What to do if there isn't enough memory for this command.
+    Memory(&'a str),
+    /// Advice of these words.
+    Words(&'a str),
+    /// The commands that have an option.
+    OfCommands {
+        option: &'a str,
+        commands: &'a str,
+    },
+    /// What can be given instead of a file of sources.
     NoSources,
-    /// A width that serves where nothing else is known.
+    /// A width that works if nothing else is known.
     NoDelta,
-    /// How sources, or targets, are given by their numbers: what such a number is, and its option.
+    /// How to give a source or a target by its number: what the number is, and its option.
     NoVertex {
         what: &'a str,
         option: &'a str,
     },
-    /// A number in the place of a file, which the system can't open, and the option that takes such a number.
+    /// A number was given in place of a file, and the system can't open it: the option that takes such a number.
     NumberAsFile {
         number: &'a str,
         option: &'a str,
@@ -194,8 +214,9 @@ impl fmt::Display for Hint<'_> {
                 let most = pred_bits.max_dist();
                 write!(
                     f,
-                    "with --pred-bits {pred_bits} delta is from 1 to {most}, or mean"
+                    "delta is from 1 to {most} with --pred-bits {pred_bits}, or mean"
                 )?;
+                write_farthest(f, *pred_bits)?;
             }
             Hint::AnyDelta => {
                 let most = PredBits::Bits20.max_dist();
@@ -205,12 +226,24 @@ impl fmt::Display for Hint<'_> {
                 let most = pred_bits.max_dist();
                 write!(
                     f,
-                    "with --pred-bits {pred_bits} the limit is from 0 to {most}"
+                    "the limit is from 0 to {most} with --pred-bits {pred_bits}"
                 )?;
+                write_farthest(f, *pred_bits)?;
             }
             Hint::AnyLimit => {
                 let most = PredBits::Bits20.max_dist();
                 write!(f, "L is a whole number from 0 to {most}")?;
+            }
+            Hint::SameFile { file, path } => write!(
+                f,
+                "-o names {}, {}; name another file",
+                role_of(*file),
+                Shown(name_of(path))
+            )?,
+            Hint::Memory(command) => write_memory(f, command)?,
+            Hint::Words(words) => f.write_str(words)?,
+            Hint::OfCommands { option, commands } => {
+                write!(f, "{option} is an option of {commands}")?;
             }
             Hint::NoSources => f.write_str(
                 "give the sources in a file SS, or each with --source V",
@@ -235,8 +268,46 @@ impl fmt::Display for Hint<'_> {
     }
 }
 
-// Writes the encoding of a file, and a command that reads it as plain text. The command names the path only if a terminal
-// shows all of it.
+// Writes the layout with the greatest distances, unless it is this one.
+fn write_farthest<W: fmt::Write>(f: &mut fmt::Formatter<W>, pred_bits: PredBits) -> fmt::Result {
+    if pred_bits == PredBits::Bits20 {
+        return Ok(());
+    }
+    let farthest = PredBits::Bits20;
+    write!(
+        f,
+        "; --pred-bits {farthest} allows up to {}",
+        farthest.max_dist()
+    )
+}
+
+// Writes what to do if there isn't enough memory. With several sources, `tree` and `matrix` need some for each worker.
+fn write_memory<W: fmt::Write>(f: &mut fmt::Formatter<W>, command: &str) -> fmt::Result {
+    f.write_str("there is too little free memory")?;
+    match command {
+        "tree" | "matrix" => f.write_str("; with several sources, fewer --workers need less"),
+        "pairs" | "nearest" | "check" => {
+            write!(f, "; spt {command} --help says how much is needed")
+        }
+        _ => f.write_str(" for this file"),
+    }
+}
+
+// Returns what a file is for its command.
+fn role_of(file: FileKind) -> &'static str {
+    match file {
+        FileKind::Graph => "the graph",
+        FileKind::Sources => "the file of sources",
+        FileKind::Targets => "the file of targets",
+        FileKind::Pairs => "the file of pairs",
+        FileKind::Tree => "the tree file",
+        FileKind::Replay => "the replay file",
+        FileKind::Offers => "the file of offers",
+    }
+}
+
+// Writes the encoding of a file, and a command that reads it as plain text. The command names the path only if a
+// terminal can show all of it.
 fn write_encoding<W: fmt::Write>(
     f: &mut fmt::Formatter<W>,
     command: &str,
@@ -277,13 +348,13 @@ fn write_vertex<W: fmt::Write>(
     }
 }
 
-// Returns the name by which a line refers to the file of a path.
+// Returns the name that an error message uses for the file with this path.
 fn name_of(path: &str) -> &str {
     if path == "-" { "standard input" } else { path }
 }
 
-/// Returns the second line of a command's fault, if there is one that needs no file to be read. The output goes to the
-/// file of this path, if there is one.
+/// Returns the second line for a command's fault, if there is one that can be found without reading a file. The output
+/// goes to the file with this path, if there is one.
 pub fn hint_of<'a, C: Commands<'a>, F: Inputs>(
     fault: &Fault,
     command: &C,
@@ -295,11 +366,20 @@ pub fn hint_of<'a, C: Commands<'a>, F: Inputs>(
         Fault::Input { file, error } => input_hint(*file, error.kind, command, files),
         Fault::Packed(error) => packed_hint(*error, command, files),
         Fault::WriteFailed | Fault::CannotWrite => output_hint(output, files),
+        Fault::InputTwice => Some(Hint::Words(ONCE)),
+        Fault::OutputIsInput(file) => Some(Hint::SameFile {
+            file: *file,
+            path: command.path(*file)?,
+        }),
+        Fault::TooManySteps => Some(Hint::Words(STEPS)),
+        Fault::ToTerminal => Some(Hint::Words(TERMINAL)),
+        Fault::Memory => Some(Hint::Memory(command.name())),
         _ => None,
     }
 }
 
-/// Returns the system's reason for a failure of the output, which goes to the file of this path, if there is one.
+/// Returns the system's reason for a failure of the output. The output goes to the file with this path, if there is
+/// one.
 pub fn output_hint<'a, F: Inputs>(output: Option<&'a str>, files: &F) -> Option<Hint<'a>> {
     reason_of(output.unwrap_or("standard output"), files)
 }
@@ -312,7 +392,7 @@ fn input_hint<'a, C: Commands<'a>, F: Inputs>(
 ) -> Option<Hint<'a>> {
     let path = command.path(file)?;
     match kind {
-        Kind::Memory => None,
+        Kind::Memory => Some(Hint::Memory(command.name())),
         Kind::Read => reason_of(name_of(path), files),
         _ => Some(Hint::Encoding {
             command: command.name(),
@@ -323,7 +403,7 @@ fn input_hint<'a, C: Commands<'a>, F: Inputs>(
     }
 }
 
-// Returns the system's reason for not reading a packed graph, or advice about its words.
+// Returns the system's reason for failing to read a packed graph, or advice about its words.
 fn packed_hint<'a, C: Commands<'a>, F: Inputs>(
     error: PackedFault,
     command: &C,
@@ -331,7 +411,8 @@ fn packed_hint<'a, C: Commands<'a>, F: Inputs>(
 ) -> Option<Hint<'a>> {
     let path = command.path(FileKind::Graph)?;
     let advice = match error.kind {
-        PackedKind::Memory | PackedKind::OutOfRange(PackedField::Vertices) => return None,
+        PackedKind::OutOfRange(PackedField::Vertices) => return None,
+        PackedKind::Memory => return Some(Hint::Memory(command.name())),
         PackedKind::Read => return reason_of(name_of(path), files),
         PackedKind::OutOfRange(PackedField::Arcs) => Advice::Arcs,
         PackedKind::OtherForm if error.at == 0 => Advice::NoPackedGraph,
@@ -341,7 +422,7 @@ fn packed_hint<'a, C: Commands<'a>, F: Inputs>(
     Some(Hint::Advice { path, advice })
 }
 
-// Returns the system's reason for not opening a file, and what a number in the place of a list was meant for.
+// Returns the system's reason for failing to open a file, or the option for a number that was given in place of a list.
 fn opening_hint<'a, F: Inputs>(file: FileKind, path: &'a str, files: &F) -> Option<Hint<'a>> {
     let reason = files.reason()?;
     match option_for(file) {
@@ -354,7 +435,7 @@ fn opening_hint<'a, F: Inputs>(file: FileKind, path: &'a str, files: &F) -> Opti
     }
 }
 
-/// Returns the option that gives a number of a list on the command line, if a list of this kind can stand there.
+/// Returns the option that gives a member of such a list by its number on the command line, if there is one.
 pub fn option_for<'a>(list: FileKind) -> Option<&'a str> {
     match list {
         FileKind::Sources => Some("--source"),

@@ -1,5 +1,5 @@
 //! The files of a command line, and the reports of progress.
-ghost use Rattle.std.specs.Prelude.{◌≡◌, true, false, IfNone, IfSome};
+ghost use Rattle.std.specs.Prelude.{◌≡◌, Bool, Some, true, false, IfNone, IfSome};
 ghost use Rattle.sp_command.specs.Scene.{Files, IsOpened, unknown_files};
 
 use crate::hints::Encoding;
@@ -13,7 +13,7 @@ pub trait Inputs {
     /// An opened file.
     type File: Read + Drop;
 
-    /// What is known of the files by their paths: no contract can say what a file of the system holds.
+    /// What is known of the files by their paths. No contract can say what a file of the system holds.
     ghost files: { Self → Files } = { λ _. unknown_files };
 
     /// Opens a file at its start, or returns `None` if it can't be opened. The path `-` is standard input, which is
@@ -25,8 +25,8 @@ pub trait Inputs {
     /// Reports the progress of a command to the user. A failure to report changes nothing else.
     fn tell(&self, _report: Report) {}
 
-    /// Returns the meter on which the workers of a run count the vertices that they have relaxed, if the count is
-    /// watched while they work.
+    /// Returns the meter on which a run's workers count the vertices that they have relaxed, if the count is watched
+    /// during the run.
     fn meter(&self) -> Option<&Meter> {
         None
     }
@@ -36,19 +36,24 @@ pub trait Inputs {
         None
     }
 
-    /// Returns whether the output of the command goes to a terminal.
+    /// Returns whether the command's output goes to a terminal.
     fn is_shown(&self) -> bool
         ensures { result ≡ true → (files self.now).may_show ≡ true }
     {
         false
     }
 
-    /// Returns the system's last reason for a failure of a file or a stream, if it is known.
+    /// Returns whether the path of an output and the path of an input lead to the same regular file.
+    fn is_same_file(&self, output: &str, input: &str) -> bool
+        ensures { (is : Bool) → (files self.now).same output.now input.now ≡ Some is
+            → result ≡ is };
+
+    /// Returns the reason that the system gave for the last failure of a file or a stream, if it is known.
     fn reason(&self) -> Option<io::Error> {
         None
     }
 
-    /// Returns the encoding of the file that was last begun to be read, if it is known and isn't plain text.
+    /// Returns the encoding of the file whose reading began last, if it is known and isn't plain text.
     fn encoding(&self) -> Option<Encoding> {
         None
     }

@@ -41,7 +41,7 @@ pub enum PredBits {
     Bits32,
 }
 
-/// The text is no number of bits that a word may have for its predecessor.
+/// An error: the text isn't a number of bits that a word can have for its predecessor.
 #[derive(Clone, Copy, Debug, PartialEq, Eq)]
 pub struct NoPredBits;
 
@@ -87,7 +87,7 @@ impl PredBits {
         }
     }
 
-    /// Returns the greatest predecessor of a word of this layout, which is also the greatest vertex.
+    /// Returns the greatest predecessor in a word of this layout, which is also the greatest vertex.
     pub fn max_pred(self) -> u32
         ensures { result ≡ max_pred (bits_in self) }
     {
@@ -99,7 +99,7 @@ impl PredBits {
         }
     }
 
-    /// Returns the least number of bits that can name every vertex of a graph with this many vertices, if one can.
+    /// Returns the least number of bits that can name every vertex of a graph with this many vertices, if there is one.
     pub fn least_for(vertices: u64) -> Option<PredBits>
         ensures holds { IfSome result (λ bits. vertices ≤ max_pred (bits_in bits)) }
         ensures fewest { IfSome result (λ bits. (other : PredBits) →
@@ -133,11 +133,11 @@ impl fmt::Display for PredBits {
 
 /// A command that can run in each layout.
 pub trait RunIn {
-    /// What an answer in the layout that has this many bits of predecessor says of the texts of files, and of what is
-    /// then written.
+    /// What the answer means, in the layout with this many bits of predecessor: how it depends on the texts of the
+    /// files, and what is written.
     ghost runs: { Runs Self };
 
-    /// Runs the command in the layout that has this many bits of predecessor.
+    /// Runs the command in the layout with this many bits of predecessor.
     fn run_in<R: Threads + Wait + Sync, F: Inputs, W: Write>(
         &self,
         pred_bits: PredBits,

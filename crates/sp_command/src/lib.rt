@@ -1,9 +1,9 @@
 //! What the commands of the program `spt` share: what a command is, and how it runs.
 //!
-//! A command has its words, its help and its run (`commands`, `help`), in words of several layouts (`layout`), over the
-//! files that a command line names (`inputs`, `outputs`). If it can't be carried out, it returns a fault, with its line
-//! on standard error and its exit status (`faults`), and often a second line, which gives a reason or advice (`hints`,
-//! `advice`), with the names of files as a terminal shows them (`names`).
+//! A command has its words, its help and its run (`commands`, `help`), works in words of several layouts (`layout`),
+//! and uses the files that a command line names (`inputs`, `outputs`). If it fails, it returns a fault, which has a
+//! line on standard error and an exit status (`faults`). Many faults have a second line with a reason or advice
+//! (`hints`, `advice`). It shows the names of files as a terminal can show them (`names`).
 #![tactic(auto)]
 
 mod advice;
@@ -20,6 +20,7 @@ mod outputs;
 mod report;
 mod running;
 mod text;
+mod usage;
 
 pub use advice::Advice;
 pub use arguments::{PLACES, file, flag, valued};

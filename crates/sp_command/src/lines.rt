@@ -1,9 +1,10 @@
-//! The lines that tell faults on standard error.
+//! The lines that report faults on standard error.
 ghost use Rattle.std.specs.Prelude.{◌≡◌};
 ghost use Rattle.sp_command.specs.Lines.{IsLineWritten, IsWritten, input_line, joined, letter_of, name_of, packed_letter_of, packed_line, packed_name_of, word_of};
 
 use crate::faults::{Fault, FileKind};
 use crate::text::print;
+use crate::usage::Untipped;
 use itoa::Buffer;
 use sp_device::{Write, WriteFault, write_all};
 use sp_packed::{PackedFault, PackedField, PackedKind};
@@ -16,13 +17,14 @@ impl Fault {
         ensures { IsLineWritten W.Write self.now out.old result out.new }
     {
         match self {
-            Fault::Usage(error) => match print(out, error) {
+            Fault::Usage(error) => match print(out, &Untipped(error)) {
                 Ok(()) => Ok(()),
                 Err(_) => Err(WriteFault),
             },
             Fault::DeltaOutOfRange => write_all(out, b"spt: delta out of range\n"),
             Fault::LimitOutOfRange => write_all(out, b"spt: limit out of range\n"),
             Fault::InputTwice => write_all(out, b"spt: standard input twice\n"),
+            Fault::OutputIsInput(_) => write_all(out, b"spt: output is an input\n"),
             Fault::NoPlaces => write_all(out, b"spt: sources are not A-B\n"),
             Fault::CannotOpen(file) => {
                 write_texts(
@@ -46,7 +48,7 @@ impl Fault {
     }
 }
 
-// Writes the line of a fault in a file's text.
+// Writes the line for an error in a file's text.
 fn write_input_line<W: Write>(
     out: &mut W,
     file: FileKind,
@@ -70,7 +72,7 @@ fn write_input_line<W: Write>(
     write_texts(out, &texts)
 }
 
-// Returns the number and the name of a fault of a text.
+// Returns the number and the name of an error in a text.
 fn name_of(kind: &Kind) -> &'static str
     ensures { result.now ≡ name_of kind.now }
 {
@@ -87,7 +89,7 @@ fn name_of(kind: &Kind) -> &'static str
     }
 }
 
-// Returns the letter of the field that is out of range, if the fault has one.
+// Returns the letter of the field that is out of range, if the error has one.
 fn letter_of(kind: &Kind) -> &[u8]
     ensures { result.now ≡ letter_of kind.now }
 {
@@ -97,7 +99,7 @@ fn letter_of(kind: &Kind) -> &[u8]
     }
 }
 
-// Writes the line of a fault of a packed graph.
+// Writes the line for an error in a packed graph.
 fn write_packed_line<W: Write>(out: &mut W, error: PackedFault) -> Result<(), WriteFault>
     ensures { IsWritten W.Write (packed_line error) out.old result out.new }
 {
@@ -111,7 +113,7 @@ fn write_packed_line<W: Write>(out: &mut W, error: PackedFault) -> Result<(), Wr
     )
 }
 
-// Returns the number and the name of a fault of a packed graph.
+// Returns the number and the name of an error in a packed graph.
 fn packed_name_of(kind: &PackedKind) -> &'static str
     ensures { result.now ≡ packed_name_of kind.now }
 {
@@ -126,7 +128,7 @@ fn packed_name_of(kind: &PackedKind) -> &'static str
     }
 }
 
-// Returns the letter of the word that is out of range, if the fault has one.
+// Returns the letter of the word that is out of range, if the error has one.
 fn packed_letter_of(kind: &PackedKind) -> &'static str
     ensures { result.now ≡ packed_letter_of kind.now }
 {
@@ -140,7 +142,7 @@ fn packed_letter_of(kind: &PackedKind) -> &'static str
     }
 }
 
-// Writes the texts one after the other.
+// Writes these texts one after another.
 fn write_texts<W: Write>(out: &mut W, texts: &[&[u8]]) -> Result<(), WriteFault>
     ensures { IsWritten W.Write (joined texts.now) out.old result out.new }
 {

@@ -1,11 +1,11 @@
-//! Names of files, as lines show them and as shell commands spell them.
+//! File names, as messages show them and as shell commands spell them.
 ghost use Rattle.std.specs.Prelude.{◌≡◌};
 ghost use Rattle.sp_command.specs.Names.{is_unprintable};
 
 use std::fmt;
 
-/// Returns whether a terminal can't show a character as it is: it is a control character, or one that hides or reorders
-/// the characters beside it.
+/// Returns whether a terminal can't show a character as it is. This holds for control characters, and for characters
+/// that hide or reorder the characters beside them.
 pub fn is_unprintable(c: char) -> bool
     ensures { result ≡ is_unprintable c }
 {
@@ -21,7 +21,7 @@ pub fn is_unprintable(c: char) -> bool
         )
 }
 
-/// A name in a line. It displays with `?` for each character that a terminal doesn't show.
+/// A name in a message. It displays with `?` for each character that a terminal can't show.
 #[derive(Clone, Copy, Debug)]
 pub struct Shown<'a>(pub &'a str);
 
@@ -34,14 +34,14 @@ impl fmt::Display for Shown<'_> {
     }
 }
 
-/// The name of a file as a word of a shell command.
+/// A file name as a word of a shell command.
 #[derive(Clone, Copy, Debug)]
 pub struct Quoted<'a> {
     name: &'a str,
 }
 
 impl<'a> Quoted<'a> {
-    /// Returns the word, if a terminal shows the whole name.
+    /// Returns the word, if a terminal can show the whole name.
     pub fn new(name: &'a str) -> Option<Quoted<'a>> {
         if name.chars().any(is_unprintable) {
             return None;
@@ -52,7 +52,7 @@ impl<'a> Quoted<'a> {
 
 impl fmt::Display for Quoted<'_> {
     fn fmt<W: fmt::Write>(&self, f: &mut fmt::Formatter<W>) -> fmt::Result {
-        // A word that begins with `-` would be an option of the command.
+        // A word that begins with `-` would be read as an option.
         let folder = if self.name.starts_with('-') { "./" } else { "" };
         if !self.name.is_empty() && self.name.chars().all(is_word) {
             f.write_str(folder)?;
@@ -71,7 +71,7 @@ impl fmt::Display for Quoted<'_> {
     }
 }
 
-// Returns whether the shell reads a character of a word as itself.
+// Returns whether a shell reads a character in a word as itself.
 fn is_word(c: char) -> bool {
     matches!(c, 'a'..='z' | 'A'..='Z' | '0'..='9' | '.' | '_' | '-' | '/' | ',' | '+' | ':' | '@' | '%' | '=')
 }

@@ -1,4 +1,4 @@
-//! A file to which the output of a command goes, in place of standard output.
+//! A file that receives a command's output instead of standard output.
 ghost use Rattle.std.specs.Prelude.{◌≡◌, ℕ, false, List, IfNone, IfOk, IfSome, OnErr, OnOk};
 ghost use Rattle.clap.specs.Walk.{rule_of};
 ghost use Rattle.sp_command.specs.Rules.{output_rule};
@@ -17,33 +17,33 @@ const HELP: &str = "\
 Write the output to the file OUT instead of standard output. It goes
 to a new file in the folder of OUT (.spt-PID-*.part), which is renamed
 to OUT when the command ends with exit status 0, 3 or 4; otherwise the
-new file is removed, and OUT keeps what it held. If OUT is a device or
-a pipe, or anything else but a regular file, it is written to directly";
+new file is removed, and OUT keeps what it held. If OUT is a device, a
+pipe or anything else but a regular file, it is written to directly";
 
-/// Where files of output are created.
+/// Creates the output files of commands.
 pub trait Outputs: Inputs {
-    /// The device to which the text of a file is written.
+    /// The device that writes the text of a file.
     type Output: Write + Drop;
 
-    /// The name of a file that is being written, until the file is kept or removed.
+    /// The name of a file while it is being written. It ends when the file is kept or removed.
     type Name: Drop;
 
-    /// What is known of the files that are made: no contract can say what the system keeps.
+    /// What is known of the files that are made. No contract can say what the system keeps.
     ghost outputs: { Self → OutputFiles } = { λ _. unknown_outputs };
 
-    /// Whether a name is to become this path.
+    /// The file with this name gets this path when it is kept.
     ghost is_for: { Self.Name → List ℕ → Type 0 } = { λ _ _. Unit {0} };
 
-    /// What is known to have been asked of the system last, where a file was begun.
+    /// What is known of the last request to the system after the file with this name was begun.
     ghost begins: { Self.Name → Self → Type 0 } = { λ _ _. Unit {0} };
 
-    /// The same where a file was given its path.
+    /// What is known of the last request to the system after the file with this name got its path.
     ghost keeps: { Self.Name → Self → Type 0 } = { λ _ _. Unit {0} };
 
-    /// The same where a file was removed.
+    /// What is known of the last request to the system after the file with this name was removed.
     ghost removes: { Self.Name → Self → Type 0 } = { λ _ _. Unit {0} };
 
-    /// Begins a file that is to get this path, or returns `None` if it can't be created. What the path held stays.
+    /// Begins a file for this path, or returns `None` if it can't be created. Whatever the path held stays.
     fn create(
         &mut self,
         alloc: Global,
@@ -58,7 +58,7 @@ pub trait Outputs: Inputs {
         ensures kept { outputs self.new ≡ outputs self.old }
         ensures inputs { Self.files self.new ≡ Self.files self.old };
 
-    /// Gives a file its path. If that fails, the file is removed, and what the path held stays.
+    /// Gives a file its path. If that fails, the file is removed, and whatever the path held stays.
     fn keep(&mut self, name: Self::Name, output: Self::Output) -> Result<(), WriteFault>
         ensures kept { OnOk result ((path : List ℕ) → is_for name path → outputs self.new
             ≡ with_kept (outputs self.old) path (Self.Output.written output)) }
@@ -69,14 +69,14 @@ pub trait Outputs: Inputs {
             → (outputs self.old).takes path ≡ false) }
         ensures inputs { Self.files self.new ≡ Self.files self.old };
 
-    /// Removes a file. What its path held stays.
+    /// Removes a file. Whatever its path held stays.
     fn discard(&mut self, name: Self::Name, output: Self::Output)
         ensures kept { outputs self.new ≡ outputs self.old }
         ensures removed { removes name self.new }
         ensures inputs { Self.files self.new ≡ Self.files self.old };
 }
 
-/// Returns the option that names the file.
+/// Returns the option that names the output file.
 pub fn option<'a>(alloc: Global) -> Arg<'a>
     ensures { rule_of result ≡ output_rule }
 {

@@ -5,17 +5,17 @@ use std::fmt;
 /// The progress of a command.
 #[derive(Clone, Copy)]
 pub enum Report {
-    /// This many bytes of a file are read.
+    /// This many bytes of a file have been read.
     Read { file: FileKind, bytes: u64 },
-    /// The files are read, and the graph's rows are built.
+    /// The files have been read, and the graph's rows have been built.
     Graph { vertices: u32, arcs: u64 },
-    /// The trees of the first `done` of `count` sources are written, in this many bytes.
+    /// The trees of the first `done` of `count` sources have been written, in this many bytes.
     Sources { done: u64, count: u64, bytes: u64 },
-    /// The answers of the first `done` of `count` runs, each from all sources, are written, in this many bytes.
+    /// The answers of the first `done` of `count` runs, each from all sources, have been written, in this many bytes.
     Runs { done: u64, count: u64, bytes: u64 },
-    /// The first `done` of the `count` lines of a matrix are written, in this many bytes.
+    /// The first `done` of the `count` lines of a matrix have been written, in this many bytes.
     Lines { done: u64, count: u64, bytes: u64 },
-    /// The answers to the first `done` of `count` pairs are found.
+    /// The answers to the first `done` of `count` pairs have been found.
     Pairs { done: u64, count: u64 },
 }
 

@@ -1,4 +1,4 @@
-//! The run of a command.
+//! Running a command.
 ghost use denote.Param.Send.{IsSync};
 ghost use Rattle.std.specs.Prelude.{◌≡◌, true, IfOk, IfErr};
 ghost use Rattle.sp_word.specs.Word.{is_layout};
@@ -16,14 +16,14 @@ use std::thread::Threads;
 
 /// A command that can run in words with `P` bits of predecessor.
 pub trait Run<const P: u32> {
-    /// The meaning of its answer, for the texts of its files and what is then written.
+    /// The meaning of the command's answer, given the texts of its files and what is written.
     ghost answers: { Meaning Self };
 
-    /// The path of its file of each kind, if it has one.
+    /// The path of the command's file of each kind, if it has one.
     ghost paths: { Self → Paths };
 
-    /// The faults that its words or the texts of its files may bring about, besides those of files, of memory and of
-    /// the writer.
+    /// The faults that the command's words or the texts of its files can cause, besides faults of files, of memory and
+    /// of the writer.
     ghost own_faults: { Self → Fault → Type 0 };
 
     /// Runs the command. Its output goes to `out`.

@@ -48,7 +48,7 @@ impl fmt::Write for BlockWriter {
     }
 }
 
-/// A writer of lines, which writes `?` for each character that a terminal doesn't show.
+/// A writer of lines that writes `?` for each character that a terminal can't show.
 #[derive(Drop)]
 struct LineWriter<T> {
     inner: T,
@@ -69,19 +69,19 @@ impl<T: fmt::Write> fmt::Write for LineWriter<T> {
     }
 }
 
-// Returns whether a byte is a line's end or a character that a terminal shows.
+// Returns whether a byte is a line end or a character that a terminal can show.
 fn is_plain(byte: u8) -> bool
     ensures { result ≡ is_plain byte }
 {
     matches!(byte, b'\n' | b' '..=b'~')
 }
 
-// Returns whether a character of a line is hidden, because a terminal doesn't show it.
+// Returns whether a character of a line is hidden because a terminal can't show it.
 fn is_hidden(c: char) -> bool {
     c != '\n' && is_unprintable(c)
 }
 
-// Writes the display form of a value to a writer, and returns the writer and whether all was written.
+// Writes the display form of a value. Returns the writer, and whether everything was written.
 fn display_on<T: fmt::Write, D: fmt::Display>(writer: T, shown: &D) -> (T, fmt::Result)
     ensures { OnOk result.1
         (WritesText T.write_str_gives writer (D.output shown.now) result.0) }
@@ -91,8 +91,8 @@ fn display_on<T: fmt::Write, D: fmt::Display>(writer: T, shown: &D) -> (T, fmt::
     (formatter.into_inner(), ended)
 }
 
-/// Writes the display form of a value, with `?` for each character that a terminal doesn't show. It allocates no
-/// memory. A value that refuses to be displayed is told as memory that was refused.
+/// Writes the display form of a value, with `?` for each character that a terminal can't show. It allocates no memory.
+/// If the value refuses to be displayed, the fault is `Memory`.
 pub fn print<W: Write, D: fmt::Display>(out: &mut W, shown: &D) -> Result<(), Fault>
     ensures shown { (text : List ℕ) → D.output shown.now ≡ Some text → IsPlain text
         → OnOk result (Appends (W.written out.old) (W.written out.new) text) }
@@ -104,11 +104,11 @@ pub fn print<W: Write, D: fmt::Display>(out: &mut W, shown: &D) -> Result<(), Fa
     let LineWriter {
         inner: TextWriter { device },
     } = writer;
-    // No effect at run time. The proof reads what `out` holds from this use.
+    // This has no effect at run time. It lets the proof read what `out` holds.
     let _ = &*device;
     match ended {
         Ok(()) => Ok(()),
-        // A device that has failed fails again.
+        // A device that has failed once fails again.
         Err(fmt::Error) => match out.write(b"") {
             Ok(_) => Err(Fault::Memory),
             Err(_) => Err(Fault::WriteFailed),
@@ -116,8 +116,8 @@ pub fn print<W: Write, D: fmt::Display>(out: &mut W, shown: &D) -> Result<(), Fa
     }
 }
 
-/// Writes the display form of a value, with `?` for each character that a terminal doesn't show, if it has at most 8,192
-/// bytes. It makes no difference whether the device takes it. It allocates no memory.
+/// Writes the display form of a value, with `?` for each character that a terminal can't show, if it has at most 8,192
+/// bytes. A failure of the device is ignored. It allocates no memory.
 pub fn print_short<W: Write, D: fmt::Display>(out: &mut W, shown: &D)
     ensures kept { MayAppend W.Write out.old out.new }
     ensures shown { (text : List ℕ) → D.output shown.now ≡ Some text → IsPlain text

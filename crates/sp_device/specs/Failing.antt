@@ -1,14 +1,13 @@
 -- When a device fails.
 use Rattle.std.specs.Prelude.{◌≡◌, ◌<◌, ℕ, ⊤, Result, Ok, Err}
 
--- A device never fails; or it fails exactly where a given number of bytes has passed in all; or it may fail at any
--- time.
+-- A device never fails; or it fails exactly when a given total number of bytes has passed; or it may fail at any time.
 pub data Failing : Type 0 where
   Never : Failing
   Behind : ℕ → Failing
   Anytime : Failing
 
--- This is the answer to a call for some bytes after a given number of bytes has passed.
+-- A device that fails so may give this result to a call for some bytes, after it has passed a given number of bytes.
 abbrev pub FailsBy : {T E : Type 0} → Failing → ℕ → Result T E → Type 0
 FailsBy Never passed (Ok answer) = ⊤
 FailsBy Never passed (Err e) = ⊥

@@ -11,7 +11,7 @@ pub struct Buffer<const ROOM: usize> {
     len: usize,
 }
 
-/// A buffer of bytes that wait to be written, at most 8,192 of them.
+/// A buffer of at most 8,192 bytes that wait to be written.
 pub type Block = Buffer<8192>;
 
 impl<const ROOM: usize> Model for Buffer<ROOM> {

@@ -56,7 +56,7 @@ pub trait Write {
     /// When it may fail, throughout its life.
     ghost failing: { Self → Failing } = { λ _. Anytime };
 
-    /// Takes a prefix of the bytes and returns its length, which is at least one unless there are none.
+    /// Takes a prefix of the bytes and returns its length, which is at least 1 unless there are no bytes.
     fn write(&mut self, bytes: &[u8]) -> Result<usize, Failed>
         ensures within { IfOk result (λ n. n ≤ length bytes.now) }
         ensures some { IfOk result (λ n. 0 < length bytes.now → 0 < n) }

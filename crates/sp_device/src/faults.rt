@@ -1,7 +1,7 @@
 //! The fault of a writer.
 use thiserror::Error;
 
-/// The writer failed. The fault displays as the number and the name of this refusal.
+/// The writer failed. `Display` prints the number and the name of the fault.
 #[derive(Clone, Copy, Debug, PartialEq, Eq, Error)]
 #[error("10 Write")]
 pub struct WriteFault;

@@ -5,7 +5,7 @@ ghost use Rattle.sp_device.specs.Failing.{Never, Behind};
 use crate::devices::{Failed, Read, Write};
 use std::alloc::Global;
 
-/// A reader that passes the given bytes, and then ends or fails. It fails nowhere else.
+/// A reader that passes the given bytes and then ends or fails. It never fails earlier.
 #[derive(Drop)]
 pub struct UpTo<'a> {
     bytes: &'a [u8],
@@ -19,7 +19,7 @@ pub struct UpTo<'a> {
 }
 
 impl<'a> UpTo<'a> {
-    /// Returns a reader that passes the bytes, and then ends.
+    /// Returns a reader that passes the bytes and then ends.
     pub fn whole(bytes: &'a [u8]) -> Self
         requires { length bytes.now ≤ 2 ^ 62 }
         ensures left { ⟦<UpTo<'a> as Read>⟧.left result ≡ Some bytes.now }
@@ -30,7 +30,7 @@ impl<'a> UpTo<'a> {
         UpTo::in_pieces(bytes, usize::MAX)
     }
 
-    /// Returns a reader that passes the bytes, and then fails.
+    /// Returns a reader that passes the bytes and then fails.
     pub fn failing(bytes: &'a [u8]) -> Self
         requires { length bytes.now ≤ 2 ^ 62 }
         ensures left { ⟦<UpTo<'a> as Read>⟧.left result ≡ Some bytes.now }
@@ -43,7 +43,7 @@ impl<'a> UpTo<'a> {
         device
     }
 
-    /// Returns a reader that passes the bytes, at most `most` at each call, and then ends.
+    /// Returns a reader that passes the bytes, at most `most` per call, and then ends.
     pub fn in_pieces(bytes: &'a [u8], most: usize) -> Self
         requires short { length bytes.now ≤ 2 ^ 62 }
         requires some { 0 < most }
@@ -85,7 +85,7 @@ impl Read for UpTo<'_> {
     }
 }
 
-/// A writer that takes a given number of bytes in all, and then fails. It fails nowhere else.
+/// A writer that takes a given total number of bytes and then fails. It never fails earlier.
 #[derive(Drop)]
 pub struct UpToWriter {
     taken: Vec<u8>,
@@ -99,8 +99,8 @@ pub struct UpToWriter {
 }
 
 impl UpToWriter {
-    /// Returns a writer that takes `room` bytes in all, at most `most` at each call. The memory is allocated at once:
-    /// if that fails, the writer takes no bytes.
+    /// Returns a writer that takes a total of `room` bytes, at most `most` per call. The memory is allocated at once: if that
+    /// fails, the writer takes no bytes.
     pub fn new(alloc: Global, room: usize, most: usize) -> Self
         requires short { room ≤ 2 ^ 62 }
         requires some { 0 < most }

@@ -13,9 +13,9 @@ const ROOM: usize = 8192;
 /// Sends text to a device in blocks, and counts the bytes. A failure is reported at the end.
 #[derive(Drop)]
 pub struct Printer {
-    /// The bytes that wait. Bytes that are pushed here, if they fit, are sent too.
+    /// The bytes that wait to be written. Bytes pushed here, if they fit, are sent too.
     pub block: Block,
-    /// The number of bytes that were written.
+    /// The number of bytes written.
     pub count: u64,
     /// Whether the device has failed.
     pub failed: bool,
@@ -83,7 +83,7 @@ pub fn make_room<W: Write>(out: &mut W, printer: &mut Printer, room: usize)
     }
 }
 
-/// Sends these bytes after the others.
+/// Sends these bytes after all earlier ones.
 pub fn print_text<W: Write>(out: &mut W, printer: &mut Printer, bytes: &[u8])
     ensures { Sends W.Write bytes.now out.old printer.old out.new printer.new }
 {
@@ -104,7 +104,7 @@ pub fn print_number<W: Write>(out: &mut W, printer: &mut Printer, n: u64)
     print_text(out, printer, buffer.format(n).as_bytes());
 }
 
-/// Writes the bytes that wait, and returns how many bytes were written in all.
+/// Writes the bytes that wait, and returns the total number of bytes written.
 pub fn finish<W: Write>(out: &mut W, mut printer: Printer) -> Result<u64, WriteFault>
     ensures written { EndsSending W.Write out.old printer result out.new }
     ensures passed { EndsCounting W.Write out.old printer result out.new }

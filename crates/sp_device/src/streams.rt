@@ -1,4 +1,4 @@
-//! The readers and writers of std as devices.
+//! The readers and writers of `std` as devices.
 ghost use Rattle.std.specs.Prelude.{◌≡◌, ◌+◌, ◌<◌, ◌≤◌, ◌^◌, true, false, OnOk, OnErr};
 ghost use Rattle.std.specs.Io.KnownBytes.{Keeps};
 
@@ -6,7 +6,7 @@ use crate::devices::{Failed, Read, Write};
 use crate::faults::WriteFault;
 use std::io;
 
-// The greatest number of bytes that a device passes in all.
+// The greatest total number of bytes that a device passes.
 const LIMIT: u64 = 1 << 62;
 
 // Returns how many of these bytes may still pass.
@@ -24,7 +24,7 @@ fn passing(len: usize, passed: u64) -> usize
     }
 }
 
-/// A device over a reader of std. It fails if the call of std fails, and once 2^62 bytes have passed.
+/// A device over a reader of `std`. It fails if the call to `std` fails, and once 2^62 bytes have passed.
 #[derive(Drop)]
 pub struct OfRead<R> {
     inner: R,
@@ -74,7 +74,7 @@ impl<R: io::Read> Read for OfRead<R> {
     }
 }
 
-/// A device over a writer of std. It fails if the call of std fails or takes no bytes where there are some, and once
+/// A device over a writer of `std`. It fails if the call to `std` fails or takes none of the bytes given to it, and once
 /// 2^62 bytes have passed.
 #[derive(Drop)]
 pub struct OfWrite<W> {
@@ -100,7 +100,7 @@ impl<W: io::Write> OfWrite<W> {
 }
 
 impl<W: io::Write> OfWrite<W> {
-    /// Flushes the writer of std, which may have kept bytes back.
+    /// Flushes the writer of `std`, which may still hold bytes.
     pub fn flush(&mut self) -> Result<(), WriteFault>
         ensures kept { Keeps (⟦<OfWrite<W> as Write>⟧.written self.old)
             (⟦<OfWrite<W> as Write>⟧.written self.new) }

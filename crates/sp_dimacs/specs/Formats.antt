@@ -14,7 +14,7 @@ line_form words fields limit = record { words = words; fields = fields; fresh = 
 abbrev pub arc_line : LineForm
 arc_line = line_form (codes "a" ∷ []) (field 85 1 (Problem 0) ∷ field 86 1 (Problem 0) ∷ field 87 1 (Number LONGEST_ARC) ∷ []) (Problem 1)
 
--- where M is at most this
+-- This is the format of a `.gr` file whose M is at most `most`.
 abbrev pub gr_up_to : ℕ → Format
 gr_up_to most = record {
   problem = line_form (codes "p" ∷ codes "sp" ∷ []) (field 78 1 Vertex ∷ field 77 0 (Number most) ∷ []) (Number 1);
@@ -22,13 +22,15 @@ gr_up_to most = record {
   needed = Problem 1;
 }
 
+-- This is the format of a `.gr` file.
 abbrev pub gr : Format
 gr = gr_up_to MOST_ARCS
 
--- A `.ss` file has the problem line `p aux sp ss K`, and K lines `s V`.
+-- An `.ss` file has the problem line `p aux sp ss K`, and K lines `s V`.
 abbrev pub source_line : LineForm
 source_line = line_form (codes "s" ∷ []) (field 86 1 Vertex ∷ []) (Problem 0)
 
+-- This is the format of an `.ss` file.
 abbrev pub ss : Format
 ss = record {
   problem = line_form (codes "p" ∷ codes "aux" ∷ codes "sp" ∷ codes "ss" ∷ []) (field 75 0 (Number MOST_SOURCES) ∷ []) (Number 1);
@@ -40,6 +42,7 @@ ss = record {
 abbrev pub pair_line : LineForm
 pair_line = line_form (codes "q" ∷ []) (field 83 1 Vertex ∷ field 84 1 Vertex ∷ []) (Problem 0)
 
+-- This is the format of a pairs file.
 abbrev pub pairs : Format
 pairs = record {
   problem = line_form (codes "p" ∷ codes "pairs" ∷ []) (field 75 0 (Number MOST_SOURCES) ∷ []) (Number 1);

@@ -37,6 +37,7 @@ pub record AreAll {R : Type 0} (r : Reader R) (start : Option (List ℕ)) (given
   pub all : IsAtEnd (r.left reader.reader)
   pub lines : lines text ≡ given
 
+-- The reader has given these lines: more may come, or the text has ended.
 abbrev pub Stands : {R : Type 0} → Reader R → Option (List ℕ) → List (List ℕ) → Lines R → State → Type 0
 Stands r start given reader Going = AreEnded r start given reader
 Stands r start given reader Over = AreAll r start given reader
@@ -60,11 +61,11 @@ pub record IsRefused {R : Type 0} (r : Reader R) (start : Option (List ℕ)) (gi
   pub ended : ended front ≡ given
   pub why : ((kind ≡ LongLine) × (LONGEST_LINE < length (rest front))) ⊎ ((kind ≡ Read) × (length (rest front) ≤ LONGEST_LINE) × (more ≡ []) × (r.has_failed reader.reader ≡ true))
 
--- This says whether the line that was given last had its LF.
+-- The last line given had its LF.
 abbrev pub had_lf : {R : Type 0} → Lines R → Bool
 had_lf reader = reader.has_end
 
--- The answer to a request for the next line is this line, or that there is none, or its fault.
+-- The next line of the text is this one, or there is none, or this is its fault.
 abbrev pub Gave : {R : Type 0} → Reader R → Option (List ℕ) → List (List ℕ) → List ℕ → Result Bool DimacsError → Lines R → Type 0
 Gave r start given line (Ok true) new = IsBehindLines r start (given ++ line ∷ []) new × IsNext r start given line new (had_lf new) × (length line ≤ LONGEST_LINE)
 Gave r start given line (Ok false) new = IsBehindLines r start given new × AreAll r start given new
@@ -81,17 +82,18 @@ Counted old false false new = (old.room ≡ []) × (new ≡ record old { state =
 abbrev pub IsRefusedAs : {R : Type 0} → DimacsError → Lines R → Type 0
 IsRefusedAs e reader = reader.state ≡ Refused e
 
+-- A reader that has refused its text with some fault still refuses it with that fault.
 abbrev pub IsStillRefused : {R : Type 0} → Lines R → Lines R → Type 0
 IsStillRefused old new = (e : DimacsError) → IsRefusedAs e old → IsRefusedAs e new
 
--- This is the answer with the line that is lent.
+-- This is the result with the line that is lent.
 abbrev pub GaveNext : {R : Type 0} → Reader R → Option (List ℕ) → List (List ℕ) → Result (Option (Bor (List ℕ))) DimacsError → Lines R → Type 0
 GaveNext r start given (Ok (Some line)) new = Gave r start given line.now (Ok true) new
 GaveNext r start given (Ok None) new = Gave r start given [] (Ok false) new
 GaveNext r start given (Err e) new = Gave r start given [] (Err e) new
 
--- This is the reader after the answer: a reader that has refused its text stays refused, and one after some lines gave
--- the next line.
+-- This is the reader after the call: a reader that has refused its text stays refused, and one that has given some lines
+-- has given the next line.
 abbrev pub Gives : {R : Type 0} → Reader R → Lines R → Result (Option (Bor (List ℕ))) DimacsError → Lines R → Type 0
 Gives r old result new = IsStillRefused old new ×
     ((start : Option (List ℕ)) (given : List (List ℕ)) → IsBehindLines r start given old → GaveNext r start given result new)
@@ -100,6 +102,7 @@ Gives r old result new = IsStillRefused old new ×
 abbrev pub IsFaulty : (text : List ℕ) → (given : List (List ℕ)) → Kind → Type 0
 IsFaulty text given kind = ((kind ≡ LongLine) × (long : List ℕ) × (slice_get (lines text) (length given) ≡ Some long) × (LONGEST_LINE < length long)) ⊎ (kind ≡ Read)
 
+-- The fault is that of the line after the given ones.
 abbrev pub IsFaultOf : (text : List ℕ) → (given : List (List ℕ)) → DimacsError → Type 0
 IsFaultOf text given e = (e.line ≡ min (length given + 1) (2 ^ 64 - 1)) × IsFaulty text given e.kind
 

@@ -20,17 +20,19 @@ arc_of item = record { tail = slice_index item.numbers 0; head = slice_index ite
 abbrev pub IsGraph : List ℕ → List Item → GrFile → Type 0
 IsGraph problem items file = (file.n ≡ slice_index problem 0) × (file.arcs.items ≡ map arc_of items)
 
--- The text has no fault, where it may announce so many arcs, and spells this graph.
+-- The text may announce at most `most` arcs, has no fault, and spells this graph.
 abbrev pub SpellsUpTo : (P most : ℕ) → List ℕ → GrFile → Type 0
 SpellsUpTo P most text file = (problem : List ℕ) × (items : List Item) × Spells (gr_up_to most) (ranges_of P) text problem items × IsGraph problem items file
 
+-- The text has no fault, and spells this graph.
 abbrev pub SpellsGraph : ℕ → List ℕ → GrFile → Type 0
 SpellsGraph P text file = SpellsUpTo P MOST_ARCS text file
 
--- This is the answer to the whole text of a device, part of which may be left, where it may announce so many arcs.
+-- This is the result for the whole text of a device, part of which may be left. The text may announce at most `most` arcs.
 abbrev pub ReadUpTo : (P most : ℕ) → List ℕ → Option (List ℕ) → Bool → Result GrFile DimacsError → Type 0
 ReadUpTo P most text left has_failed result = AllRead (judge (gr_up_to most) (ranges_of P)) (SpelledBy (gr_up_to most) IsGraph) text left has_failed result
 
+-- This is the result for the whole text of a device, part of which may be left.
 abbrev pub GraphRead : ℕ → List ℕ → Option (List ℕ) → Bool → Result GrFile DimacsError → Type 0
 GraphRead P text left has_failed result = ReadUpTo P MOST_ARCS text left has_failed result
 
@@ -38,13 +40,14 @@ GraphRead P text left has_failed result = ReadUpTo P MOST_ARCS text left has_fai
 abbrev pub graph_of : GrFile → Graph
 graph_of file = record { n = file.n; arcs = file.arcs.items }
 
--- There is a vertex, there are no more vertices than a word of the layout can name, and the arcs, at most so many, join these
--- vertices.
+-- There is a vertex, there are no more vertices than a word of the layout can name, and the arcs, at most `most_arcs`, join
+-- these vertices.
 pub record IsNetworkUpTo (P most_arcs : ℕ) (file : GrFile) : Type 0 where
   pub least : 1 ≤ file.n
   pub most : file.n ≤ max_pred P
   pub short : length file.arcs.items ≤ most_arcs
   pub arcs : All (IsArc file.n) file.arcs.items
 
+-- The network is within the limits of the layout and of the format.
 abbrev pub IsNetwork : (P : ℕ) → GrFile → Type 0
 IsNetwork P file = IsNetworkUpTo P MOST_ARCS file

@@ -22,6 +22,6 @@ LineOf r reader came (Err kind) after line =
     ((kind ≡ LongLine) × (long more : List ℕ) × HasNoLf long × (came ≡ long ++ more) × (LONGEST_LINE < length long))
     ⊎ ((kind ≡ Read) × HasNoLf came × (length came ≤ LONGEST_LINE) × (r.has_failed reader ≡ true))
 
--- A line was read, where some of its bytes waited and the others came from the device.
+-- A line was read: some of its bytes were waiting, and the others came from the device.
 abbrev pub LineRead : {R : Type 0} → Reader R → (old new : R) → (waits : List ℕ) → Result Bool Kind → (after line : List ℕ) → Type 0
 LineRead r old new waits result after line = (more : List ℕ) × Consumes (r.left old) (r.left new) more × LineOf r new (waits ++ more) result after line

@@ -22,7 +22,7 @@ ArePairs problem items file = file.pairs.items ≡ map pair_of items
 abbrev pub SpellsPairs : ℕ → List ℕ → PairsFile → Type 0
 SpellsPairs P text file = (problem : List ℕ) × (items : List Item) × Spells pairs (ranges_of P) text problem items × ArePairs problem items file
 
--- This is the answer to the whole text of a device, part of which may be left.
+-- This is the result for the whole text of a device, part of which may be left.
 abbrev pub PairsRead : ℕ → List ℕ → Option (List ℕ) → Bool → Result PairsFile DimacsError → Type 0
 PairsRead P text left has_failed result = AllRead (judge pairs (ranges_of P)) (SpelledBy pairs ArePairs) text left has_failed result
 
@@ -33,7 +33,7 @@ pub record IsPairWithin (P : ℕ) (pair : ℕ × ℕ) : Type 0 where
   pub target_least : 1 ≤ pair.1
   pub target_most : pair.1 ≤ max_pred P
 
--- There are no more pairs than the format allows, and a word of the layout can name each vertex of them.
+-- There are no more pairs than the format allows, and a word of the layout can name each of their vertices.
 pub record ArePairsWithin (P : ℕ) (file : PairsFile) : Type 0 where
   pub short : length file.pairs.items ≤ MOST_SOURCES
   pub pairs : All (IsPairWithin P) file.pairs.items

@@ -14,11 +14,11 @@ IsBehindText rules After text reader = IsBehind rules After text reader.feeder
 abbrev pub IsSpent : {T : Type 0} → DimacsError → TextReader T → Type 0
 IsSpent e reader = reader.feeder.spent ≡ Some e
 
--- The answer to the next piece of a text: the reader has read it too, or is spent because of the text's first fault. If
--- there is no memory for the value of an item line, that line ends in this piece.
+-- This is the result for the next piece of a text: the reader has read it too, or is spent because of the text's first fault.
+-- If there is no memory for the value of an item line, that line ends in this piece.
 abbrev pub FedText : {T U : Type 0} → Judge → (T → List (List ℕ) → Type 0) → (text piece : List ℕ) → Result U DimacsError → TextReader T → Type 0
 FedText rules After text piece result new = Fed rules After (ended text) (text ++ piece) result new.feeder
 
--- The answer where the text ends: the value of its lines, with a reader that has read no text, or its first fault.
+-- This is the result when the text ends: the value of its lines, with a reader that has read no text, or its first fault.
 abbrev pub FinishedText : {T V : Type 0} → Judge → (T → List (List ℕ) → Type 0) → (List (List ℕ) → V → Type 0) → List ℕ → Result V DimacsError → TextReader T → Type 0
 FinishedText rules After Spelled text result new = Finished rules After Spelled text result new.feeder

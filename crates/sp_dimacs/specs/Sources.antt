@@ -22,7 +22,7 @@ AreSources problem items file = file.sources.items ≡ map source_of items
 abbrev pub SpellsSources : ℕ → List ℕ → SsFile → Type 0
 SpellsSources P text file = (problem : List ℕ) × (items : List Item) × Spells ss (ranges_of P) text problem items × AreSources problem items file
 
--- This is the answer to the whole text of a device, part of which may be left.
+-- This is the result for the whole text of a device, part of which may be left.
 abbrev pub SourcesRead : ℕ → List ℕ → Option (List ℕ) → Bool → Result SsFile DimacsError → Type 0
 SourcesRead P text left has_failed result = AllRead (judge ss (ranges_of P)) (SpelledBy ss AreSources) text left has_failed result
 

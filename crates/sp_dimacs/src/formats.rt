@@ -9,7 +9,7 @@ use sp_text::{Field, FileFormat, Form, Top};
 /// The greatest number of arcs of a graph.
 pub const MOST_ARCS: u64 = 1_073_741_824;
 
-/// The greatest number of arcs of a graph each of which is to lead both ways.
+/// The greatest number of arcs of a graph whose arcs lead both ways.
 pub const MOST_ARCS_BOTH_WAYS: u64 = 536_870_912;
 
 /// The greatest length of an arc.
@@ -66,7 +66,7 @@ const GR: FileFormat = FileFormat {
     needed: Top::Problem(1),
 };
 
-// The same for a graph whose arcs are to lead both ways.
+// The line forms of a graph whose arcs lead both ways.
 const BOTH_WAYS: FileFormat = FileFormat {
     problem: Form {
         words: b"p sp",
@@ -155,7 +155,7 @@ pub fn gr_format() -> FileFormat
     GR
 }
 
-/// Returns the line forms of a `.gr` file whose arcs are to lead both ways: it announces at most half as many.
+/// Returns the line forms of a `.gr` file whose arcs lead both ways: it announces at most half as many.
 pub fn both_ways_format() -> FileFormat
     ensures { format_of result ≡ gr_up_to MOST_ARCS_BOTH_WAYS }
 {

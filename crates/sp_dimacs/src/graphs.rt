@@ -31,7 +31,7 @@ pub struct GrFile {
     pub arcs: Vec<Arc>,
 }
 
-/// Which ways the arcs of a text are to lead, and so how many arcs it may announce.
+/// Whether the arcs of a text lead one way or both ways. This sets how many arcs the text may announce.
 pub trait Ways {
     ghost most: { ℕ };
 
@@ -51,7 +51,7 @@ impl Ways for OneWay {
     }
 }
 
-/// Each arc is to lead both ways.
+/// Each arc leads both ways.
 pub struct BothWays;
 
 impl Ways for BothWays {
@@ -62,7 +62,7 @@ impl Ways for BothWays {
     }
 }
 
-/// The arcs that were read so far.
+/// The arcs read so far.
 #[derive(Drop)]
 pub struct ArcKeeper<const P: u32, A: Ways> {
     alloc: Global,
@@ -129,7 +129,7 @@ impl<const P: u32, A: Ways> Keep for ArcKeeper<P, A> {
     }
 }
 
-// An arc's line has about this many bytes. Room that is missing or left over costs time alone.
+// The approximate length of an arc's line in bytes. A wrong value costs time only.
 const BYTES_OF_LINE: usize = 16;
 
 impl<const P: u32, A: Ways> KeepParts for ArcKeeper<P, A> {
@@ -159,7 +159,7 @@ impl<const P: u32, A: Ways> KeepAcross for ArcKeeper<P, A> {
         once keep.arcs.items (map arc_of items) };
 }
 
-/// A reader of a `.gr` text that comes in pieces, for words of `P` bits of predecessor.
+/// A reader of a `.gr` text that comes in pieces, for words with `P` predecessor bits.
 pub type GrReader<const P: u32> = TextReader<Collector<ArcKeeper<P, OneWay>>>;
 
 impl<const P: u32> TextReader<Collector<ArcKeeper<P, OneWay>>> {
@@ -175,7 +175,7 @@ impl<const P: u32> TextReader<Collector<ArcKeeper<P, OneWay>>> {
 }
 
 /// Reads the rest of a device's bytes, and returns the graph that they spell, or their first fault. If there is no
-/// memory for an arc, the fault is Memory at its line, unless a line up to it has a fault.
+/// memory for an arc, the fault is Memory at its line, unless that line or an earlier one has a fault.
 #[tactic(auto, using(crate::proofs::Limits::graph_read))]
 pub fn read_gr<const P: u32, R: Read>(alloc: Global, reader: &mut R) -> Result<GrFile, DimacsError>
     requires { is_layout P ≡ true }
@@ -189,7 +189,7 @@ pub fn read_gr<const P: u32, R: Read>(alloc: Global, reader: &mut R) -> Result<G
     read_items(reader, GrReader::<P>::new(alloc).into_feeder())
 }
 
-// Reads the rest of a device's bytes by so many workers, this thread among them, where the text may announce as many arcs as
+// Reads the rest of a device's bytes with this many workers, including this thread. The text may announce as many arcs as
 // these ways allow.
 #[tactic(auto, using(crate::proofs::Limits::graph_read))]
 fn read_ways<const P: u32, A: Ways + Send + Sync, H: Crew, R: Read>(
@@ -211,7 +211,7 @@ fn read_ways<const P: u32, A: Ways + Send + Sync, H: Crew, R: Read>(
     read_items_by(rt, alloc, reader, feeder, workers, SIZES)
 }
 
-/// Reads the rest of a device's bytes as `read_gr` does, by so many workers, this thread among them. This thread alone reads
+/// Reads the rest of a device's bytes as `read_gr` does, with this many workers, including this thread. Only this thread reads
 /// the device.
 pub fn read_gr_by<const P: u32, H: Crew, R: Read>(
     rt: &H,
@@ -230,8 +230,8 @@ pub fn read_gr_by<const P: u32, H: Crew, R: Read>(
     read_ways::<P, OneWay, H, R>(rt, alloc, reader, workers)
 }
 
-/// Reads the rest of a device's bytes as `read_gr_by` does, of a graph whose arcs are to lead both ways: its text may announce
-/// half as many, and a greater number is out of its range.
+/// Reads the rest of a device's bytes as `read_gr_by` does, for a graph whose arcs lead both ways. The text may announce half
+/// as many arcs; a greater number is out of its range.
 pub fn read_gr_both_ways<const P: u32, H: Crew, R: Read>(
     rt: &H,
     alloc: Global,

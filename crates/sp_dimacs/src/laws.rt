@@ -13,26 +13,26 @@ ghost use Rattle.sp_dimacs.specs.declared.graphs.GrFile.{GrFile};
 ghost use Rattle.sp_dimacs.specs.declared.sources.SsFile.{SsFile};
 ghost use Rattle.sp_dimacs.specs.declared.pairs.PairsFile.{PairsFile};
 
-/// States how many arcs a text may announce: 2^30, and half as many where each is to lead both ways.
+/// States how many arcs a text may announce: 2^30, or half as many if each leads both ways.
 pub fn most_arcs_of_a_text()
     ensures most { MOST_ARCS ≡ 2 ^ 30 }
     ensures both_ways { 2 * MOST_ARCS_BOTH_WAYS ≡ MOST_ARCS }
 {}
 
-/// States that a graph which some text spells is within the limits of the layout.
+/// States that every graph spelled by a text is within the limits of the layout.
 pub fn spelled_graph_is_within()
     ensures { (P : ℕ) (file : GrFile)
         → IsSpelled (judge gr (ranges_of P)) (SpelledBy gr IsGraph) file → IsNetwork P file }
 {}
 
-/// States that sources which some text spells are within the limits of the layout.
+/// States that the sources spelled by a text are within the limits of the layout.
 pub fn spelled_sources_are_within()
     ensures { (P : ℕ) (file : SsFile)
         → IsSpelled (judge ss (ranges_of P)) (SpelledBy ss AreSources) file
         → AreSourcesWithin P file }
 {}
 
-/// States that pairs which some text spells are within the limits of the layout.
+/// States that the pairs spelled by a text are within the limits of the layout.
 pub fn spelled_pairs_are_within()
     ensures { (P : ℕ) (file : PairsFile)
         → IsSpelled (judge pairs (ranges_of P)) (SpelledBy pairs ArePairs) file

@@ -32,8 +32,8 @@ fn take_run(piece: &mut Piece, room: &mut LineBuffer) -> Result<bool, Kind>
     Ok(true)
 }
 
-// Reads the next line into the buffer, and returns whether it has its LF. If it has neither an LF nor a byte, it is no
-// line.
+// Reads the next line into the buffer, and returns whether it has its LF. If there is neither an LF nor a byte, there is no
+// next line.
 fn read_line<R: Read>(
     reader: &mut R,
     piece: &mut Piece,
@@ -76,7 +76,7 @@ impl<R: Read> Lines<R> {
     ghost use Rattle.std.specs.Borrow.{sem};
     ghost use Rattle.sp_dimacs.specs.declared.lines.State.TheVariants.{Refused};
 
-    /// Returns a reader that stands before the first line.
+    /// Returns a reader positioned before the first line.
     pub fn new(reader: R) -> Self
         ensures { IsBehindLines R.Read (R.left reader) [] result }
     {
@@ -139,7 +139,7 @@ impl<R: Read> Lines<R> {
         error
     }
 
-    /// Returns the number of the line that was given last, or 0 before the first.
+    /// Returns the number of the last line returned, or 0 before the first.
     pub fn line(&self) -> u64
         ensures { (start : Option (List ℕ)) (given : List (List ℕ))
             → IsBehindLines R.Read start given self.now → result ≡ min (length given) (2 ^ 64 - 1) }
@@ -147,7 +147,7 @@ impl<R: Read> Lines<R> {
         self.number
     }
 
-    /// Returns whether the line that was given last had its LF.
+    /// Returns whether the last line returned had its LF.
     pub fn ended(&self) -> bool
         ensures { result ≡ had_lf self.now }
     {
@@ -155,8 +155,8 @@ impl<R: Read> Lines<R> {
     }
 
     /// Returns the next line without its LF, or `None` once the text has ended. A line of more than 1,024 bytes is
-    /// refused with LongLine, and a failure of the device with Read, at the line that was being read. After a refusal
-    /// every call returns the same refusal.
+    /// refused with LongLine, and a failure of the device with Read at the line being read. After a refusal every call
+    /// returns the same fault.
     pub fn next(&mut self) -> Result<Option<&[u8]>, DimacsError>
         ensures again { (e : DimacsError) → IsRefusedAs e self.old → result ≡ Err e }
         ensures text { (text : List ℕ) (given : List (List ℕ))

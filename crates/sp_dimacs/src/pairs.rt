@@ -1,4 +1,4 @@
-//! Files of pairs, each of a source and a target.
+//! Files of pairs: each pair has a source and a target.
 ghost use Rattle.std.specs.Prelude.{◌≡◌, ◌<◌, ◌^◌, ℕ, List, [], map, true, false, Some, IfOk, IfErr};
 ghost use Rattle.sp_word.specs.Word.{is_layout, max_pred};
 ghost use Rattle.sp_text.specs.Formats.{ranges_of};
@@ -23,7 +23,7 @@ pub struct PairsFile {
     pub pairs: Vec<(u32, u32)>,
 }
 
-/// The pairs that were read so far.
+/// The pairs read so far.
 #[derive(Drop)]
 pub struct PairKeeper<const P: u32> {
     alloc: Global,
@@ -83,7 +83,7 @@ impl<const P: u32> Keep for PairKeeper<P> {
     }
 }
 
-/// A reader of a pairs text that comes in pieces, for words of `P` bits of predecessor.
+/// A reader of a pairs text that comes in pieces, for words with `P` predecessor bits.
 pub type PairsReader<const P: u32> = TextReader<Collector<PairKeeper<P>>>;
 
 impl<const P: u32> TextReader<Collector<PairKeeper<P>>> {
@@ -98,7 +98,7 @@ impl<const P: u32> TextReader<Collector<PairKeeper<P>>> {
 }
 
 /// Reads the rest of a device's bytes, and returns the pairs that they spell, or their first fault. If there is no
-/// memory for a pair, the fault is Memory at its line, unless a line up to it has a fault.
+/// memory for a pair, the fault is Memory at its line, unless that line or an earlier one has a fault.
 #[tactic(auto, using(crate::proofs::Limits::pairs_read))]
 pub fn read_pairs<const P: u32, R: Read>(
     alloc: Global,

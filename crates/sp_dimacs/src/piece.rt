@@ -60,7 +60,7 @@ impl Piece {
         self.start = self.end;
     }
 
-    /// Replaces the bytes with the next ones of a device; there are none only at its end.
+    /// Replaces the bytes with the next ones from a device. The buffer is then empty only at the end of the device.
     pub fn refill<R: Read>(&mut self, reader: &mut R) -> Result<(), Failed>
         ensures bytes { OnOk result (Consumes (R.left reader.old) (R.left reader.new) self.new) }
         ensures end { OnOk result (self.new ≡ [] → IsAtEnd (R.left reader.new)) }

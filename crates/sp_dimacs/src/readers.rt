@@ -6,8 +6,8 @@ ghost use Rattle.sp_dimacs.specs.Reading.{IsBehindText, IsSpent, FedText, Finish
 
 use sp_text::{DimacsError, Feeder, LineTaker};
 
-/// A reader of a text that comes in pieces. It reports the first fault of the text, as early as the bytes so far show
-/// it, and returns the same fault from then on.
+/// A reader of a text that comes in pieces. It reports the first fault of the text as soon as the bytes so far show it, and
+/// returns the same fault from then on.
 #[derive(Drop)]
 pub struct TextReader<T> {
     feeder: Feeder<T>,
@@ -44,7 +44,7 @@ impl<T: LineTaker> TextReader<T> {
         self.feeder.feed(piece)
     }
 
-    /// Ends the text. A reader that returns its value then begins a new text.
+    /// Ends the text. A reader that returns its value then starts a new text.
     pub fn finish(&mut self) -> Result<T::Value, DimacsError>
         ensures again { (e : DimacsError) → IsSpent e self.old
             → (result ≡ Err e) × (self.new ≡ self.old) }
@@ -55,7 +55,7 @@ impl<T: LineTaker> TextReader<T> {
         self.feeder.finish()
     }
 
-    /// Reports a failure of the device: returns the fault that was met before, or Read at the line being read.
+    /// Reports a failure of the device to the reader. Returns the fault found earlier, or Read at the line being read.
     pub fn fail(&mut self) -> DimacsError
         ensures again { (e : DimacsError) → IsSpent e self.old
             → (result ≡ e) × (self.new ≡ self.old) }

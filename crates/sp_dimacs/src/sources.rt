@@ -23,7 +23,7 @@ pub struct SsFile {
     pub sources: Vec<u32>,
 }
 
-/// The sources that were read so far.
+/// The sources read so far.
 #[derive(Drop)]
 pub struct SourceKeeper<const P: u32> {
     alloc: Global,
@@ -82,7 +82,7 @@ impl<const P: u32> Keep for SourceKeeper<P> {
     }
 }
 
-/// A reader of an `.ss` text that comes in pieces, for words of `P` bits of predecessor.
+/// A reader of an `.ss` text that comes in pieces, for words with `P` predecessor bits.
 pub type SsReader<const P: u32> = TextReader<Collector<SourceKeeper<P>>>;
 
 impl<const P: u32> TextReader<Collector<SourceKeeper<P>>> {
@@ -97,7 +97,7 @@ impl<const P: u32> TextReader<Collector<SourceKeeper<P>>> {
 }
 
 /// Reads the rest of a device's bytes, and returns the sources that they spell, or their first fault. If there is no
-/// memory for a source, the fault is Memory at its line, unless a line up to it has a fault.
+/// memory for a source, the fault is Memory at its line, unless that line or an earlier one has a fault.
 #[tactic(auto, using(crate::proofs::Limits::sources_read))]
 pub fn read_ss<const P: u32, R: Read>(alloc: Global, reader: &mut R) -> Result<SsFile, DimacsError>
     requires { is_layout P ≡ true }

@@ -6,7 +6,9 @@ use either::Either;
 use sp_command::{Encoding, Inputs, Report};
 use sp_device::OfRead;
 use sp_word::Meter;
+use std::fs::Metadata;
 use std::io::{IsTerminal, Stderr, Stdin, Stdout};
+use std::os::unix::fs::MetadataExt;
 use std::process::Process;
 use std::rt::{Clock, Files};
 use std::sync::Wait;
@@ -19,33 +21,38 @@ pub struct Disk<'a, R> {
     pub stdin: Stdin,
     pub stdout: Stdout,
     pub stderr: Stderr,
-    /// What tells the number of the process.
+    /// The process, which knows its number.
     pub process: Process,
     pub notes: &'a Notes,
-    /// What was asked of the system last of files of output.
+    /// The last request to the system about output files.
     pub asked: Asked,
-    /// Whether the output was to go to a file in place of standard output.
+    /// Whether the output goes to a file instead of standard output.
     pub has_output: bool,
 }
 
-// The file that standard input is, if it is one.
+// The path of standard input, if that is a file.
 const STDIN: &str = "/dev/stdin";
 
 impl<'a, R: Files + Eprint + Clock + Wait> Disk<'a, R> {
-    /// Standard error, where it is told how far a run is.
+    /// Returns standard error, as the screen that shows the progress of a run.
     pub fn screen(&self) -> Screen<'a, R> {
         Screen::new(self.rt, self.stderr, self.notes.watch())
     }
 
-    /// Standard error for what else is told.
+    /// Returns standard error, for all other messages.
     pub fn standard_error(&self) -> Errors<'a, R> {
         Errors::new(self.screen(), self.stderr)
     }
 
-    // How many bytes a regular file has.
+    // Returns the size of a file in bytes, if it is a regular file.
     fn size_of(&self, path: &str) -> Option<u64> {
+        Some(self.regular(path)?.len())
+    }
+
+    // What the system says about a regular file. Links are followed.
+    fn regular(&self, path: &str) -> Option<Metadata> {
         let found = fs::metadata(self.rt, path).ok()?;
-        found.is_file().then_some(found.len())
+        found.is_file().then_some(found)
     }
 }
 
@@ -71,6 +78,14 @@ impl<'a, R: Files + Eprint + Clock + Wait> Inputs for Disk<'a, R> {
 
     fn is_shown(&self) -> bool {
         !self.has_output && self.stdout.is_terminal()
+    }
+
+    fn is_same_file(&self, output: &str, input: &str) -> bool {
+        let input = if input == "-" { STDIN } else { input };
+        let (Some(output), Some(input)) = (self.regular(output), self.regular(input)) else {
+            return false;
+        };
+        output.dev() == input.dev() && output.ino() == input.ino()
     }
 
     fn reason(&self) -> Option<io::Error> {

@@ -1,7 +1,7 @@
 //! The files and the streams of the system, for commands.
 //!
-//! Of a file of the system no contract tells what it holds. What is noted of files while they are read and written serves the second
-//! lines of faults, and tells how far a run is.
+//! No contract can say what a file of the system holds. While files are read and written, this crate takes notes for
+//! the second lines of error messages, and for the lines that show the progress.
 #![tactic(auto)]
 
 mod disk;

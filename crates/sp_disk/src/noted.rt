@@ -1,10 +1,11 @@
-//! What is noted of files and streams of the system while they are read and written.
+//! Notes about files and streams of the system, taken while they are read and written.
 use crate::screen::Watch;
 use sp_command::Encoding;
 use std::cell::Cell;
 use std::io;
 
-/// What went wrong last, what the file is whose reading began last, and what was told of the run.
+/// The reason of the last failure, the encoding and the size of the file whose reading began last, and what was shown
+/// of the run's progress.
 #[derive(Drop)]
 pub struct Notes {
     reason: Cell<Option<io::Error>>,
@@ -14,7 +15,7 @@ pub struct Notes {
 }
 
 impl Notes {
-    /// Nothing is noted.
+    /// Returns notes with nothing in them.
     pub fn new() -> Self {
         Notes {
             reason: Cell::new(None),
@@ -24,7 +25,7 @@ impl Notes {
         }
     }
 
-    /// What the system answered, noted where it failed.
+    /// Returns the value of a successful result. If the system reported an error, notes it.
     pub fn checked<T: Drop>(&self, answer: io::Result<T>) -> Option<T> {
         match answer {
             Ok(value) => Some(value),
@@ -35,48 +36,48 @@ impl Notes {
         }
     }
 
-    /// Notes why something failed.
+    /// Notes the reason of a failure.
     pub fn failed(&self, error: io::Error) {
         self.reason.set(Some(error));
     }
 
-    /// What the system said last of what failed.
+    /// Returns the reason that the system gave for the last failure.
     pub fn reason(&self) -> Option<io::Error> {
         self.reason.get()
     }
 
-    /// What the file is whose reading began last, if it is no plain text.
+    /// Returns the encoding of the file whose reading began last, if it isn't plain text.
     pub fn encoding(&self) -> Option<Encoding> {
         self.encoding.get()
     }
 
-    /// How many bytes the file has whose reading began last, if that is known.
+    /// Returns the size in bytes of the file whose reading began last, if it is known.
     pub fn size(&self) -> Option<u64> {
         self.size.get()
     }
 
-    /// What was told of the run.
+    /// Returns the watch over the run's progress.
     pub fn watch(&self) -> &Watch {
         &self.watch
     }
 }
 
-// As many bytes as tell how a file is encoded.
+// The number of bytes that show how a file is encoded.
 const BEGINNING: usize = 6;
 
-/// A file or a stream of which is noted why it fails, and how it begins.
+/// A file or a stream. It notes the reason of each failure, and how the file begins.
 #[derive(Drop)]
 pub struct Noted<'a, T> {
     inner: T,
     notes: &'a Notes,
     size: Option<u64>,
-    // Its first bytes that have come, and how many they are: a reader may ask for one at first.
+    // The first bytes that have been read, and their number. A reader may ask for a single byte at first.
     beginning: [u8; BEGINNING],
     begun: usize,
 }
 
 impl<'a, T> Noted<'a, T> {
-    /// Before its first byte, of so many where that is known.
+    /// Returns a file or a stream of which nothing has been read. It has this size in bytes, if the size is known.
     pub fn new(inner: T, notes: &'a Notes, size: Option<u64>) -> Self {
         Noted {
             inner,
@@ -87,7 +88,7 @@ impl<'a, T> Noted<'a, T> {
         }
     }
 
-    // Notes how the file begins, as long as not all of its beginning has come.
+    // Notes how the file begins, until all bytes of its beginning have been read.
     fn begin(&mut self, bytes: &[u8]) {
         if self.begun == BEGINNING {
             return;

@@ -1,4 +1,4 @@
-//! Files of output.
+//! Output files.
 ghost use Rattle.std.specs.Prelude.{IfSome};
 ghost use Rattle.sp_disk.specs.Asked.{IsBegun, IsKept, IsRemoved};
 
@@ -18,7 +18,7 @@ use std::random::RandomSource;
 use std::rt::{Clock, Files};
 use std::sync::Wait;
 
-/// A file whose flush waits until the disk holds what was written.
+/// A file whose flush waits until the disk holds everything that was written.
 #[derive(Drop)]
 struct Lasting<F>(F);
 
@@ -36,7 +36,7 @@ impl<F: io::Write + OpenFile> io::Write for Lasting<F> {
     }
 }
 
-// Whether a file system has no such call.
+// Returns whether the file system doesn't support this call.
 fn is_unknown_there(error: &io::Error) -> bool {
     matches!(
         error.kind(),
@@ -47,7 +47,8 @@ fn is_unknown_there(error: &io::Error) -> bool {
 // A file or standard output, as a device.
 type Device<'a, F> = OfWrite<Noted<'a, Either<Lasting<F>, Stdout>>>;
 
-/// A file of output that is being written, or standard output. Both are of one type, so that the commands are compiled once.
+/// An output file that is being written, or standard output. Both have one type, so that the commands are compiled only
+/// once.
 pub struct Output<'a, R: Files> {
     device: Device<'a, R::File>,
     screen: Screen<'a, R>,
@@ -79,7 +80,7 @@ impl<'a, R: Files + Eprint + Clock + Wait> Write for Output<'a, R> {
 impl<'a, R: Files + AllocGlobal + RandomSource + Clock + Eprint + Wait> Outputs for Disk<'a, R> {
     type Output = Output<'a, R>;
 
-    // None: the file is written to straight.
+    // `None` means that the file is written directly.
     type Name = Option<Part>;
 
     ghost begins = { λ name disk. IfSome name (λ part. IsBegun part disk.asked) };
@@ -115,7 +116,7 @@ impl<'a, R: Files + AllocGlobal + RandomSource + Clock + Eprint + Wait> Outputs 
             return Ok(());
         };
         let mut output = output;
-        // Else a crash of the system could leave a file of this name that lacks some of its text.
+        // Without this, a crash of the system could leave a file with this name that lacks some of its text.
         let is_whole = output.device.flush().is_ok();
         if is_whole {
             match rename(self.rt, &part) {
@@ -138,12 +139,12 @@ impl<'a, R: Files + AllocGlobal + RandomSource + Clock + Eprint + Wait> Outputs 
 }
 
 impl<'a, R: Files + Eprint + Clock + Wait> Disk<'a, R> {
-    /// Standard output, before its first byte.
+    /// Returns standard output, before its first byte.
     pub fn standard_output(&self, stdout: Stdout) -> Output<'a, R> {
         self.output(Either::Right(stdout))
     }
 
-    // What can have no other file in its stead, as a device or a pipe.
+    // Opens something that no other file can replace, such as a device or a pipe.
     fn straight(&self, path: &str) -> Option<Output<'a, R>> {
         let mut options = OpenOptions::new();
         options.write(true).truncate(true);

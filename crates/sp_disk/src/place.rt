@@ -1,4 +1,4 @@
-//! Where a file of output is to stand, and the file that is written in its stead until it is whole.
+//! The path for an output file, and the temporary file that is written until it is complete.
 ghost use Rattle.std.specs.Prelude.{◌≡◌, IfOk};
 ghost use Rattle.sp_disk.specs.Asked.{IsBegun};
 
@@ -13,35 +13,35 @@ use std::random::RandomSource;
 use std::rt::{Clock, Files};
 use std::{fs, io};
 
-// As many links as the system follows.
+// The system follows at most this many links.
 const MOST_LINKS: usize = 40;
 
-// How many names are tried before it is given up.
+// The greatest number of names that are tried.
 const MOST_NAMES: usize = 16;
 
-// The bits of a mode that say who may read, write and run a file; a file that is new has all but those for running, as far as the
-// user lets it have them.
+// The bits of a mode for the rights to read, write and run a file. A new file gets all of them except the rights to run
+// it, as far as the user's mask allows.
 const RIGHTS: u32 = 0o777;
 
 const NEW_RIGHTS: u32 = 0o666;
 
 const OWN_RIGHTS: u32 = 0o700;
 
-/// Where a file is to stand, and what stands there.
+/// Where a file goes, and what that path holds now.
 #[derive(Drop)]
 pub struct Destination {
     path: String,
     replaced: Option<Metadata>,
 }
 
-/// A file that has a name of its own until it is whole, and a place that it is to take then.
+/// A file that has a name of its own until it is complete, and the path that it then takes.
 #[derive(Drop)]
 pub struct Part {
     pub(crate) path: String,
     pub(crate) place: String,
 }
 
-/// A part that was begun: its file, and what was asked of the system for it.
+/// A part that was begun: its file, and the request to the system that made it.
 #[derive(Drop)]
 pub struct Begun<F> {
     pub(crate) file: F,
@@ -50,7 +50,8 @@ pub struct Begun<F> {
 }
 
 impl Destination {
-    /// The place that a path leads to. None: what is there is no regular file, or nothing can stand there.
+    /// Returns where a path leads. The result is `None` if something other than a regular file is there, or if no file
+    /// can be there.
     pub fn of<R: Files + AllocGlobal>(
         rt: &R,
         alloc: Global,
@@ -63,7 +64,7 @@ impl Destination {
         }
     }
 
-    // The place of a file that is there, at the end of links.
+    // Returns where an existing file is, after all links.
     fn of_file<R: Files + AllocGlobal>(
         rt: &R,
         alloc: Global,
@@ -80,7 +81,8 @@ impl Destination {
         Ok(Some(Destination { path, replaced }))
     }
 
-    // The place of a file that is missing: where links lead that end there, so that they stay.
+    // Returns where a missing file goes. If the path is a link to a missing file, the file goes where the link leads,
+    // so that the link stays.
     fn missing<R: Files + AllocGlobal>(
         rt: &R,
         alloc: Global,
@@ -105,8 +107,8 @@ impl Destination {
         Ok(Some(Destination { path, replaced }))
     }
 
-    /// Makes a file in the folder of the place, by a name that nothing has there. Nobody may read it who may not read the file that
-    /// it is to replace.
+    /// Makes a file in the folder of the destination, with a name that isn't in use. Only users who may read the file
+    /// that it replaces may read it.
     pub fn begin<R: Files + AllocGlobal + RandomSource + Clock>(
         self,
         rt: &R,
@@ -142,7 +144,8 @@ impl Destination {
 }
 
 impl Part {
-    // A name beside the place, with the number of the process, by which it can be told from those of others.
+    // Returns a name in the same folder. It contains the number of the process, which distinguishes it from the names
+    // of other processes.
     fn name<R: RandomSource + Clock>(
         &self,
         rt: &R,
@@ -159,7 +162,7 @@ impl Part {
     }
 }
 
-// Whether a path is a link itself.
+// Returns whether the path itself is a link.
 fn is_link<R: Files>(rt: &R, path: &str) -> bool {
     match fs::symlink_metadata(rt, path) {
         Ok(found) => found.is_symlink(),
@@ -167,7 +170,7 @@ fn is_link<R: Files>(rt: &R, path: &str) -> bool {
     }
 }
 
-// A number that no other run has but by chance.
+// Returns a number that another run has only by chance.
 fn digits<R: RandomSource + Clock>(rt: &R) -> io::Result<u64> {
     let mut bytes = [0u8; 8];
     if rt.fill_bytes(&mut bytes).is_ok() {
@@ -177,11 +180,12 @@ fn digits<R: RandomSource + Clock>(rt: &R) -> io::Result<u64> {
     Ok(time.as_secs() ^ u64::from(time.subsec_nanos()) << 32)
 }
 
-// Gives a new file the owner, the group and the rights of the one that it is to replace, as far as the user may, and no more rights.
+// Gives a new file the owner, the group and the rights of the file that it replaces, as far as the user may do so, and
+// no further rights.
 fn take_after<R: Files>(rt: &R, file: &R::File, path: &str, replaced: &Metadata) {
     let mut rights = replaced.mode() & RIGHTS;
     if !has_group_of(rt, file, path, replaced) {
-        // Who was in the group is now one of all others, and who is in the new group was that.
+        // Members of the old group now count as others, and members of the new group counted as others before.
         let shared = rights >> 3 & rights & 0o007;
         rights = rights & OWN_RIGHTS | shared << 3 | shared;
     }
@@ -192,7 +196,8 @@ fn take_after<R: Files>(rt: &R, file: &R::File, path: &str, replaced: &Metadata)
     }
 }
 
-// Whether a new file has the group of another, once it was given that group and its owner as far as the user may.
+// Gives a new file the owner and the group of another, as far as the user may do so, and returns whether it has that
+// group.
 fn has_group_of<R: Files>(rt: &R, file: &R::File, path: &str, replaced: &Metadata) -> bool {
     let (owner, group) = (Some(replaced.uid()), Some(replaced.gid()));
     if lchown(rt, path, owner, group).is_err() {

@@ -1,7 +1,8 @@
-//! How far a run is, told on standard error: on a terminal by one line that is written over, elsewhere by a line now and then.
+//! The progress of a run, shown on standard error. A terminal shows one line, which is overwritten; any other output
+//! gets a new line now and then.
 //!
-//! The thread of the command tells it at reports and when it writes. A second thread tells it in between, since one report can be of
-//! hours of work.
+//! The command's thread shows it at each report and when it writes. A second thread shows it in between, since a single
+//! report can cover hours of work.
 use crate::stand::Stand;
 use sp_command::Report;
 use sp_word::Meter;
@@ -12,19 +13,20 @@ use std::sync::atomic::{AtomicU64, Ordering};
 use std::sync::{Mutex, Wait};
 use std::time::{Duration, Instant};
 
-// How long a line stays on a terminal at least, and how long none is told elsewhere, in thousandths of a second.
+// The shortest time for which a line stays on a terminal, and the shortest time between two lines elsewhere, in
+// milliseconds.
 const PAUSE_ON_TERMINAL: u64 = 100;
 
 const PAUSE_ELSEWHERE: u64 = 5000;
 
-// How long the second thread sleeps before it looks whether a line is due.
+// How long the second thread sleeps before it checks whether a line is due, in milliseconds.
 const NAP: u64 = 200;
 
-/// What was told of a run, and what more there is to tell.
+/// What was shown of a run's progress, and what the next line needs.
 #[derive(Drop)]
 pub struct Watch {
     meter: Meter,
-    // Held while a line is written, so that lines of two threads don't mix.
+    // Locked while a line is written, so that the lines of two threads don't mix.
     shown: Mutex<Screenful>,
     // 1 once the run has ended, 0 before.
     over: AtomicU64,
@@ -33,18 +35,18 @@ pub struct Watch {
 // What the user sees.
 #[derive(Drop)]
 struct Screenful {
-    // How far the run is, once there was a report.
+    // The state of the run, once there has been a report.
     stand: Option<Stand>,
-    // When a line was told last, or the first report came.
+    // When the last line was shown; before that, on anything but a terminal, when the first report came.
     at: Option<Instant>,
-    // Whether a line on a terminal is to be written over or ended.
+    // Whether a terminal shows a line that is still to be overwritten or ended.
     is_open: bool,
-    // Whether the last line told all that was reported and written by now.
+    // Whether the last line showed everything that has been reported and written.
     is_last: bool,
 }
 
 impl Watch {
-    /// Nothing was told.
+    /// Returns a watch that has shown nothing.
     pub fn new() -> Self {
         Watch {
             meter: Meter::new(),
@@ -58,20 +60,20 @@ impl Watch {
         }
     }
 
-    /// Where the workers of a run count what they have relaxed.
+    /// Returns the meter on which the workers of a run count the vertices that they have relaxed.
     pub fn meter(&self) -> &Meter {
         &self.meter
     }
 }
 
 impl Screenful {
-    // Notes how far the run is, which no line told yet.
+    // Notes the state of the run, which no line has shown.
     fn put(&mut self, stand: Stand) {
         self.stand = Some(stand);
         self.is_last = false;
     }
 
-    // Whether the last line was told so many thousandths of a second ago.
+    // Returns whether at least this many milliseconds have passed since the last line.
     fn is_due(&self, now: Instant, pause: u64) -> bool {
         match self.at {
             Some(at) => now.duration_since(at) >= Duration::from_millis(pause),
@@ -80,7 +82,7 @@ impl Screenful {
     }
 }
 
-/// Standard error, where the user is told how far a run is.
+/// Standard error, as the screen that shows the user the progress of a run.
 pub struct Screen<'a, R> {
     rt: &'a R,
     stderr: Stderr,
@@ -98,12 +100,12 @@ impl<R> Drop for Screen<'_, R> {
 }
 
 impl<'a, R: Eprint + Clock + Wait> Screen<'a, R> {
-    /// Tells by the runtime, and notes what was told.
+    /// Returns a screen that writes through the runtime, and keeps its notes in the watch.
     pub fn new(rt: &'a R, stderr: Stderr, watch: &'a Watch) -> Self {
         Screen { rt, stderr, watch }
     }
 
-    /// Notes a report, and tells it where the time has come. The file that is read has the size, where that is known.
+    /// Notes a report, and shows it if a line is due. The file that is being read has this size, if it is known.
     pub fn hear(&self, report: Report, size: Option<u64>) {
         let Ok(now) = Instant::now(self.rt) else {
             return;
@@ -123,7 +125,7 @@ impl<'a, R: Eprint + Clock + Wait> Screen<'a, R> {
         self.tell_if_due(shown, now);
     }
 
-    /// Notes what was written of the output, and tells it where the time has come.
+    /// Notes what was written to the output, and shows the progress if a line is due.
     pub fn see_written(&self, bytes: &[u8]) {
         let mut guard = self.watch.shown.lock(self.rt);
         let shown = &mut *guard;
@@ -136,7 +138,7 @@ impl<'a, R: Eprint + Clock + Wait> Screen<'a, R> {
         }
     }
 
-    /// Tells now and then how far the run is, until it has ended.
+    /// Shows the progress now and then, until the run has ended.
     pub fn watch(&self) {
         let nap = Duration::from_millis(NAP);
         for _ in self.rt.forever() {
@@ -151,13 +153,13 @@ impl<'a, R: Eprint + Clock + Wait> Screen<'a, R> {
         }
     }
 
-    /// Ends the watch, without delay.
+    /// Ends the watch at once.
     pub fn end_watch(&self) {
         self.watch.over.store(1, Ordering::SeqCst);
         self.watch.over.wake_all();
     }
 
-    // Tells how far the run is where the last line was told long enough ago.
+    // Shows the progress if a line is due.
     fn tell_if_due(&self, shown: &mut Screenful, now: Instant) {
         let pause = if self.stderr.is_terminal() {
             PAUSE_ON_TERMINAL
@@ -169,14 +171,14 @@ impl<'a, R: Eprint + Clock + Wait> Screen<'a, R> {
         }
     }
 
-    // Tells how far the run is.
+    // Shows the progress.
     fn tell(&self, shown: &mut Screenful, now: Instant) {
         let Some(stand) = shown.stand else {
             return;
         };
         let stand = stand.with_counted(self.watch.meter.count());
         let line = stand.line(now);
-        // Where it can't be told, the run goes on all the same.
+        // If it can't be shown, the run continues.
         if self.stderr.is_terminal() {
             let _ = eprint!(self.rt; "\rspt: {line}\x1b[K");
             shown.is_open = true;
@@ -188,7 +190,7 @@ impl<'a, R: Eprint + Clock + Wait> Screen<'a, R> {
         shown.is_last = true;
     }
 
-    /// Tells how far the run has come, where the last line didn't, and that is all.
+    /// Shows the final progress, if the last line didn't, and ends the display.
     pub fn end(&self) {
         let mut guard = self.watch.shown.lock(self.rt);
         let shown = &mut *guard;
@@ -200,13 +202,13 @@ impl<'a, R: Eprint + Clock + Wait> Screen<'a, R> {
         self.close(shown);
     }
 
-    /// Ends a line on a terminal, since other text follows, and tells no more of the run.
+    /// Ends the line on a terminal, because other text follows, and shows no more of this run.
     pub fn give_way(&self) {
         let mut guard = self.watch.shown.lock(self.rt);
         self.close(&mut *guard);
     }
 
-    // Ends a line on a terminal, and tells no more of the run.
+    // Ends the line on a terminal, and shows no more of this run.
     fn close(&self, shown: &mut Screenful) {
         if shown.is_open {
             let _ = eprintln!(self.rt; "");
@@ -217,7 +219,7 @@ impl<'a, R: Eprint + Clock + Wait> Screen<'a, R> {
     }
 }
 
-/// Standard error for other text than how far a run is.
+/// Standard error, for all messages other than progress.
 pub struct Errors<'a, R> {
     screen: Screen<'a, R>,
     stderr: Stderr,
@@ -233,7 +235,7 @@ impl<R> Drop for Errors<'_, R> {
 }
 
 impl<'a, R> Errors<'a, R> {
-    /// A stream that gives way.
+    /// Returns a stream that ends the progress line before it writes.
     pub fn new(screen: Screen<'a, R>, stderr: Stderr) -> Self {
         Errors { screen, stderr }
     }

@@ -1,34 +1,34 @@
-//! How far a run is, and what a line tells of that.
+//! The state of a run, and the line that shows it.
 use sp_command::Report;
 use std::fmt;
 use std::time::{Duration, Instant};
 
-// What is greater than this power of two is counted in units of this many.
+// If a total has more bits than `EXACT_BITS`, both numbers of a share are divided by 2 to the power `UNIT_BITS`.
 const EXACT_BITS: u32 = 32;
 
 const UNIT_BITS: u32 = 24;
 
-/// How far a run is, by its last report, and by what was relaxed and written since then.
+/// The state of a run: its last report, and what has been relaxed and written since then.
 #[derive(Clone, Copy)]
 pub struct Stand {
     report: Report,
-    // How many bytes the file has that is read, where that is known.
+    // The size in bytes of the file that is being read, if it is known.
     size: Option<u64>,
-    // How many vertices the graph has, once it stands.
+    // The number of vertices of the graph, once it has been built.
     vertices: u64,
-    // How many trees were written since the report, and up to which vertex the next one is.
+    // The number of trees written since the report, and the vertex that the next one has reached.
     trees: u64,
     vertex: u64,
-    // What the workers had counted at the report.
+    // The number on the workers' meter at the report.
     counted: u64,
-    // How many vertices of all runs are relaxed, as far as that was told.
+    // The number of vertices relaxed in all runs, as far as it has been shown.
     relaxed: u64,
     begun: Instant,
-    // When it began to do what the report is of.
+    // When the stage of the last report began.
     stage_begun: Instant,
 }
 
-/// So many of so many.
+/// A part of a whole.
 #[derive(Clone, Copy)]
 struct Share {
     done: u64,
@@ -36,7 +36,7 @@ struct Share {
 }
 
 impl Share {
-    // In units that are great enough for products with a time.
+    // Returns the share in units so large that its numbers can be multiplied by a time.
     fn in_units(self) -> Self {
         if self.all >> EXACT_BITS == 0 {
             return self;
@@ -47,7 +47,7 @@ impl Share {
         }
     }
 
-    // 100 only where all is done.
+    // Returns the share in percent. It is 100 only if everything is done.
     fn percent(self) -> u64 {
         let most = if self.done < self.all { 99 } else { 100 };
         let Share { done, all } = self.in_units();
@@ -57,7 +57,7 @@ impl Share {
             .min(most)
     }
 
-    // How long it will take, if it goes on as in this time.
+    // Returns how long the rest will take if it goes on at the rate of this time.
     fn time_left(self, passed: Duration) -> Option<Duration> {
         let Share { done, all } = self.in_units();
         let millis = passed.as_secs().saturating_mul(1000);
@@ -69,7 +69,7 @@ impl Share {
 }
 
 impl Stand {
-    /// At the first report of a run, once the workers have counted so many vertices that they relaxed.
+    /// Returns the state at the first report of a run. The workers have counted this many relaxed vertices.
     pub fn new(report: Report, size: Option<u64>, counted: u64, now: Instant) -> Self {
         let begun = Stand {
             report,
@@ -85,7 +85,7 @@ impl Stand {
         begun.after(report, size, counted, now)
     }
 
-    /// At the next report. A file that is read has the size, where that is known.
+    /// Returns the state at the next report. The file that is being read has this size, if it is known.
     pub fn after(self, report: Report, size: Option<u64>, counted: u64, now: Instant) -> Self {
         let stage_begun = if self.report.is_like(report) {
             self.stage_begun
@@ -109,7 +109,7 @@ impl Stand {
         }
     }
 
-    /// Once these bytes of the output were written.
+    /// Returns the state after these bytes of the output were written.
     pub fn with_written(self, written: &[u8]) -> Self {
         let more = written.len() as u64;
         let report = match self.report {
@@ -133,7 +133,7 @@ impl Stand {
         let Some(vertex) = last_vertex(written) else {
             return Stand { report, ..self };
         };
-        // The vertices of a tree rise.
+        // The vertices of a tree are in increasing order.
         let is_next = vertex < self.vertex;
         let trees = self.trees.saturating_add(u64::from(is_next));
         Stand {
@@ -144,8 +144,8 @@ impl Stand {
         }
     }
 
-    /// Once the workers have counted so many vertices that they relaxed. A vertex that is relaxed anew counts anew, so what was
-    /// told of them stays where a report takes some of them back.
+    /// Returns the state once the workers have counted this many relaxed vertices. A vertex that is relaxed again is
+    /// counted again, so a report may take some of the count back. The number that was shown doesn't decrease.
     pub fn with_counted(self, counted: u64) -> Self {
         let (Report::Sources { done, count, .. }
         | Report::Runs { done, count, .. }
@@ -159,17 +159,17 @@ impl Stand {
         Stand { relaxed, ..self }
     }
 
-    /// What is told of it at a time.
+    /// Returns the line that shows the state at this time.
     pub fn line(&self, now: Instant) -> Line<'_> {
         Line { stand: self, now }
     }
 
-    // How many vertices so many trees have.
+    // Returns the number of vertices of this many trees.
     fn each(&self, trees: u64) -> u64 {
         trees.saturating_mul(self.vertices.max(1))
     }
 
-    // How much is done of what the report is of.
+    // Returns how much of the report's stage is done.
     fn share(&self) -> Option<Share> {
         match self.report {
             Report::Read { bytes, .. } => self.size.map(|all| Share { done: bytes, all }),
@@ -181,12 +181,12 @@ impl Stand {
         }
     }
 
-    // To relax a vertex counts as much as to write two.
+    // Relaxing a vertex counts as much as writing two.
     fn share_of_runs(&self, done: u64, count: u64) -> Share {
         let all = self.each(count);
         let whole = done.saturating_add(self.trees).min(count);
         let written = self.each(whole).saturating_add(self.vertex).min(all);
-        // A tree that is being written is relaxed.
+        // A tree that is being written has been relaxed.
         let begun = whole.saturating_add(u64::from(self.vertex > 0));
         let relaxed = self.relaxed.max(self.each(begun)).min(all);
         Share {
@@ -195,7 +195,7 @@ impl Stand {
         }
     }
 
-    // What is done for a source, where there is one left.
+    // Returns what is being done for the next source, if there is one left.
     fn stage(&self) -> &'static str {
         match self.report {
             Report::Sources { done, count, .. } | Report::Runs { done, count, .. }
@@ -211,7 +211,7 @@ impl Stand {
     }
 }
 
-// The vertex of the last whole line of these bytes, where that is a line of a tree.
+// Returns the vertex on the last complete line of these bytes, if that is a line of a tree.
 fn last_vertex(bytes: &[u8]) -> Option<u64> {
     let mut lines = bytes.rsplit(|byte| *byte == b'\n');
     let _cut = lines.next()?;
@@ -220,7 +220,8 @@ fn last_vertex(bytes: &[u8]) -> Option<u64> {
     str::from_utf8(number).ok()?.parse().ok()
 }
 
-/// What is told of a run: what it does, how much of that is done, the time passed in all, and the time that is left to do it.
+/// What is shown of a run: its stage, how much of it is done, the time passed since the run began, and the time that
+/// the rest of the stage will take.
 #[derive(Clone, Copy)]
 pub struct Line<'a> {
     stand: &'a Stand,

@@ -1,5 +1,5 @@
-//! What is asked of the system about files of output. Each function here makes one call of the system and answers what it asked; that
-//! it asks just that is seen by reading these lines, and what the system then does is trusted.
+//! The requests to the system about output files. Each function here makes one system call and returns what it
+//! requested. That it requests just this can be seen by reading these lines; what the system then does is trusted.
 ghost use Rattle.std.specs.Prelude.{IfOk};
 ghost use Rattle.sp_disk.specs.Asked.{IsBegun, IsKept, IsRemoved};
 
@@ -10,20 +10,20 @@ use std::rt::Files;
 use std::snapshot::Snapshot;
 use std::{fs, io};
 
-/// What was asked of the system last of the files of output, and done. The paths are seen by contracts alone.
+/// The last request to the system about output files that was carried out. Only contracts can see the paths.
 #[derive(Drop)]
 pub enum Asked {
     /// Nothing yet.
     Nothing,
-    /// A file was made by this name, which nothing had.
+    /// A file was made with this name, which was not in use.
     Made(Snapshot<String>),
-    /// A file took the place of another.
+    /// The first file took the place of the second.
     Renamed(Snapshot<String>, Snapshot<String>),
     /// A file was removed.
     Removed(Snapshot<String>),
 }
 
-/// Makes the file of a part, by its own name, with the rights of the mode.
+/// Makes the file of a part under its own name, with the rights of this mode.
 pub(crate) fn make<R: Files>(rt: &R, part: &Part, mode: u32) -> io::Result<(R::File, Asked)>
     ensures { IfOk result (λ made. IsBegun part.now made.1) }
 {
@@ -33,7 +33,7 @@ pub(crate) fn make<R: Files>(rt: &R, part: &Part, mode: u32) -> io::Result<(R::F
     Ok((file, Asked::Made(Snapshot::of(&part.path))))
 }
 
-/// Lets a part take its place.
+/// Moves a part to its destination.
 pub(crate) fn rename<R: Files>(rt: &R, part: &Part) -> io::Result<Asked>
     ensures { IfOk result (IsKept part.now) }
 {

@@ -1,19 +1,27 @@
--- The text of a table is without a fault, and spells it.
-use Rattle.std.proofs.Common.{◌≡◌, ℕ, ◌+◌, ◌-◌, ◌^◌, ◌<◌, ◌≤◌, false, List, [], ◌∷◌, ◌++◌, length, map, Some, None, refl, sym, ap, ◌∙◌, append_assoc, arith}
+-- The text of a content is without a fault, and spells it.
+use Rattle.std.proofs.Common.{◌≡◌, ℕ, ◌≤◌, Bool, true, false, List, [], ◌∷◌, ◌++◌, length, Some, None, refl, sym, ap, ◌∙◌, append_assoc, arith}
+use Rattle.std.specs.Prelude.{is_some}
+use mathlib.Core.Bool.{beq}
 use Rattle.std.proofs.lemmas.Bool.{le-ltb}
 use Rattle.std.specs.List.{AllByRecursion}
+use Rattle.sp_word.specs.Word.{is_layout}
 use Rattle.sp_text.specs.Lines.{cut, ended, rest, lines}
 use Rattle.sp_text.specs.Meaning.{HasNoLf}
 use Rattle.sp_text.specs.First.{Judge, size_fault, line_fault, first_after, first_fault, fault_so_far, fault_at_end}
 use Rattle.sp_text.proofs.LineCuts.{cut-append, ended_at_lf, rest_at_lf, ended_at_run, rest_at_run}
 use Rattle.sp_text.proofs.Behind.{lines_whole}
+use Rattle.sp_files.specs.declared.lines.RowNumbers.{RowNumbers}
 use Rattle.sp_files.specs.declared.lines.Line.{Line}
 use Rattle.sp_files.specs.declared.lines.Line.TheVariants.{Problem, Row, End}
-use Rattle.sp_files.specs.Spelling.{Form, Spelled, Nothing, Open, Whole, next, spelling_state, fault, line_in, is_whole, judge}
+use Rattle.sp_files.specs.declared.taking.Spelled.{Spelled}
+use Rattle.sp_files.specs.declared.taking.Spelled.TheVariants.{Nothing, Open, Whole}
+use Rattle.sp_files.specs.Spelling.{Content, place, begin, add, next, spelling_state, fault, line_in, is_whole, judge}
+use Rattle.sp_files.specs.Taking.{IsContent}
 use Rattle.sp_files.proofs.Ranges.{range_ok}
 use Rattle.sp_files.proofs.LineBytes.{IsSmall, line_bytes, read_back, bytes_no_lf, bytes_short}
-use Rattle.sp_files.proofs.Forms.{IsForm, spelled_push}
-use Rattle.sp_files.proofs.Accepted.{with_lf, text_of, whole_text, whole_same, all_told}
+use Rattle.sp_files.proofs.Contents.{count_small, row_same, problem_small, begun, added, whole_text, adds, AreAdded, made_of}
+use Rattle.sp_files.proofs.TakenLines.{spelled_push}
+use Rattle.sp_files.proofs.Accepted.{with_lf, text_of, whole_same, all_told}
 
 -- 1. The lines of a text of lines.
 
@@ -42,31 +50,13 @@ lines_back (line ∷ more) none =
       rest_more (line ++ 10 ∷ []) (with_lf more) first.1 ∙ later.1,
     )
 
--- 2. A table is made of its first line and its rows.
+-- 2. Its lines have no fault.
 
--- A table with more rows, each without a fault.
-unfoldable pub adds : {T R : Type 0} → Form T R → T → List R → T
-adds form t [] = t
-adds form t (row ∷ more) = adds form (form.add t row) more
-
-abbrev pub AreAdded : {T R : Type 0} → Form T R → T → List R → Type 0
-AreAdded form t [] = Unit {0}
-AreAdded form t (row ∷ more) = (form.row_fault t row ≡ None) × AreAdded form (form.add t row) more
-
-pub record IsMade {T R : Type 0} (form : Form T R) (t : T) : Type 0 where
-  pub n : ℕ
-  pub second : ℕ
-  pub rows : List R
-  pub first_none : form.problem_fault n second ≡ None
-  pub rows_none : AreAdded form (form.begin n second) rows
-  pub is : adds form (form.begin n second) rows ≡ t
-
--- 3. Its lines have no fault.
-
-record IsLine {T R : Type 0} (form : Form T R) (numbers : R → List ℕ) (before : List (List ℕ)) (s : Spelled T) (l : Line R) : Type 0 where
-  none : line_fault (judge form) before (line_bytes form.lines numbers l) ≡ None
-  spells : spelling_state form (before ++ line_bytes form.lines numbers l ∷ []) ≡ next form s (Some l)
-  no_lf : HasNoLf (line_bytes form.lines numbers l)
+-- This line stands behind others that spell this.
+record IsLine (P : ℕ) (begins : Bool → Bool) (before : List (List ℕ)) (s : Spelled Content) (l : Line) : Type 0 where
+  none : line_fault (judge P begins) before (line_bytes l) ≡ None
+  spells : spelling_state (before ++ line_bytes l ∷ []) ≡ next s (Some l)
+  no_lf : HasNoLf (line_bytes l)
 
 size_none : (judge : Judge) (before : List (List ℕ)) (line : List ℕ) → judge.closed before ≡ false → length line ≤ 1024 → size_fault judge before line ≡ None
 size_none judge before line open_still short = rw (open_still, le-ltb 1024 (length line) short) refl
@@ -79,76 +69,81 @@ none_later : (judge : Judge) (before : List (List ℕ)) → first_after judge be
 unfolding first_after
 none_later judge before = refl
 
--- These lines stand behind others without a fault, and make this table whole.
-record IsClean {T R : Type 0} (form : Form T R) (before more : List (List ℕ)) (t : T) : Type 0 where
-  none : first_after (judge form) before more ≡ None
-  spells : spelling_state form (before ++ more) ≡ Whole t
+-- These lines stand behind others without a fault, and make this content whole.
+record IsClean (P : ℕ) (begins : Bool → Bool) (before more : List (List ℕ)) (t : Content) : Type 0 where
+  none : first_after (judge P begins) before more ≡ None
+  spells : spelling_state (before ++ more) ≡ Whole t
   no_lf : AllByRecursion HasNoLf more
 
-line_then : {T R : Type 0} (form : Form T R) (numbers : R → List ℕ) (before more : List (List ℕ)) (s : Spelled T) (l : Line R) (t : T) → IsLine form numbers before s l → IsClean form (before ++ line_bytes form.lines numbers l ∷ []) more t
-    → IsClean form before (line_bytes form.lines numbers l ∷ more) t
-line_then form numbers before more s l t own later = record {
-  none = first_then (judge form) before (line_bytes form.lines numbers l) more own.none later.none;
-  spells = ap (spelling_state form) (sym (append_assoc before (line_bytes form.lines numbers l ∷ []) more)) ∙ later.spells;
-  no_lf = (own.no_lf, later.no_lf);
-}
-
 -- the lines of rows, and the last line
-row_lines : {T R : Type 0} → Form T R → (R → List ℕ) → List R → (count : ℕ) → List (List ℕ)
-row_lines form numbers [] count = line_bytes form.lines numbers (End count) ∷ []
-row_lines form numbers (row ∷ more) count = line_bytes form.lines numbers (Row row) ∷ row_lines form numbers more count
+row_lines : List RowNumbers → (count : ℕ) → List (List ℕ)
+row_lines [] count = line_bytes (End count) ∷ []
+row_lines (row ∷ more) count = line_bytes (Row row) ∷ row_lines more count
 
-pub record IsAccepted {T R : Type 0} (form : Form T R) (front : T → List ℕ) (t : T) : Type 0 where
-  pub none : fault_at_end (judge form) (whole_text form front t) ≡ None
-  pub spells : spelling_state form (ended (whole_text form front t)) ≡ Whole t
+pub record IsAccepted (P : ℕ) (begins : Bool → Bool) (t : Content) : Type 0 where
+  pub none : fault_at_end (judge P begins) (whole_text t) ≡ None
+  pub spells : spelling_state (ended (whole_text t)) ≡ Whole t
 
-told_none : {T R : Type 0} (form : Form T R) (text : List ℕ) (all : List (List ℕ)) (t : T) → ended text ≡ all → rest text ≡ [] → first_fault (judge form) all ≡ None → spelling_state form all ≡ Whole t → fault_at_end (judge form) text ≡ None
-unfolding fault_at_end fault_so_far
-told_none form text all t ended_is rest_is none spells =
-    let same : lines text ≡ all = lines_whole text rest_is ∙ ended_is in
-    rw (same, ended_is, rest_is, none, spells) refl
+beq_refl : (a b : Bool) → a ≡ b → beq a b ≡ true
+beq_refl true b same = rw (← same) refl
+beq_refl false b same = rw (← same) refl
 
-module _ {T R : Type 0} (form : Form T R) {held : T → Type 0} {numbers : R → List ℕ} {front : T → List ℕ} (is : IsForm form held numbers front) where
-  line_clean : (before : List (List ℕ)) (s : Spelled T) (l : Line R) → spelling_state form before ≡ s → is_whole s ≡ false → IsSmall numbers l → fault form s (Some l) ≡ None → IsLine form numbers before s l
+module _ (P : ℕ) (begins : Bool → Bool) (layout : is_layout P ≡ true) where
+  line_then : (before more : List (List ℕ)) (s : Spelled Content) (l : Line) (t : Content) → IsLine P begins before s l → IsClean P begins (before ++ line_bytes l ∷ []) more t → IsClean P begins before (line_bytes l ∷ more) t
+  line_then before more s l t own later = record {
+    none = first_then (judge P begins) before (line_bytes l) more own.none later.none;
+    spells = ap spelling_state (sym (append_assoc before (line_bytes l ∷ []) more)) ∙ later.spells;
+    no_lf = (own.no_lf, later.no_lf);
+  }
+
+  told_none : (text : List ℕ) (all : List (List ℕ)) (t : Content) → ended text ≡ all → rest text ≡ [] → first_fault (judge P begins) all ≡ None → spelling_state all ≡ Whole t → fault_at_end (judge P begins) text ≡ None
+  unfolding fault_at_end fault_so_far
+  told_none text all t ended_is rest_is none spells =
+      let same : lines text ≡ all = lines_whole text rest_is ∙ ended_is in
+      rw (same, ended_is, rest_is, none, spells) refl
+
+  line_clean : (before : List (List ℕ)) (s : Spelled Content) (l : Line) → spelling_state before ≡ s → is_whole s ≡ false → IsSmall l → fault P begins s (Some l) ≡ None → IsLine P begins before s l
   line_clean before s l same open_still sizes none =
-      let bytes = line_bytes form.lines numbers l in
-      let back = read_back form.lines is.lines l sizes in
-      let first = size_none (judge form) before bytes (ap (λ (x : Spelled T). is_whole x) same ∙ open_still) (bytes_short form.lines is.lines l sizes) in
+      let bytes = line_bytes l in
+      let back = read_back l sizes in
+      let first = size_none (judge P begins) before bytes (ap (λ (x : Spelled Content). is_whole x) same ∙ open_still) (bytes_short l sizes) in
       record {
-        none = rw first (ap (λ (x : Spelled T). fault form x (line_in form.lines bytes)) same ∙ (ap (fault form s) back ∙ none));
-        spells = spelled_push form before bytes ∙ (ap (λ (x : Spelled T). next form x (line_in form.lines bytes)) same ∙ ap (next form s) back);
-        no_lf = bytes_no_lf form.lines is.lines l sizes;
+        none = rw first (ap (λ (x : Spelled Content). fault P begins x (line_in bytes)) same ∙ (ap (fault P begins s) back ∙ none));
+        spells = spelled_push before bytes ∙ (ap (λ (x : Spelled Content). next x (line_in bytes)) same ∙ ap (next s) back);
+        no_lf = bytes_no_lf l sizes;
       }
 
-  rows_clean : (before : List (List ℕ)) (t : T) (rows : List R) → held t → spelling_state form before ≡ Open t → AreAdded form t rows → IsClean form before (row_lines form numbers rows (form.count (adds form t rows))) (adds form t rows)
+  rows_clean : (before : List (List ℕ)) (t : Content) (rows : List RowNumbers) → IsContent P t → spelling_state before ≡ Open t → AreAdded P t rows → IsClean P begins before (row_lines rows (place (adds t rows)).rows) (adds t rows)
   unfolding adds row_lines
   rows_clean before t [] holds same none =
-      let count_is = range_ok 82 (form.count t) (form.count t) (form.count t) None (omega arith) (omega arith) refl in
-      let own = line_clean before (Open t) (End (form.count t)) same refl (omega (arith, is.count_small t holds)) count_is in
-      record { none = first_then (judge form) before (line_bytes form.lines numbers (End (form.count t))) [] own.none (none_later (judge form) (before ++ line_bytes form.lines numbers (End (form.count t)) ∷ [])); spells = own.spells; no_lf = (own.no_lf, tt) }
-  rows_clean before t (row ∷ more) holds same none =
-      let own = line_clean before (Open t) (Row row) same refl (is.row_same t row holds none.0).1 none.0 in
-      line_then form numbers before _ (Open t) (Row row) _ own (rows_clean (before ++ line_bytes form.lines numbers (Row row) ∷ []) (form.add t row) more (is.added t row holds none.0) own.spells none.1)
+      let count = (place t).rows in
+      let own = line_clean before (Open t) (End count) same refl (omega (arith, count_small P t holds)) (range_ok 82 count count count None (omega arith) (omega arith) refl) in
+      record { none = first_then (judge P begins) before (line_bytes (End count)) [] own.none (none_later (judge P begins) (before ++ line_bytes (End count) ∷ [])); spells = own.spells; no_lf = (own.no_lf, tt) }
+  rows_clean before t (row ∷ more) holds same (kind, none, later) =
+      let own = line_clean before (Open t) (Row row) same refl (row_same P t row holds none).1 (rw (beq_refl (is_some row.root) (place t).rooted kind) none) in
+      line_then before _ (Open t) (Row row) _ own (rows_clean (before ++ line_bytes (Row row) ∷ []) (add t row) more (added P t row holds kind none) own.spells later)
 
-  lines_accepted : (all : List (List ℕ)) (t : T) → IsClean form [] all t → IsAccepted form front t
+  lines_accepted : (all : List (List ℕ)) (t : Content) → IsClean P begins [] all t → IsAccepted P begins t
   unfolding text_of
   lines_accepted all t clean =
-      let text : with_lf all ≡ whole_text form front t = (all_told form is all clean.none).text ∙ ap (text_of form front) clean.spells in
+      let text : with_lf all ≡ whole_text t = (all_told P begins layout all clean.none).text ∙ ap text_of clean.spells in
       let back = lines_back all clean.no_lf in
-      let ended_is : ended (whole_text form front t) ≡ all = ap ended (sym text) ∙ back.0 in
-      let rest_is : rest (whole_text form front t) ≡ [] = ap rest (sym text) ∙ back.1 in
-      record { none = told_none form (whole_text form front t) all t ended_is rest_is clean.none clean.spells; spells = ap (spelling_state form) ended_is ∙ clean.spells }
+      let ended_is : ended (whole_text t) ≡ all = ap ended (sym text) ∙ back.0 in
+      let rest_is : rest (whole_text t) ≡ [] = ap rest (sym text) ∙ back.1 in
+      record { none = told_none (whole_text t) all t ended_is rest_is clean.none clean.spells; spells = ap spelling_state ended_is ∙ clean.spells }
 
-  -- The text of each table is accepted, and spells that table.
-  pub accepts : (t : T) → IsMade form t → IsAccepted form front t
-  accepts t made =
-      let first : Line R = Problem made.n made.second in
-      let small = is.problem_small made.n made.second made.first_none in
-      let own = line_clean [] Nothing first refl refl (omega (arith, small.0), (omega (arith, small.1), tt)) made.first_none in
-      let rows = rows_clean (line_bytes form.lines numbers first ∷ []) (form.begin made.n made.second) made.rows (is.begun made.n made.second made.first_none) own.spells made.rows_none in
-      rw made.is at (lines_accepted _ _ (line_then form numbers [] _ Nothing first _ own rows))
+  -- The text of each content that may begin so is accepted, and spells that content.
+  pub accepts : (t : Content) → IsContent P t → begins (place t).rooted ≡ true → IsAccepted P begins t
+  accepts t holds may =
+      let made = made_of P t holds in
+      let near = (place t).rooted in
+      let first : Line = Problem near made.n made.second in
+      let small = problem_small P near made.n made.second layout made.first_none in
+      let own = line_clean [] Nothing first refl refl (omega (arith, small.0), (omega (arith, small.1), tt)) (rw may made.first_none) in
+      let rows = rows_clean (line_bytes first ∷ []) (begin near made.n made.second) made.rows (begun P near made.n made.second layout made.first_none) own.spells made.rows_none in
+      rw made.is at (lines_accepted _ _ (line_then [] _ Nothing first _ own rows))
 
-  -- Two tables have two texts.
-  pub one_table : (t u : T) → IsMade form t → IsMade form u → whole_text form front t ≡ whole_text form front u → t ≡ u
-  one_table t u first second same =
-      whole_same t u (sym (accepts t first).spells ∙ (ap (λ (text : List ℕ). spelling_state form (ended text)) same ∙ (accepts u second).spells))
+  -- Two contents have two texts.
+  pub one_content : (t u : Content) → IsContent P t → IsContent P u → begins (place t).rooted ≡ true → begins (place u).rooted ≡ true → whole_text t ≡ whole_text u → t ≡ u
+  one_content t u first second may_first may_second same =
+      whole_same t u (sym (accepts t first may_first).spells ∙ (ap (λ (text : List ℕ). spelling_state (ended text)) same ∙ (accepts u second may_second).spells))

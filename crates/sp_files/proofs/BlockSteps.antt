@@ -7,9 +7,11 @@ use Rattle.sp_device.specs.declared.devices.Read.{Ghosts as Reader}
 use Rattle.sp_text.specs.declared.faults.DimacsError.{DimacsError}
 use Rattle.sp_text.specs.First.{fault_at_failure}
 use Rattle.sp_text.specs.Feeding.{Refused}
-use Rattle.sp_files.specs.TreeSpelling.{tree_judge}
-use Rattle.sp_files.specs.declared.trees.reading.TreeReader.{TreeReader}
-use Rattle.sp_files.specs.TreeReading.{IsBehindTree}
+use Rattle.sp_answer.specs.Table.{TreeTable}
+use Rattle.sp_files.specs.Spelling.{tree_judge}
+use Rattle.sp_files.specs.declared.reading.FileReader.{FileReader}
+use Rattle.sp_files.specs.Taking.{tree_form}
+use Rattle.sp_files.specs.Reading.{IsBehindFile}
 use Rattle.sp_files.specs.declared.trees.block_state.BlockState.{BlockState}
 use Rattle.sp_files.specs.declared.trees.block_state.BlockState.TheVariants.{Fresh, Over}
 use Rattle.sp_files.specs.Block.{Runs}
@@ -26,8 +28,8 @@ pub record IsFed {R : Type 0} (r : Reader R) (old : Stream R) (front : List ℕ)
   pub short : IsShort r new
 
 -- They were fed, and more may follow.
-abbrev pub IsFeeding : {P : ℕ} {R : Type 0} → Reader R → Stream R → BlockState → Stream R → TreeReader P → Type 0
-IsFeeding r old state new tree = (front : List ℕ) × IsFed r old front state new × (state ≢ Over) × IsBehindTree front tree
+abbrev pub IsFeeding : {P : ℕ} {R : Type 0} → Reader R → Stream R → BlockState → Stream R → FileReader TreeTable P → Type 0
+IsFeeding r old state new tree = (front : List ℕ) × IsFed r old front state new × (state ≢ Over) × IsBehindFile tree_form front tree
 
 small_run : (most front n all passed : ℕ) → front ≤ most → n ≤ all → front + all ≤ passed → (0 < all → passed ≤ most) → front + n ≤ most
 small_run most front n zero passed small within counted limit = omega (arith, small, within)
@@ -77,15 +79,15 @@ piece_fed {r = r} {old = old} {now = now} {front = front} new h none bytes more 
     }
 
 -- The block is over.
-pub fed_whole : {P : ℕ} {R U : Type 0} {r : Reader R} {old new : Stream R} {front : List ℕ} {state : BlockState} (u : U) (tree : TreeReader P)
-    → IsFed r old front state new → state ≡ Over → IsBehindTree front tree → BlockFed r old (Ok u) new tree
+pub fed_whole : {P : ℕ} {R U : Type 0} {r : Reader R} {old new : Stream R} {front : List ℕ} {state : BlockState} (u : U) (tree : FileReader TreeTable P)
+    → IsFed r old front state new → state ≡ Over → IsBehindFile tree_form front tree → BlockFed r old (Ok u) new tree
 fed_whole {front = front} u tree h over behind =
     let runs = rw over at h.runs in
     (front, (Over, runs), h.came, inl runs, h.small, h.short, behind)
 
 -- The text is over.
-pub fed_all : {P : ℕ} {R U : Type 0} {r : Reader R} {old new : Stream R} {front : List ℕ} {state : BlockState} (u : U) (tree : TreeReader P)
-    → IsFed r old front state new → new.piece ≡ [] → IsAtEnd (r.left new.reader) → IsBehindTree front tree → BlockFed r old (Ok u) new tree
+pub fed_all : {P : ℕ} {R U : Type 0} {r : Reader R} {old new : Stream R} {front : List ℕ} {state : BlockState} (u : U) (tree : FileReader TreeTable P)
+    → IsFed r old front state new → new.piece ≡ [] → IsAtEnd (r.left new.reader) → IsBehindFile tree_form front tree → BlockFed r old (Ok u) new tree
 fed_all {r = r} {new = new} {front = front} {state = state} u tree h none all behind =
     (front, (state, h.runs), h.came, inr (rw none (at_end (r.left new.reader) all)), h.small, h.short, behind)
 

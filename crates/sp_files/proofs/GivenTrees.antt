@@ -1,5 +1,5 @@
 -- How a tree is given.
-use Rattle.std.proofs.Common.{◌≡◌, ◌≢◌, ℕ, ◌≤◌, ◌^◌, Bool, false, List, [], length, Option, Result, Ok, Err, inl, inr}
+use Rattle.std.proofs.Common.{◌≡◌, ◌≢◌, ℕ, ◌≤◌, ◌^◌, Bool, false, not, List, [], length, Option, Result, Ok, Err, inl, inr}
 use Rattle.std.specs.Prelude.{IfErr}
 use Rattle.sp_device.specs.declared.devices.Read.{Ghosts as Reader}
 use Rattle.sp_text.specs.declared.faults.Kind.TheVariants.{Memory, Read}
@@ -9,16 +9,17 @@ use Rattle.sp_text.specs.First.{Judge}
 use Rattle.sp_text.specs.Feeding.{IsMemory}
 use Rattle.sp_text.proofs.Silent.{early_silent, told_silent}
 use Rattle.sp_answer.specs.Table.{TreeTable}
-use Rattle.sp_files.specs.declared.trees.reading.TreeReader.{TreeReader}
-use Rattle.sp_files.specs.TreeReading.{IsBehindTree, TreeFinished}
-use Rattle.sp_files.specs.TreeSpelling.{tree_judge}
-use Rattle.sp_files.specs.Silence.{tree_silent}
+use Rattle.sp_files.specs.declared.reading.FileReader.{FileReader}
+use Rattle.sp_files.specs.Taking.{tree_form}
+use Rattle.sp_files.specs.Reading.{IsBehindFile, FileFinished}
+use Rattle.sp_files.specs.Spelling.{tree_judge}
+use Rattle.sp_files.specs.Silence.{silent}
 use Rattle.sp_files.specs.Stream.{Stream, left_in, IsFaultOf, BlockFed, BlockRead}
 
 -- A block was fed, and its text has ended.
-pub block_read : {P : ℕ} {R U : Type 0} (r : Reader R) (old new : Stream R) (u : U) (tree again : TreeReader P) (result : Result TreeTable DimacsError)
+pub block_read : {P : ℕ} {R U : Type 0} (r : Reader R) (old new : Stream R) (u : U) (tree again : FileReader TreeTable P) (result : Result TreeTable DimacsError)
     → BlockFed r old (Ok u) new tree
-    → ((text : List ℕ) → length text ≤ 2 ^ 62 → IsBehindTree text tree → TreeFinished text result again)
+    → ((text : List ℕ) → length text ≤ 2 ^ 62 → IsBehindFile tree_form text tree → FileFinished tree_form text result again)
     → BlockRead P r old result new
 block_read r old new u tree again (Ok t) (front, within, came, whole, small, short, behind) finished =
     let end = finished front small behind in
@@ -32,9 +33,9 @@ memory_silent judge before all e h is = let k : e.kind ≡ Memory = h.kind in cc
 
 -- The fault Read is told of a block only where the device has failed.
 fault_told : (P : ℕ) (front : List ℕ) (left : Option (List ℕ)) (has_failed : Bool) (e : DimacsError) → has_failed ≡ false → IsFaultOf P front left has_failed e → e.kind ≢ Read
-fault_told P front left has_failed e going (inl (inl is)) read = early_silent (tree_judge P) (tree_silent P) front e is read
+fault_told P front left has_failed e going (inl (inl is)) read = early_silent (tree_judge P) (silent P not) front e is read
 fault_told P front left has_failed e going (inl (inr memory)) read = memory_silent (tree_judge P) [] (ended front) e memory read
-fault_told P front left has_failed e going (inr (inl (end, is))) read = told_silent (tree_judge P) (tree_silent P) front e is read
+fault_told P front left has_failed e going (inr (inl (end, is))) read = told_silent (tree_judge P) (silent P not) front e is read
 fault_told P front left has_failed e going (inr (inr (failed, is))) read = cc
 
 -- A block that was read of a device that hasn't failed doesn't have the fault Read.

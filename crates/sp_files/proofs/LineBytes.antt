@@ -1,5 +1,5 @@
 -- A line of a file has one spelling.
-use Rattle.std.proofs.Common.{⊎_elim, ◌≡◌, ℕ, ◌+◌, ◌*◌, ◌^◌, ◌<◌, ◌≤◌, ◌⊎◌, Bool, true, false, cond, ◌&&◌, eqb, List, [], ◌∷◌, ◌++◌, length, map, codes, decimal, Option, Some, None, inl, inr, refl, sym, ap, subst, ◌∙◌, length-append, eqb-true, eq-eqb, arith}
+use Rattle.std.proofs.Common.{⊎_elim, ◌≡◌, ℕ, ◌*◌, ◌^◌, ◌<◌, ◌≤◌, ◌⊎◌, Bool, true, false, cond, ◌&&◌, eqb, List, [], ◌∷◌, ◌++◌, length, map, codes, decimal, Option, Some, None, inl, inr, refl, sym, ap, subst, ◌∙◌, length-append, eqb-true, arith}
 use Rattle.std.proofs.lemmas.List.Splits.{slice_split_at, slice_split_none, join_with_byte-slice_split}
 use Rattle.std.specs.List.{join_with_byte, AllByRecursion}
 use Rattle.sp_text.specs.Lines.{is_number, value}
@@ -7,10 +7,11 @@ use Rattle.sp_text.specs.Text.{is_word}
 use Rattle.sp_text.specs.Meaning.{HasNoLf}
 use Rattle.sp_text.proofs.Digits.{and_parts}
 use Rattle.sp_text.proofs.LineCuts.{no_lf_both}
+use Rattle.sp_files.specs.declared.lines.RowNumbers.{RowNumbers}
 use Rattle.sp_files.specs.declared.lines.Line.{Line}
 use Rattle.sp_files.specs.declared.lines.Line.TheVariants.{Problem, Row, End}
 use Rattle.sp_files.specs.Fields.{fields}
-use Rattle.sp_files.specs.Spelling.{RowForm, problem_of, first_of, end_of, row_line, line_of, line_in}
+use Rattle.sp_files.specs.Spelling.{row_of, problem_of, first_of, end_of, line_of, line_in}
 use Rattle.sp_files.proofs.Numerals.{decimal_number, number_decimal, value_decimal, decimal_short, decimal_no_space, decimal_no_lf}
 
 -- 1. Numbers, parted by spaces.
@@ -30,14 +31,6 @@ spaced_fields (n ∷ []) some small = slice_split_none (λ b. eqb b 32) (decimal
 spaced_fields (n ∷ m ∷ more) some small =
     slice_split_at (λ b. eqb b 32) (decimal n) 32 (spaced (m ∷ more)) (decimal_no_space n small.0) refl ∙ ap (λ (t : List (List ℕ)). decimal n ∷ t) (spaced_fields (m ∷ more) (omega arith) small.1)
 
-are_numbers : (ns : List ℕ) → AreSmall ns → AreNumbers (map decimal ns)
-are_numbers [] small = tt
-are_numbers (n ∷ more) small = (decimal_number n small.0, are_numbers more small.1)
-
-values : (ns : List ℕ) → AreSmall ns → map value (map decimal ns) ≡ ns
-values [] small = refl
-values (n ∷ more) small = rw (value_decimal n small.0, values more small.1) refl
-
 decimals : (parts : List (List ℕ)) → AreNumbers parts → AreSmall (map value parts) → parts ≡ map decimal (map value parts)
 decimals [] are small = refl
 decimals (part ∷ more) are small =
@@ -55,30 +48,28 @@ spaced_short (n ∷ m ∷ more) small = omega (arith, decimal_short n small.0, l
 
 -- 2. The bytes of a line, few of them, and none an LF.
 
--- The rows of a form are these numbers, four at most, and its word is short.
-pub record IsRowForm {R : Type 0} (form : RowForm R) (numbers : R → List ℕ) : Type 0 where
-  pub word_field : (bytes : List ℕ) → fields (form.word ++ 32 ∷ bytes) ≡ form.word ∷ fields bytes
-  pub word_short : length form.word ≤ 8
-  pub word_no_lf : HasNoLf form.word
-  pub some : (row : R) → 1 ≤ length (numbers row)
-  pub few : (row : R) → length (numbers row) ≤ 4
-  pub read : (parts : List (List ℕ)) (row : R) → AreNumbers parts → map value parts ≡ numbers row → form.row_of parts ≡ Some row
-  pub spelled : (parts : List (List ℕ)) (row : R) → form.row_of parts ≡ Some row → AreNumbers parts × (map value parts ≡ numbers row)
+abbrev pub root_numbers : Option ℕ → List ℕ
+root_numbers None = []
+root_numbers (Some root) = root ∷ []
 
-abbrev pub line_bytes : {R : Type 0} → RowForm R → (R → List ℕ) → Line R → List ℕ
-line_bytes form numbers (Problem n second) = 112 ∷ 32 ∷ (form.word ++ 32 ∷ spaced (n ∷ second ∷ []))
-line_bytes form numbers (Row row) = 118 ∷ 32 ∷ spaced (numbers row)
-line_bytes form numbers (End count) = 101 ∷ 32 ∷ decimal count
+abbrev pub numbers : RowNumbers → List ℕ
+numbers row = row.vertex ∷ row.dist ∷ row.pred ∷ root_numbers row.root
+
+-- the word of the first line
+abbrev pub word : (near : Bool) → List ℕ
+word false = codes "spt"
+word true = codes "near"
+
+abbrev pub line_bytes : Line → List ℕ
+line_bytes (Problem near n second) = 112 ∷ 32 ∷ (word near ++ 32 ∷ spaced (n ∷ second ∷ []))
+line_bytes (Row row) = 118 ∷ 32 ∷ spaced (numbers row)
+line_bytes (End count) = 101 ∷ 32 ∷ decimal count
 
 -- All numbers of a line are small.
-abbrev pub IsSmall : {R : Type 0} → (R → List ℕ) → Line R → Type 0
-IsSmall numbers (Problem n second) = AreSmall (n ∷ second ∷ [])
-IsSmall numbers (Row row) = AreSmall (numbers row)
-IsSmall numbers (End count) = count < 2 ^ 64
-
-same_word : (word : List ℕ) → is_word word word ≡ true
-same_word [] = refl
-same_word (b ∷ word) = rw (eq-eqb b b refl, same_word word) refl
+abbrev pub IsSmall : Line → Type 0
+IsSmall (Problem near n second) = AreSmall (n ∷ second ∷ [])
+IsSmall (Row row) = AreSmall (numbers row)
+IsSmall (End count) = count < 2 ^ 64
 
 pub word_is : (word field : List ℕ) → is_word word field ≡ true → field ≡ word
 word_is [] [] h = refl
@@ -106,80 +97,127 @@ behind first [] ns some are same small = absurd (omega (arith, some, ap length s
 behind first (part ∷ more) ns some are same small =
     ap (λ (t : List ℕ). first ++ 32 ∷ t) (ap (join_with_byte 32) (decimals (part ∷ more) are (subst (λ (l : List ℕ). AreSmall l) (sym same) small)) ∙ ap (λ (l : List ℕ). spaced l) same)
 
-module _ {R : Type 0} (form : RowForm R) {numbers : R → List ℕ} (is : IsRowForm form numbers) where
-  pub read_back : (line : Line R) → IsSmall numbers line → line_in form (line_bytes form numbers line) ≡ Some line
-  unfolding line_in
-  read_back (Problem n second) small =
-      ap (λ (t : List (List ℕ)). first_of {R = R} form.word t) (is.word_field (spaced (n ∷ second ∷ [])) ∙ ap (λ (t : List (List ℕ)). form.word ∷ t) (spaced_fields (n ∷ second ∷ []) (omega arith) small))
-      ∙ rw (same_word form.word, decimal_number n small.0, decimal_number second small.1.0, value_decimal n small.0, value_decimal second small.1.0) refl
-  read_back (Row row) small =
-      ap (λ (t : List (List ℕ)). row_line (form.row_of t)) (spaced_fields (numbers row) (is.some row) small)
-      ∙ ap (λ (found : Option R). row_line found) (is.read (map decimal (numbers row)) row (are_numbers (numbers row) small) (values (numbers row) small))
-  read_back (End count) small =
-      ap (λ (t : List (List ℕ)). end_of {R = R} t) (slice_split_none (λ b. eqb b 32) (decimal count) (decimal_no_space count small))
-      ∙ rw (decimal_number count small, value_decimal count small) refl
+-- 3. The bytes of a line are read as that line.
 
-  -- The bytes that are a line.
+problem_read : (near : Bool) (n second : ℕ) → AreSmall (n ∷ second ∷ []) → problem_of near (map decimal (n ∷ second ∷ [])) ≡ Some (Problem near n second)
+problem_read near n second small = rw (decimal_number n small.0, decimal_number second small.1.0, value_decimal n small.0, value_decimal second small.1.0) refl
 
-  row_joined : (more : List (List ℕ)) (found : Option R) (line : Line R) → form.row_of more ≡ found → row_line found ≡ Some line → IsSmall numbers line
-      → join_with_byte 32 ((118 ∷ []) ∷ more) ≡ line_bytes form numbers line
-  row_joined more None line found h small = cc
-  row_joined more (Some row) line found h small =
-      let same : Row row ≡ line = cc in
-      let parts = is.spelled more row found in
-      rw (← same) (behind (118 ∷ []) more (numbers row) (is.some row) parts.0 parts.1 (rw (← same) at small))
+row_read : (v d p : ℕ) (root : Option ℕ) → AreSmall (v ∷ d ∷ p ∷ root_numbers root) → row_of (map decimal (v ∷ d ∷ p ∷ root_numbers root)) ≡ Some (Row (record { vertex = v; dist = d; pred = p; root = root }))
+row_read v d p None small = rw (decimal_number v small.0, decimal_number d small.1.0, decimal_number p small.1.1.0, value_decimal v small.0, value_decimal d small.1.0, value_decimal p small.1.1.0) refl
+row_read v d p (Some r) small =
+    rw (decimal_number v small.0, decimal_number d small.1.0, decimal_number p small.1.1.0, decimal_number r small.1.1.1.0, value_decimal v small.0, value_decimal d small.1.0, value_decimal p small.1.1.0, value_decimal r small.1.1.1.0) refl
 
-  problem_joined : (more : List (List ℕ)) (line : Line R) → problem_of more ≡ Some line → IsSmall numbers line → join_with_byte 32 ((112 ∷ []) ∷ form.word ∷ more) ≡ line_bytes form numbers line
-  problem_joined [] line h small = cc
-  problem_joined (n ∷ []) line h small = cc
-  problem_joined (n ∷ m ∷ []) line h small =
-      let found = cond_some_none (is_number n && is_number m) (Problem (value n) (value m)) line h in
-      let both = and_parts (is_number n) (is_number m) found.0 in
-      rw (← found.1) (ap (λ (t : List ℕ). 112 ∷ 32 ∷ t) (behind form.word (n ∷ m ∷ []) (value n ∷ value m ∷ []) (omega arith) (both.0, (both.1, tt)) refl (rw (← found.1) at small)))
-  problem_joined (n ∷ m ∷ x ∷ more) line h small = cc
+pub read_back : (line : Line) → IsSmall line → line_in (line_bytes line) ≡ Some line
+unfolding line_in
+read_back (Problem false n second) small = ap (λ (t : List (List ℕ)). problem_of false t) (spaced_fields (n ∷ second ∷ []) (omega arith) small) ∙ problem_read false n second small
+read_back (Problem true n second) small = ap (λ (t : List (List ℕ)). problem_of true t) (spaced_fields (n ∷ second ∷ []) (omega arith) small) ∙ problem_read true n second small
+read_back (Row row) small = ap (λ (t : List (List ℕ)). row_of t) (spaced_fields (numbers row) (omega arith) small) ∙ row_read row.vertex row.dist row.pred row.root small
+read_back (End count) small =
+    ap (λ (t : List (List ℕ)). end_of t) (slice_split_none (λ b. eqb b 32) (decimal count) (decimal_no_space count small))
+    ∙ rw (decimal_number count small, value_decimal count small) refl
 
-  first_joined : (more : List (List ℕ)) (line : Line R) → first_of form.word more ≡ Some line → IsSmall numbers line → join_with_byte 32 ((112 ∷ []) ∷ more) ≡ line_bytes form numbers line
-  first_joined [] line h small = cc
-  first_joined (word ∷ more) line h small = ⊎_elim
-      (λ (p : (is_word form.word word ≡ true) × (problem_of more ≡ Some line)). subst (λ (w : List ℕ). join_with_byte 32 ((112 ∷ []) ∷ w ∷ more) ≡ line_bytes form numbers line) (sym (word_is form.word word p.0)) (problem_joined more line p.1 small))
-      (λ (none : None ≡ Some line). cc)
-      (cond_some (is_word form.word word) (problem_of more) None line h)
+-- 4. The bytes that are read as a line are its bytes.
 
-  end_joined : (more : List (List ℕ)) (line : Line R) → end_of more ≡ Some line → IsSmall numbers line → join_with_byte 32 ((101 ∷ []) ∷ more) ≡ line_bytes form numbers line
-  end_joined [] line h small = cc
-  end_joined (r ∷ []) line h small =
-      let found = cond_some_none (is_number r) (End (value r)) line h in
-      let sizes = rw (← found.1) at small in
-      rw (← found.1) (rw (← number_decimal r found.0 sizes) refl)
-  end_joined (r ∷ x ∷ more) line h small = cc
+row_joined : (more : List (List ℕ)) (line : Line) → row_of more ≡ Some line → IsSmall line → join_with_byte 32 ((118 ∷ []) ∷ more) ≡ line_bytes line
+row_joined [] line h small = cc
+row_joined (v ∷ []) line h small = cc
+row_joined (v ∷ d ∷ []) line h small = cc
+row_joined (v ∷ d ∷ p ∷ []) line h small =
+    let found = cond_some_none (is_number v && is_number d && is_number p) (Row (record { vertex = value v; dist = value d; pred = value p; root = None })) line h in
+    let both = and_parts (is_number v && is_number d) (is_number p) found.0 in
+    let first = and_parts (is_number v) (is_number d) both.0 in
+    rw (← found.1) (behind (118 ∷ []) (v ∷ d ∷ p ∷ []) (value v ∷ value d ∷ value p ∷ []) (omega arith) (first.0, (first.1, (both.1, tt))) refl (rw (← found.1) at small))
+row_joined (v ∷ d ∷ p ∷ r ∷ []) line h small =
+    let found = cond_some_none (is_number v && is_number d && is_number p && is_number r) (Row (record { vertex = value v; dist = value d; pred = value p; root = Some (value r) })) line h in
+    let all = and_parts (is_number v && is_number d && is_number p) (is_number r) found.0 in
+    let both = and_parts (is_number v && is_number d) (is_number p) all.0 in
+    let first = and_parts (is_number v) (is_number d) both.0 in
+    rw (← found.1) (behind (118 ∷ []) (v ∷ d ∷ p ∷ r ∷ []) (value v ∷ value d ∷ value p ∷ value r ∷ []) (omega arith) (first.0, (first.1, (both.1, (all.1, tt)))) refl (rw (← found.1) at small))
+row_joined (v ∷ d ∷ p ∷ r ∷ x ∷ more) line h small = cc
 
-  joined : (parts : List (List ℕ)) (line : Line R) → line_of form parts ≡ Some line → IsSmall numbers line → join_with_byte 32 parts ≡ line_bytes form numbers line
-  joined [] line h small = cc
-  joined (word ∷ more) line h small =
-      let end_or : Option (Line R) = cond (is_word (codes "e") word) (end_of more) None in
-      let first_or : Option (Line R) = cond (is_word (codes "p") word) (first_of form.word more) end_or in
-      ⊎_elim
-      (λ (p : (is_word (codes "v") word ≡ true) × (row_line (form.row_of more) ≡ Some line)). of_word (codes "v") word more (line_bytes form numbers line) p.0 (row_joined more (form.row_of more) line refl p.1 small))
-      (λ (later : first_or ≡ Some line). ⊎_elim
-      (λ (p : (is_word (codes "p") word ≡ true) × (first_of form.word more ≡ Some line)). of_word (codes "p") word more (line_bytes form numbers line) p.0 (first_joined more line p.1 small))
-      (λ (last : end_or ≡ Some line). ⊎_elim
-      (λ (p : (is_word (codes "e") word ≡ true) × (end_of more ≡ Some line)). of_word (codes "e") word more (line_bytes form numbers line) p.0 (end_joined more line p.1 small))
-      (λ (none : None ≡ Some line). cc)
-      (cond_some (is_word (codes "e") word) (end_of more) None line last))
-      (cond_some (is_word (codes "p") word) (first_of form.word more) end_or line later))
-      (cond_some (is_word (codes "v") word) (row_line (form.row_of more)) first_or line h)
+problem_joined : (near : Bool) (more : List (List ℕ)) (line : Line) → problem_of near more ≡ Some line → IsSmall line → join_with_byte 32 ((112 ∷ []) ∷ word near ∷ more) ≡ line_bytes line
+problem_joined near [] line h small = cc
+problem_joined near (n ∷ []) line h small = cc
+problem_joined near (n ∷ m ∷ []) line h small =
+    let found = cond_some_none (is_number n && is_number m) (Problem near (value n) (value m)) line h in
+    let both = and_parts (is_number n) (is_number m) found.0 in
+    rw (← found.1) (ap (λ (t : List ℕ). 112 ∷ 32 ∷ t) (behind (word near) (n ∷ m ∷ []) (value n ∷ value m ∷ []) (omega arith) (both.0, (both.1, tt)) refl (rw (← found.1) at small)))
+problem_joined near (n ∷ m ∷ x ∷ more) line h small = cc
 
-  pub bytes_are : (bytes : List ℕ) (line : Line R) → line_in form bytes ≡ Some line → IsSmall numbers line → bytes ≡ line_bytes form numbers line
-  unfolding line_in
-  bytes_are bytes line h small = sym (join_with_byte-slice_split 32 bytes) ∙ joined (fields bytes) line h small
+-- A first line is read by its word.
+pub by_first : {A : Type 0} (field : List ℕ) (more : List (List ℕ)) (line : Line) → ((near : Bool) → field ≡ word near → problem_of near more ≡ Some line → A) → first_of (field ∷ more) ≡ Some line → A
+by_first field more line then h =
+    let near_or : Option Line = cond (is_word (codes "near") field) (problem_of true more) None in
+    ⊎_elim
+    (λ (p : (is_word (codes "spt") field ≡ true) × (problem_of false more ≡ Some line)). then false (word_is (codes "spt") field p.0) p.1)
+    (λ (later : near_or ≡ Some line). ⊎_elim
+    (λ (p : (is_word (codes "near") field ≡ true) × (problem_of true more ≡ Some line)). then true (word_is (codes "near") field p.0) p.1)
+    (λ (none : None ≡ Some line). absurd cc)
+    (cond_some (is_word (codes "near") field) (problem_of true more) None line later))
+    (cond_some (is_word (codes "spt") field) (problem_of false more) near_or line h)
 
-  pub bytes_no_lf : (line : Line R) → IsSmall numbers line → HasNoLf (line_bytes form numbers line)
-  bytes_no_lf (Problem n second) small =
-      (λ e. omega (arith, e), (λ e. omega (arith, e), no_lf_both form.word (32 ∷ spaced (n ∷ second ∷ [])) is.word_no_lf (λ e. omega (arith, e), spaced_no_lf (n ∷ second ∷ []) small)))
-  bytes_no_lf (Row row) small = (λ e. omega (arith, e), (λ e. omega (arith, e), spaced_no_lf (numbers row) small))
-  bytes_no_lf (End count) small = (λ e. omega (arith, e), (λ e. omega (arith, e), decimal_no_lf count small))
+first_joined : (more : List (List ℕ)) (line : Line) → first_of more ≡ Some line → IsSmall line → join_with_byte 32 ((112 ∷ []) ∷ more) ≡ line_bytes line
+first_joined [] line h small = cc
+first_joined (field ∷ more) line h small = by_first field more line (λ near is found. subst (λ (w : List ℕ). join_with_byte 32 ((112 ∷ []) ∷ w ∷ more) ≡ line_bytes line) (sym is) (problem_joined near more line found small)) h
 
-  pub bytes_short : (line : Line R) → IsSmall numbers line → length (line_bytes form numbers line) ≤ 1024
-  bytes_short (Problem n second) small = omega (arith, is.word_short, spaced_short (n ∷ second ∷ []) small, length-append form.word (32 ∷ spaced (n ∷ second ∷ [])))
-  bytes_short (Row row) small = omega (arith, is.few row, spaced_short (numbers row) small)
-  bytes_short (End count) small = omega (arith, decimal_short count small)
+end_joined : (more : List (List ℕ)) (line : Line) → end_of more ≡ Some line → IsSmall line → join_with_byte 32 ((101 ∷ []) ∷ more) ≡ line_bytes line
+end_joined [] line h small = cc
+end_joined (r ∷ []) line h small =
+    let found = cond_some_none (is_number r) (End (value r)) line h in
+    let sizes = rw (← found.1) at small in
+    rw (← found.1) (rw (← number_decimal r found.0 sizes) refl)
+end_joined (r ∷ x ∷ more) line h small = cc
+
+-- A line is read by its letter.
+pub by_letter : {A : Type 0} (word : List ℕ) (more : List (List ℕ)) (line : Line) → ((is_word (codes "v") word ≡ true) × (row_of more ≡ Some line) → A) → ((is_word (codes "p") word ≡ true) × (first_of more ≡ Some line) → A)
+    → ((is_word (codes "e") word ≡ true) × (end_of more ≡ Some line) → A) → line_of (word ∷ more) ≡ Some line → A
+by_letter word more line of_row of_first of_end h =
+    let end_or : Option Line = cond (is_word (codes "e") word) (end_of more) None in
+    let first_or : Option Line = cond (is_word (codes "p") word) (first_of more) end_or in
+    ⊎_elim
+    of_row
+    (λ (later : first_or ≡ Some line). ⊎_elim
+    of_first
+    (λ (last : end_or ≡ Some line). ⊎_elim of_end (λ (none : None ≡ Some line). absurd cc) (cond_some (is_word (codes "e") word) (end_of more) None line last))
+    (cond_some (is_word (codes "p") word) (first_of more) end_or line later))
+    (cond_some (is_word (codes "v") word) (row_of more) first_or line h)
+
+joined : (parts : List (List ℕ)) (line : Line) → line_of parts ≡ Some line → IsSmall line → join_with_byte 32 parts ≡ line_bytes line
+joined [] line h small = cc
+joined (word ∷ more) line h small = by_letter
+    word
+    more
+    line
+    (λ p. of_word (codes "v") word more (line_bytes line) p.0 (row_joined more line p.1 small))
+    (λ p. of_word (codes "p") word more (line_bytes line) p.0 (first_joined more line p.1 small))
+    (λ p. of_word (codes "e") word more (line_bytes line) p.0 (end_joined more line p.1 small))
+    h
+
+pub bytes_are : (bytes : List ℕ) (line : Line) → line_in bytes ≡ Some line → IsSmall line → bytes ≡ line_bytes line
+unfolding line_in
+bytes_are bytes line h small = sym (join_with_byte-slice_split 32 bytes) ∙ joined (fields bytes) line h small
+
+-- 5. They are few, and none is an LF.
+
+word_no_lf : (near : Bool) → HasNoLf (word near)
+word_no_lf false = (λ e. omega (arith, e), (λ e. omega (arith, e), (λ e. omega (arith, e), tt)))
+word_no_lf true = (λ e. omega (arith, e), (λ e. omega (arith, e), (λ e. omega (arith, e), (λ e. omega (arith, e), tt))))
+
+word_short : (near : Bool) → length (word near) ≤ 8
+word_short false = omega arith
+word_short true = omega arith
+
+few_roots : (root : Option ℕ) → length (root_numbers root) ≤ 1
+few_roots None = omega arith
+few_roots (Some root) = omega arith
+
+pub bytes_no_lf : (line : Line) → IsSmall line → HasNoLf (line_bytes line)
+bytes_no_lf (Problem near n second) small =
+    (λ e. omega (arith, e), (λ e. omega (arith, e), no_lf_both (word near) (32 ∷ spaced (n ∷ second ∷ [])) (word_no_lf near) (λ e. omega (arith, e), spaced_no_lf (n ∷ second ∷ []) small)))
+bytes_no_lf (Row row) small = (λ e. omega (arith, e), (λ e. omega (arith, e), spaced_no_lf (numbers row) small))
+bytes_no_lf (End count) small = (λ e. omega (arith, e), (λ e. omega (arith, e), decimal_no_lf count small))
+
+pub bytes_short : (line : Line) → IsSmall line → length (line_bytes line) ≤ 1024
+bytes_short (Problem near n second) small = omega (arith, word_short near, spaced_short (n ∷ second ∷ []) small, length-append (word near) (32 ∷ spaced (n ∷ second ∷ [])))
+bytes_short (Row row) small = omega (arith, few_roots row.root, spaced_short (numbers row) small)
+bytes_short (End count) small = omega (arith, decimal_short count small)

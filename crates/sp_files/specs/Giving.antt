@@ -1,4 +1,4 @@
--- Where a reader of blocks stands, and what it gives.
+-- The state of a reader of blocks, and what it returns.
 use Rattle.std.specs.Prelude.{◌≡◌, ℕ, ◌+◌, ◌-◌, ◌^◌, ◌<◌, min, true, List, [], Option, Some, None, Result, Ok, Err}
 use Rattle.std.specs.Io.KnownBytes.{Consumes, IsAtEnd}
 use Rattle.sp_device.specs.declared.devices.Read.{Ghosts as Reader}
@@ -9,17 +9,17 @@ use Rattle.sp_files.specs.declared.trees.blocks.TreeBlocks.{TreeBlocks}
 use Rattle.sp_files.specs.Block.{lines_in}
 use Rattle.sp_files.specs.Stream.{stream, left_in, IsShort, BlockRefused}
 
--- The bytes that are left, where they are known.
+-- These are the bytes that are left, if they are known.
 abbrev pub left_of : {P : ℕ} {R : Type 0} → Reader R → TreeBlocks P → R → Option (List ℕ)
 left_of r blocks reader = left_in r (stream blocks.piece reader)
 
--- No tree was given yet, and no byte waits.
+-- No tree was returned yet, and no byte waits.
 pub record IsFresh {P : ℕ} (blocks : TreeBlocks P) : Type 0 where
   pub piece : blocks.piece ≡ []
   pub lines : blocks.lines ≡ 0
   pub spent : blocks.spent ≡ None
 
--- No fault was met yet.
+-- No fault was found yet.
 abbrev pub IsGoing : {P : ℕ} {R : Type 0} → Reader R → TreeBlocks P → R → Type 0
 IsGoing r blocks reader = (blocks.spent ≡ None) × IsShort r (stream blocks.piece reader)
 
@@ -27,20 +27,20 @@ IsGoing r blocks reader = (blocks.spent ≡ None) × IsShort r (stream blocks.pi
 abbrev pub IsSpent : {P : ℕ} → DimacsError → TreeBlocks P → Type 0
 IsSpent e blocks = blocks.spent ≡ Some e
 
--- The number of the lines of the trees that were given; it stops at 2^64 - 1.
+-- This is the number of lines of the trees returned so far; it stops at 2^64 - 1.
 abbrev pub lines_before : {P : ℕ} → TreeBlocks P → ℕ
 lines_before blocks = blocks.lines
 
--- A fault at its line of the file, where so many lines stand before its block.
+-- This is a fault at its line of the file, given the number of lines before its block.
 abbrev pub in_file : ℕ → DimacsError → DimacsError
 in_file lines e = record { line = min (lines + e.line) (2 ^ 64 - 1); kind = e.kind }
 
--- Where some tree was given before, a byte is left, or the device has failed: the end behind a tree is no fault.
+-- If a tree was returned before, a byte is left or the device has failed: the end after a tree is no fault.
 abbrev pub HasBegun : {P : ℕ} {R : Type 0} → Reader R → TreeBlocks P → R → R → Type 0
 HasBegun r old before after = 0 < lines_before old → left_of r old before ≡ Some [] → r.has_failed after ≡ true
 
--- The text of the next tree was read; or none is left, and some tree was given before; or this is the fault of the next block, at its line
--- of the file.
+-- The text of the next tree was read; or none is left, and a tree was returned before; or this is the fault of the next block,
+-- at its line of the file.
 abbrev pub Gives : {P : ℕ} {R : Type 0} → Reader R → TreeBlocks P → R → Result (Option TreeTable) DimacsError → TreeBlocks P → R → Type 0
 Gives {P} r old before (Ok (Some tree)) new after =
     IsTable P tree × IsGoing r new after × Consumes (left_of r old before) (left_of r new after) (tree_text tree) × (lines_before new ≡ min (lines_before old + lines_in tree) (2 ^ 64 - 1))

@@ -4,16 +4,11 @@ pub mod Taking
 pub mod Reading
 pub mod Sending
 pub mod TreeText
-pub mod TreeSpelling
-pub mod TreeReading
 pub mod Block
 pub mod Stream
 pub mod Giving
 pub mod Whole
 pub mod ForestText
-pub mod ForestSpelling
-pub mod ForestReading
 pub mod Silence
 pub mod PairText
 pub mod TreeOrForest
-pub mod Beginning

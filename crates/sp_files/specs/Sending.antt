@@ -10,6 +10,6 @@ pub record Begins (text : List ℕ) (printer : Printer) : Type 0 where
   pub none : printer.count ≡ 0
   pub going : printer.failed ≡ false
 
--- Whatever was sent before is written by then, and this text behind it; or the writer has failed, and a prefix of them was written.
+-- Whatever was sent before is now written, and then this text; or the writer has failed, and a prefix of them was written.
 pub record EndsWith {W F : Type 0} (w : Writer W) (text : List ℕ) (old : W) (before : Printer) (result : Result ℕ F) (new : W) : Type 0 where
   pub ends : (front : List ℕ) (start : W) → IsSending w front start old before → Finished w (front ++ text) start result new × Counted w start result new

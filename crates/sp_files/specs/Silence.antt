@@ -1,13 +1,15 @@
--- The fault of a device is told of no line of a file.
+-- No line of a file is reported with the fault of a device.
 use Rattle.std.proofs.Common.{◌≢◌, ℕ, Bool, true, false, cond, ◌&&◌, leb, Option, Some, None}
 use Rattle.sp_text.specs.declared.faults.Kind.{Kind}
-use Rattle.sp_text.specs.declared.faults.Kind.TheVariants.{OutOfRange, Read}
+use Rattle.sp_text.specs.declared.faults.Kind.TheVariants.{BadLine, NoProblem, SecondProblem, OutOfRange, Read}
 use Rattle.sp_text.specs.First.{IsSilent}
+use Rattle.sp_files.specs.declared.lines.RowNumbers.{RowNumbers}
 use Rattle.sp_files.specs.declared.lines.Line.{Line}
 use Rattle.sp_files.specs.declared.lines.Line.TheVariants.{Problem, Row, End}
-use Rattle.sp_files.specs.Spelling.{Form, Spelled, Nothing, Open, Whole, in_range, fault, missing_of, spelling_state, line_in, judge}
-use Rattle.sp_files.specs.TreeSpelling.{tree_form, tree_judge}
-use Rattle.sp_files.specs.ForestSpelling.{forest_form, forest_judge}
+use Rattle.sp_files.specs.declared.content.Place.{Place}
+use Rattle.sp_files.specs.declared.taking.Spelled.{Spelled}
+use Rattle.sp_files.specs.declared.taking.Spelled.TheVariants.{Nothing, Open, Whole}
+use Rattle.sp_files.specs.Spelling.{Content, in_range, second_range, problem_fault, root_fault, row_fault, place, fault, missing_of, spelling_state, line_in, judge}
 
 by_test : (b : Bool) (letter : ℕ) (later : Option Kind) → later ≢ Some Read → cond b later (Some (OutOfRange letter)) ≢ Some Read
 by_test true letter later silent h = silent h
@@ -19,38 +21,37 @@ none_silent h = cc
 range_silent : (letter least most n : ℕ) (later : Option Kind) → later ≢ Some Read → in_range letter least most n later ≢ Some Read
 range_silent letter least most n later silent h = by_test (leb least n && leb n most) letter later silent h
 
--- No fault of a first line or of a row is that of a device.
-record IsSilentForm {T R : Type 0} (form : Form T R) : Type 0 where
-  problem : (n second : ℕ) → form.problem_fault n second ≢ Some Read
-  row : (t : T) (row : R) → form.row_fault t row ≢ Some Read
+-- No line's fault, and nothing that is missing, is the fault of a device.
 
-fault_silent : {T R : Type 0} (form : Form T R) → IsSilentForm form → (s : Spelled T) (line : Option (Line R)) → fault form s line ≢ Some Read
-fault_silent form silent (Whole t) line h = cc
-fault_silent form silent Nothing None h = cc
-fault_silent form silent (Open t) None h = cc
-fault_silent form silent Nothing (Some (Problem n second)) h = silent.problem n second h
-fault_silent form silent Nothing (Some (Row row)) h = cc
-fault_silent form silent Nothing (Some (End count)) h = cc
-fault_silent form silent (Open t) (Some (Problem n second)) h = cc
-fault_silent form silent (Open t) (Some (Row row)) h = silent.row t row h
-fault_silent form silent (Open t) (Some (End count)) h = range_silent 82 _ _ count None none_silent h
+root_silent : (n : ℕ) (root : Option ℕ) → root_fault n root ≢ Some Read
+root_silent n None h = cc
+root_silent n (Some root) h = range_silent 83 1 n root None none_silent h
 
-missing_silent : {T : Type 0} (s : Spelled T) → missing_of s ≢ Some Read
+row_silent : (P : ℕ) (at : Place) (row : RowNumbers) → row_fault P at row ≢ Some Read
+row_silent P at row = range_silent 86 _ at.n row.vertex _ (range_silent 68 0 _ row.dist _ (range_silent 80 0 at.n row.pred _ (root_silent at.n row.root)))
+
+problem_silent : (P : ℕ) (near : Bool) (n second : ℕ) → problem_fault P near n second ≢ Some Read
+problem_silent P near n second = range_silent 78 1 _ n _ (range_silent (second_range near).0 (second_range near).1 n second None none_silent)
+
+if_silent : (b : Bool) (x y : Option Kind) → x ≢ Some Read → y ≢ Some Read → cond b x y ≢ Some Read
+if_silent true x y first second h = first h
+if_silent false x y first second h = second h
+
+fault_silent : (P : ℕ) (begins : Bool → Bool) (s : Spelled Content) (line : Option Line) → fault P begins s line ≢ Some Read
+fault_silent P begins (Whole t) line h = cc
+fault_silent P begins Nothing None h = cc
+fault_silent P begins (Open t) None h = cc
+fault_silent P begins Nothing (Some (Problem near n second)) h = if_silent (begins near) _ (Some BadLine) (problem_silent P near n second) (λ e. cc) h
+fault_silent P begins Nothing (Some (Row row)) h = if_silent _ (Some NoProblem) (Some BadLine) (λ e. cc) (λ e. cc) h
+fault_silent P begins Nothing (Some (End count)) h = cc
+fault_silent P begins (Open t) (Some (Problem near n second)) h = if_silent _ (Some SecondProblem) (Some BadLine) (λ e. cc) (λ e. cc) h
+fault_silent P begins (Open t) (Some (Row row)) h = if_silent _ _ (Some BadLine) (row_silent P (place t) row) (λ e. cc) h
+fault_silent P begins (Open t) (Some (End count)) h = range_silent 82 _ _ count None none_silent h
+
+missing_silent : (s : Spelled Content) → missing_of s ≢ Some Read
 missing_silent Nothing h = cc
 missing_silent (Open t) h = cc
 missing_silent (Whole t) h = cc
 
-all_silent : {T R : Type 0} (form : Form T R) → IsSilentForm form → IsSilent (judge form)
-all_silent form silent = record { fault = λ before line. fault_silent form silent (spelling_state form before) (line_in form.lines line); missing = λ all. missing_silent (spelling_state form all) }
-
-pub tree_silent : (P : ℕ) → IsSilent (tree_judge P)
-tree_silent P = all_silent (tree_form P) (record {
-  problem = λ n source. range_silent 78 1 _ n _ (range_silent 83 1 n source None none_silent);
-  row = λ t row. range_silent 86 _ t.n row.vertex _ (range_silent 68 0 _ row.dist _ (range_silent 80 0 t.n row.pred None none_silent));
-})
-
-pub forest_silent : (P : ℕ) → IsSilent (forest_judge P)
-forest_silent P = all_silent (forest_form P) (record {
-  problem = λ n sources. range_silent 78 1 _ n _ (range_silent 75 0 n sources None none_silent);
-  row = λ f row. range_silent 86 _ f.forest.n row.vertex _ (range_silent 68 0 _ row.dist _ (range_silent 80 0 f.forest.n row.pred _ (range_silent 83 1 f.forest.n row.root None none_silent)));
-})
+pub silent : (P : ℕ) (begins : Bool → Bool) → IsSilent (judge P begins)
+silent P begins = record { fault = λ before line. fault_silent P begins (spelling_state before) (line_in line); missing = λ all. missing_silent (spelling_state all) }

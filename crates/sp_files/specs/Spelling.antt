@@ -1,127 +1,182 @@
--- What the lines of a file spell, and their faults: a tree's or a forest's, as its form says.
-use Rattle.std.specs.Prelude.{ℕ, Bool, true, false, ◌&&◌, List, [], ◌∷◌, nat_le, if◌then◌else◌, codes, Option, Some, None}
+-- What the lines of a tree's or a forest's file spell, and their faults.
+use Rattle.std.specs.Prelude.{ℕ, ◌+◌, Bool, true, false, ◌&&◌, List, [], ◌∷◌, length, is_some, unwrap_or, nat_le, not, if◌then◌else◌, codes, Option, Some, None}
+use mathlib.Core.Bool.{beq}
+use Rattle.sp_word.specs.Word.{max_dist, max_pred}
 use Rattle.sp_text.specs.declared.faults.Kind.{Kind}
 use Rattle.sp_text.specs.declared.faults.Kind.TheVariants.{BadLine, NoProblem, SecondProblem, OutOfRange, TooMany, TooFew}
 use Rattle.sp_text.specs.Lines.{is_number, value}
 use Rattle.sp_text.specs.Numeral.{capped_value}
 use Rattle.sp_text.specs.Text.{is_word}
 use Rattle.sp_text.specs.First.{Judge}
+use Rattle.sp_answer.specs.Table.{TreeTable, with_row, last_vertex}
+use Rattle.sp_forest.specs.ForestTable.{ForestTable, with_row as with_rooted_row, last_vertex as last_rooted}
+use Rattle.sp_files.specs.declared.lines.RowNumbers.{RowNumbers}
 use Rattle.sp_files.specs.declared.lines.Line.{Line}
 use Rattle.sp_files.specs.declared.lines.Line.TheVariants.{Problem, Row, End}
+use Rattle.sp_files.specs.declared.content.Place.{Place}
+use Rattle.sp_files.specs.declared.taking.Spelled.{Spelled}
+use Rattle.sp_files.specs.declared.taking.Spelled.TheVariants.{Nothing, Open, Whole}
 use Rattle.sp_files.specs.Fields.{fields}
 
 -- 1. A line by itself.
 
--- The word behind `p`, the numbers of a row behind `v`, and such numbers as 64 bits can hold them.
-pub record RowForm (R : Type 0) : Type 0 where
-  pub word : List ℕ
-  pub row_of : List (List ℕ) → Option R
-  pub capped : R → R
+-- These are the numbers `V D P` of a tree's row, or `V D P S` of a forest's.
+abbrev pub row_of : List (List ℕ) → Option Line
+row_of (vertex ∷ dist ∷ pred ∷ []) =
+    if is_number vertex && is_number dist && is_number pred then Some (Row (record { vertex = value vertex; dist = value dist; pred = value pred; root = None })) else None
+row_of (vertex ∷ dist ∷ pred ∷ root ∷ []) =
+    if is_number vertex && is_number dist && is_number pred && is_number root then Some (Row (record { vertex = value vertex; dist = value dist; pred = value pred; root = Some (value root) })) else None
+row_of other = None
 
--- `N` and one number more, behind the word
-abbrev pub problem_of : {R : Type 0} → List (List ℕ) → Option (Line R)
-problem_of (n ∷ second ∷ []) = if is_number n && is_number second then Some (Problem (value n) (value second)) else None
-problem_of other = None
+-- These are `N` and one more number, after the word.
+abbrev pub problem_of : (near : Bool) → List (List ℕ) → Option Line
+problem_of near (n ∷ second ∷ []) = if is_number n && is_number second then Some (Problem near (value n) (value second)) else None
+problem_of near other = None
 
-abbrev pub first_of : {R : Type 0} → (word : List ℕ) → List (List ℕ) → Option (Line R)
-first_of word [] = None
-first_of word (field ∷ numbers) = if is_word word field then problem_of numbers else None
+-- This is the first line: `spt N S` of a tree's file, or `near N K` of a forest's.
+abbrev pub first_of : List (List ℕ) → Option Line
+first_of [] = None
+first_of (word ∷ numbers) = if is_word (codes "spt") word then problem_of false numbers else (if is_word (codes "near") word then problem_of true numbers else None)
 
--- `R` behind `e`
-abbrev pub end_of : {R : Type 0} → List (List ℕ) → Option (Line R)
+-- This is `R` after `e`.
+abbrev pub end_of : List (List ℕ) → Option Line
 end_of (count ∷ []) = if is_number count then Some (End (value count)) else None
 end_of other = None
 
-abbrev pub row_line : {R : Type 0} → Option R → Option (Line R)
-row_line None = None
-row_line (Some row) = Some (Row row)
+-- This is the line that has these fields.
+abbrev pub line_of : List (List ℕ) → Option Line
+line_of [] = None
+line_of (word ∷ more) =
+    if is_word (codes "v") word then row_of more else (if is_word (codes "p") word then first_of more else (if is_word (codes "e") word then end_of more else None))
 
-abbrev pub line_of : {R : Type 0} → RowForm R → List (List ℕ) → Option (Line R)
-line_of form [] = None
-line_of form (word ∷ more) =
-    if is_word (codes "v") word then row_line (form.row_of more) else (if is_word (codes "p") word then first_of form.word more else (if is_word (codes "e") word then end_of more else None))
+-- This is the line of a file that these bytes are, in its one spelling; `None` for any other bytes.
+unfoldable pub line_in : List ℕ → Option Line
+line_in bytes = line_of (fields bytes)
 
--- The line of the file that these bytes are, in its one spelling; None for any other bytes.
-unfoldable pub line_in : {R : Type 0} → RowForm R → List ℕ → Option (Line R)
-line_in form bytes = line_of form (fields bytes)
+-- This is a root as 64 bits can hold it.
+abbrev pub capped_root : Option ℕ → Option ℕ
+capped_root None = None
+capped_root (Some root) = Some (capped_value root)
 
--- The line as 64 bits can hold its numbers.
-abbrev pub capped_line : {R : Type 0} → RowForm R → Option (Line R) → Option (Line R)
-capped_line form None = None
-capped_line form (Some (Problem n second)) = Some (Problem (capped_value n) (capped_value second))
-capped_line form (Some (Row row)) = Some (Row (form.capped row))
-capped_line form (Some (End count)) = Some (End (capped_value count))
+-- This is a row as 64 bits can hold its numbers.
+abbrev pub capped_row : RowNumbers → RowNumbers
+capped_row row = record { vertex = capped_value row.vertex; dist = capped_value row.dist; pred = capped_value row.pred; root = capped_root row.root }
+
+-- This is the line as 64 bits can hold its numbers.
+abbrev pub capped_line : Option Line → Option Line
+capped_line None = None
+capped_line (Some (Problem near n second)) = Some (Problem near (capped_value n) (capped_value second))
+capped_line (Some (Row row)) = Some (Row (capped_row row))
+capped_line (Some (End count)) = Some (End (capped_value count))
 
 -- 2. What lines without a fault spell so far: nothing, a table that may get more rows, or a whole table.
 
--- The lines of a file; the table of its first line, that with one row more, and how many rows a table has; the fault of the
--- first line, and that of a row behind those of a table.
-pub record Form (T R : Type 0) : Type 0 where
-  pub lines : RowForm R
-  pub begin : (n second : ℕ) → T
-  pub add : T → R → T
-  pub count : T → ℕ
-  pub problem_fault : (n second : ℕ) → Option Kind
-  pub row_fault : T → R → Option Kind
+-- What a file holds: a tree; or a forest, and the number of sources that the first line tells.
+pub data Content : Type 0 where
+  OfTree : TreeTable → Content
+  OfForest : (sources : ℕ) → ForestTable → Content
 
-pub data Spelled (T : Type 0) : Type 0 where
-  Nothing : Spelled T
-  Open : T → Spelled T
-  Whole : T → Spelled T
+-- How far the rows have come: whether they are those of a forest, the number of vertices, the last vertex, and how many they are.
+abbrev pub place : Content → Place
+place (OfTree t) = record { rooted = false; n = t.n; last = last_vertex t.rows; rows = length t.rows }
+place (OfForest sources f) = record { rooted = true; n = f.n; last = last_rooted f.rows; rows = length f.rows }
 
-abbrev pub next : {T R : Type 0} → Form T R → Spelled T → Option (Line R) → Spelled T
-next form Nothing (Some (Problem n second)) = Open (form.begin n second)
-next form (Open t) (Some (Row row)) = Open (form.add t row)
-next form (Open t) (Some (End count)) = Whole t
-next form spelling_state line = spelling_state
+-- This is what the first line begins: a tree with this source, or a forest with this number of sources.
+abbrev pub begin : (near : Bool) → (n second : ℕ) → Content
+begin false n second = OfTree (record { n = n; source = second; rows = [] })
+begin true n second = OfForest second (record { n = n; rows = [] })
 
-abbrev pub spelled_from : {T R : Type 0} → Form T R → Spelled T → List (List ℕ) → Spelled T
-spelled_from form spelling_state [] = spelling_state
-spelled_from form spelling_state (line ∷ more) = spelled_from form (next form spelling_state (line_in form.lines line)) more
+-- This is the content with one more row.
+abbrev pub add : Content → RowNumbers → Content
+add (OfTree t) row = OfTree (with_row t row.vertex row.dist row.pred)
+add (OfForest sources f) row = OfForest sources (with_rooted_row f row.vertex row.dist row.pred (unwrap_or row.root 0))
 
-abbrev pub spelling_state : {T R : Type 0} → Form T R → List (List ℕ) → Spelled T
-spelling_state form lines = spelled_from form Nothing lines
+-- This is what is spelled after one more line.
+abbrev pub next : Spelled Content → Option Line → Spelled Content
+next Nothing (Some (Problem near n second)) = Open (begin near n second)
+next (Open t) (Some (Row row)) = Open (add t row)
+next (Open t) (Some (End count)) = Whole t
+next spelled line = spelled
+
+-- This is what more lines spell, behind others that spelled this.
+abbrev pub spelled_from : Spelled Content → List (List ℕ) → Spelled Content
+spelled_from spelled [] = spelled
+spelled_from spelled (line ∷ more) = spelled_from (next spelled (line_in line)) more
+
+-- This is what lines have spelled so far.
+abbrev pub spelling_state : List (List ℕ) → Spelled Content
+spelling_state lines = spelled_from Nothing lines
 
 -- 3. The fault of a line.
 
--- A number out of its range is told by the letter of its field.
+-- A number out of its range is reported by the letter of its field.
 abbrev pub in_range : (letter least most n : ℕ) → (later : Option Kind) → Option Kind
 in_range letter least most n later = if nat_le least n && nat_le n most then later else Some (OutOfRange letter)
 
--- By what the lines before it spell. R is the number of rows.
-abbrev pub fault : {T R : Type 0} → Form T R → Spelled T → Option (Line R) → Option Kind
-fault form (Whole t) line = Some TooMany
-fault form Nothing None = Some BadLine
-fault form (Open t) None = Some BadLine
-fault form Nothing (Some (Problem n second)) = form.problem_fault n second
-fault form (Open t) (Some (Problem n second)) = Some SecondProblem
-fault form (Open t) (Some (Row row)) = form.row_fault t row
-fault form (Open t) (Some (End count)) = in_range 82 (form.count t) (form.count t) count None
-fault form Nothing (Some (Row row)) = Some NoProblem
-fault form Nothing (Some (End count)) = Some NoProblem
+-- These are the letter and the least value of the second number: that of the source S of a tree, or of the number of sources K.
+abbrev pub second_range : (near : Bool) → ℕ × ℕ
+second_range false = (83, 1)
+second_range true = (75, 0)
 
--- 4. The rules of the file. Each line has its LF, and nothing may stand behind a whole table.
+-- N is up to the greatest vertex, S or K up to N.
+abbrev pub problem_fault : (P : ℕ) → (near : Bool) → (n second : ℕ) → Option Kind
+problem_fault P near n second = in_range 78 1 (max_pred P) n (in_range (second_range near).0 (second_range near).1 n second None)
 
+-- The root is a vertex.
+abbrev pub root_fault : (n : ℕ) → Option ℕ → Option Kind
+root_fault n None = None
+root_fault n (Some root) = in_range 83 1 n root None
+
+-- V is above the vertex before and up to N, D up to the greatest distance, P up to N, and S a vertex.
+abbrev pub row_fault : (P : ℕ) → Place → RowNumbers → Option Kind
+row_fault P at row = in_range 86 (at.last + 1) at.n row.vertex (in_range 68 0 (max_dist P) row.dist (in_range 80 0 at.n row.pred (root_fault at.n row.root)))
+
+-- This is the fault of a line, given what the lines before it spell, and whether `p near` and `p spt` may begin the file. A line of
+-- the other kind of file is bad. R is the number of rows.
+abbrev pub fault : (P : ℕ) → (begins : Bool → Bool) → Spelled Content → Option Line → Option Kind
+fault P begins (Whole t) line = Some TooMany
+fault P begins Nothing None = Some BadLine
+fault P begins (Open t) None = Some BadLine
+fault P begins Nothing (Some (Problem near n second)) = if begins near then problem_fault P near n second else Some BadLine
+fault P begins Nothing (Some (Row row)) = if not (beq (is_some row.root) (begins false)) then Some NoProblem else Some BadLine
+fault P begins Nothing (Some (End count)) = Some NoProblem
+fault P begins (Open t) (Some (Problem near n second)) = if beq near (place t).rooted then Some SecondProblem else Some BadLine
+fault P begins (Open t) (Some (Row row)) = if beq (is_some row.root) (place t).rooted then row_fault P (place t) row else Some BadLine
+fault P begins (Open t) (Some (End count)) = in_range 82 (place t).rows (place t).rows count None
+
+-- 4. The rules of the file. Each line has its LF, and nothing may follow a whole table.
+
+-- A whole table was spelled.
 abbrev pub is_whole : {T : Type 0} → Spelled T → Bool
 is_whole Nothing = false
 is_whole (Open t) = false
 is_whole (Whole t) = true
 
+-- This is what is missing when the lines end: a problem line, or rows.
 abbrev pub missing_of : {T : Type 0} → Spelled T → Option Kind
 missing_of Nothing = Some NoProblem
 missing_of (Open t) = Some TooFew
 missing_of (Whole t) = None
 
--- The value of a row line takes room.
-abbrev pub is_row : {R : Type 0} → Option (Line R) → Bool
+-- The value of a row line needs memory.
+abbrev pub is_row : Option Line → Bool
 is_row (Some (Row row)) = true
 is_row line = false
 
-abbrev pub judge : {T R : Type 0} → Form T R → Judge
-judge form = record {
-  closed = λ lines. is_whole (spelling_state form lines);
-  fault = λ before line. fault form (spelling_state form before) (line_in form.lines line);
-  missing = λ lines. missing_of (spelling_state form lines);
-  is_item = λ line. is_row (line_in form.lines line);
+-- These are the rules of a file that may begin so.
+abbrev pub judge : (P : ℕ) → (begins : Bool → Bool) → Judge
+judge P begins = record {
+  closed = λ lines. is_whole (spelling_state lines);
+  fault = λ before line. fault P begins (spelling_state before) (line_in line);
+  missing = λ lines. missing_of (spelling_state lines);
+  is_item = λ line. is_row (line_in line);
   needs_lf = true;
 }
+
+-- These are the rules of a tree's file.
+abbrev pub tree_judge : (P : ℕ) → Judge
+tree_judge P = judge P not
+
+-- These are the rules of a forest's file.
+abbrev pub forest_judge : (P : ℕ) → Judge
+forest_judge P = judge P (λ near. near)

@@ -5,19 +5,20 @@ use Rattle.sp_word.specs.Word.{Word, Unreached, Pair}
 use Rattle.sp_text.specs.Numeral.{number_text}
 use Rattle.sp_answer.specs.Table.{TreeTable}
 
--- `p spt N S`
+-- This is the line `p spt N S`.
 abbrev pub problem_text : (n source : ℕ) → List ℕ
 problem_text n source = codes "p spt" ++ number_text n ++ number_text source ++ codes "\n"
 
--- `v V D P` for a vertex that is reached
+-- This is the line `v V D P`, for a vertex that is reached.
 abbrev pub reached_text : (vertex : ℕ) → Word → List ℕ
 reached_text vertex Unreached = []
 reached_text vertex (Pair d p) = codes "v" ++ number_text vertex ++ number_text d ++ number_text p ++ codes "\n"
 
+-- This is the line of a row.
 abbrev pub row_text : ℕ × Word → List ℕ
 row_text row = reached_text row.0 row.1
 
--- `e R`
+-- This is the line `e R`.
 abbrev pub end_text : (count : ℕ) → List ℕ
 end_text count = codes "e" ++ number_text count ++ codes "\n"
 
@@ -25,6 +26,6 @@ end_text count = codes "e" ++ number_text count ++ codes "\n"
 unfoldable pub tree_text : TreeTable → List ℕ
 tree_text t = problem_text t.n t.source ++ flat_map row_text t.rows ++ end_text (length t.rows)
 
--- `x S V`: of a source, a vertex that is too far
+-- This is the line `x S V`, for a source and a vertex that is too far from it.
 unfoldable pub far_text : (source vertex : ℕ) → List ℕ
 far_text source vertex = codes "x" ++ number_text source ++ number_text vertex ++ codes "\n"

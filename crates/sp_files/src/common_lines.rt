@@ -1,4 +1,4 @@
-//! Lines that several texts have.
+//! Lines shared by several texts.
 ghost use Rattle.std.specs.Prelude.{◌++◌, ◌≡◌, ◌≤◌, ◌+◌, length};
 ghost use Rattle.sp_files.specs.TreeText.{end_text, far_text};
 ghost use Rattle.sp_files.specs.Sending.{EndsWith};
@@ -6,10 +6,10 @@ ghost use Rattle.sp_files.specs.Sending.{EndsWith};
 use sp_device::{Block, Printer, Write, WriteFault, finish, make_room};
 use sp_text::push_number;
 
-/// At least as many bytes as a line has.
+/// No line has more bytes than this.
 pub(crate) const LINE_ROOM: usize = 86;
 
-/// Appends the last line of a tree or a forest of so many rows.
+/// Appends the last line of a tree or a forest with `count` rows.
 pub(crate) fn push_end(block: &mut Block, count: u64)
     requires { length block.old + LINE_ROOM ≤ 8192 }
     ensures { block.new ≡ block.old ++ end_text count }
@@ -19,7 +19,7 @@ pub(crate) fn push_end(block: &mut Block, count: u64)
     block.push(b"\n");
 }
 
-/// Writes what waits, and behind it the last line of a tree or a forest of so many rows. Returns the number of bytes in all.
+/// Writes the bytes that wait, and then the last line of a tree or a forest with `count` rows. Returns the total number of bytes.
 pub(crate) fn write_end<W: Write>(
     out: &mut W,
     mut printer: Printer,
@@ -32,7 +32,7 @@ pub(crate) fn write_end<W: Write>(
     finish(out, printer)
 }
 
-/// Appends the line of a source and a vertex that is too far from it.
+/// Appends the line for a source and a vertex that is too far from it.
 #[tactic(auto, unfolding(crate::specs::TreeText::far_text))]
 pub(crate) fn push_far(block: &mut Block, source: u32, vertex: u32)
     requires { length block.old + LINE_ROOM ≤ 8192 }

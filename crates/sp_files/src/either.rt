@@ -1,75 +1,105 @@
-//! The reader of a tree or of a forest.
-ghost use Rattle.std.specs.Prelude.{◌≡◌, ◌≤◌, ◌^◌, ◌++◌, ℕ, Bool, List, [], length, true, Some};
-ghost use Rattle.sp_word.specs.Word.{is_layout};
-ghost use Rattle.sp_text.specs.First.{fault_at_failure};
-ghost use Rattle.sp_files.specs.TreeOrForest.{IsBehindEither, EitherFed, EitherFinished, rules};
+//! A tree, a forest with the number of its sources, or either, as a file holds it.
+ghost use Rattle.sp_files.specs.Taking.{tree_form, forest_form, either_form};
 
+use crate::content::{FileContent, Place};
 use crate::forests::file::ForestFile;
-use crate::forests::reading::ForestReader;
-use crate::trees::reading::TreeReader;
+use crate::lines::RowNumbers;
 use sp_answer::Tree;
-use sp_text::DimacsError;
-use std::alloc::Global;
+use sp_forest::Forest;
+use std::alloc::{AllocError, Global};
 
-/// What a file holds that is a tree's or a forest's.
+/// What a tree's or a forest's file holds.
 #[derive(Drop)]
 pub enum TreeOrForest<const P: u32> {
     Tree(Tree<P>),
     Forest(ForestFile<P>),
 }
 
-/// A reader of a tree's text, or of a forest's, that comes in pieces.
-#[derive(Drop)]
-pub(crate) enum EitherReader<const P: u32> {
-    Tree(TreeReader<P>),
-    Forest(ForestReader<P>),
+impl<const P: u32> FileContent<P> for Tree<P> {
+    ghost form = { tree_form };
+
+    fn begins(near: bool) -> bool {
+        !near
+    }
+
+    fn begin(alloc: Global, _near: bool, n: u32, second: u32) -> Self {
+        Tree::bare(alloc, n, second)
+    }
+
+    fn place(&self) -> Place {
+        Place {
+            rooted: false,
+            n: self.n(),
+            last: self.last(),
+            rows: self.rows().len(),
+        }
+    }
+
+    fn push(&mut self, row: RowNumbers) -> Result<(), AllocError> {
+        // The numbers of a row are up to this one, and fit in as few bits.
+        let _ = self.n();
+        self.push_row(row.vertex as u32, row.dist, row.pred as u32)
+    }
 }
 
-impl<const P: u32> EitherReader<P> {
-    /// Returns a reader that has read no text: a forest's, if that is asked for.
-    pub(crate) fn new(alloc: Global, near: bool) -> Self
-        requires { is_layout P ≡ true }
-        ensures { IsBehindEither near [] result }
-    {
+impl<const P: u32> FileContent<P> for ForestFile<P> {
+    ghost form = { forest_form };
+
+    fn begins(near: bool) -> bool {
+        near
+    }
+
+    fn begin(alloc: Global, _near: bool, n: u32, second: u32) -> Self {
+        ForestFile {
+            forest: Forest::bare(alloc, n),
+            sources: second,
+        }
+    }
+
+    fn place(&self) -> Place {
+        Place {
+            rooted: true,
+            n: self.forest.n(),
+            last: self.forest.last(),
+            rows: self.forest.rows().len(),
+        }
+    }
+
+    fn push(&mut self, row: RowNumbers) -> Result<(), AllocError> {
+        // The numbers of a row are up to this one, and fit in as few bits.
+        let _ = self.forest.n();
+        let root = row.root.unwrap_or(0) as u32;
+        self.forest
+            .push_row(row.vertex as u32, row.dist, row.pred as u32, root)
+    }
+}
+
+impl<const P: u32> FileContent<P> for TreeOrForest<P> {
+    ghost form = { either_form };
+
+    fn begins(_near: bool) -> bool {
+        true
+    }
+
+    fn begin(alloc: Global, near: bool, n: u32, second: u32) -> Self {
         if near {
-            EitherReader::Forest(ForestReader::new(alloc))
+            TreeOrForest::Forest(FileContent::begin(alloc, near, n, second))
         } else {
-            EitherReader::Tree(TreeReader::new(alloc))
+            TreeOrForest::Tree(FileContent::begin(alloc, near, n, second))
         }
     }
 
-    /// Takes the next piece of the text.
-    pub(crate) fn feed(&mut self, piece: &[u8]) -> Result<(), DimacsError>
-        ensures { (near : Bool) (text : List ℕ) → length (text ++ piece.now) ≤ 2 ^ 62
-            → IsBehindEither near text self.old
-            → EitherFed near (text ++ piece.now) result self.new }
-    {
+    fn place(&self) -> Place {
         match self {
-            EitherReader::Tree(reader) => reader.feed(piece),
-            EitherReader::Forest(reader) => reader.feed(piece),
+            TreeOrForest::Tree(tree) => tree.place(),
+            TreeOrForest::Forest(file) => file.place(),
         }
     }
 
-    /// Ends the text.
-    pub(crate) fn finish(&mut self) -> Result<TreeOrForest<P>, DimacsError>
-        ensures { (near : Bool) (text : List ℕ) → length text ≤ 2 ^ 62
-            → IsBehindEither near text self.old → EitherFinished near text result }
-    {
+    fn push(&mut self, row: RowNumbers) -> Result<(), AllocError> {
         match self {
-            EitherReader::Tree(reader) => Ok(TreeOrForest::Tree(reader.finish()?)),
-            EitherReader::Forest(reader) => Ok(TreeOrForest::Forest(reader.finish()?)),
-        }
-    }
-
-    /// Reports a failure of the device.
-    pub(crate) fn fail(&mut self) -> DimacsError
-        ensures { (near : Bool) (text : List ℕ) → length text ≤ 2 ^ 62
-            → IsBehindEither near text self.old
-            → fault_at_failure (rules P near) text ≡ Some result }
-    {
-        match self {
-            EitherReader::Tree(reader) => reader.fail(),
-            EitherReader::Forest(reader) => reader.fail(),
+            TreeOrForest::Tree(tree) => tree.push(row),
+            TreeOrForest::Forest(file) => file.push(row),
         }
     }
 }

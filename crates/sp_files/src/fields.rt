@@ -21,33 +21,32 @@ pub(crate) fn first_field(text: &[u8]) -> (&[u8], Option<&[u8]>)
     (text, None)
 }
 
-/// Returns the number of the first field, and the bytes after the space that follows it.
-pub(crate) fn next_number(text: &[u8]) -> Option<(u64, &[u8])>
+/// Returns the number of the first field and, if a space follows it, the bytes after that.
+pub(crate) fn next_number(text: &[u8]) -> Option<(u64, Option<&[u8]>)>
     ensures { MatchOption result (HasNoNext (fields text.now)) (IsNext (fields text.now)) }
 {
     let (number, end) = leading_number(text)?;
     let (_, after) = text.split_at(end);
     let [first, rest @ ..] = after else {
-        return None;
+        return Some((number, None));
     };
     if *first != b' ' {
         return None;
     }
-    Some((number, rest))
+    Some((number, Some(rest)))
 }
 
 /// Returns the number of a line that has one field.
 pub(crate) fn last_number(text: &[u8]) -> Option<u64>
     ensures { result ≡ last_in (fields text.now) }
 {
-    let (number, end) = leading_number(text)?;
-    if end < text.len() {
-        return None;
+    match next_number(text)? {
+        (number, None) => Some(number),
+        _ => None,
     }
-    Some(number)
 }
 
-/// Tests that a number is in its range, and otherwise reports the letter of its field.
+/// Returns `Ok` if a number is in its range, and otherwise the fault with the letter of its field.
 pub(crate) fn in_range(letter: u8, least: u64, most: u64, n: u64) -> Result<(), Kind>
     ensures within { IfOk result (λ u. (least ≤ n) × (n ≤ most)) }
     ensures told { IfErr result

@@ -1,7 +1,4 @@
-//! The text of a forest, written and read.
+//! Writes and reads the text of a forest.
 
 pub(crate) mod file;
-pub(crate) mod lines;
-pub(crate) mod reading;
-pub(crate) mod taking;
 pub(crate) mod writing;

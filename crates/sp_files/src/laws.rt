@@ -4,10 +4,9 @@ ghost use Rattle.sp_word.specs.Word.{is_layout};
 ghost use Rattle.sp_text.specs.First.{fault_at_end};
 ghost use Rattle.sp_answer.specs.Table.{TreeTable, IsTable};
 ghost use Rattle.sp_files.specs.TreeText.{tree_text};
-ghost use Rattle.sp_files.specs.TreeSpelling.{tree_judge};
+ghost use Rattle.sp_files.specs.Spelling.{tree_judge, forest_judge};
 ghost use Rattle.sp_forest.specs.ForestTable.{ForestTable, IsForestTable};
-ghost use Rattle.sp_files.specs.ForestText.{forest_text, source_count};
-ghost use Rattle.sp_files.specs.ForestSpelling.{IsFile, file_text, forest_judge};
+ghost use Rattle.sp_files.specs.ForestText.{forest_text, source_count, file_text, IsFile};
 ghost use Rattle.sp_files.specs.TreeOrForest.{is_near};
 
 /// Proves that the texts without a fault are exactly the texts of tables.
@@ -18,7 +17,7 @@ pub fn tree_texts_are_accepted()
 {}
 
 /// Proves that no two tables have the same text.
-#[tactic(auto, using(crate::proofs::TreeEnds::one_tree))]
+#[tactic(auto, using(crate::proofs::Texts::one_tree))]
 pub fn tree_text_is_exact()
     ensures { (P : ℕ) (t u : TreeTable) → IsTable P t → IsTable P u → tree_text t ≡ tree_text u
         → t ≡ u }
@@ -43,8 +42,8 @@ pub fn forest_text_is_read()
         → forest_text f ≡ file_text k e → (k ≡ source_count f.rows) × (e ≡ f) }
 {}
 
-/// Proves that the first line of a text tells whether it is that of a forest or of a tree.
-#[tactic(auto, unfolding(crate::specs::ForestSpelling::file_text, crate::specs::TreeText::tree_text))]
+/// Proves that the first line of a text shows whether it is that of a forest or of a tree.
+#[tactic(auto, unfolding(crate::specs::ForestText::file_text, crate::specs::TreeText::tree_text))]
 pub fn first_line_tells()
     ensures forest { (k : ℕ) (f : ForestTable) → is_near (file_text k f) ≡ true }
     ensures tree { (t : TreeTable) → is_near (tree_text t) ≡ false }

@@ -1,4 +1,4 @@
-//! The line of a pair, a source and a target, with its answer.
+//! The line of a source and a target, with their result.
 ghost use Rattle.std.specs.Prelude.{◌≡◌, ◌+◌, ◌≤◌, ◌++◌, length};
 ghost use Rattle.sp_device.specs.Printing.{Sends};
 ghost use Rattle.sp_answer.specs.Pair.{answer_of};
@@ -45,7 +45,7 @@ fn push_pair(block: &mut Block, pair: (u32, u32), answer: PairAnswer)
     }
 }
 
-/// Sends the line of a pair, a source and a target, with its answer.
+/// Sends the line of a source and a target, with their result.
 pub fn send_pair<W: Write>(out: &mut W, printer: &mut Printer, pair: (u32, u32), answer: PairAnswer)
     ensures { Sends W.Write (pair_text pair (answer_of answer))
         out.old printer.old out.new printer.new }

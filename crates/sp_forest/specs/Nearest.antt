@@ -1,4 +1,4 @@
--- What a run from several sources answers.
+-- The answer of a run from several sources.
 use Rattle.std.specs.Prelude.{◌≡◌, ℕ, List, All, Any, Contains, Option, None, Some}
 use Rattle.sp_word.specs.Word.{Pair, max_dist}
 use Rattle.sp_word.specs.History.{Table}
@@ -9,8 +9,8 @@ use Rattle.sp_answer.specs.declared.answer.RunError.{RunError}
 use Rattle.sp_answer.specs.declared.answer.RunError.TheVariants.{Memory, TooFar, NoSuchVertex}
 use Rattle.sp_forest.specs.ForestTable.{ForestTable, table_of, root_of}
 
--- The table is the forest of the sources, where no vertex is too far for a word with P bits of predecessor; with a limit, it
--- is the part of the forest within the limit.
+-- Without a limit, the table is the forest of the sources, and no vertex is too far for a word with P bits of
+-- predecessor. With a limit, the table is the part of the forest within the limit.
 abbrev pub IsForestUpTo : (P : ℕ) → Graph → (sources : List ℕ) → (limit : Option ℕ) → Table → Type 0
 IsForestUpTo P g sources None words = IsForest g sources words × IsFar g sources (max_dist P) None
 IsForestUpTo P g sources (Some limit) words = IsForestWithin g sources limit words
@@ -33,8 +33,8 @@ pub record IsForestAnswer (P : ℕ) (g : Graph) (sources : List ℕ) (limit : Op
   pub forest : IsForestUpTo P g sources limit (table_of f)
   pub roots : HasRoots g sources f
 
--- Some source is no vertex exactly where that is told; a vertex is told to be too far only where it is, and no limit is
--- given.
+-- The error is NoSuchVertex exactly if some source is no vertex, and TooFar only if this vertex is too far and no limit
+-- is given.
 abbrev pub IsRefusal : (P : ℕ) → Graph → (sources : List ℕ) → (limit : Option ℕ) → RunError → Type 0
 IsRefusal P g sources limit Memory = All (IsVertex g.n) sources
 IsRefusal P g sources None (TooFar v) = All (IsVertex g.n) sources × IsFar g sources (max_dist P) (Some v)

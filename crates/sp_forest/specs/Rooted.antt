@@ -1,4 +1,4 @@
--- Words, and a number for each vertex that tells its root.
+-- Words, and a number for each vertex: its root.
 use Rattle.std.specs.Prelude.{◌≡◌, ℕ, ◌-◌, ◌<◌, ◌≤◌, List, Some, length, slice_index_or}
 use Rattle.sp_word.specs.Word.{Word, Pair}
 use Rattle.sp_word.specs.History.{Table}

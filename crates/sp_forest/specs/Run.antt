@@ -1,4 +1,4 @@
--- What a run from sources is asked, and what its words answer.
+-- What is asked of a run from sources, and what its words answer.
 use Rattle.std.specs.Prelude.{◌≡◌, ℕ, ◌≤◌, List, [], ◌∷◌, All, Any, Option, Some, None, length, map}
 use Rattle.std.specs.List.{AllZip}
 use Rattle.sp_word.specs.Word.{Word, Pair, Unreached, max_dist}
@@ -16,13 +16,13 @@ use Rattle.sp_forest.specs.declared.asked.Until.TheVariants.{All as AllWords, Li
 
 -- ## What is asked
 
--- What may be asked: a limit that a word can tell, and targets that are vertices.
+-- What may be asked: a limit that is at most the greatest distance of a word, and targets that are vertices.
 abbrev pub IsAsked : (P n : ℕ) → Until → Type 0
 IsAsked P n AllWords = Unit {0}
 IsAsked P n (Limit limit) = limit ≤ max_dist P
 IsAsked P n (Targets targets) = All (IsVertex n) targets.now
 
--- How far a run goes by a limit, if there is one.
+-- How far a run goes for a limit, if there is one.
 abbrev pub until_of : (limit : Option ℕ) → Until
 until_of None = AllWords
 until_of (Some limit) = Limit limit
@@ -36,35 +36,35 @@ IsTold P g sources t (Found d p) = IsNear g sources (max_dist P) t × IsForestWo
 IsTold P g sources t (TooFar v) = (IsNear g sources (max_dist P) t → ⊥) × IsFar g sources (max_dist P) (Some v)
 IsTold P g sources t NoWalk = (IsNear g sources (max_dist P) t → ⊥) × IsFar g sources (max_dist P) None
 
--- The words, and the vertex that is too far, tell it for each of the targets.
+-- The words and the vertex that is too far give this answer for each target.
 abbrev pub AreTold : (P : ℕ) → Graph → (sources targets : List ℕ) → List Word → (far : Option ℕ) → Type 0
 AreTold P g sources targets words far = All (λ t. IsTold P g sources t (answer_by (word_at words t) far)) targets
 
--- The whole forest where no vertex is too far, and else the one that is.
+-- The words are the forest if no vertex is too far; otherwise this vertex is too far.
 abbrev pub IsWhole : (P : ℕ) → Graph → (sources : List ℕ) → List Word → (far : Option ℕ) → Type 0
 IsWhole P g sources words None = IsForestUpTo P g sources None (word_at words)
 IsWhole P g sources words (Some v) = IsFar g sources (max_dist P) (Some v)
 
--- What the words tell, as far as it is asked for. A word beyond a limit tells nothing.
+-- The words answer what is asked. A word beyond a limit means nothing.
 abbrev pub Tells : (P : ℕ) → Graph → (sources : List ℕ) → Until → List Word → (far : Option ℕ) → Type 0
 Tells P g sources AllWords words far = IsWhole P g sources words far
 Tells P g sources (Limit limit) words far = IsForestUpTo P g sources (Some limit) (λ v. up_to limit (word_at words v)) × (far ≡ None)
 Tells P g sources (Targets targets) words far = AreTold P g sources targets.now words far
 
--- The words of a run: the sources are vertices, each vertex has a word, and they tell what was asked.
+-- The words of a run: the sources are vertices, each vertex has a word, and the words answer what was asked.
 pub record AreRunWords (P : ℕ) (g : Graph) (sources : List ℕ) (until : Until) (words : List Word) (far : Option ℕ) : Type 0 where
   pub vertices : All (IsVertex g.n) sources
   pub size : length words ≡ g.n
   pub preds : All (HasPredWithin (length words)) words
   pub tells : Tells P g sources until words far
 
--- Some source is no vertex exactly where that is told. A vertex that is too far is an answer and no refusal.
+-- The error is NoSuchVertex exactly if some source is no vertex. A vertex that is too far is an answer, not an error.
 abbrev pub IsRunRefusal : Graph → (sources : List ℕ) → RunError → Type 0
 IsRunRefusal g sources Memory = All (IsVertex g.n) sources
 IsRunRefusal g sources (TooFarVertex v) = ⊥
 IsRunRefusal g sources NoSuchVertex = Any (λ s. IsVertex g.n s → ⊥) sources
 
--- The words up to a limit, if there is one, and beyond it unreached ones.
+-- The words, with those beyond the limit unreached, if there is a limit.
 abbrev pub words_within : (limit : Option ℕ) → List Word → List Word
 words_within None words = words
 words_within (Some limit) words = map (up_to limit) words
@@ -85,12 +85,12 @@ ArePartWords P g s limit words far = AreRunWords P g (s ∷ []) (Limit limit) wo
 
 -- ## Targets of one source
 
--- The word has a distance up to this one.
+-- The word has a distance, and it is at most this one.
 abbrev pub IsUpTo : (far : ℕ) → Word → Type 0
 IsUpTo far Unreached = ⊥
 IsUpTo far (Pair d p) = d ≤ far
 
--- Words that tell the answers for targets of a source.
+-- Words that contain the answers for targets of a source.
 pub record AreTargetWords (P : ℕ) (g : Graph) (s : ℕ) (targets : List ℕ) (words : List Word) (far : Option ℕ) : Type 0 where
   pub size : length words ≡ g.n
   pub vertices : All (IsVertex g.n) targets
@@ -108,7 +108,7 @@ AreAnswersFor g s max targets answers = AllZip (λ t told. IsAnswerFor g s t max
 abbrev pub AreAllEnds : (n s : ℕ) → (targets : List ℕ) → Type 0
 AreAllEnds n s targets = IsVertex n s × All (IsVertex n) targets
 
--- The refusal is NoSuchVertex exactly if one of them is no vertex. A vertex that is too far is an answer and no refusal.
+-- The error is NoSuchVertex exactly if one of them is no vertex. A vertex that is too far is an answer, not an error.
 abbrev pub IsTargetsRefusal : (n s : ℕ) → (targets : List ℕ) → RunError → Type 0
 IsTargetsRefusal n s targets Memory = AreAllEnds n s targets
 IsTargetsRefusal n s targets (TooFarVertex v) = ⊥

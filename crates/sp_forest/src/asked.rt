@@ -1,4 +1,4 @@
-//! What a run is asked.
+//! What is asked of a run.
 ghost use Rattle.std.specs.Prelude.{◌≡◌, All, Any, MatchBool};
 ghost use Rattle.sp_paths.specs.Paths.{IsVertex};
 ghost use Rattle.sp_forest.specs.Run.{until_of};
@@ -16,7 +16,7 @@ pub enum Until<'t> {
     Targets(&'t [u32]),
 }
 
-/// What a run is asked: the sources, in any order, and how far it goes.
+/// What is asked of a run: the sources, in any order, and how far it goes.
 #[derive(Clone, Copy)]
 pub struct Run<'s> {
     pub sources: &'s [u32],
@@ -24,7 +24,7 @@ pub struct Run<'s> {
 }
 
 impl<'t> Until<'t> {
-    /// Returns how far a run goes by a limit, if there is one.
+    /// Returns how far a run goes for this limit: without one, until all words are final.
     pub fn up_to(limit: Option<u64>) -> Until<'t>
         ensures { result ≡ until_of limit }
     {
@@ -34,8 +34,8 @@ impl<'t> Until<'t> {
         }
     }
 
-    /// Returns the targets that are asked for, if it goes by targets. What a run does by them is a schedule, of which nothing is
-    /// promised.
+    /// Returns the targets that are asked for, if there are any. They only guide the schedule of a run, so the contract promises
+    /// nothing about them.
     pub fn targets(self) -> &'t [u32] {
         match self {
             Until::Targets(targets) => targets,
@@ -43,7 +43,7 @@ impl<'t> Until<'t> {
         }
     }
 
-    /// Returns the greatest distance that is asked for. Nothing is promised of it either.
+    /// Returns the greatest distance that is asked for. The contract promises nothing about it either.
     pub fn limit(self) -> u64 {
         match self {
             Until::Limit(limit) => limit,

@@ -16,7 +16,7 @@ use std::marker::Model;
 #[derive(Drop)]
 pub struct Forest<const P: u32> {
     n: u32,
-    // each vertex with its word and its root
+    // Each reached vertex with its word and its root.
     rows: Vec<(u32, Word<P>, u32)>,
 }
 
@@ -31,7 +31,7 @@ impl<const P: u32> Model for Forest<P> {
 }
 
 impl<const P: u32> Forest<P> {
-    /// Makes the forest in which the vertices have these words. Their chains of predecessors end.
+    /// Returns the forest in which the vertices have these words. Their chains of predecessors must end.
     pub fn of_words(alloc: Global, words: &[Word<P>]) -> Result<Forest<P>, AllocError>
         requires layout { is_layout P ≡ true }
         requires most { length words.now ≤ max_pred P }
@@ -61,7 +61,7 @@ impl<const P: u32> Forest<P> {
         }
     }
 
-    /// Appends a row, whose vertex has a greater number than the vertices of the other rows.
+    /// Appends a row. Its vertex has a greater number than the vertices of the other rows.
     pub fn push_row(
         &mut self,
         vertex: u32,
@@ -123,13 +123,13 @@ impl<const P: u32> Forest<P> {
         }
     }
 
-    /// Returns the word of a vertex: its least distance from any of the sources, and the smallest vertex before it on such a
-    /// walk.
+    /// Returns the word of a vertex: its least distance from any of the sources, and the smallest vertex before it on a walk of
+    /// that length.
     pub fn word(&self, vertex: u32) -> Word<P>
         requires { IsVertex self.now.n vertex }
         ensures { result ≡ table_of self.now vertex }
     {
-        // The layout of the words is the fact of the fields that is needed below.
+        // The proof below needs what the fields say about the layout of the words.
         let _ = &self.n;
         match self.row(vertex) {
             Some(row) => row.1,
@@ -137,7 +137,7 @@ impl<const P: u32> Forest<P> {
         }
     }
 
-    /// Returns the root of a vertex: the source at which its chain of predecessors begins. A vertex that isn't reached has none.
+    /// Returns the root of a vertex: the source at which its chain of predecessors begins. An unreached vertex has none.
     pub fn root(&self, vertex: u32) -> Option<u32>
         requires { IsVertex self.now.n vertex }
         ensures { result ≡ root_of self.now vertex }

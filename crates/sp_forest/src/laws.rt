@@ -1,4 +1,4 @@
-//! The theorems of this crate about its definitions, each the contract of a function that does nothing.
+//! The theorems about this crate's definitions. Each is the contract of a function that does nothing.
 
 ghost use Rattle.sp_forest.specs.Laws.{
   ClosedShowsWithin,
@@ -13,19 +13,19 @@ ghost use Rattle.sp_forest.specs.Laws.{
   PartHasRoots,
 };
 
-/// What a run's table says in which every arc is relaxed up to a limit.
+/// States what the table of a run means if every arc is relaxed up to a limit.
 pub fn closed_table()
     ensures { ClosedShowsWithin }
 {}
 
-/// What a run's table says once every arc is relaxed.
+/// States what the table of a run means once every arc is relaxed.
 pub fn finished_table()
     ensures is_forest { FinishedIsForest }
     ensures is_far { FinishedIsFar }
 {}
 
-/// What the definitions mean: the least of all least lengths, one forest at least and at most, the tree where there is one source, and that the list
-/// of sources is a set.
+/// States what the definitions mean: a distance is the least of the least lengths from each source; every list of vertices has
+/// exactly one answer; the forest of one source is its tree; and the list of sources is a set.
 pub fn meanings()
     ensures least { NearestIsLeastOfAll }
     ensures some { ForestsExist }
@@ -34,8 +34,8 @@ pub fn meanings()
     ensures set { SourcesAreASet }
 {}
 
-/// Each reached vertex's chain of predecessors begins at one source, from which its distance is the least length: in a
-/// forest, and in its part within a distance.
+/// States that in a forest, and in its part within a distance, the chain of predecessors of each reached vertex begins at one
+/// source, and that the vertex's distance is the least length from this source.
 pub fn roots()
     ensures forest { ForestHasRoots }
     ensures part { PartHasRoots }

@@ -1,6 +1,6 @@
 //! Forests of shortest paths: the least distance of each vertex from any of several sources, the forest as a table of rows with
-//! the root of each vertex, and the theorems about tables of words that a run from several sources stands on. What a run is asked
-//! (`Run`), and what its words answer (`RunWords`), stand here for whichever engine finds them.
+//! the root of each vertex, and the theorems about tables of words on which runs from several sources rely. What is asked of a
+//! run (`Run`) and its answer (`RunWords`) are defined here for every engine.
 #![tactic(auto)]
 
 mod asked;

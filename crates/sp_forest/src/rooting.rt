@@ -31,7 +31,7 @@ fn place_of<const P: u32>(words: &[Word<P>], vertex: u32) -> Place
     Place { vertex, dist, pred }
 }
 
-/// Returns the root of a vertex, where it is known; else 0.
+/// Returns the root of a vertex if it is known, and 0 otherwise.
 pub(crate) fn root_of(roots: &[u32], vertex: u32) -> u32
     requires { IsVertex (length roots.now) vertex }
     ensures { result ≡ root_at roots.now vertex }
@@ -57,7 +57,7 @@ fn climb<const P: u32>(words: &[Word<P>], roots: &[u32], vertex: u32) -> u32
     if root == 0 { at.vertex } else { root }
 }
 
-// Writes the root for the vertices of a chain, up to one whose root is known.
+// Writes the root of the vertices of a chain, up to a vertex whose root is known.
 fn mark<const P: u32>(words: &[Word<P>], roots: &mut [u32], vertex: u32, root: u32)
     requires vertex { IsVertex (length words.now) vertex }
     requires reached { IsReached (word_at words.now) vertex }
@@ -109,8 +109,8 @@ fn fill_roots<const P: u32>(words: &[Word<P>], roots: &mut [u32])
     }
 }
 
-/// Returns the root of each vertex, where its chain of predecessors begins; 0 for a vertex that isn't reached.
-/// The number of vertex `v` stands at index `v - 1`. It allocates once, and takes linear time.
+/// Returns the root of each vertex, where its chain of predecessors begins; 0 for an unreached vertex. The root of vertex `v` is
+/// at index `v - 1`. It allocates once, and takes linear time.
 pub fn roots_of<const P: u32>(alloc: Global, words: &[Word<P>]) -> Result<Vec<u32>, AllocError>
     requires few { length words.now < 2 ^ 32 }
     requires falls { FallsBack (length words.now) (word_at words.now) }

@@ -17,7 +17,7 @@ fn is_reached<const P: u32>(word: Word<P>) -> bool
     word.dist().is_some()
 }
 
-/// Returns the rows of the reached vertices, whose words and roots are given for vertex 1, 2 and so on. It allocates once.
+/// Returns the rows of the reached vertices, given the words and the roots of vertex 1, 2 and so on. It allocates once.
 pub(crate) fn rows_of<const P: u32>(
     alloc: Global,
     words: &[Word<P>],

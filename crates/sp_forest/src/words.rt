@@ -1,4 +1,4 @@
-//! What a run answers, and what is read off it: the forest, and of one source its tree, a part of that, or the answers for targets.
+//! The answer of a run, and what it contains: the forest; for one source its tree, a part of it, or the answers for targets.
 ghost use Rattle.std.specs.Prelude.{◌≡◌, ◌≤◌, true, length, map, All, IfOk, IfErr, IfSome};
 ghost use Rattle.sp_word.specs.Word.{is_layout, max_dist, max_pred};
 ghost use Rattle.sp_paths.specs.Paths.{IsVertex, word_at};
@@ -13,15 +13,15 @@ use sp_graph::{Graph, look_up};
 use sp_word::Word;
 use std::alloc::{AllocError, Global};
 
-/// What a run answers: the word of each vertex, as far as was asked, and the smallest vertex that is too far, if there is one that
-/// bears on what was asked. A word beyond the limit of a run tells nothing.
+/// The answer of a run: the word of each vertex, as far as was asked, and the smallest vertex that is too far, if there is one
+/// that bears on what was asked. A word beyond the limit of a run means nothing.
 #[derive(Drop)]
 pub struct RunWords<const P: u32> {
     pub words: Vec<Word<P>>,
     pub far: Option<u32>,
 }
 
-// Returns the word, where its distance is at most the limit, and an unreached one beyond it.
+// Returns the word if its distance is at most the limit, and the unreached word otherwise.
 fn up_to<const P: u32>(word: Word<P>, limit: u64) -> Word<P>
     ensures { result ≡ up_to limit word.entry }
 {
@@ -40,7 +40,7 @@ fn cut<const P: u32>(words: &mut Vec<Word<P>>, limit: u64)
     }
 }
 
-// Makes every word beyond the limit unreached, if there is one.
+// Makes every word beyond the limit unreached, if there is a limit.
 fn within<const P: u32>(mut words: Vec<Word<P>>, limit: Option<u64>) -> Vec<Word<P>>
     ensures { result.items ≡ words_within limit words.entry.items }
 {
@@ -66,7 +66,7 @@ pub fn farthest<const P: u32>(words: &[Word<P>], targets: &[u32]) -> Option<u64>
 }
 
 impl<const P: u32> RunWords<P> {
-    /// Returns the tree of the source of a whole run, or the vertex that is too far.
+    /// Returns the tree from the source, after a whole run, or the vertex that is too far.
     pub fn tree(self, graph: &Graph, source: u32) -> Result<WordTree<P>, RunError>
         requires layout { is_layout P ≡ true }
         requires n { graph.now.n ≤ max_pred P }
@@ -82,7 +82,7 @@ impl<const P: u32> RunWords<P> {
         }
     }
 
-    /// Returns the rows of a run from a source up to a limit.
+    /// Returns the rows within the limit, after a run from one source up to this limit.
     pub fn part(
         &self,
         alloc: Global,
@@ -100,7 +100,7 @@ impl<const P: u32> RunWords<P> {
         Ok(tree)
     }
 
-    /// Returns the forest of a run up to a limit, if there is one, or the vertex that is too far.
+    /// Returns the forest, after a run up to the limit if there is one, or the vertex that is too far.
     pub fn forest(
         self,
         alloc: Global,
@@ -126,7 +126,7 @@ impl<const P: u32> RunWords<P> {
         }
     }
 
-    /// Returns the answers for targets of a source, in their order.
+    /// Returns the answers for the targets of a source, in the order of the targets.
     pub fn answers(
         &self,
         alloc: Global,

@@ -6,10 +6,11 @@ use Rattle.sp_graph.specs.Lengths.{AreLengths}
 use Rattle.sp_graph.specs.Index.{IsIndex}
 use Rattle.sp_graph.specs.declared.graph.Graph.TheInside.{Inside}
 
+-- What contracts see of a graph: its number of vertices, and its arcs.
 abbrev pub graph_of : Inside → Graph
 graph_of g = record { n = g.n; arcs = g.arcs.items }
 
--- The graph has fewer than 2^32 arcs, in order; it knows where each row lies, and the lengths.
+-- The graph has fewer than 2^32 arcs, in order; it knows where each row ends, and the lengths.
 pub record IsStored (g : Inside) : Type 0 where
   pub some : 1 ≤ g.n
   pub few : length g.arcs.items < 2 ^ 32

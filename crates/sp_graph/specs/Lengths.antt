@@ -10,7 +10,7 @@ pub record AreLengths (arcs : List Arc) (lengths : Lengths) : Type 0 where
   pub longest : IsLongest arcs lengths.longest
   pub total : lengths.total ≡ total_length arcs % 2 ^ 64
 
--- These are the lengths with an arc more.
+-- These are the lengths of the arcs and one more.
 abbrev pub with_arc : Lengths → Arc → Lengths
 with_arc l a = record { longest = max l.longest a.len; total = (l.total + a.len) % 2 ^ 64 }
 

@@ -2,6 +2,7 @@
 use Rattle.std.specs.Prelude.{ℕ, ◌/◌, List, [], ◌∷◌, length, sum_by}
 use Rattle.sp_paths.specs.declared.arc.Arc.{Arc}
 
+-- This is the sum of the lengths of the arcs.
 abbrev pub total_length : List Arc → ℕ
 total_length arcs = sum_by (λ a. a.len) arcs
 

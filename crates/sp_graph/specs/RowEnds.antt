@@ -6,7 +6,7 @@ use Rattle.sp_graph.specs.Index.{IsIndex}
 use Rattle.sp_graph.specs.Lengths.{AreLengths}
 use Rattle.sp_graph.specs.declared.graph.RowEnds.{RowEnds}
 
--- The arcs are in order; their rows end there, and these are their lengths.
+-- The arcs are in order, and these are the ends of their rows and their lengths.
 pub record AreRowEnds (n : ℕ) (arcs : List Arc) (rows : RowEnds) : Type 0 where
   pub order : IsInOrder arcs
   pub index : IsIndex n arcs rows.ends.items

@@ -10,6 +10,7 @@ use Rattle.sp_graph.specs.declared.rows.Rows.TheInside.{Inside}
 abbrev pub split_of : Inside → Split
 split_of r = record { graph = record { n = r.n; arcs = in_order r.arcs.items }; delta = r.delta }
 
+-- The kept arcs are those of a graph with at least one vertex, and its rows are split at the kept cuts.
 pub record IsKept (r : Inside) : Type 0 where
   pub some : 1 ≤ r.n
   pub graph : IsGraph (split_of r).graph

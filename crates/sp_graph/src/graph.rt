@@ -33,12 +33,13 @@ pub struct Graph {
     lengths: Lengths,
 }
 
-/// What is known of arcs in order, of which `Graph::from_rows` makes a graph.
+/// The row ends and the lengths of sorted arcs, from which `Graph::from_rows` makes a graph.
 #[derive(Drop)]
 pub struct RowEnds {
-    /// The row of vertex `v` ends at the index `ends[v]`, where the next row begins; row 0, of no vertex, at 0.
+    /// The row of vertex `v` ends at the index `ends[v]`, where the next row begins; row 0, which belongs to no vertex, ends at
+    /// 0.
     pub ends: Vec<u32>,
-    /// The greatest length of an arc, and the sum of all.
+    /// The greatest length of an arc, and the sum of all lengths.
     pub lengths: Lengths,
 }
 
@@ -55,8 +56,8 @@ impl Model for Graph {
 }
 
 impl Graph {
-    /// Builds the graph of `n` vertices with these arcs, each as often as it is given, from a copy of them. `from_arcs`
-    /// does so without a copy.
+    /// Builds the graph of `n` vertices with these arcs, each as often as it is given, from a copy of them. `from_arcs` does the
+    /// same without a copy.
     pub fn build(alloc: Global, n: u32, arcs: &[Arc]) -> Result<Graph, AllocError>
         requires some { 1 ≤ n }
         requires arcs { All (IsArc n) arcs.now }
@@ -70,10 +71,10 @@ impl Graph {
 
     /// Builds the graph of `n` vertices with these arcs, each as often as it is given.
     ///
-    /// Arcs that come by rising tail stay where they are; others are sorted within their list, range after range of their tails,
-    /// each in a copy of its arcs. It takes linear time, except that sorting a row of `l` arcs that is out of order takes
-    /// `l log l`, and all `m` arcs `m log m` where there is no memory for the copy of a range. The call fails if there is none
-    /// for `n + 1` indices and some for the ranges, or if there are 2^32 arcs or more.
+    /// Arcs that come by rising tail stay where they are. Others are sorted within their list, one range of tails after the
+    /// other, through a copy of the range's arcs. This takes linear time, except that sorting a row of `l` arcs that is out of
+    /// order takes `l log l`, and sorting all `m` arcs takes `m log m` if there is no memory for the copy of a range. The call
+    /// fails if there is no memory for `n + 1` indices and some for the ranges, or if there are 2^32 arcs or more.
     #[tactic(auto, using(std::proofs::lemmas::List::Sorted::length_permutation))]
     pub fn from_arcs(alloc: Global, n: u32, arcs: Vec<Arc>) -> Result<Graph, AllocError>
         requires some { 1 ≤ n }
@@ -94,9 +95,8 @@ impl Graph {
         })
     }
 
-    /// Builds the graph of `n` vertices with these arcs, each as often as it is given, as `from_arcs` does: by as many
-    /// threads as there are workers, or fewer where there are fewer processors or few arcs. It fails where `from_arcs` does,
-    /// and the graph is the same.
+    /// Builds the same graph as `from_arcs`, on as many threads as there are workers, or on fewer if there are fewer processors
+    /// or few arcs. It fails whenever `from_arcs` does.
     #[tactic(auto, using(std::proofs::lemmas::List::Sorted::length_permutation))]
     pub fn from_arcs_by<R: Threads + Sync>(
         rt: &R,
@@ -123,8 +123,8 @@ impl Graph {
         })
     }
 
-    /// Returns the graph of `n` vertices with these arcs, which are in order already, and whose rows end there. Nothing is
-    /// copied, no arc is looked at, and no memory is taken.
+    /// Returns the graph of `n` vertices with these arcs, which are sorted already, and with the given ends of their rows. It
+    /// copies nothing, reads no arc and allocates no memory.
     pub fn from_rows(n: u32, arcs: Vec<Arc>, rows: RowEnds) -> Graph
         requires some { 1 ≤ n }
         requires few { length arcs.items < 2 ^ 32 }
@@ -150,7 +150,7 @@ impl Graph {
         self.n
     }
 
-    /// Returns whether the graph has this vertex: whether the number is at least 1, and at most `n`.
+    /// Returns whether the graph has this vertex: whether the number is at least 1 and at most `n`.
     pub fn has_vertex(&self, vertex: u32) -> bool
         ensures { IsTrue result ↔ IsVertex self.now.n vertex }
     {
@@ -171,8 +171,8 @@ impl Graph {
         self.lengths.longest
     }
 
-    /// Returns the mean length of an arc: the sum of all lengths divided by their number, rounded down; or 1 if there
-    /// is no arc. It takes no time: the sum is known.
+    /// Returns the mean length of an arc: the sum of all lengths divided by their number, rounded down; or 1 if there is no arc.
+    /// It takes constant time, since the sum is known.
     pub fn mean_length(&self) -> u64
         ensures mean { result ≡ mean_length self.now.arcs }
         ensures some { 1 ≤ result }
@@ -180,8 +180,8 @@ impl Graph {
         self.lengths.mean(self.arcs.len())
     }
 
-    /// Returns whether many arcs lead far away from their tails, so that what is read of one vertex after the other misses
-    /// the caches. It samples some arcs. The contract promises nothing about the result, which affects only the time.
+    /// Returns whether many arcs lead far away from their tails, so that reading the data of one vertex after the other misses
+    /// the caches. It samples some arcs. The contract promises nothing about the result, which affects only the running time.
     pub fn has_far_heads(&self) -> bool {
         lead_far(&self.arcs)
     }
@@ -195,7 +195,7 @@ impl Graph {
         self.arcs.as_slice()
     }
 
-    /// Returns the arcs alone, sorted, in the list in which they stood: nothing is copied.
+    /// Returns the sorted arcs, in the graph's own list. It copies nothing.
     pub fn into_arcs(self) -> Vec<Arc>
         ensures { result.items ≡ self.arcs }
     {

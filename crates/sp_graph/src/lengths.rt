@@ -6,17 +6,17 @@ ghost use Rattle.sp_graph.specs.Lengths.{AreLengths, with_arc, of_both};
 
 use sp_paths::Arc;
 
-/// The greatest length of some arcs and the sum of their lengths, each found by the way where arcs are looked at.
+/// The greatest length of some arcs and the sum of their lengths. Both are computed where the arcs are read anyway.
 #[derive(Clone, Copy)]
 pub struct Lengths {
     /// The greatest length, or 0 if there is no arc.
     pub longest: u32,
-    /// The sum of the lengths, modulo 2^64. Of fewer than 2^32 arcs it is the sum.
+    /// The sum of the lengths, modulo 2^64. For fewer than 2^32 arcs it is the sum itself.
     pub total: u64,
 }
 
 impl Lengths {
-    /// Returns what is told of no arc.
+    /// Returns the lengths of no arc.
     pub fn none() -> Lengths
         ensures { AreLengths [] result }
     {
@@ -26,7 +26,7 @@ impl Lengths {
         }
     }
 
-    /// Returns what is told of some arcs with one more.
+    /// Returns the lengths of these arcs and one more.
     pub fn with(self, arc: &Arc) -> Lengths
         ensures { result ≡ with_arc self arc.now }
     {
@@ -36,7 +36,7 @@ impl Lengths {
         }
     }
 
-    /// Returns what is told of two lists of arcs together.
+    /// Returns the lengths of two lists of arcs together.
     pub fn and(self, others: Lengths) -> Lengths
         ensures { result ≡ of_both self others }
     {
@@ -46,7 +46,7 @@ impl Lengths {
         }
     }
 
-    /// Returns what is told of these arcs.
+    /// Returns the lengths of these arcs.
     pub fn of(arcs: &[Arc]) -> Lengths
         ensures { AreLengths arcs.now result }
     {
@@ -57,7 +57,7 @@ impl Lengths {
         lengths
     }
 
-    /// Returns the mean length of so many arcs of which this is told: the sum of their lengths divided by their number, rounded
+    /// Returns the mean length of `count` arcs with these lengths: the sum of their lengths divided by their number, rounded
     /// down; or 1 if there is no arc.
     pub fn mean(self, count: usize) -> u64
         ensures { (arcs : List Arc) → length arcs ≡ count → length arcs < 2 ^ 32

@@ -26,6 +26,7 @@ pub record Wrote : Type 0 where
   pub after : Option (List ℕ)
   pub failed : Bool
 
+-- What a writer wrote between two states.
 abbrev pub wrote_by : {W : Type 0} → Writer W → (old new : W) → Wrote
 wrote_by w old new = record { before = w.written old; after = w.written new; failed = w.has_failed new }
 

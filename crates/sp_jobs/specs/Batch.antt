@@ -48,10 +48,12 @@ tree_answer_text (FarFrom source vertex) = far_text source vertex
 abbrev pub batch_text : List TreeAnswer → List ℕ
 batch_text answers = flat_map tree_answer_text answers
 
+-- The answer for a source is a vertex that is too far.
 abbrev pub is_far : TreeAnswer → Bool
 is_far (TreeOf t) = false
 is_far (FarFrom source vertex) = true
 
+-- The summary of these answers.
 abbrev pub IsBatchSummary : List TreeAnswer → Summary → Type 0
 IsBatchSummary answers summary = IsCount (length answers) (count_by is_far answers) (batch_text answers) summary
 
@@ -97,5 +99,6 @@ abbrev pub BatchAnswered : {G S W : Type 0} → (P : ℕ) → (way : Direction) 
 BatchAnswered P way places limit gr_text ss_text g gr s ss w old new result =
     JobAnswered P way gr_text (InText places ss_text) (IsGraphRefused P way gr_text g gr) (IsListRefused P ss_text s ss) (IsBatch P limit) (wrote_by w old new) result
 
+-- The result of a batch over a text of sources, or over those at some places of it.
 abbrev pub BatchOfSome : {W : Type 0} → (P : ℕ) → (way : Direction) → (places : Option (ℕ × ℕ)) → (limit : Option ℕ) → Writer W → (old new : W) → Result Summary BatchError → Type 0
 BatchOfSome P way places limit w old new result = TreesOfSome P way limit (InText places) w old new result

@@ -36,6 +36,7 @@ abbrev pub forest_answer_text : ForestAnswer → List ℕ
 forest_answer_text (ForestOf f) = forest_text f
 forest_answer_text (FarFromAll v) = no_forest_text v
 
+-- How many of the answers are a vertex that is too far: 1 or 0.
 abbrev pub far_count : ForestAnswer → ℕ
 far_count (ForestOf f) = 0
 far_count (FarFromAll v) = 1

@@ -22,6 +22,7 @@ ArePairAnswers P g pairs answers = AllZip (IsAnswerToPair P g) pairs answers
 abbrev pub pairs_text : List (ℕ × ℕ) → List PairAnswer → List ℕ
 pairs_text pairs answers = flat_map (λ told. pair_text told.0 told.1) (zip pairs answers)
 
+-- The answer for a pair is a vertex that is too far.
 abbrev pub is_too_far : PairAnswer → Bool
 is_too_far (Found d p) = false
 is_too_far (TooFar v) = true

@@ -23,6 +23,7 @@ answers_in lines = map (λ line. answer_of line.1) lines
 abbrev pub line_text : (s : ℕ) → ℕ × Found → List ℕ
 line_text s line = pair_text (s, line.0) (answer_of line.1)
 
+-- The line has a vertex that is too far.
 abbrev pub is_far_line : ℕ × Found → Bool
 is_far_line line = is_too_far (answer_of line.1)
 
@@ -50,13 +51,10 @@ pub record IsRowTold (P : ℕ) (g : Graph) (targets : List ℕ) (s : ℕ) (told 
   pub are : ArePairAnswers P g (pairs_from s targets) answers
   pub tells : told ≡ told_pairs (pairs_from s targets) answers
 
--- Source and targets are vertices, no more of them than a list may have, and the graph is within the limits of a run.
-pub record CanFindRow (P : ℕ) (g : Graph) (targets : List ℕ) (s : ℕ) : Type 0 where
+-- The engine can run, source and targets are vertices, no more of them than a list may have, and the graph is within the limits of a run.
+pub record CanFindRow (CanRun : Type 0) (P : ℕ) (g : Graph) (targets : List ℕ) (s : ℕ) : Type 0 where
+  pub engine : CanRun
   pub ready : IsReady P g
   pub source : IsVertex g.n s
   pub vertices : All (IsVertex g.n) targets
   pub few : length targets ≤ 1048576
-
--- That is so of each source that is asked.
-abbrev pub CanFindRows : (P : ℕ) → Graph → (targets sources : List ℕ) → Type 0
-CanFindRows P g targets sources = All (CanFindRow P g targets) sources

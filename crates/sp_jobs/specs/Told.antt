@@ -17,12 +17,15 @@ pub record Told : Type 0 where
   pub far : ℕ
   pub text : List ℕ
 
+-- How many answers it counts.
 abbrev pub count_of : Told → ℕ
 count_of told = told.count
 
+-- How many of these answers are a vertex that is too far.
 abbrev pub far_of : Told → ℕ
 far_of told = told.far
 
+-- The text that it writes.
 abbrev pub text_of : Told → List ℕ
 text_of told = told.text
 
@@ -43,6 +46,7 @@ AreDue Answers (s ∷ sources) (told ∷ more) = IsDue Answers s told × AreDue 
 abbrev pub told_text : List Told → List ℕ
 told_text all = flat_map text_of all
 
+-- The summary of all these answers.
 abbrev pub IsSummary : List Told → Summary → Type 0
 IsSummary all summary = IsCount (sum_by count_of all) (sum_by far_of all) (told_text all) summary
 

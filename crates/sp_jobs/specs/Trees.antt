@@ -25,12 +25,9 @@ pub record IsTreeTold (P : ℕ) (limit : Option ℕ) (g : Graph) (s : ℕ) (told
   pub is : IsTreeAnswer P limit g s answer
   pub tells : told ≡ told_of_tree answer
 
--- The source is a vertex, the graph within the limits of a run, and the limit a distance.
-pub record CanFindTree (P : ℕ) (limit : Option ℕ) (g : Graph) (s : ℕ) : Type 0 where
+-- The engine can run, the source is a vertex, the graph within the limits of a run, and the limit a distance.
+pub record CanFindTree (CanRun : Type 0) (P : ℕ) (limit : Option ℕ) (g : Graph) (s : ℕ) : Type 0 where
+  pub engine : CanRun
   pub limit_within : IfSome limit (λ l. l ≤ max_dist P)
   pub ready : IsReady P g
   pub vertex : IsVertex g.n s
-
--- That is so of each source that is asked.
-abbrev pub CanFindTrees : (P : ℕ) → (limit : Option ℕ) → Graph → (sources : List ℕ) → Type 0
-CanFindTrees P limit g sources = All (CanFindTree P limit g) sources

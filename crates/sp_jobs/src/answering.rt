@@ -1,4 +1,4 @@
-//! Answers found and written, one source after the other or several side by side.
+//! Finds and writes answers, one source after another or several side by side.
 ghost use Rattle.std.specs.Prelude.{◌≡◌, ◌<◌, ◌≤◌, [], ◌∷◌, length, All, IfOk};
 ghost use denote.Param.Send.{IsSync};
 ghost use Rattle.sp_word.specs.declared.workers.TheConstants.{MOST_WORKERS};
@@ -12,55 +12,55 @@ use crate::progress::{Listener, Nobody};
 use crate::question::Question;
 use crate::writing::{nothing, sum, write_group};
 use sp_device::Write;
+use sp_run::TeamEngine;
 use sp_word::Workers;
 use std::alloc::{AllocError, Global};
-use std::sync::Wait;
 use std::thread;
 use std::thread::{Threads, join_mut};
 
-/// In a graph with fewer vertices and arcs in all, a thread takes longer to start than it saves: sources are answered one after the
-/// other.
+/// If a graph has fewer vertices and arcs in all, starting a thread takes longer than it saves, so the sources are
+/// answered one after another.
 pub const LEAST_ITEMS: usize = 2000;
 
-/// The sources that are asked, and by whom.
+/// The sources to answer, and the workers that answer them.
 #[derive(Drop)]
 pub struct Asked<'a, 'l, L> {
     /// The sources, in the order in which their answers are written.
     pub sources: &'a [u32],
-    /// How many answers that makes in all, as the listener hears.
+    /// The number of answers in all, as reported to the listener.
     pub count: usize,
-    /// How many vertices and arcs the graph has in all.
+    /// The number of vertices and arcs of the graph in all.
     pub items: usize,
-    /// The number of workers, this thread counted.
+    /// The number of workers, including this thread.
     pub workers: Workers,
-    /// The listener that hears how far the answers are.
+    /// The listener for the progress.
     pub listener: &'l L,
 }
 
 impl<'a, 'l, L> Asked<'a, 'l, L> {
-    /// Returns what is asked in a job: these sources, with so many answers in all, of which the listener hears.
-    pub fn of<const P: u32>(
-        job: &Job<'_, P>,
+    /// Returns the request of a job: these sources, with this many answers in all, reported to the job's listener.
+    pub fn of<const P: u32, E: TeamEngine<P>>(
+        job: &Job<'_, E>,
         listener: &'l L,
         sources: &'a [u32],
         count: usize,
     ) -> Asked<'a, 'l, L>
         ensures sources { result.sources.now ≡ sources.now }
         ensures count { result.count ≡ count }
-        ensures workers { result.workers ≡ job.now.team.workers }
+        ensures workers { result.workers ≡ E.worker_count job.now.engine }
     {
         Asked {
             sources,
             count,
             items: job.graph.m().saturating_add(job.graph.n() as usize),
-            workers: job.team.workers,
+            workers: job.engine.workers(),
             listener,
         }
     }
 }
 
-// Returns how many threads are worth their start: as many as there are workers, but no more than processors; one where the
-// graph is too small.
+// Returns how many threads are worth starting: one per worker, but no more than there are processors; and only one if
+// the graph is too small.
 fn count_at_once<R: Threads, L>(rt: &R, asked: &Asked<L>) -> Workers
     ensures { result ≤ asked.now.workers }
 {
@@ -74,9 +74,9 @@ fn count_at_once<R: Threads, L>(rt: &R, asked: &Asked<L>) -> Workers
     }
 }
 
-// Finds the answer for one source by all workers, writes and counts it.
+// Finds the answer for one source with this many workers, writes it and counts it.
 #[tactic(auto, using(crate::proofs::ToldInOrder::none_begun))]
-fn answer_together<Q: Question, R: Threads + Wait + Sync, W: Write>(
+fn answer_together<Q: Question, R: Threads + Sync, W: Write>(
     rt: &R,
     alloc: Global,
     question: &Q,
@@ -87,32 +87,13 @@ fn answer_together<Q: Question, R: Threads + Wait + Sync, W: Write>(
     requires { Q.can_ask question.now source }
     ensures { AreAllAnswered (Q.answers question.now) (source ∷ []) W.Write out.old result out.new }
 {
-    match question.find(rt, alloc, workers, source) {
+    match question.find(alloc, workers, source) {
         Ok(found) => question.write_by(rt, alloc, workers, &found, out),
         Err(AllocError) => Err(BatchError::Memory),
     }
 }
 
-// Finds the answer for one source by this thread alone, writes and counts it.
-#[tactic(auto, using(crate::proofs::ToldInOrder::none_begun))]
-fn answer_source<Q: Question, R: Threads + Sync, W: Write>(
-    rt: &R,
-    alloc: Global,
-    question: &Q,
-    source: u32,
-    out: &mut W,
-) -> Result<Summary, BatchError>
-    requires { Q.can_ask question.now source }
-    ensures { AreAllAnswered (Q.answers question.now) (source ∷ []) W.Write out.old result out.new }
-{
-    match question.find_alone(rt, alloc, source) {
-        Ok(found) => question.write(alloc, &found, out),
-        Err(AllocError) => Err(BatchError::Memory),
-    }
-}
-
-/// Answers the sources that are asked as `answer_sources` does, one after the other, by this thread alone, which waits for no
-/// other.
+/// Answers the requested sources as `answer_sources` does, but one after another, each with one worker: this thread.
 pub fn answer_alone<Q: Question, R: Threads + Sync, W: Write, L: Listener>(
     rt: &R,
     alloc: Global,
@@ -129,13 +110,13 @@ pub fn answer_alone<Q: Question, R: Threads + Sync, W: Write, L: Listener>(
     let mut summary = nothing();
     for source in sources {
         asked.listener.hear(Q::progress(summary, asked.count));
-        let one = answer_source::<Q, R, W>(rt, alloc, question, *source, out)?;
+        let one = answer_together::<Q, R, W>(rt, alloc, question, Workers::one(), *source, out)?;
         summary = sum(summary, one);
     }
     Ok(summary)
 }
 
-// Returns how many of the workers each of some sources has.
+// Returns how many of the workers each of these sources gets.
 fn shared(workers: Workers, sources: usize) -> Workers
     requires { 1 ≤ sources }
     ensures { result ≤ workers }
@@ -143,9 +124,9 @@ fn shared(workers: Workers, sources: usize) -> Workers
     workers.at_most(workers.get() as usize / sources)
 }
 
-// Finds the answers for a group of sources, the workers shared among them. Meanwhile this thread writes those for the group
-// before it.
-fn find_and_write<Q: Question, R: Threads + Wait + Sync, W: Write, L>(
+// Finds the answers for a group of sources, which share the workers. Meanwhile, this thread writes the answers for the
+// group before it.
+fn find_and_write<Q: Question, R: Threads + Sync, W: Write, L>(
     rt: &R,
     alloc: Global,
     question: &Q,
@@ -183,16 +164,16 @@ fn find_and_write<Q: Question, R: Threads + Wait + Sync, W: Write, L>(
     join_mut(rt, &mut find, &mut write)
 }
 
-/// A step of a batch: the summary of what it wrote, and the answers that wait to be written.
+/// A step of a batch: the summary of what it wrote, and the answers that are still to be written.
 #[derive(Drop)]
 pub(crate) struct Step<F> {
     pub(crate) summary: Summary,
     pub(crate) waiting: Vec<F>,
 }
 
-// Answers a group of sources, behind those whose answers wait: these are written, and those of the group wait then. Where
-// memory for the group is refused, its sources are answered one after the other, by this thread.
-fn answer_group<Q: Question, R: Threads + Wait + Sync, W: Write>(
+// Answers a group of sources while earlier answers still wait to be written: writes these, and leaves the answers of
+// the group waiting. If an allocation for the group fails, this thread answers its sources one after another.
+fn answer_group<Q: Question, R: Threads + Sync, W: Write>(
     rt: &R,
     alloc: Global,
     question: &Q,
@@ -227,8 +208,9 @@ fn answer_group<Q: Question, R: Threads + Wait + Sync, W: Write>(
     }
 }
 
-// Returns how many of the sources that are left the next group has: what is over where they are no multiple of the number of
-// workers, else as many as there are workers. So the first group is the small one, and each later group is full.
+// Returns how many of the remaining sources form the next group: the remainder if their number isn't a multiple of the
+// number of workers, and otherwise one source per worker. So the first group is the small one, and each later group is
+// full.
 fn group_size(left: usize, workers: Workers) -> usize
     requires { 1 ≤ left }
     ensures some { 1 ≤ result }
@@ -239,9 +221,9 @@ fn group_size(left: usize, workers: Workers) -> usize
     (left - 1) % workers.get() as usize + 1
 }
 
-// Answers sources by groups of as many as there are workers, or fewer in the first one. While a group is found, the one before it
-// is written; the last one is written by all workers.
-fn answer_side_by_side<Q: Question, R: Threads + Wait + Sync, W: Write, L: Listener>(
+// Answers sources in groups of one per worker; the first group may be smaller. While the answers for a group are found,
+// those for the group before it are written. All workers write the answers for the last group.
+fn answer_side_by_side<Q: Question, R: Threads + Sync, W: Write, L: Listener>(
     rt: &R,
     alloc: Global,
     question: &Q,
@@ -280,15 +262,15 @@ fn answer_side_by_side<Q: Question, R: Threads + Wait + Sync, W: Write, L: Liste
     Ok(sum(summary, last))
 }
 
-/// Answers the sources that are asked, in their order: finds what answers each of them, writes and counts it. Several are
-/// answered at once where there are several workers and the graph is large enough: as many as there are workers, but no more
-/// than processors.
+/// Answers the requested sources in their order: finds the answer for each, writes it and counts it. If there are
+/// several workers and the graph is large enough, several sources are answered at once: one per worker, but no more
+/// than there are processors.
 ///
-/// This thread writes the answers for a group of sources while the workers find those for the next, so no more answers are
-/// kept than those of two groups. The first group is smaller where the sources are no multiple of the workers, and the answers
-/// for the last one are written by all workers. Where memory for a group is refused, its sources are answered one after the
-/// other. Where that is refused too, or the writer fails, a beginning of the text stands.
-pub fn answer_sources<Q: Question, R: Threads + Wait + Sync, W: Write, L: Listener>(
+/// This thread writes the answers for a group of sources while the workers find those for the next one, so the answers
+/// of at most two groups are kept. The first group is smaller if the number of sources isn't a multiple of the number
+/// of workers. All workers write the answers for the last group. If an allocation for a group fails, its sources are
+/// answered one after another. If that fails too, or the writer fails, a prefix of the text has been written.
+pub fn answer_sources<Q: Question, R: Threads + Sync, W: Write, L: Listener>(
     rt: &R,
     alloc: Global,
     question: &Q,

@@ -10,16 +10,18 @@ ghost use Rattle.sp_jobs.specs.Answered.{MayFail, wrote_by};
 ghost use Rattle.sp_jobs.specs.Listing.{HasLeft, IsNumbered, MayRead, MayRefuse, asked_in};
 ghost use Rattle.sp_jobs.specs.Batch.{BatchAnswered, BatchOfSome, IsBatch, TreesAnswered, TreesOfSome};
 
-use crate::answering::Asked;
+use crate::answering::{Asked, answer_sources};
 use crate::answers::{BatchError, Role, Summary};
-use crate::crews::SourceCrew;
 use crate::listing::Listing;
 use crate::places::chosen;
 use crate::progress::{Listener, Nobody};
 use crate::settings::{BucketWidth, Settings};
+use crate::trees::TreeQuestion;
 use crate::vertices::first_above;
 use sp_dimacs::{Read, Write, read_ss};
 use sp_network::{Direction, Network, Peeked};
+use sp_run::RunCrew;
+use sp_serial::Rooms;
 use sp_word::{Meter, Workers};
 use std::alloc::Global;
 use std::sync::Wait;
@@ -27,7 +29,7 @@ use std::thread::Threads;
 
 // Tests the sources of a batch, and then finds and writes their answers.
 #[tactic(auto, using(crate::proofs::ToldInOrder::not_early))]
-fn answer_batch<const P: u32, R: SourceCrew<P>, W: Write, L: Listener>(
+fn answer_batch<const P: u32, R: RunCrew<P>, W: Write, L: Listener>(
     rt: &R,
     alloc: Global,
     file: Network,
@@ -50,20 +52,25 @@ fn answer_batch<const P: u32, R: SourceCrew<P>, W: Write, L: Listener>(
     }
     let graph = settings.build(rt, alloc, file)?;
     let uncounted = Meter::new();
-    let job = settings.job(&graph, &uncounted);
-    let asked = Asked::of(&job, settings.listener, sources, sources.len());
-    rt.answer_trees::<W, L>(alloc, &graph, job.team, limit, job.meter, &asked, out)
+    let question = TreeQuestion {
+        job: settings.job(rt, &graph, &uncounted),
+        limit,
+        rooms: Rooms::new(alloc, settings.workers.get() as usize),
+    };
+    let count = sources.len();
+    let asked = Asked::of::<P, _>(&question.job, settings.listener, sources, count);
+    answer_sources::<_, R, W, L>(rt, alloc, &question, &asked, out)
 }
 
-/// Reads a graph and a list of sources, and writes for each source, in the order of the list, its shortest-path tree,
-/// or the line of the vertex that is too far for a word of `P` bits of predecessor.
+/// Reads a graph and a list of sources. For each source, in the order of the list, writes its shortest-path tree, or
+/// the line of the vertex that is too far for a word of `P` bits of predecessor.
 ///
-/// The graph is read first, then the sources; then all sources are tested before anything is written. `width` is the width
-/// of a bucket, and `workers` the number of threads, this one counted; what is written is the same for all widths and
-/// numbers. Where memory is refused or the writer fails, a beginning of the text stands.
+/// The graph is read first, then the sources; then all sources are tested, before anything is written. `width` is the
+/// width of a bucket, and `workers` is the number of threads, including this one. The text is the same for all widths
+/// and numbers of threads. If an allocation or the writer fails, a prefix of the text has been written.
 ///
 /// As many sources are answered at once as there are workers, each by one of them. This thread writes the answers for a
-/// group of sources while the workers find those for the next.
+/// group of sources while the workers find those for the next one.
 pub fn run_batch<const P: u32, R: Threads + Wait + Sync, G: Read, S: Read, W: Write>(
     rt: &R,
     alloc: Global,
@@ -99,20 +106,13 @@ pub fn run_batch<const P: u32, R: Threads + Wait + Sync, G: Read, S: Read, W: Wr
     answer_batch::<P, &R, W, Nobody>(&rt, alloc, file, sources, None, &settings, out)
 }
 
-/// Does what `run_batch` does for the sources of a listing, and tells a listener how far it is: when the graph stands, and before each
-/// source, or each group of sources that are answered at once. Where a limit is given, it writes for each source the part of its tree
-/// within that distance, however far other vertices are.
+/// Does what `run_batch` does for the sources of a listing, and reports the progress to a listener: when the graph has
+/// been built, and before each source, or each group of sources that are answered at once. With a limit, it writes for
+/// each source the part of its tree within that distance, however far other vertices are.
 ///
-/// By `&Alone::new(rt)` the calling thread makes the whole job, and waits for no other; by `&rt`, a reference to the runtime's, threads
-/// may wait for one another.
-pub fn run_batch_told<
-    const P: u32,
-    R: SourceCrew<P>,
-    G: Read,
-    S: Read + Drop,
-    W: Write,
-    L: Listener,
->(
+/// With `&Alone::new(rt)` no thread sleeps until another wakes it, and if there is one worker, the calling thread does
+/// the whole job. With `&rt`, a reference to the runtime's, threads may wait for one another.
+pub fn run_batch_told<const P: u32, R: RunCrew<P>, G: Read, S: Read + Drop, W: Write, L: Listener>(
     rt: &R,
     alloc: Global,
     gr: &mut Peeked<G>,

@@ -1,4 +1,4 @@
-//! The answers for sources, found one after the other or side by side.
+//! The answers for sources, found one after another or side by side.
 ghost use Rattle.std.specs.Prelude.{◌≡◌, ◌++◌, All, IfOk};
 ghost use denote.Param.Send.{IsSync};
 ghost use Rattle.sp_jobs.specs.Steps.{AreFound};
@@ -6,12 +6,11 @@ ghost use Rattle.sp_jobs.specs.Steps.{AreFound};
 use crate::question::Question;
 use sp_word::Workers;
 use std::alloc::{AllocError, Global};
-use std::sync::Wait;
+use std::marker::Sync;
 use std::thread::{Threads, join};
 
-// Finds the answers for sources, one after the other, and makes them ready to be written.
-fn find_in_turn<Q: Question, R: Threads + Wait + Sync>(
-    rt: &R,
+// Finds the answers for sources, one after another, and prepares them for writing.
+fn find_in_turn<Q: Question>(
     alloc: Global,
     question: &Q,
     workers: &Workers,
@@ -23,13 +22,13 @@ fn find_in_turn<Q: Question, R: Threads + Wait + Sync>(
 {
     let mut group = Vec::new(alloc);
     for source in sources {
-        let found = question.find(rt, alloc, *workers, *source)?;
+        let found = question.find(alloc, *workers, *source)?;
         group.push(question.ready(alloc, found))?;
     }
     Ok(group)
 }
 
-// Puts answers behind others.
+// Appends the second list of answers to the first.
 fn put_behind<F: Drop>(mut first: Vec<F>, mut second: Vec<F>) -> Result<Vec<F>, AllocError>
     ensures { IfOk result (λ group. group.items ≡ first.items ++ second.items) }
 {
@@ -37,11 +36,11 @@ fn put_behind<F: Drop>(mut first: Vec<F>, mut second: Vec<F>) -> Result<Vec<F>, 
     Ok(first)
 }
 
-/// Finds the answers for sources, in their order, each on a thread of its own by so many workers.
+/// Finds the answers for sources, in their order, each on a thread of its own with this many workers.
 ///
-/// Where no thread can be had, this one finds the answers that are left.
+/// If no thread can be started, this one finds the remaining answers.
 #[cycle(groups)]
-pub(crate) fn find_group<Q: Question, R: Threads + Wait + Sync>(
+pub(crate) fn find_group<Q: Question, R: Threads + Sync>(
     rt: &R,
     alloc: Global,
     question: &Q,
@@ -53,7 +52,7 @@ pub(crate) fn find_group<Q: Question, R: Threads + Wait + Sync>(
         (λ group. AreFound Q.told (Q.answers question.now) sources.now group.items) }
 {
     if sources.len() < 2 {
-        return find_in_turn(rt, alloc, question, workers, sources);
+        return find_in_turn(alloc, question, workers, sources);
     }
     let half = sources.len() / 2;
     let (left, right) = sources.split_at(half);

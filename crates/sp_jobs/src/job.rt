@@ -1,14 +1,13 @@
-//! A job: how its graph is taken from a file, and what each of its runs takes.
+//! A job: how it gets its graph from a file, and what each of its runs needs.
 ghost use Rattle.std.specs.Prelude.{◌≡◌, ℕ, true, List, Some, IfOk, IfErr, MatchResult};
 ghost use Rattle.std.specs.List.Sorted.{IsPermutation};
 ghost use Rattle.sp_word.specs.Word.{is_layout};
 ghost use Rattle.sp_paths.specs.Bags.{AreSame};
 ghost use Rattle.sp_dimacs.specs.Graph.{IsNetworkUpTo, graph_of};
 ghost use Rattle.sp_network.specs.Network.{directed, most_of};
-ghost use Rattle.sp_forest.specs.Run.{IsAsked, AreRunWords, IsRunRefusal};
-ghost use Rattle.sp_jobs.specs.Ready.{IsReady};
 ghost use Rattle.sp_jobs.specs.Listing.{HasLeft, IsNumbered, IsReadBy, MayRefuse, AreRefused, asked_in};
 ghost use Rattle.sp_jobs.specs.Network.{IsGraphRefused, MayReadGraph, SpellsGraph};
+ghost use Rattle.sp_jobs.specs.Width.{width_among};
 ghost use Rattle.sp_jobs.specs.Answered.{AreRead, IsFileFault, IsGraphFault, IsListFault};
 
 use crate::answers::BatchError;
@@ -18,14 +17,14 @@ use crate::settings::Settings;
 use sp_dimacs::Read;
 use sp_graph::Graph;
 use sp_network::{Network, Peeked, read_network};
-use sp_run::{Run, RunError, RunWords, useful_team, words_of_run};
-use sp_word::{Crew, Meter, Team, Workers};
+use sp_run::{ByTeam, RunCrew};
+use sp_word::{Crew, Meter};
 use std::alloc::{AllocError, Global};
 use std::marker::Sync;
 use std::thread::Threads;
 
 impl<const P: u32, L: Listener> Settings<'_, P, L> {
-    /// Reads the graph of a job from a file, by as many threads as there are workers. Each job takes its graph by this call, and
+    /// Reads the graph of a job from a file, with one thread per worker. Each job gets its graph by this call, and
     /// then, once it has tested its numbers, by `build`.
     pub fn read_graph<R: Crew, G: Read>(
         &self,
@@ -88,8 +87,8 @@ impl<const P: u32, L: Listener> Settings<'_, P, L> {
         }
     }
 
-    /// Builds the graph of a file that was read, with its arcs in the direction that is asked for, by as many threads as there are
-    /// workers, and lets the listener hear of it.
+    /// Builds the graph of a file that was read, with its arcs in the requested direction and with one thread per
+    /// worker, and reports it to the listener.
     pub fn build<R: Threads + Sync>(
         &self,
         rt: &R,
@@ -112,56 +111,36 @@ impl<const P: u32, L: Listener> Settings<'_, P, L> {
         Ok(graph)
     }
 
-    /// Returns the job in a graph. Its runs count on the listener's meter, or on the other one where there is none.
-    pub(crate) fn job<'a>(&'a self, graph: &'a Graph, uncounted: &'a Meter) -> Job<'a, P>
+    /// Returns the job in a graph. Its runs count on the listener's meter, or on the other one if the listener has
+    /// none.
+    pub fn job<'a, C: RunCrew<P>>(
+        &'a self,
+        rt: &'a C,
+        graph: &'a Graph,
+        uncounted: &'a Meter,
+    ) -> Job<'a, ByTeam<'a, C, P>>
         requires { is_layout P ≡ true }
-        ensures { result.graph.now ≡ graph.now }
+        ensures graph { result.graph.now ≡ graph.now }
+        ensures delta { result.engine.team.delta ≡ width_among graph.now.arcs self.now.width }
+        ensures workers { result.engine.team.workers ≡ self.now.workers }
     {
         Job {
             graph,
-            team: self.team_for(graph),
-            meter: self.listener.meter().unwrap_or(uncounted),
+            engine: ByTeam {
+                rt,
+                team: self.team_for(graph),
+                meter: self.listener.meter().unwrap_or(uncounted),
+            },
         }
     }
 }
 
-/// A job whose graph has been read: the graph, and what each of its runs takes.
+/// A job whose graph has been read: the graph, and what each of its runs needs.
 #[derive(Drop)]
-pub struct Job<'a, const P: u32> {
+pub struct Job<'a, E> {
     /// The graph that the runs search.
     pub graph: &'a Graph,
-    /// The width of a bucket and the number of workers of a run, which `Settings::team_for` has chosen for this graph.
-    pub team: Team<P>,
-    /// The meter on which the workers count the vertices that they relax.
-    pub meter: &'a Meter,
-}
-
-impl<'a, const P: u32> Job<'a, P> {
-    /// Returns the same job by so many workers.
-    pub(crate) fn by(&self, workers: Workers) -> Job<'a, P>
-        ensures { result.graph.now ≡ self.now.graph.now }
-    {
-        Job {
-            graph: self.graph,
-            team: Team {
-                delta: self.team.delta,
-                workers,
-            },
-            meter: self.meter,
-        }
-    }
-
-    /// Runs from sources, as far as is asked. This is the one call by which a job runs by its team, of which no more workers run
-    /// than there is work for in the graph.
-    pub fn run<R: Crew>(&self, rt: &R, alloc: Global, asked: Run) -> Result<RunWords<P>, RunError>
-        requires ready { IsReady P self.now.graph.now }
-        requires asked { IsAsked P self.now.graph.now.n asked.until }
-        ensures words { IfOk result (λ made. AreRunWords P self.now.graph.now
-            asked.entry.sources.now asked.entry.until made.words.items made.far) }
-        ensures refused { IfErr result
-            (IsRunRefusal self.now.graph.now asked.entry.sources.now) }
-    {
-        let team = useful_team(rt, self.graph.n(), &self.team);
-        words_of_run(rt, alloc, self.graph, team, self.meter, asked)
-    }
+    /// The engine of the runs: a team with the width of a bucket that `Settings::team_for` chose for this graph, and its
+    /// meter.
+    pub engine: E,
 }

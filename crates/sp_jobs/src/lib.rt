@@ -1,11 +1,10 @@
-//! Jobs, from bytes to bytes: the settings of a job and the lists that it answers; a question that is asked of each source; and the jobs
-//! themselves: the trees of sources, the lines of a matrix, and the forest of all sources.
+//! Jobs, from bytes to bytes: the settings of a job and the lists that it answers; a question about each source; and
+//! the jobs themselves: the trees of sources, the lines of a matrix, and the forest of all sources.
 #![tactic(auto)]
 
 mod answering;
 mod answers;
 mod batch;
-mod crews;
 mod finding;
 mod forest_answer;
 mod job;
@@ -18,7 +17,6 @@ mod question;
 mod row;
 mod row_lines;
 mod settings;
-mod targets;
 mod trees;
 mod vertices;
 mod writing;
@@ -26,7 +24,6 @@ mod writing;
 pub use answering::{Asked, LEAST_ITEMS, answer_alone, answer_sources};
 pub use answers::{BatchError, Role, Summary};
 pub use batch::{run_batch, run_batch_told};
-pub use crews::SourceCrew;
 pub use job::Job;
 pub use listing::{Listed, Listing};
 pub use matrix::run_matrix_told;
@@ -35,5 +32,4 @@ pub use places::{Places, chosen};
 pub use progress::{Listener, Nobody, Progress};
 pub use question::Question;
 pub use settings::{BucketWidth, Settings};
-pub use targets::find_targets;
 pub use vertices::first_above;

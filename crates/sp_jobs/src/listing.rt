@@ -1,4 +1,4 @@
-//! Lists of sources or of targets, which a text spells or which are given by their numbers.
+//! Lists of sources or of targets, given as a text or as numbers.
 ghost use Rattle.std.specs.Prelude.{◌≡◌, ℕ, true, List, IfOk, IfErr, MatchResult};
 ghost use Rattle.sp_word.specs.Word.{is_layout};
 ghost use Rattle.sp_jobs.specs.Places.{AreNumbered};
@@ -11,23 +11,23 @@ use std::alloc::Global;
 /// A list of sources or of targets.
 #[derive(Drop)]
 pub enum Listing<'a, S> {
-    /// The vertices that the text of a device spells, or those at some places of it if these are given.
+    /// The vertices in the text of a device, or only those at some places of the list if places are given.
     InText(S, Option<Places>),
     /// These vertices.
     These(&'a [u32]),
 }
 
-/// What was read of a list.
+/// The content of a list after it was read.
 #[derive(Drop)]
 pub enum Listed<'a> {
-    /// What its text spells, and the places of it that are wanted.
+    /// What the text spells, and the requested places, if any.
     Spelled(SsFile, Option<Places>),
-    /// The vertices that were given.
+    /// The given vertices.
     These(&'a [u32]),
 }
 
 impl<'a, S: Read + Drop> Listing<'a, S> {
-    /// Reads the list, if a text spells it.
+    /// Reads the list if it is a text.
     pub fn read<const P: u32>(self, alloc: Global) -> Result<Listed<'a>, DimacsError>
         requires layout { is_layout P ≡ true }
         requires numbered { IsNumbered self }

@@ -10,27 +10,29 @@ ghost use Rattle.sp_jobs.specs.Listing.{HasLeft, IsNumbered, MayRefuse, asked_in
 ghost use Rattle.sp_jobs.specs.Matrix.{IsMatrix};
 ghost use Rattle.sp_jobs.specs.Matrix.{MatrixAnswered, MatrixOfSome};
 
-use crate::answering::Asked;
+use crate::answering::{Asked, answer_sources};
 use crate::answers::{BatchError, Role, Summary};
-use crate::crews::SourceCrew;
 use crate::listing::Listing;
 use crate::progress::Listener;
+use crate::row::RowQuestion;
 use crate::settings::Settings;
 use crate::vertices::first_above;
 use sp_dimacs::{Read, Write};
 use sp_network::{Network, Peeked};
+use sp_run::RunCrew;
+use sp_serial::Rooms;
 use sp_word::Meter;
 use std::alloc::Global;
 
 // Tests the sources and then the targets of a matrix, and then finds and writes its lines.
 #[tactic(auto, using(crate::proofs::ToldInOrder::not_early))]
-fn answer_matrix<const P: u32, R: SourceCrew<P>, W: Write, L: Listener>(
-    rt: &R,
+fn answer_matrix<'x, const P: u32, R: RunCrew<P>, W: Write, L: Listener>(
+    rt: &'x R,
     alloc: Global,
     file: Network,
     sources: &[u32],
-    targets: &[u32],
-    settings: &Settings<P, L>,
+    targets: &'x [u32],
+    settings: &'x Settings<P, L>,
     out: &mut W,
 ) -> Result<Summary, BatchError>
     requires crew { R.is_shared }
@@ -51,27 +53,31 @@ fn answer_matrix<const P: u32, R: SourceCrew<P>, W: Write, L: Listener>(
     }
     let graph = settings.build(rt, alloc, file)?;
     let uncounted = Meter::new();
-    let job = settings.job(&graph, &uncounted);
+    let question = RowQuestion {
+        job: settings.job(rt, &graph, &uncounted),
+        targets,
+        rooms: Rooms::new(alloc, settings.workers.get() as usize),
+    };
     let count = sources.len().saturating_mul(targets.len());
-    let asked = Asked::of(&job, settings.listener, sources, count);
-    rt.answer_rows::<W, L>(alloc, &graph, job.team, targets, job.meter, &asked, out)
+    let asked = Asked::of::<P, _>(&question.job, settings.listener, sources, count);
+    answer_sources::<_, R, W, L>(rt, alloc, &question, &asked, out)
 }
 
-/// Reads a graph, and writes for each of the sources, in the order of their list, and for each of the targets, in the order of
-/// their list, the line of this pair: the target's word of the source's shortest-path tree, or the vertex that is too far for a
-/// word of `P` bits of predecessor, or that no walk leads there.
+/// Reads a graph. For each source, in the order of its list, and for each target, in the order of its list, writes the
+/// line of this pair: the target's word of the source's shortest-path tree, or the vertex that is too far for a word of
+/// `P` bits of predecessor, or that no walk leads to the target.
 ///
-/// The graph is read first, then the sources, then the targets, where a text spells them; then all sources are tested, and then
-/// all targets, before anything is written. What is written is the same for all widths of buckets and numbers of workers. Where
-/// memory is refused or the writer fails, a beginning of the text stands.
+/// The graph is read first, then the sources, then the targets, if they are texts; then all sources are tested, and
+/// then all targets, before anything is written. The text is the same for all widths of buckets and numbers of workers.
+/// If an allocation or the writer fails, a prefix of the text has been written.
 ///
-/// From each source it looks for near targets, and where they aren't near it makes one run, no further than to the farthest of
-/// the targets. Several sources are answered at once, as `run_batch` does; a source's lines are written as soon as they and those
-/// before them are known. The listener hears when the graph stands, and before each source, or each group of sources that are
-/// answered at once. The crew is as in `run_batch_told`.
+/// From each source it looks for near targets. If they aren't near, it makes one run, which goes no farther than the
+/// farthest of the targets. Several sources are answered at once, as `run_batch` does. The lines of a source are
+/// written as soon as they and those before them are known. The listener is called when the graph has been built, and
+/// before each source, or each group of sources that are answered at once. The crew is as in `run_batch_told`.
 pub fn run_matrix_told<
     const P: u32,
-    R: SourceCrew<P>,
+    R: RunCrew<P>,
     G: Read,
     S: Read + Drop,
     T: Read + Drop,

@@ -18,12 +18,12 @@ use crate::vertices::first_above;
 use crate::writing::nothing;
 use sp_dimacs::{Read, Write};
 use sp_network::{Network, Peeked};
-use sp_run::Nearest;
-use sp_word::{Crew, Meter};
+use sp_run::{Nearest, RunCrew};
+use sp_word::Meter;
 use std::alloc::Global;
 
 // Tests the sources, and then finds and writes their answer.
-fn answer_nearest<const P: u32, R: Crew, W: Write, L: Listener>(
+fn answer_nearest<const P: u32, R: RunCrew<P>, W: Write, L: Listener>(
     rt: &R,
     alloc: Global,
     file: Network,
@@ -31,6 +31,7 @@ fn answer_nearest<const P: u32, R: Crew, W: Write, L: Listener>(
     settings: &Settings<P, L>,
     out: &mut W,
 ) -> Result<Summary, BatchError>
+    requires crew { R.is_shared }
     requires layout { is_layout P ≡ true }
     requires network { IsNetworkUpTo P (most_of settings.now.direction) file }
     requires sources { AreNumbered asked.sources.now }
@@ -48,25 +49,33 @@ fn answer_nearest<const P: u32, R: Crew, W: Write, L: Listener>(
         count: 1,
     });
     let uncounted = Meter::new();
-    let job = settings.job(&graph, &uncounted);
-    let found = find_answer::<P, R>(rt, alloc, &job, asked)?;
+    let job = settings.job(rt, &graph, &uncounted);
+    let found = find_answer(alloc, &job, asked)?;
     write_answer(&found, out)
 }
 
-/// Reads a graph and a listing of sources, and writes the forest of all sources: of each vertex its least distance from any of
-/// them, the smallest vertex before it on such a walk, and the source that its predecessors lead to. A source that is named
-/// twice counts once. With a limit the forest has the vertices that are no farther; without one it may be that a vertex is
-/// too far for a word of `P` bits of predecessor, and the line of the smallest such vertex is written in its place.
+/// Reads a graph and a listing of sources, and writes the forest of all sources: for each vertex its least distance
+/// from any of them, the smallest vertex before it on such a walk, and the source to which its predecessors lead. A
+/// source that is named twice counts once. With a limit, the forest has the vertices up to that distance. Without a
+/// limit, a vertex may be too far for a word of `P` bits of predecessor; then the line of the smallest such vertex is
+/// written instead.
 ///
-/// The graph is read first, then the sources, where a text spells them; then all sources are tested before anything is written.
-/// What is written is the same for all widths of buckets and numbers of workers. Where memory is refused, nothing is written; where
-/// the writer fails, a beginning of the text stands.
+/// The graph is read first, then the sources, if they are a text; then all sources are tested, before anything is
+/// written. The text is the same for all widths of buckets and numbers of workers. If an allocation fails, nothing is
+/// written; if the writer fails, a prefix of the text has been written.
 ///
-/// With a limit the calling thread first looks for a small forest, at the cost of what it touches. Where it finds none, and
-/// without a limit, one run is made, with all workers. The listener hears when the graph stands, and before the forest is found;
-/// its meter counts the vertices that the run relaxes, and none that the calling thread's look does. The summary counts one
-/// answer.
-pub fn run_nearest_told<const P: u32, R: Crew, G: Read, S: Read + Drop, W: Write, L: Listener>(
+/// With a limit, the calling thread first looks for a small forest, at the cost of what it touches. If it finds none,
+/// or without a limit, one run is made, with all workers. The listener is called when the graph has been built, and
+/// before the forest is found. Its meter counts the vertices that the run relaxes, and none that the calling thread
+/// relaxes on its own. The summary counts one answer. The crew is as in `run_batch_told`.
+pub fn run_nearest_told<
+    const P: u32,
+    R: RunCrew<P>,
+    G: Read,
+    S: Read + Drop,
+    W: Write,
+    L: Listener,
+>(
     rt: &R,
     alloc: Global,
     gr: &mut Peeked<G>,
@@ -75,6 +84,7 @@ pub fn run_nearest_told<const P: u32, R: Crew, G: Read, S: Read + Drop, W: Write
     out: &mut W,
     settings: &Settings<P, L>,
 ) -> Result<Summary, BatchError>
+    requires crew { R.is_shared }
     requires layout { is_layout P ≡ true }
     requires sources { IsNumbered sources }
     requires limit { IfSome limit (λ limit. limit ≤ max_dist P) }

@@ -1,4 +1,4 @@
-//! Places of a list of sources. A job answers the sources that stand there, and no others.
+//! Places in a list of sources. A job answers only the sources at these places.
 ghost use Rattle.std.specs.Prelude.{◌≡◌, ◌≤◌, ◌↔◌, IsSome, IfSome, Some};
 ghost use Rattle.sp_dimacs.specs.Sources.{AreSourcesWithin};
 ghost use Rattle.sp_jobs.specs.Places.{part_of, AreNumbered};
@@ -6,9 +6,10 @@ ghost use Rattle.sp_jobs.specs.Places.{part_of, AreNumbered};
 use sp_dimacs::SsFile;
 use std::marker::Model;
 
-/// The places of a list from a first to a last one, both counted from 1. There are none if the last comes before the first.
+/// The places of a list from a first one to a last one, both counted from 1. There are none if the last is less than
+/// the first.
 ///
-/// In contracts the places are these two numbers.
+/// In contracts, the places are these two numbers.
 #[derive(Clone, Copy, Debug, PartialEq, Eq)]
 pub struct Places {
     first: u32,
@@ -39,7 +40,7 @@ impl Places {
         Some(Places { first, last })
     }
 
-    /// Returns the part of a list that stands at these places. Places beyond the end of the list are passed over.
+    /// Returns the part of a list at these places. Places beyond the end of the list are ignored.
     #[tactic(auto, using(std::proofs::lemmas::List::take_min, std::proofs::lemmas::List::drop_min))]
     pub fn of(self, list: &[u32]) -> &[u32]
         ensures { result.now ≡ part_of (Some self) list.now }
@@ -49,7 +50,7 @@ impl Places {
     }
 }
 
-/// Returns the sources of a file that stand at these places, or all of them if no places are given.
+/// Returns the sources of a file at these places, or all of them if no places are given.
 #[tactic(auto, using(crate::proofs::PartsOfLists::chosen_numbered))]
 pub fn chosen<const P: u32>(places: Option<Places>, file: &SsFile) -> &[u32]
     requires { AreSourcesWithin P file.now }

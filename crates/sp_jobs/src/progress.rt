@@ -1,4 +1,4 @@
-//! The progress of a batch, and the listener that hears of it.
+//! The progress of a batch, and the listener to which it is reported.
 use crate::answers::Summary;
 use sp_word::Meter;
 use std::fmt;
@@ -6,13 +6,13 @@ use std::fmt;
 /// The progress of a batch.
 #[derive(Clone, Copy, Debug, PartialEq, Eq)]
 pub enum Progress {
-    /// The files are read, and the rows of the graph are built.
+    /// The files have been read, and the rows of the graph have been built.
     Graph { vertices: u32, arcs: usize },
-    /// The answers that the summary counts are written, of `count` sources in all.
+    /// The answers that the summary counts have been written, of `count` sources in all.
     Sources { written: Summary, count: usize },
-    /// The answers that the summary counts are written, of `count` runs in all, each from all sources.
+    /// The answers that the summary counts have been written, of `count` runs in all, each from all sources.
     Runs { written: Summary, count: usize },
-    /// The lines of a matrix that the summary counts are written, of `count` in all.
+    /// The lines of a matrix that the summary counts have been written, of `count` in all.
     Lines { written: Summary, count: usize },
     /// The answers for the first `found` of `count` pairs are known.
     Pairs { found: usize, count: usize },
@@ -41,20 +41,21 @@ impl fmt::Display for Progress {
     }
 }
 
-/// A listener that hears of a batch's progress, on the thread that called the batch. What a batch answers and writes doesn't
+/// A listener for a batch's progress, on the thread that called the batch. What a batch returns and writes doesn't
 /// depend on its listener.
 pub trait Listener: Drop {
-    /// Hears of the progress: once when the graph is built, and before each run from a source, a group of sources or a pair.
+    /// Receives the progress: once when the graph has been built, and before each run from a source, a group of sources
+    /// or a pair.
     fn hear(&self, progress: Progress);
 
-    /// Returns the meter on which the workers count the vertices that they relax, if the listener reads it while they work.
-    /// There is none by default.
+    /// Returns the meter on which the workers count the vertices that they relax, if the listener reads it during the
+    /// run. By default there is none.
     fn meter(&self) -> Option<&Meter> {
         None
     }
 }
 
-/// A listener that takes no notice of what it hears.
+/// A listener that ignores all progress.
 #[derive(Drop)]
 pub struct Nobody;
 

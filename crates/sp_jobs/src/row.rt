@@ -1,4 +1,4 @@
-//! The question of a matrix: what are the answers of a source for all targets.
+//! The question of a matrix: the answers of a source for all targets.
 ghost use Rattle.std.specs.Prelude.{◌≡◌, length, IfOk};
 ghost use Rattle.sp_jobs.specs.Told.{IsDue};
 ghost use Rattle.sp_word.specs.Word.{max_dist};
@@ -10,15 +10,14 @@ use crate::job::Job;
 use crate::progress::Progress;
 use crate::question::Question;
 use crate::row_lines::write_row;
-use crate::targets::find_targets;
 use sp_answer::PairAnswer;
 use sp_device::Write;
 use sp_graph::Graph;
-use sp_serial::Rooms;
-use sp_word::{Alone, Crew, Workers};
+use sp_run::TeamEngine;
+use sp_serial::{Rooms, answers_near};
+use sp_word::Workers;
 use std::alloc::{AllocError, Global};
-use std::sync::Wait;
-use std::thread::Threads;
+use std::marker::Sync;
 
 /// The row of a source: each target with its answer, in the order of the targets.
 #[derive(Drop)]
@@ -27,16 +26,16 @@ pub struct Row {
     pub(crate) lines: Vec<(u32, PairAnswer)>,
 }
 
-/// The question of a matrix: what are the answers of a source of the graph for all targets.
+/// The question of a matrix: the answers of a source of the graph for all targets.
 #[derive(Drop)]
-pub struct RowQuestion<'a, const P: u32> {
-    pub(crate) job: Job<'a, P>,
+pub struct RowQuestion<'a, E, const P: u32> {
+    pub(crate) job: Job<'a, E>,
     pub(crate) targets: &'a [u32],
-    /// The rooms in which near targets are looked for.
+    /// The rooms in which it looks for near targets.
     pub(crate) rooms: Rooms<P>,
 }
 
-// Returns the row of a source, of the answers for its targets.
+// Returns the row of a source from the answers for its targets.
 fn row_of<const P: u32>(
     alloc: Global,
     graph: &Graph,
@@ -55,16 +54,16 @@ fn row_of<const P: u32>(
     Ok(Row { source, lines })
 }
 
-// Returns the row of a source: near targets are looked for in a room, others by a run that goes no further than they ask for.
-// Without targets there is no search.
-fn find_row<const P: u32, R: Crew>(
-    rt: &R,
+// Returns the row of a source. A room finds near targets. A run finds the others, and goes no farther than they
+// require. Without targets there is no search.
+fn find_row<const P: u32, E: TeamEngine<P> + Drop>(
     alloc: Global,
-    question: &RowQuestion<'_, P>,
+    question: &RowQuestion<'_, E, P>,
     workers: Workers,
     source: u32,
 ) -> Result<Row, AllocError>
-    requires { CanFindRow P question.now.job.graph.now question.now.targets.now source }
+    requires { CanFindRow (E.can_run question.now.job.engine) P question.now.job.graph.now
+        question.now.targets.now source }
     ensures { IfOk result (λ found. IsDue
         (IsRowTold P question.now.job.graph.now question.now.targets.now)
         source (told_of_row found)) }
@@ -75,19 +74,20 @@ fn find_row<const P: u32, R: Crew>(
             lines: Vec::new(alloc),
         });
     }
-    let job = question.job.by(workers);
+    let (engine, graph) = (question.job.engine.by(workers), question.job.graph);
     let targets = question.targets;
-    let answers = find_targets(rt, alloc, &question.rooms, &job, source, targets)?;
-    row_of::<P>(alloc, job.graph, source, targets, &answers)
+    let answers = answers_near(&engine, &question.rooms, alloc, graph, source, targets)?;
+    row_of::<P>(alloc, graph, source, targets, &answers)
 }
 
-impl<'a, const P: u32> Question for RowQuestion<'a, P> {
+impl<'a, E: TeamEngine<P> + Drop + Sync, const P: u32> Question for RowQuestion<'a, E, P> {
     type Found = Row;
 
     ghost told = { told_of_row };
 
     ghost can_ask = { λ question s.
-        CanFindRow P question.job.graph.now question.targets.now s };
+        CanFindRow (E.can_run question.job.engine) P question.job.graph.now
+        question.targets.now s };
 
     ghost answers = { λ question s told.
         IsRowTold P question.job.graph.now question.targets.now s told };
@@ -96,23 +96,8 @@ impl<'a, const P: u32> Question for RowQuestion<'a, P> {
         Progress::Lines { written, count }
     }
 
-    fn find<R: Threads + Wait + Sync>(
-        &self,
-        rt: &R,
-        alloc: Global,
-        workers: Workers,
-        source: u32,
-    ) -> Result<Row, AllocError> {
-        find_row::<P, R>(rt, alloc, self, workers, source)
-    }
-
-    fn find_alone<R: Threads + Sync>(
-        &self,
-        rt: &R,
-        alloc: Global,
-        source: u32,
-    ) -> Result<Row, AllocError> {
-        find_row::<P, _>(&Alone::new(rt), alloc, self, Workers::one(), source)
+    fn find(&self, alloc: Global, workers: Workers, source: u32) -> Result<Row, AllocError> {
+        find_row(alloc, self, workers, source)
     }
 
     fn write<W: Write>(

@@ -34,7 +34,7 @@ fn count_far(lines: &[(u32, PairAnswer)]) -> u64
 
 /// Writes the lines of a row, in the order of the targets, and counts them.
 ///
-/// It takes no memory. Where the writer fails, a beginning of the lines stands.
+/// It allocates no memory. If the writer fails, a prefix of the lines has been written.
 pub(crate) fn write_row<W: Write>(row: &Row, out: &mut W) -> Result<Summary, BatchError>
     ensures { AreWritten W.Write (told_of_row row.now ∷ []) out.old result out.new }
 {

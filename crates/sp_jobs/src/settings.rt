@@ -1,4 +1,4 @@
-//! The settings of a job, and the width of a bucket, which is given or taken from the graph.
+//! The settings of a job, and the width of a bucket, which is given or computed from the graph.
 ghost use Rattle.std.specs.Prelude.{◌≡◌, true};
 ghost use Rattle.sp_word.specs.Word.{is_layout};
 ghost use Rattle.sp_jobs.specs.Width.{width_among};
@@ -7,7 +7,7 @@ use sp_graph::Graph;
 use sp_network::Direction;
 use sp_word::{Delta, Team, Word, Workers};
 
-/// The width of a bucket of tentative distances, as it is asked for. What a batch answers and writes doesn't depend on it.
+/// The requested width of a bucket of tentative distances. What a batch returns and writes doesn't depend on it.
 #[derive(Clone, Copy, Debug, PartialEq, Eq)]
 pub enum BucketWidth<const P: u32> {
     /// This width.
@@ -17,19 +17,19 @@ pub enum BucketWidth<const P: u32> {
     MeanLength,
 }
 
-/// What is asked of a job: how its runs are to be made, and which listener hears of its progress.
+/// The settings of a job: how its runs are made, and the listener for its progress.
 ///
-/// This is the form that is asked for, before the graph is read. `team_for` resolves it to the form that a run takes, a
-/// `Team`, in which the width is a number.
+/// This is the form before the graph is read. `team_for` resolves it to the form that a run takes, a `Team`, in which
+/// the width is a number.
 #[derive(Drop)]
 pub struct Settings<'a, const P: u32, L> {
-    /// The direction in which the arcs of the graph lead, by those of its file.
+    /// The direction of the graph's arcs, relative to its file.
     pub direction: Direction,
     /// The width of a bucket.
     pub width: BucketWidth<P>,
-    /// The number of threads that may work, the calling one counted.
+    /// The greatest number of threads, including the calling one.
     pub workers: Workers,
-    /// The listener that hears of the job's progress.
+    /// The listener for the job's progress.
     pub listener: &'a L,
 }
 
@@ -51,7 +51,7 @@ fn width_for<const P: u32>(width: &BucketWidth<P>, graph: &Graph) -> Delta<P>
 }
 
 impl<const P: u32, L> Settings<'_, P, L> {
-    /// Returns what a run in this graph takes: the width of a bucket as a number, and the number of workers.
+    /// Returns what a run in this graph needs: the width of a bucket as a number, and the number of workers.
     pub fn team_for(&self, graph: &Graph) -> Team<P>
         requires { is_layout P ≡ true }
         ensures delta { result.delta ≡ width_among graph.now.arcs self.now.width }

@@ -1,6 +1,5 @@
-//! The question of a batch: what is the tree of a source.
+//! The question of a batch: the tree of a source.
 ghost use Rattle.std.specs.Prelude.{None, Some, IfOk};
-ghost use Rattle.sp_answer.specs.Within.{IsTreeWithin};
 ghost use Rattle.sp_jobs.specs.Told.{IsDue};
 ghost use Rattle.sp_jobs.specs.Trees.{told_by, IsTreeTold, CanFindTree};
 
@@ -10,18 +9,21 @@ use crate::progress::Progress;
 use crate::question::Question;
 use sp_answer::{Tree, WordTree};
 use sp_device::{Write, write_all};
+use sp_engine::{Engine, tree_of};
 use sp_files::{
     text_of, text_of_words, write_far, write_tree_in_pages, write_words_by, write_words_in_pages,
 };
-use sp_run::{Run, RunError, Until};
-use sp_serial::Rooms;
-use sp_word::{Alone, Crew, Workers};
+use sp_graph::Graph;
+use sp_run::{RunError, TeamEngine};
+use sp_serial::{Rooms, part_near};
+use sp_word::Workers;
 use std::alloc::{AllocError, Global};
-use std::sync::Wait;
+use std::marker::Sync;
 use std::thread::Threads;
 
-// From so many workers on each of them makes the text of the tree that it has found: one thread, which writes them all, would be
-// too slow for that. Of fewer trees it makes the lines itself, page after page in the same memory.
+// With at least this many workers, each worker makes the text of the tree that it has found, because one thread that
+// writes all of them would be too slow to make their text too. With fewer workers, that thread makes the lines itself,
+// page after page in the same memory.
 const MANY_WORKERS: u32 = 8;
 
 /// The answer for a source.
@@ -37,34 +39,27 @@ pub enum SourceAnswer<const P: u32> {
     TooFar { source: u32, vertex: u32 },
 }
 
-/// The question of a batch: what is the tree of a source of the graph, or its part within a limit.
+/// The question of a batch: the tree of a source of the graph, or its part within a limit.
 #[derive(Drop)]
-pub struct TreeQuestion<'a, const P: u32> {
-    pub(crate) job: Job<'a, P>,
-    /// The greatest distance that is told, if there is a limit.
+pub struct TreeQuestion<'a, E, const P: u32> {
+    pub(crate) job: Job<'a, E>,
+    /// The greatest distance to report, if there is a limit.
     pub(crate) limit: Option<u64>,
-    /// Rooms in which a small part is found, one for each thread that may look for one.
+    /// Rooms that find a small part, one for each thread that may look for one.
     pub(crate) rooms: Rooms<P>,
 }
 
 // Finds the whole tree of a source, or the vertex that is too far.
-fn find_tree<const P: u32, R: Crew>(
-    rt: &R,
+fn find_tree<const P: u32, E: Engine<P>>(
+    engine: &E,
     alloc: Global,
-    job: &Job<P>,
+    graph: &Graph,
     source: u32,
 ) -> Result<SourceAnswer<P>, AllocError>
-    requires { CanFindTree P None job.now.graph.now source }
-    ensures { IfOk result (λ found. IsTreeTold P None job.now.graph.now source (told_by found)) }
+    requires { CanFindTree (E.can_run engine.now) P None graph.now source }
+    ensures { IfOk result (λ found. IsTreeTold P None graph.now source (told_by found)) }
 {
-    let run = Run {
-        sources: &[source],
-        until: Until::All,
-    };
-    let Ok(words) = job.run(rt, alloc, run) else {
-        return Err(AllocError);
-    };
-    match words.tree(job.graph, source) {
+    match tree_of(engine, alloc, graph, source) {
         Ok(tree) => Ok(SourceAnswer::Tree(tree)),
         Err(RunError::TooFar(vertex)) => Ok(SourceAnswer::TooFar { source, vertex }),
         Err(RunError::NoSuchVertex) => unreachable!(),
@@ -72,60 +67,36 @@ fn find_tree<const P: u32, R: Crew>(
     }
 }
 
-// Finds the part of a source's tree within a limit: as a room has found it, which costs what the part touches, or else by a run.
-fn find_part<const P: u32, R: Crew>(
-    rt: &R,
+// Finds the answer for a source with this many workers.
+fn answer_of<const P: u32, E: TeamEngine<P> + Drop>(
     alloc: Global,
-    job: &Job<P>,
-    rooms: &Rooms<P>,
-    source: u32,
-    limit: u64,
-) -> Result<Tree<P>, AllocError>
-    requires { CanFindTree P (Some limit) job.now.graph.now source }
-    ensures { IfOk result (IsTreeWithin job.now.graph.now source limit) }
-{
-    if let Some(tree) = rooms.part(alloc, job.graph, source, limit) {
-        return Ok(tree);
-    }
-    let run = Run {
-        sources: &[source],
-        until: Until::Limit(limit),
-    };
-    match job.run(rt, alloc, run) {
-        Ok(words) => words.part(alloc, job.graph, source, limit),
-        Err(_) => Err(AllocError),
-    }
-}
-
-// Finds the answer of a source by so many workers.
-fn answer_of<const P: u32, R: Crew>(
-    rt: &R,
-    alloc: Global,
-    question: &TreeQuestion<'_, P>,
+    question: &TreeQuestion<'_, E, P>,
     workers: Workers,
     source: u32,
 ) -> Result<SourceAnswer<P>, AllocError>
-    requires { CanFindTree P question.now.limit question.now.job.graph.now source }
+    requires { CanFindTree (E.can_run question.now.job.engine) P question.now.limit
+        question.now.job.graph.now source }
     ensures { IfOk result (λ found. IsDue
         (IsTreeTold P question.now.limit question.now.job.graph.now)
         source (told_by found)) }
 {
-    let job = question.job.by(workers);
+    let (engine, graph) = (question.job.engine.by(workers), question.job.graph);
     match question.limit {
-        None => find_tree::<P, R>(rt, alloc, &job, source),
+        None => find_tree(&engine, alloc, graph, source),
         Some(limit) => {
-            let part = find_part::<P, R>(rt, alloc, &job, &question.rooms, source, limit)?;
+            let part = part_near(&engine, &question.rooms, alloc, graph, source, limit)?;
             Ok(SourceAnswer::Part(part))
         }
     }
 }
 
-impl<'a, const P: u32> Question for TreeQuestion<'a, P> {
+impl<'a, E: TeamEngine<P> + Drop + Sync, const P: u32> Question for TreeQuestion<'a, E, P> {
     type Found = SourceAnswer<P>;
 
     ghost told = { told_by };
 
-    ghost can_ask = { λ question s. CanFindTree P question.limit question.job.graph.now s };
+    ghost can_ask = { λ question s.
+        CanFindTree (E.can_run question.job.engine) P question.limit question.job.graph.now s };
 
     ghost answers = { λ question s told.
         IsTreeTold P question.limit question.job.graph.now s told };
@@ -134,28 +105,19 @@ impl<'a, const P: u32> Question for TreeQuestion<'a, P> {
         Progress::Sources { written, count }
     }
 
-    fn find<R: Threads + Wait + Sync>(
+    fn find(
         &self,
-        rt: &R,
         alloc: Global,
         workers: Workers,
         source: u32,
     ) -> Result<SourceAnswer<P>, AllocError> {
-        answer_of::<P, R>(rt, alloc, self, workers, source)
+        answer_of(alloc, self, workers, source)
     }
 
-    fn find_alone<R: Threads + Sync>(
-        &self,
-        rt: &R,
-        alloc: Global,
-        source: u32,
-    ) -> Result<SourceAnswer<P>, AllocError> {
-        answer_of::<P, _>(&Alone::new(rt), alloc, self, Workers::one(), source)
-    }
-
-    // Where workers are many, makes the text of a tree, and lets go of the tree. Where memory for the text is refused, the tree stays.
+    // If there are many workers, makes the text of a tree and frees the tree. If there is no memory for the text, the
+    // tree stays.
     fn ready(&self, alloc: Global, found: SourceAnswer<P>) -> SourceAnswer<P> {
-        if self.job.team.workers.get() < MANY_WORKERS {
+        if self.job.engine.workers().get() < MANY_WORKERS {
             return found;
         }
         match found {
@@ -204,7 +166,7 @@ impl<'a, const P: u32> Question for TreeQuestion<'a, P> {
         }
     }
 
-    // The lines of a whole tree are made by several workers.
+    // Several workers make the lines of a whole tree.
     fn write_by<R: Threads + Sync, W: Write>(
         &self,
         rt: &R,

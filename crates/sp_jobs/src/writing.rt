@@ -1,4 +1,4 @@
-//! Answers written in their order, and counted.
+//! Writes answers in their order, and counts them.
 ghost use Rattle.std.specs.Prelude.{◌≡◌};
 ghost use Rattle.sp_jobs.specs.Steps.{AreFew, IsGroupWritten, Fits, none, sum_of};
 
@@ -9,7 +9,7 @@ use sp_word::Workers;
 use std::alloc::Global;
 use std::thread::Threads;
 
-/// Returns the summary of no source.
+/// Returns the summary of no sources.
 pub(crate) fn nothing() -> Summary
     ensures { result ≡ none }
 {
@@ -20,7 +20,7 @@ pub(crate) fn nothing() -> Summary
     }
 }
 
-/// Returns the summary of some sources and of those behind them, from that of each.
+/// Returns the summary of some sources and the ones after them, from the summary of each.
 pub(crate) fn sum(first: Summary, second: Summary) -> Summary
     requires { Fits first second }
     ensures { result ≡ sum_of first second }
@@ -32,7 +32,7 @@ pub(crate) fn sum(first: Summary, second: Summary) -> Summary
     }
 }
 
-/// Writes the answers for some sources, in their order and each by so many workers, and counts them.
+/// Writes the answers for some sources in their order, each with this many workers, and counts them.
 pub(crate) fn write_group<Q: Question, R: Threads + Sync, W: Write>(
     rt: &R,
     alloc: Global,

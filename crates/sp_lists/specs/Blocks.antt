@@ -12,6 +12,7 @@ pub record Slices : Type 0 where
   pub dist : List ℕ
   pub pred : List ℕ
 
+-- These are the two slices together.
 abbrev pub slices : (dist pred : List ℕ) → Slices
 slices dist pred = record { dist = dist; pred = pred }
 
@@ -43,6 +44,7 @@ pub record HasTreeAt (max : ℕ) (g : Graph) (s low : ℕ) (there : Slices) : Ty
 abbrev pub HasSameAt : (old new : Slices) → (k : ℕ) → Type 0
 HasSameAt old new k = (slice_index new.dist k ≡ slice_index old.dist k) × (slice_index new.pred k ≡ slice_index old.pred k)
 
+-- Both slices hold the same as before from the index `low` on.
 abbrev pub KeepsFrom : (low : ℕ) → (old new : Slices) → Type 0
 KeepsFrom low old new = (k : ℕ) → low ≤ k → HasSameAt old new k
 
@@ -81,5 +83,6 @@ EndsBy max g sources done (TooFar v) = (s : ℕ) × (slice_get sources done ≡ 
 EndsBy max g sources done Memory = (done < length sources) ⊎ (done ≡ 0)
 EndsBy max g sources done told = ⊥
 
+-- The first sources have their trees, and this is why no more have.
 abbrev pub AreSolved : (max : ℕ) → Graph → (sources : List ℕ) → (old new : Slices) → Batch → Type 0
 AreSolved max g sources old new b = AreDone max g sources b.done old new × EndsBy max g sources b.done b.told

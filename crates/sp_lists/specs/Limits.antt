@@ -1,4 +1,4 @@
--- The limits on the number of vertices and on distances, and the first item of a list that isn't as it has to be.
+-- The limits on the number of vertices and on distances, and the first item of a list that lacks a property.
 use Rattle.std.specs.Prelude.{◌≡◌, ◌<◌, ◌≤◌, ℕ, List, nat_le, if◌then◌else◌, slice_get, Some}
 use Rattle.sp_word.specs.Word.{max_dist}
 
@@ -6,7 +6,7 @@ use Rattle.sp_word.specs.Word.{max_dist}
 abbrev pub IsCount : (n : ℕ) → Type 0
 IsCount n = (1 ≤ n) × (n ≤ 4294967294)
 
--- This is the number of bits of a word that name one of n vertices: 20, 24, 28 or 32, the least that can.
+-- This is the number of bits that name one of n vertices in a word: the least of 20, 24, 28 and 32 that can.
 abbrev pub pred_bits : (n : ℕ) → ℕ
 pred_bits n = if nat_le n 1048574 then 20 else (if nat_le n 16777214 then 24 else (if nat_le n 268435454 then 28 else 32))
 

@@ -17,6 +17,7 @@ pub record Listing : Type 0 where
   pub dist : List ℕ
   pub pred : List ℕ
 
+-- These are the three slices together.
 abbrev pub listing : (vertex dist pred : List ℕ) → Listing
 listing vertex dist pred = record { vertex = vertex; dist = dist; pred = pred }
 
@@ -34,7 +35,8 @@ KeepsListingFrom low old new = (k : ℕ) → low ≤ k → (slice_index new.vert
 
 -- ## A part
 
--- The part of the tree from s within the limit, with a row for each reached vertex, by rising number, and so many of them.
+-- The part of the tree from s within the limit, with a row for each reached vertex, by rising number, and `count` rows
+-- in all.
 pub record IsListed (g : Graph) (s limit count : ℕ) (t : TreeTable) : Type 0 where
   pub part : IsTreeWithin g s limit t
   pub rising : AreRows (reach g.n) g.n 0 t.rows
@@ -48,13 +50,14 @@ IsListBy g s limit count old new BadSize = (t : TreeTable) × IsListed g s limit
 IsListBy g s limit count old new Memory = (count ≡ 0) × (new ≡ old)
 IsListBy g s limit count old new told = ⊥
 
+-- This is the answer to a call that lists the part, with the number of vertices.
 abbrev pub IsListIn : Graph → (s limit : ℕ) → (old new : Listing) → Listed → Type 0
 IsListIn g s limit old new l = IsListBy g s limit l.count old new l.told
 
--- A call for a list names a source and a limit. What places it needs is known behind the search.
+-- A call for a list names a source and a limit. The number of places that it needs is known only after the search.
 abbrev pub list_query : (s limit delta : ℕ) → Query
 list_query s limit delta = record { sources = s ∷ []; targets = []; delta = delta; limit = Some limit; rows = 0; columns = 0 }
 
--- Something is wrong with the call, and nothing is written; or nothing is, and this is the answer.
+-- Something is wrong with the call, and nothing is written; or nothing is wrong, and this is the answer.
 abbrev pub IsListOf : Graph → (s limit delta : ℕ) → (old new : Listing) → Listed → Type 0
 IsListOf g s limit delta old new l = (IsRefusedQuery g.n (list_query s limit delta) 0 l.told × (l.count ≡ 0) × (new ≡ old)) ⊎ (IsGoodQuery g.n (list_query s limit delta) 0 × IsListIn g s limit old new l)

@@ -20,7 +20,7 @@ IsDistance (FoundPair e q) d = d ≡ e
 IsDistance (FarVertex v) d = d ≡ 18446744073709551614
 IsDistance NoWay d = d ≡ 18446744073709551615
 
--- This stands for the answer for t from s.
+-- This number represents the answer for t from s.
 pub record HasDistance (max : ℕ) (g : Graph) (s t d : ℕ) : Type 0 where
   pub answer : PairAnswer
   pub pair : IsPair g s t max answer
@@ -38,7 +38,7 @@ ArePutAt answers low there = (j : ℕ) (told : Found) → slice_get answers j �
 abbrev pub KeepsListFrom : (low : ℕ) → (old new : List ℕ) → Type 0
 KeepsListFrom low old new = (k : ℕ) → low ≤ k → slice_index new k ≡ slice_index old k
 
--- Only so many places from `low` on are written.
+-- Only `count` places from `low` on are written.
 pub record KeepsBut (low count : ℕ) (old new : List ℕ) : Type 0 where
   pub below : (k : ℕ) → k < low → slice_index new k ≡ slice_index old k
   pub beyond : KeepsListFrom (low + count) old new
@@ -62,6 +62,7 @@ EndsRowsBy sources done Tree = done ≡ length sources
 EndsRowsBy sources done Memory = done < length sources
 EndsRowsBy sources done told = ⊥
 
+-- The first sources have their rows, and this is why no more have.
 abbrev pub IsBlockIn : (max : ℕ) → Graph → (sources targets : List ℕ) → (old new : List ℕ) → Batch → Type 0
 IsBlockIn max g sources targets old new b = AreRowsDone max g sources targets b.done old new × EndsRowsBy sources b.done b.told
 
@@ -71,13 +72,13 @@ IsBlockIn max g sources targets old new b = AreRowsDone max g sources targets b.
 abbrev pub matrix_query : (sources targets : List ℕ) → (delta : ℕ) → Query
 matrix_query sources targets delta = record { sources = sources; targets = targets; delta = delta; limit = None; rows = length sources; columns = length targets }
 
--- This is told, no row is done, and nothing is written.
+-- This is the reason, no row is done, and nothing is written.
 pub record IsNoRow (why : Told → Type 0) (old new : List ℕ) (b : Batch) : Type 0 where
   pub told : why b.told
   pub none : b.done ≡ 0
   pub same : new ≡ old
 
--- Something is wrong with the call; or nothing is, and the rows of the sources stand, up to the first for which there was no
--- memory.
+-- Something is wrong with the call; or nothing is wrong, and the rows of the sources are written, up to the first for
+-- which there was no memory.
 abbrev pub IsMatrixOf : Graph → (sources targets : List ℕ) → (delta : ℕ) → (old new : List ℕ) → Batch → Type 0
 IsMatrixOf g sources targets delta old new b = IsNoRow (IsRefusedQuery g.n (matrix_query sources targets delta) (length old)) old new b ⊎ (IsGoodQuery g.n (matrix_query sources targets delta) (length old) × IsBlockIn (reach g.n) g sources targets old new b)

@@ -21,6 +21,7 @@ pub record Lists : Type 0 where
   pub pred : List ℕ
   pub root : List ℕ
 
+-- These are the three slices together.
 abbrev pub lists : (dist pred root : List ℕ) → Lists
 lists dist pred root = record { dist = dist; pred = pred; root = root }
 
@@ -39,7 +40,7 @@ abbrev pub IsRootCell : Graph → (sources : List ℕ) → Table → (v : ℕ) �
 IsRootCell g sources words v Unreached r = r ≡ 0
 IsRootCell g sources words v (Pair d p) r = IsRootAt g sources words v d r
 
--- This is written as a root of a word, if the word has one.
+-- This number is written for the root of a word: 0 if the word is unreached.
 abbrev pub IsRootPut : Word → (root : Option ℕ) → (r : ℕ) → Type 0
 IsRootPut Unreached root r = r ≡ 0
 IsRootPut (Pair d p) root r = (s : ℕ) → root ≡ Some s → r ≡ s
@@ -89,6 +90,6 @@ IsForestIn P g sources limit old new told = ⊥
 abbrev pub forest_query : (n : ℕ) → (sources : List ℕ) → (limit : Option ℕ) → (delta : ℕ) → Query
 forest_query n sources limit delta = record { sources = sources; targets = []; delta = delta; limit = limit; rows = 1; columns = n }
 
--- Something is wrong with the call, and nothing is written; or nothing is, and this is the answer.
+-- Something is wrong with the call, and nothing is written; or nothing is wrong, and this is the answer.
 abbrev pub IsForestOf : Graph → (sources : List ℕ) → (limit : Option ℕ) → (delta : ℕ) → (old new : Lists) → Told → Type 0
 IsForestOf g sources limit delta old new told = (IsRefusedQuery g.n (forest_query g.n sources limit delta) (places_of old) told × (new ≡ old)) ⊎ (IsGoodQuery g.n (forest_query g.n sources limit delta) (places_of old) × IsForestIn (pred_bits g.n) g sources limit old new told)

@@ -25,6 +25,6 @@ IsPartIn g s limit old new told = ⊥
 abbrev pub part_query : (n s limit delta : ℕ) → Query
 part_query n s limit delta = record { sources = s ∷ []; targets = []; delta = delta; limit = Some limit; rows = 1; columns = n }
 
--- Something is wrong with the call, and nothing is written; or nothing is, and this is the answer.
+-- Something is wrong with the call, and nothing is written; or nothing is wrong, and this is the answer.
 abbrev pub IsPartOf : Graph → (s limit delta : ℕ) → (old new : Slices) → Told → Type 0
 IsPartOf g s limit delta old new told = (IsRefusedQuery g.n (part_query g.n s limit delta) (places old) told × (new ≡ old)) ⊎ (IsGoodQuery g.n (part_query g.n s limit delta) (places old) × IsPartIn g s limit old new told)

@@ -1,4 +1,4 @@
--- What is asked of a graph, and what is wrong with it.
+-- What is asked about a graph, and what is wrong with the question.
 use Rattle.std.specs.Prelude.{◌<◌, ◌≤◌, ◌*◌, ◌++◌, ℕ, List, All, IfSome}
 use Rattle.std.specs.declared.option.Option.{Option}
 use Rattle.sp_paths.specs.Paths.{IsVertex}
@@ -7,8 +7,8 @@ use Rattle.sp_lists.specs.declared.answers.Told.TheVariants.{BadSize, BadDelta, 
 use Rattle.sp_lists.specs.declared.queries.Query.{Query as Asking}
 use Rattle.sp_lists.specs.Limits.{IsCount, IsFirstWithout, reach}
 
--- A call names sources and perhaps targets, a delta, which is tested alone, and a limit if it has one. It writes so many rows of
--- so many places.
+-- A call names sources and perhaps targets, a delta, which is only checked, and a limit if it has one. It writes `rows`
+-- rows of `columns` places each.
 pub record Query : Type 0 where
   pub sources : List ℕ
   pub targets : List ℕ
@@ -17,6 +17,7 @@ pub record Query : Type 0 where
   pub rows : ℕ
   pub columns : ℕ
 
+-- This is what contracts see of a question.
 abbrev pub query_of : Asking → Query
 query_of q = record { sources = q.sources.now; targets = q.targets.now; delta = q.delta; limit = q.limit; rows = q.rows; columns = q.columns }
 

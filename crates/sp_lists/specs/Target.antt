@@ -25,6 +25,7 @@ HasNoCell max g s t (TooFar v) = IsPair g s t max (FarVertex v)
 HasNoCell max g s t Memory = Unit {0}
 HasNoCell max g s t told = ⊥
 
+-- This is the cell of the answer, or why there is none.
 abbrev pub IsFoundIn : (max : ℕ) → Graph → (s t : ℕ) → Result Cell Told → Type 0
 IsFoundIn max g s t (Ok cell) = HasCell max g s t cell.dist cell.pred
 IsFoundIn max g s t (Err told) = HasNoCell max g s t told

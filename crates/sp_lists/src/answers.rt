@@ -1,7 +1,7 @@
-//! What is told of a question about a graph.
+//! The answers to questions about a graph.
 ghost use Rattle.std.specs.Prelude.{◌≡◌};
 
-/// Why a call ends. `BadArc`, `Wrong` and `NoGraph` are for those who take arcs, check a tree or keep a graph.
+/// How a call ends. `BadArc`, `Wrong` and `NoGraph` are for callers that take arcs, check a tree or keep a graph.
 #[derive(Clone, Copy, Debug, PartialEq, Eq)]
 pub enum Told {
     /// Everything that was asked for is written.
@@ -18,7 +18,7 @@ pub enum Told {
     TooFar(u32),
     /// An allocation failed.
     Memory,
-    /// The slices that were passed hold a different tree, from this vertex on.
+    /// The slices hold a different tree, from this vertex on.
     Wrong(u32),
     /// The place keeps no graph.
     NoGraph,
@@ -34,7 +34,7 @@ pub struct Batch {
 }
 
 impl Batch {
-    /// Returns why no source is done.
+    /// Returns this reason, with no source done.
     pub fn none(told: Told) -> Batch
         ensures { result ≡ record { told = told; done = 0 } }
     {
@@ -42,8 +42,8 @@ impl Batch {
     }
 }
 
-/// How many vertices a part has that is listed, and why it isn't, if it isn't: then the number is 0, unless it is that of the places
-/// which are needed.
+/// How a call that lists a part ends, and the number of vertices listed. If the part isn't listed, the number is 0, unless there
+/// are too few places: then it is the number of places needed.
 #[derive(Clone, Copy, Debug, PartialEq, Eq)]
 pub struct Listed {
     pub told: Told,
@@ -51,7 +51,7 @@ pub struct Listed {
 }
 
 impl Listed {
-    /// Returns why no part is listed.
+    /// Returns this reason, with no part listed.
     pub fn none(told: Told) -> Listed
         ensures { result ≡ record { told = told; count = 0 } }
     {

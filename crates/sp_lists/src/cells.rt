@@ -8,8 +8,7 @@ ghost use Rattle.sp_lists.specs.Blocks.{slices, IsCell, AreCells, KeepsFrom, Kee
 use sp_answer::Tree;
 use sp_word::Word;
 
-/// What the caller gets of a vertex: its distance and its predecessor, or the greatest number and 0 if no walk leads to
-/// it.
+/// What the caller gets for a vertex: its distance and its predecessor, or the greatest number and 0 if no walk leads to it.
 #[derive(Clone, Copy, Debug, PartialEq, Eq)]
 pub struct Cell {
     pub dist: u64,
@@ -17,7 +16,7 @@ pub struct Cell {
 }
 
 impl Cell {
-    /// Returns what stands for a vertex to which no walk leads.
+    /// Returns the cell of a vertex to which no walk leads.
     pub(crate) fn unreached() -> Cell
         ensures { result ≡ record { dist = 18446744073709551615; pred = 0 } }
     {
@@ -28,7 +27,7 @@ impl Cell {
     }
 }
 
-/// Returns what represents a word.
+/// Returns the cell of a word.
 pub(crate) fn cell_of<const P: u32>(word: Word<P>) -> Cell
     ensures { IsCell word.entry result.dist result.pred }
 {
@@ -38,7 +37,7 @@ pub(crate) fn cell_of<const P: u32>(word: Word<P>) -> Cell
     }
 }
 
-/// Writes words, that of vertex `v` at `low + v - 1`.
+/// Writes words: that of vertex `v` at index `low + v - 1`.
 pub(crate) fn put_words<const P: u32>(
     words: &[Word<P>],
     low: usize,
@@ -59,7 +58,7 @@ pub(crate) fn put_words<const P: u32>(
     }
 }
 
-/// Writes of `n` vertices that they are unreached, of vertex `v` at `v - 1`.
+/// Writes that `n` vertices are unreached: vertex `v` at index `v - 1`.
 pub(crate) fn put_unreached(n: u32, dist: &mut [u64], pred: &mut [u32])
     requires dist { n ≤ length dist.old }
     requires pred { n ≤ length pred.old }
@@ -73,7 +72,7 @@ pub(crate) fn put_unreached(n: u32, dist: &mut [u64], pred: &mut [u32])
     }
 }
 
-/// Writes the words of the vertices of a tree, that of vertex `v` at `v - 1`.
+/// Writes the words of the vertices of a tree: that of vertex `v` at index `v - 1`.
 pub(crate) fn put_cells<const P: u32>(tree: &Tree<P>, dist: &mut [u64], pred: &mut [u32])
     requires dist { tree.now.n ≤ length dist.old }
     requires pred { tree.now.n ≤ length pred.old }

@@ -21,8 +21,7 @@ use sp_serial::RunError;
 use sp_word::Word;
 use std::alloc::Global;
 
-/// What is asked for: the forest of the sources, within the limit if there is one. Delta is tested, and has no
-/// other bearing.
+/// What is asked for: the forest of the sources, within the limit if there is one. Delta is checked and otherwise ignored.
 #[derive(Clone, Copy)]
 pub struct Near<'a> {
     pub sources: &'a [u32],
@@ -37,14 +36,14 @@ struct Rooted<const P: u32> {
     roots: Vec<u32>,
 }
 
-// Returns what represents the root of a word.
+// Returns the number that is written for the root of a word.
 fn root_cell<const P: u32>(word: Word<P>, root: u32) -> u32
     ensures { IsRootPut word.entry (Some root) result }
 {
     if word.is_unreached() { 0 } else { root }
 }
 
-// Writes of `n` vertices that they have no root.
+// Writes that `n` vertices have no root.
 fn put_no_roots(n: u32, root: &mut [u32])
     requires { n ≤ length root.old }
     ensures cells { AreNoRoots n root.new }
@@ -55,7 +54,7 @@ fn put_no_roots(n: u32, root: &mut [u32])
     }
 }
 
-// Writes the words and the roots of the vertices, those of vertex `v` at `v - 1`.
+// Writes the words and the roots of the vertices: those of vertex `v` at index `v - 1`.
 fn put_forest<const P: u32>(
     forest: &Forest<P>,
     dist: &mut [u64],
@@ -86,7 +85,7 @@ fn put_forest<const P: u32>(
     }
 }
 
-// Writes the words and the roots of the vertices, those of vertex `v` at `v - 1`.
+// Writes the words and the roots of the vertices: those of vertex `v` at index `v - 1`.
 fn put_rooted<const P: u32>(
     words: &[Word<P>],
     roots: &[u32],
@@ -111,7 +110,7 @@ fn put_rooted<const P: u32>(
     }
 }
 
-// Returns the part of the forest by a search near the sources, if there is a limit and the room answers.
+// Returns the part of the forest, if there is a limit and a search near the sources finds it.
 fn near_forest<const P: u32>(alloc: Global, at: At<P>, near: Near) -> Option<Forest<P>>
     requires bits { P ≡ pred_bits at.graph.now.n }
     requires n { IsCount at.graph.now.n }
@@ -128,7 +127,7 @@ fn near_forest<const P: u32>(alloc: Global, at: At<P>, near: Near) -> Option<For
     }
 }
 
-// Returns the forest by a run.
+// Returns the forest, found by a run.
 fn run_forest<const P: u32>(alloc: Global, graph: &Graph, near: Near) -> Result<Rooted<P>, RunError>
     requires layout { is_layout P ≡ true }
     requires n { graph.now.n ≤ max_pred P }
@@ -183,7 +182,7 @@ fn forest_by<const P: u32>(
     }
 }
 
-/// Tests what is asked, and writes the forest from the front of the lists on; or tells why not, and writes nothing.
+/// Checks what is asked, and writes the forest to the front of the lists; or returns why not, and writes nothing.
 pub fn write_forest(
     alloc: Global,
     prepared: Prepared,

@@ -1,7 +1,6 @@
-//! Questions about a graph, answered by the calling thread into lists that the caller lends: the trees of several sources, the
+//! Questions about a graph, answered on the calling thread, in lists that the caller provides: the trees of several sources, the
 //! part of a tree within a distance, whole or as a list of the vertices in it, the forest of several sources and a matrix of
-//! distances; and the answer for one target.
-//! Each answer is by the layout with the greatest distances that can name the vertices.
+//! distances; and the answer for one target. Each answer uses the layout with the greatest distances that can name the vertices.
 #![tactic(auto)]
 
 mod answers;

@@ -19,7 +19,7 @@ pub fn is_vertex(n: u32, vertex: u32) -> bool
     1 <= vertex && vertex <= n
 }
 
-/// Returns the index of the first of a list that is no vertex of a graph of `n` vertices, if there is one.
+/// Returns the index of the first number in a list that is no vertex of a graph of `n` vertices, if there is one.
 pub fn first_non_vertex(n: u32, vertices: &[u32]) -> Option<usize>
     ensures first { IfSome result (IsFirstWithout (IsVertex n) vertices.now) }
     ensures none { IfNone result (All (IsVertex n) vertices.now) }
@@ -32,7 +32,7 @@ pub fn first_non_vertex(n: u32, vertices: &[u32]) -> Option<usize>
     None
 }
 
-/// Returns whether there are places for so many rows of so many places each.
+/// Returns whether there are places for `rows` rows of `columns` places each.
 pub fn fits(rows: usize, columns: usize, places: usize) -> bool
     ensures { IsTrue result ↔ (rows * columns ≤ places) }
 {
@@ -42,7 +42,7 @@ pub fn fits(rows: usize, columns: usize, places: usize) -> bool
     }
 }
 
-/// Returns the greatest distance in a graph of n vertices, by the layout with the fewest bits for a predecessor.
+/// Returns the greatest distance in a graph of `n` vertices, in the layout with the fewest bits for a predecessor.
 pub fn reach(n: u32) -> u64
     requires { IsCount n }
     ensures { result ≡ reach n }

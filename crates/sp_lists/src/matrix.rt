@@ -19,7 +19,7 @@ struct Row {
     low: usize,
 }
 
-// Returns what represents the distance of an answer.
+// Returns the number that is written for the distance of an answer.
 fn distance_of(answer: PairAnswer) -> u64
     ensures { IsDistance (answer_of answer) result }
 {
@@ -30,7 +30,7 @@ fn distance_of(answer: PairAnswer) -> u64
     }
 }
 
-// Writes the distances of answers, from the index `low` on.
+// Writes the distances of answers, from index `low` on.
 fn put_row(answers: &[PairAnswer], low: usize, dist: &mut [u64])
     requires { low + length answers.now ≤ length dist.old }
     ensures row { ArePutAt answers.now low dist.new }
@@ -95,8 +95,8 @@ fn rows_in(
     }
 }
 
-/// Tests what is asked, and writes the row of each source, one behind the other, up to the first for which there is no memory; or
-/// tells what is wrong, and writes nothing.
+/// Checks what is asked, and writes the row of each source, one after the other, up to the first for which there is no memory; or
+/// returns what is wrong, and writes nothing.
 pub fn write_matrix(
     alloc: Global,
     prepared: Prepared,

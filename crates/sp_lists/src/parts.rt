@@ -1,4 +1,4 @@
-//! The part of a tree within a distance: a place for each vertex, or a list of the vertices that lie in it and no others.
+//! The part of a tree within a distance: a place for each vertex, or a list of just the vertices in the part.
 ghost use Rattle.std.specs.Prelude.{◌≡◌, ◌≤◌, length, IfOk};
 ghost use Rattle.sp_paths.specs.Paths.{IsVertex};
 ghost use Rattle.sp_answer.specs.Within.{IsTreeWithin};
@@ -12,12 +12,12 @@ use crate::cells::{cell_of, put_cells};
 use crate::prepared::{At, Prepared, by_layout, fitting};
 use crate::queries::Query;
 use sp_answer::Tree;
-use sp_serial::run_within_alone;
+use sp_serial::{ByCaller, part_near};
 use sp_word::Word;
 use std::alloc::{AllocError, Global};
 
-/// What is asked for: the part of the tree from a source within the limit. A delta above the greatest distance is refused, and any
-/// other passed over.
+/// What is asked for: the part of the tree from a source within the limit. A delta above the greatest distance is refused; any
+/// other is ignored.
 #[derive(Clone, Copy)]
 pub struct Part {
     pub source: u32,
@@ -25,7 +25,7 @@ pub struct Part {
     pub delta: u64,
 }
 
-// Returns the part of a tree: that of a search near the source, or of a run.
+// Returns the part of a tree, found by a search near the source or by a run.
 fn find_part<const P: u32>(alloc: Global, at: At<P>, part: Part) -> Result<Tree<P>, AllocError>
     requires bits { P ≡ pred_bits at.graph.now.n }
     requires n { IsCount at.graph.now.n }
@@ -35,13 +35,7 @@ fn find_part<const P: u32>(alloc: Global, at: At<P>, part: Part) -> Result<Tree<
 {
     let At { graph, room } = at;
     fitting::<P>(graph);
-    if let Some(tree) = room.part(alloc, graph, part.source, part.limit) {
-        return Ok(tree);
-    }
-    match run_within_alone::<P>(alloc, graph, part.source, part.limit) {
-        Ok(tree) => Ok(tree),
-        Err(_) => Err(AllocError),
-    }
+    part_near(&ByCaller, room, alloc, graph, part.source, part.limit)
 }
 
 // Writes the part of a tree.
@@ -70,7 +64,7 @@ fn part_by<const P: u32>(
     }
 }
 
-/// Tests what is asked, and writes the part from the front of the lists on; or tells why not, and writes nothing.
+/// Checks what is asked, and writes the part to the front of the lists; or returns why not, and writes nothing.
 pub fn write_part(
     alloc: Global,
     prepared: Prepared,
@@ -153,8 +147,8 @@ fn list_by<const P: u32>(
     }
 }
 
-/// Tests what is asked, and writes the vertices of the part from the front of the lists on, by rising number; or tells why not, and
-/// writes nothing. Where the lists have fewer places than the part has vertices, it tells how many these are.
+/// Checks what is asked, and writes the vertices of the part to the front of the lists, by rising number; or returns why not, and
+/// writes nothing. If the lists have fewer places than the part has vertices, it returns the number of these vertices.
 pub fn list_part(
     alloc: Global,
     prepared: Prepared,

@@ -1,4 +1,4 @@
-//! The layout of words that serves a graph.
+//! The layout of words that is used for a graph.
 ghost use Rattle.std.specs.Prelude.{◌≡◌, ◌≤◌, true};
 ghost use Rattle.sp_word.specs.Word.{is_layout, max_dist, max_pred};
 ghost use Rattle.sp_lists.specs.Limits.{IsCount, pred_bits, reach};
@@ -7,7 +7,7 @@ use crate::rooms::AnyRoom;
 use sp_graph::Graph;
 use sp_serial::OwnRoom;
 
-/// A graph that questions are asked of, and a room for the searches in it.
+/// A graph about which questions are asked, and a room for the searches in it.
 #[derive(Clone, Copy)]
 pub struct Prepared<'a> {
     pub graph: &'a Graph,
@@ -56,7 +56,7 @@ macro_rules! by_layout {
 
 pub(crate) use by_layout;
 
-/// What holds of the layout that serves a graph.
+/// States what is true of the layout that is used for a graph.
 pub(crate) fn fitting<const P: u32>(graph: &Graph)
     requires bits { P ≡ pred_bits graph.now.n }
     requires n { IsCount graph.now.n }

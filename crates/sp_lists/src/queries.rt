@@ -1,4 +1,4 @@
-//! What is asked of a graph, and what may be wrong with it.
+//! What is asked about a graph, and what may be wrong with the question.
 ghost use Rattle.std.specs.Prelude.{◌↔◌, ◌++◌, IsTrue, IfSome, IfNone, All};
 ghost use Rattle.sp_paths.specs.Paths.{IsVertex};
 ghost use Rattle.sp_lists.specs.Limits.{IsCount, IsFirstWithout};
@@ -7,8 +7,8 @@ ghost use Rattle.sp_lists.specs.Query.{query_of, IsLimit, IsGoodQuery, IsRefused
 use crate::answers::Told;
 use crate::limits::{first_non_vertex, fits, is_count, reach};
 
-/// What is asked: the sources and targets, the delta, which is tested alone, the limit if there is one, and how many rows of how
-/// many places are written.
+/// What is asked: the sources and targets, the delta, which is only checked, the limit if there is one, and the number of rows
+/// that are written and the number of places in each.
 #[derive(Clone, Copy)]
 pub(crate) struct Query<'a> {
     pub sources: &'a [u32],
@@ -31,7 +31,7 @@ fn is_limit(n: u32, limit: Option<u64>) -> bool
 }
 
 impl Query<'_> {
-    // Returns the index of the first of the sources and the targets, one list behind the other, that is no vertex.
+    // Returns the index of the first number that is no vertex, in the list of the sources followed by the targets.
     fn first_none(&self, n: u32) -> Option<usize>
         ensures first { IfSome result
             (IsFirstWithout (IsVertex n) (self.now.sources.now ++ self.now.targets.now)) }

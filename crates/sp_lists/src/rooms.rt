@@ -1,8 +1,8 @@
 //! Rooms for the searches in a graph of any size.
 use sp_serial::OwnRoom;
 
-/// A room for the searches in a graph, in words of whichever layout: that of the greatest distances that can name its vertices is
-/// used, and the other rooms stay empty.
+/// A room for the searches in a graph of any size: a room for each layout of words. The layout with the greatest distances that
+/// can name the vertices is used, and the other rooms stay empty.
 #[derive(Drop)]
 pub struct AnyRoom {
     pub(crate) of20: OwnRoom<20>,

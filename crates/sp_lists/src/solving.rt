@@ -47,7 +47,7 @@ fn tree_by<const P: u32>(
     }
 }
 
-// Writes the tree of a source by the layout with the greatest distances that can name the vertices.
+// Writes the tree of a source, in the layout with the greatest distances that can name the vertices.
 fn solve_at(
     alloc: Global,
     prepared: Prepared,

@@ -9,7 +9,7 @@ use crate::answers::Told;
 use crate::cells::Cell;
 use crate::prepared::{At, Prepared, by_layout, fitting};
 use sp_answer::PairAnswer;
-use sp_serial::run_targets_alone;
+use sp_serial::{ByCaller, answers_near};
 use std::alloc::{AllocError, Global};
 
 // Converts an answer: no distance is equal to the greatest number, which stands for no walk.
@@ -24,7 +24,7 @@ fn of_answer(answer: PairAnswer) -> Result<Cell, Told>
     }
 }
 
-// Returns the answers for targets: those of a search near the source, or of a run.
+// Returns the answers for targets, found by a search near the source or by a run.
 fn answers_by<const P: u32>(
     alloc: Global,
     at: At<P>,
@@ -40,13 +40,7 @@ fn answers_by<const P: u32>(
 {
     let At { graph, room } = at;
     fitting::<P>(graph);
-    if let Some(answers) = room.find(alloc, graph, source, targets) {
-        return Ok(answers);
-    }
-    match run_targets_alone::<P>(alloc, graph, source, targets) {
-        Ok(answers) => Ok(answers),
-        Err(_) => Err(AllocError),
-    }
+    answers_near(&ByCaller, room, alloc, graph, source, targets)
 }
 
 /// Returns the answers for targets of a source, in their order. The search ends as soon as they are known.
@@ -65,7 +59,7 @@ pub(crate) fn find_answers(
     by_layout!(prepared, at => answers_by(alloc, at, source, targets))
 }
 
-/// Returns the distance and the predecessor of a target in the tree of a source, or why there are none, by the layout with the
+/// Returns the distance and the predecessor of a target in the tree of a source, or why there are none, in the layout with the
 /// greatest distances that can name the vertices. The search ends as soon as they are known.
 pub fn find_target(
     alloc: Global,

@@ -1,4 +1,4 @@
-//! The words of all vertices, as a run by the calling thread leaves them.
+//! The words of all vertices, as a run on the calling thread leaves them.
 ghost use Rattle.std.specs.Prelude.{◌≡◌, ◌≤◌, true, length, map, IfOk, IfErr, IfSome};
 ghost use Rattle.sp_word.specs.Word.{is_layout, max_dist, max_pred};
 ghost use Rattle.sp_paths.specs.Paths.{word_at};
@@ -11,7 +11,7 @@ use sp_serial::{Run, RunError, RunWords, Until, words_alone};
 use sp_word::Word;
 use std::alloc::Global;
 
-// Returns the word, where its distance is at most the limit, and an unreached one beyond it.
+// Returns the word if its distance is at most the limit, and the unreached word otherwise.
 fn up_to<const P: u32>(word: Word<P>, limit: u64) -> Word<P>
     ensures { result ≡ up_to limit word.entry }
 {
@@ -30,7 +30,7 @@ fn cut<const P: u32>(words: &mut Vec<Word<P>>, limit: u64)
     }
 }
 
-// Makes every word beyond the limit unreached, if there is one.
+// Makes every word beyond the limit unreached, if there is a limit.
 fn within<const P: u32>(mut words: Vec<Word<P>>, limit: Option<u64>) -> Vec<Word<P>>
     ensures { result.items ≡ words_within limit words.entry.items }
 {

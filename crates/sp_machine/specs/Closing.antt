@@ -5,6 +5,7 @@ use Rattle.std.specs.List.{list_any}
 use Rattle.std.specs.HashSet.{HashSet, contains}
 use Rattle.sp_machine.specs.declared.effect.Relaxation.{Relaxation}
 
+-- The two relaxations are the same.
 abbrev pub same_relaxation : Relaxation → Relaxation → Bool
 same_relaxation a b = nat_eq a.tail b.tail && (nat_eq a.head b.head && (nat_eq a.len b.len && option_eq nat_eq a.loaded b.loaded))
 

@@ -8,6 +8,7 @@ use Rattle.sp_machine.specs.declared.effect.Call.TheVariants.{Offer, Read}
 use Rattle.sp_machine.specs.declared.report.Finished.{Finished}
 use Rattle.sp_machine.specs.Programme.{IsNumber}
 
+-- This is what a call asked, with its reply.
 abbrev pub question_of : {P : ℕ} → Call P → Asked
 question_of (Offer word found reply) = OfferAsked word found reply
 question_of (Read found) = ReadAsked found
@@ -21,11 +22,12 @@ pub record Point (P : ℕ) : Type 0 where
   pub step : ℕ
   pub call : Finished P
 
+-- This is the history of these finished calls.
 abbrev pub history : {P : ℕ} → List (Point P) → List Event
 history points = map (λ point. event_of point.call) points
 
 -- There is a history, legal from the opening words, that consists of exactly the finished calls, each once with its
--- answer. Its step numbers rise, and each lies between its call's first and last step. The history ends in the final
+-- answer. Its step numbers rise, and each is between its call's first and last step. The history ends in the final
 -- words.
 pub record IsLinear {P : ℕ} (n : ℕ) (opening : Table) (finished : List (Finished P)) (final : Table) : Type 0 where
   pub points : List (Point P)

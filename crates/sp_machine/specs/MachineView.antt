@@ -7,6 +7,7 @@ use Rattle.sp_machine.specs.Programme.{Programme}
 use Rattle.sp_machine.specs.Step.{Machine, actor_of, item_at}
 use Rattle.sp_machine.specs.declared.machine.Machine.TheInside.{Inside}
 
+-- This is what contracts see of a machine.
 abbrev pub state_of : {P : ℕ} → Inside P → Machine P
 state_of m = record { rows = m.programme.now.rows; words = m.words.items; actors = m.actors.items; last = m.last }
 

@@ -10,7 +10,7 @@ use Rattle.sp_machine.specs.declared.effect.Ended.{Ended}
 use Rattle.sp_machine.specs.Programme.{IsNumber}
 use Rattle.sp_machine.specs.Step.{Machine, actor_of, place_of, machine_after}
 
--- An actor at an offer stands before its load, or at an exchange of the word that it holds.
+-- An actor at an offer is before its load, or at an exchange of the word that it holds.
 abbrev pub stage_of : (held : Option Word) → Stage
 stage_of None = Before
 stage_of (Some h) = Holding h
@@ -20,12 +20,12 @@ abbrev pub ended_stage : {P : ℕ} → Call P → Stage
 ended_stage (Offer w x reply) = Over x reply
 ended_stage (Read x) = Overrun
 
--- After a step at an offer the offer has ended; where no call ended, the actor stands at it still.
+-- After a step at an offer the offer has ended; or no call ended, and the actor is still at the offer.
 abbrev pub stage_after : {P : ℕ} → Option (Ended P) → (held : Option Word) → Stage
 stage_after None held = stage_of held
 stage_after (Some ended) held = ended_stage ended.call
 
--- The machine's step at an offer is the step of an offer: it stands where that one does, and leaves the same word.
+-- The machine's step at an offer is the step of an offer: it reaches the same stage, and leaves the same word.
 abbrev pub OfferStepsAreTheMachines : Type 0
 OfferStepsAreTheMachines = (P : ℕ) (m : Machine P) (actor v : ℕ) (w : Word) → IsNumber (length m.actors) actor → IsNumber (length m.words) v → place_of m actor ≡ Offering v w
     → (stage_after (machine_after m actor).last.ended (actor_of (machine_after m actor) actor).held ≡ offer_step w (stage_of (actor_of m actor).held) (word_at m.words v))

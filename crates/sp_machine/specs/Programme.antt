@@ -17,6 +17,7 @@ row_of rows actor = slice_index_or rows (actor - 1) []
 abbrev pub item_of : {P : ℕ} → List (List (Item P)) → ℕ → ℕ → Option (Item P)
 item_of rows actor k = slice_get (row_of rows actor) k
 
+-- A programme gives the words at the start, and the items of each actor.
 pub record Programme (P : ℕ) : Type 0 where
   -- The number of words, and the number of actors.
   pub words : ℕ
@@ -26,12 +27,12 @@ pub record Programme (P : ℕ) : Type 0 where
   -- The items of each actor, in order.
   pub rows : List (List (Item P))
 
--- These words are changed at the vertices that are named.
+-- These are the words with those of the named vertices changed.
 abbrev pub named_words : List Word → List (ℕ × Word) → List Word
 named_words words [] = words
 named_words words (x ∷ more) = named_words (slice_set words (x.0 - 1) x.1) more
 
--- These are the words at the start: those that are named, and unreached elsewhere.
+-- These are the words at the start: the named ones, and unreached elsewhere.
 abbrev pub opening_words : {P : ℕ} → Programme P → List Word
 opening_words p = named_words (replicate p.words Unreached) p.named
 
@@ -41,6 +42,7 @@ IsItem n (Offer v w) = IsNumber n v × IsPair w
 IsItem n (Read v) = IsNumber n v
 IsItem n (Relax u v l) = IsNumber n u × IsNumber n v × (1 ≤ l)
 
+-- The programme is within the limits, and its items name only its vertices.
 pub record IsProgramme {P : ℕ} (p : Programme P) : Type 0 where
   pub words : IsNumber 65536 p.words
   pub actors : IsNumber 64 p.actors

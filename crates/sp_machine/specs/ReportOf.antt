@@ -8,6 +8,7 @@ use Rattle.sp_machine.specs.Linear.{IsLinear}
 use Rattle.sp_machine.specs.Relaxing.{graph_of, RelaxesFrom}
 use Rattle.sp_machine.specs.Run.{run_of, IsClosed}
 
+-- The report is that of the programme's run with these steps.
 pub record IsReportOf {P : ℕ} (p : Programme P) (schedule : List ℕ) (report : Report P) : Type 0 where
   pub calls : report.calls.items ≡ (run_of p schedule).log.calls
   pub words : report.words.items ≡ (run_of p schedule).machine.words

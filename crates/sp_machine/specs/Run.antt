@@ -27,6 +27,7 @@ pub record Log (P : ℕ) : Type 0 where
   pub wins : ℕ
   pub losses : ℕ
 
+-- This is the log before the first step.
 abbrev pub empty_log : {P : ℕ} → (actors : ℕ) → Log P
 empty_log actors = record { steps = 0; begun = replicate actors None; calls = []; relaxed = []; wins = 0; losses = 0 }
 
@@ -34,29 +35,34 @@ empty_log actors = record { steps = 0; begun = replicate actors None; calls = []
 abbrev pub first_step : {P : ℕ} → Log P → ℕ → ℕ
 first_step log actor = unwrap_or (slice_index_or log.begun (actor - 1) None) (log.steps + 1)
 
+-- This is the first step of an actor's call that is still going on, after a step that may have ended the call.
 abbrev pub begun_after : {P : ℕ} → Option (Ended P) → (first : ℕ) → Option ℕ
 begun_after None first = Some first
 begun_after (Some ended) first = None
 
+-- These are the finished calls, with the call that a step ended, if it ended one.
 abbrev pub with_call : {P : ℕ} → List (Finished P) → Option (Ended P) → (first last : ℕ) → List (Finished P)
 with_call calls None first last = calls
 with_call calls (Some ended) first last = calls ++ record { ended = ended; first = first; last = last } ∷ []
 
+-- These are the finished relaxations, with the one that a step finished, if it finished one.
 abbrev pub with_relaxation : List Relaxation → Option Relaxation → List Relaxation
 with_relaxation relaxed None = relaxed
 with_relaxation relaxed (Some r) = relaxed ++ r ∷ []
 
+-- This counts a won exchange.
 abbrev pub win : Option Exchange → ℕ
 win None = 0
 win (Some Won) = 1
 win (Some Lost) = 0
 
+-- This counts a lost exchange.
 abbrev pub loss : Option Exchange → ℕ
 loss None = 0
 loss (Some Won) = 0
 loss (Some Lost) = 1
 
--- The next step is made by the actor and has this effect.
+-- This is the log after the actor's next step, which has this effect.
 abbrev pub log_after : {P : ℕ} → Log P → (actor : ℕ) → Effect P → Log P
 log_after log actor effect = record {
   steps = log.steps + 1;
@@ -67,10 +73,12 @@ log_after log actor effect = record {
   losses = log.losses + loss effect.exchange;
 }
 
+-- A run so far: its machine and its log.
 pub record Run (P : ℕ) : Type 0 where
   pub machine : Machine P
   pub log : Log P
 
+-- This is the machine before the first step.
 abbrev pub opening_machine : {P : ℕ} → Programme P → Machine P
 opening_machine p = record {
   rows = p.rows;
@@ -79,6 +87,7 @@ opening_machine p = record {
   last = record { ended = None; relaxed = None; exchange = None };
 }
 
+-- This is the run before the first step.
 abbrev pub opening_run : {P : ℕ} → Programme P → Run P
 opening_run p = record { machine = opening_machine p; log = empty_log p.actors }
 
@@ -86,6 +95,7 @@ opening_run p = record { machine = opening_machine p; log = empty_log p.actors }
 abbrev pub run_step : {P : ℕ} → Run P → ℕ → Run P
 run_step r actor = record { machine = machine_after r.machine actor; log = log_after r.log actor (machine_after r.machine actor).last }
 
+-- This is the run after one more step of each of these actors in turn.
 abbrev pub run_from : {P : ℕ} → Run P → List ℕ → Run P
 run_from r [] = r
 run_from r (actor ∷ more) = run_from (run_step r actor) more
@@ -101,6 +111,6 @@ IsItemClosed words relaxed (Offer v w) = Unit {0}
 IsItemClosed words relaxed (Read v) = Unit {0}
 IsItemClosed words relaxed (Relax u v l) = (d q : ℕ) → word_at words u ≡ Pair d q → Contains relaxed (record { tail = u; head = v; len = l; loaded = Some d })
 
--- This holds for every item.
+-- Every item of the programme is closed in this way.
 abbrev pub IsClosed : {P : ℕ} → Programme P → (words : List Word) → List Relaxation → Type 0
 IsClosed p words relaxed = All (λ row. All (IsItemClosed words relaxed) row) p.rows

@@ -39,8 +39,8 @@ vertex_at (Loading u v l) = u
 
 -- ## The eight cases
 
--- This is the step of an actor at an offer of w: before its load (cases 1 and 2), or when it holds h (cases 3 to 5),
--- where the word found is x.
+-- This is the step of an actor at an offer of w that finds the word x: before its load (cases 1 and 2), or when it holds h
+-- (cases 3 to 5).
 abbrev pub offer_turn : (w : Word) → (held : Option Word) → (x : Word) → Turn
 offer_turn w None x = if is_below w x then Holds else Keeps
 offer_turn w (Some h) x = if is_same x h then Wins else if is_below w x then LosesAndHolds else LosesAndKeeps
@@ -50,6 +50,7 @@ abbrev pub load_turn : (max len : ℕ) → (x : Word) → Turn
 load_turn max len Unreached = EndsLoad
 load_turn max len (Pair d p) = if nat_le (d + len) max then GoesOn else EndsLoad
 
+-- This is the case of a step: what the actor is at, the word that it holds and the word that it finds decide it.
 abbrev pub turn : {P : ℕ} → (max : ℕ) → At P → (held : Option Word) → (x : Word) → Turn
 turn max Idle held x = Rests
 turn max (Offering v w) held x = offer_turn w held x
@@ -58,7 +59,7 @@ turn max (Loading u v l) held x = load_turn max l x
 
 -- ## What each case does
 
--- This says whether the actor's item ends.
+-- The actor's item ends.
 abbrev pub ends_item : Turn → Bool
 ends_item Rests = false
 ends_item Keeps = true
@@ -70,16 +71,19 @@ ends_item EndsRead = true
 ends_item EndsLoad = true
 ends_item GoesOn = false
 
--- The actor stands before the load of its next item.
+-- The actor is before the load of its next item.
 abbrev pub beyond : {P : ℕ} → Actor P → Actor P
 beyond a = record { next = a.next + 1; loaded = None; held = None }
 
+-- The actor holds this word.
 abbrev pub holding : {P : ℕ} → Actor P → Word → Actor P
 holding a x = record { next = a.next; loaded = a.loaded; held = Some x }
 
+-- The actor has loaded the distance of this word.
 abbrev pub loading : {P : ℕ} → Actor P → Word → Actor P
 loading a x = record { next = a.next; loaded = dist_of x; held = None }
 
+-- This is the actor after a step that found the word x.
 abbrev pub actor_after : {P : ℕ} → Actor P → Turn → (x : Word) → Actor P
 actor_after a Rests x = a
 actor_after a Keeps x = beyond a
@@ -91,7 +95,7 @@ actor_after a EndsRead x = beyond a
 actor_after a EndsLoad x = beyond a
 actor_after a GoesOn x = loading a x
 
--- A win stores the offer.
+-- These are the words after a step: a win stores the offer.
 abbrev pub words_after : {P : ℕ} → List Word → At P → Turn → List Word
 words_after words (Offering v w) Wins = slice_set words (v - 1) w
 words_after words (Offering v w) other = words
@@ -99,6 +103,7 @@ words_after words Idle t = words
 words_after words (Reading v) t = words
 words_after words (Loading u v l) t = words
 
+-- This is the word that the actor offers.
 abbrev pub offer_word : {P : ℕ} → At P → Word
 offer_word Idle = Unreached
 offer_word (Offering v w) = w
@@ -117,10 +122,12 @@ call_ended place EndsRead x = Some (calls.Read x)
 call_ended place EndsLoad x = Some (calls.Read x)
 call_ended place GoesOn x = Some (calls.Read x)
 
+-- This is the call that ended, if one did, with its caller and its vertex.
 abbrev pub with_caller : {P : ℕ} → (actor vertex : ℕ) → Option (Call P) → Option (Ended P)
 with_caller actor vertex None = None
 with_caller actor vertex (Some call) = Some (record { actor = actor; vertex = vertex; call = call })
 
+-- This is the outcome of the step's exchange, if it made one.
 abbrev pub exchange_of : Turn → Option Exchange
 exchange_of Rests = None
 exchange_of Keeps = None
@@ -150,6 +157,7 @@ effect actor item a t x = record {
 
 -- ## The machine
 
+-- A machine has the items of each actor, the words, and the progress of each actor.
 pub record Machine (P : ℕ) : Type 0 where
   pub rows : List (List (Item P))
   pub words : List Word
@@ -157,13 +165,15 @@ pub record Machine (P : ℕ) : Type 0 where
   -- What the last step did.
   pub last : Effect P
 
--- The actor stands before the load of its first item.
+-- The actor is before the load of its first item.
 abbrev pub fresh_actor : {P : ℕ} → Actor P
 fresh_actor = record { next = 0; loaded = None; held = None }
 
+-- This is the progress of an actor.
 abbrev pub actor_of : {P : ℕ} → Machine P → ℕ → Actor P
 actor_of m actor = slice_index_or m.actors (actor - 1) fresh_actor
 
+-- This is the machine after a step of an actor, given its item, its progress, the case of the step and the word found.
 abbrev pub stepped_by : {P : ℕ} → Machine P → ℕ → Option (Item P) → Actor P → Turn → (x : Word) → Machine P
 stepped_by m actor item a t x = record {
   rows = m.rows;
@@ -176,6 +186,7 @@ stepped_by m actor item a t x = record {
 abbrev pub item_at : {P : ℕ} → Machine P → ℕ → Option (Item P)
 item_at m actor = item_of m.rows actor (actor_of m actor).next
 
+-- This is what an actor is at.
 abbrev pub place_of : {P : ℕ} → Machine P → ℕ → At P
 place_of m actor = at (item_at m actor) (actor_of m actor).loaded
 

@@ -7,6 +7,7 @@ use Rattle.sp_machine.specs.Run.{run_of, IsClosed}
 use Rattle.sp_machine.specs.Relaxing.{graph_of, RelaxesFrom}
 use Rattle.sp_machine.specs.Linear.{IsLinear}
 
+-- Every run is linear: its finished calls are a legal history that ends in the machine's words.
 abbrev pub EveryRunIsLinear : Type 0
 EveryRunIsLinear = (P : ℕ) (p : Programme P) (actors : List ℕ) → IsProgramme p → All (IsNumber p.actors) actors
     → IsLinear p.words (word_at (opening_words p)) (run_of p actors).log.calls (word_at (run_of p actors).machine.words)

@@ -1,4 +1,4 @@
-//! Finds whether a run is closed.
+//! Whether a run is closed.
 ghost use Rattle.std.specs.Prelude.{◌≡◌, ◌↔◌, List, All, IsTrue, IfOk};
 ghost use Rattle.sp_word.specs.Word.{dist_of};
 ghost use Rattle.sp_machine.specs.declared.effect.Relaxation.{Relaxation as Finish};

@@ -60,7 +60,7 @@ pub struct Effect<const P: u32> {
 }
 
 impl<const P: u32> Effect<P> {
-    /// Returns the effect before the first step, which is none.
+    /// Returns the effect before the first step: nothing.
     pub(crate) fn none() -> Effect<P>
         ensures { result ≡ record { ended = None; relaxed = None; exchange = None } }
     {

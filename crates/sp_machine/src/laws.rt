@@ -21,8 +21,8 @@ pub fn closed_run_ends_in_tree()
     ensures { ClosedRunEndsInTree }
 {}
 
-/// States that the machine's step at an offer is the step of an offer on one word, of which the contracts of running
-/// offers speak too: the same stage follows, and the same word is left.
+/// States that the machine's step at an offer is the step of an offer on one word, which the contracts of running offers
+/// also use: the same stage follows, and the same word is left.
 pub fn offer_steps_are_the_machines()
     ensures { OfferStepsAreTheMachines }
 {}

@@ -67,7 +67,7 @@ fn fresh_actors<const P: u32>(alloc: Global, count: u32) -> Result<Vec<Actor<P>>
     vec![in alloc; Actor::fresh(); count as usize]
 }
 
-// Gives the vertices that are named their words.
+// Gives the named vertices their words.
 fn name_words<const P: u32>(words: &mut Vec<Word<P>>, named: &[(u32, Word<P>)])
     requires { All (λ x. IsNumber (vec_len words.old) x.0) named.now }
     ensures words { words.new.items ≡ named_words words.old.items named.now }
@@ -79,7 +79,7 @@ fn name_words<const P: u32>(words: &mut Vec<Word<P>>, named: &[(u32, Word<P>)])
 }
 
 impl<'a, const P: u32> Machine<'a, P> {
-    /// Returns what the last step did, which is nothing before the first step.
+    /// Returns the effect of the last step, or none before the first step.
     pub fn last(&self) -> Effect<P>
         ensures { result ≡ self.now.last }
     {

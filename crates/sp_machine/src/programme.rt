@@ -34,8 +34,8 @@ impl<const P: u32> Model for Programme<P> {
 impl<const P: u32> Programme<P> {
     ghost use Rattle.sp_machine.specs.Programme.{Programme as ProgrammeModel, IsProgramme};
 
-    /// Makes a programme with the given numbers of words and actors, in which these vertices have a word at the start
-    /// and row `a - 1` has the items of actor `a`, in order; actors beyond the last row have none.
+    /// Makes a programme with the given numbers of words and actors. The named vertices have a word at the start. Row `a - 1`
+    /// holds the items of actor `a`, in order. Actors beyond the last row have no items.
     pub fn new(
         words: u32,
         actors: u32,

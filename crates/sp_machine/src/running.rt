@@ -1,4 +1,4 @@
-//! Runs a programme by given steps.
+//! Runs a programme with given steps.
 ghost use Rattle.std.specs.Prelude.{All, IfOk};
 ghost use Rattle.sp_machine.specs.Programme.{IsNumber};
 ghost use Rattle.sp_machine.specs.ReportOf.{IsReportOf, IsOfLinearRun, IsTreeIfClosed, HasFewLosses};

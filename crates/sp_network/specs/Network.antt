@@ -1,4 +1,4 @@
--- The network that a text spells, of lines or packed.
+-- The network spelled by a text, of lines or packed.
 use Rattle.std.specs.Prelude.{◌≡◌, ◌==◌, ℕ, Bool, true, false, List, [], ◌∷◌, Option, Some, None, Result, Ok, Err, IfOk, IfErr}
 use Rattle.sp_word.specs.Word.{max_pred}
 use Rattle.sp_device.specs.Failing.{Failing, Never}
@@ -19,17 +19,17 @@ use Rattle.sp_turned.specs.Turned.{turned, with_turned}
 
 -- ## Directions
 
--- the arcs as they are, each turned round, or each with the same turned round behind it
+-- These are the arcs as they are, each turned round, or each followed by the same arc turned round.
 abbrev pub directed_arcs : Direction → List Arc → List Arc
 directed_arcs AsGiven arcs = arcs
 directed_arcs Towards arcs = turned arcs
 directed_arcs BothWays arcs = with_turned arcs
 
--- the graph with its arcs as they are, turned, or both
+-- This is the graph with its arcs as they are, turned, or both.
 abbrev pub directed : Direction → Graph → Graph
 directed way g = record { n = g.n; arcs = directed_arcs way g.arcs }
 
--- How many arcs a text may announce, by the direction in which its arcs are to lead.
+-- This is how many arcs a text may announce, given their direction.
 abbrev pub most_of : Direction → ℕ
 most_of AsGiven = MOST_ARCS
 most_of Towards = MOST_ARCS
@@ -42,12 +42,12 @@ abbrev pub is_packed : List ℕ → Bool
 is_packed [] = false
 is_packed (b ∷ text) = b == 0x89
 
--- The same of the next byte, where there is one.
+-- The next byte is 0x89, if there is one.
 abbrev pub shows_packed : Option ℕ → Bool
 shows_packed None = false
 shows_packed (Some b) = b == 0x89
 
--- The text is the packed one of the file's graph, which is within the limit of the layout and has at most so many arcs.
+-- The text is the packed text of the file's graph, which is within the limit of the layout and has at most `most` arcs.
 pub record SpellsPacked (P most : ℕ) (text : List ℕ) (file : GrFile) : Type 0 where
   pub packable : IsPackable (graph_of file)
   pub within : IsWithin (max_pred P) most (graph_of file)
@@ -58,11 +58,11 @@ abbrev pub SpellsAs : (packed : Bool) → (P most : ℕ) → List ℕ → GrFile
 SpellsAs true P most text file = SpellsPacked P most text file
 SpellsAs false P most text file = SpellsUpTo P most text file
 
--- The text spells the file's graph, of at most so many arcs, in the form that its first byte shows.
+-- The text spells the file's graph, which has at most `most` arcs, in the form that its first byte shows.
 abbrev pub SpellsNetwork : (P most : ℕ) → List ℕ → GrFile → Type 0
 SpellsNetwork P most text file = SpellsAs (is_packed text) P most text file
 
--- The answer to the whole text of a device, part of which may be left, by the rules of one form.
+-- This is the result for the whole text of a device, part of which may be left, by the rules of one form.
 abbrev pub ReadAs : (packed : Bool) → (P most : ℕ) → (text : List ℕ) → (left : Option (List ℕ)) → (has_failed : Bool) → Result GrFile NetworkFault → Type 0
 ReadAs packed P most text left has_failed (Ok file) = (left ≡ Some []) × SpellsAs packed P most text file
 ReadAs packed P most text left has_failed (Err (Text e)) = (packed ≡ false) × ReadUpTo P most text left has_failed (Err e)
@@ -73,9 +73,9 @@ pub record NoneCame (text : List ℕ) (left : Option (List ℕ)) (has_failed : B
   pub whole : left ≡ Some text
   pub failed : has_failed ≡ true
 
--- The answer to the whole text of a device, part of which may be left, where it may announce so many arcs: all of it was read, and
--- spells this network; or its fault by the rules of the form that its first byte shows. Where no byte came, the fault is that of a
--- text of lines.
+-- This is the result for the whole text of a device, part of which may be left. The text may announce at most `most` arcs.
+-- All of it was read, and spells this network; or this is its fault by the rules of the form that its first byte shows. If no
+-- byte came, the fault is that of a text of lines.
 abbrev pub NetworkRead : (P most : ℕ) → (text : List ℕ) → (left : Option (List ℕ)) → (has_failed : Bool) → Result GrFile NetworkFault → Type 0
 NetworkRead P most text left has_failed (Ok file) = (left ≡ Some []) × SpellsNetwork P most text file
 NetworkRead P most text left has_failed (Err (Text e)) = (is_packed text ≡ true → NoneCame text left has_failed) × ReadUpTo P most text left has_failed (Err e)
@@ -86,7 +86,7 @@ abbrev pub IsOfDevice : NetworkFault → Type 0
 IsOfDevice (Text e) = e.kind ≡ LineRead
 IsOfDevice (Packed e) = e.kind ≡ WordRead
 
--- What is known of the answer to a text of one form, of which this was left before and after.
+-- What is known of the result for a text of one form, given what was left of it before and after.
 pub record Answered (packed : Bool) (P most : ℕ) (old new : Option (List ℕ)) (has_failed : Bool) (failing : Failing) (result : Result GrFile NetworkFault) : Type 0 where
   pub exact : (text : List ℕ) → old ≡ Some text → ReadAs packed P most text new has_failed result
   pub found : IfOk result (λ file. (text : List ℕ) × SpellsNetwork P most text file)

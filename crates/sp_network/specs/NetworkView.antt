@@ -5,13 +5,14 @@ use Rattle.sp_graph.specs.RowEnds.{AreRowEnds}
 use Rattle.sp_packed.specs.declared.reading.PackedFile.{PackedFile}
 use Rattle.sp_network.specs.declared.network.Network.TheInside.{Inside}
 
+-- This is the file that contracts see of a network.
 abbrev pub file_of : Inside → GrFile
 file_of network = network.file
 
--- Where it tells of rows, they are those of its arcs.
+-- If it knows rows, they are those of its arcs.
 abbrev pub KnowsRows : Inside → Type 0
 KnowsRows network = IfSome network.rows (AreRowEnds network.file.n network.file.arcs.items)
 
--- the vertices and the arcs that words have spelled
+-- These are the vertices and the arcs spelled by words.
 abbrev pub spelled_by : PackedFile → GrFile
 spelled_by file = record { n = file.n; arcs = file.arcs }

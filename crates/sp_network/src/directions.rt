@@ -1,4 +1,4 @@
-//! The direction in which the arcs of a graph lead, by those of its file.
+//! The direction of a graph's arcs, relative to its file.
 ghost use Rattle.std.specs.Prelude.{◌≡◌, ℕ, IfOk};
 ghost use Rattle.sp_dimacs.specs.Graph.{IsNetwork, IsNetworkUpTo, graph_of};
 ghost use Rattle.sp_network.specs.Network.{directed, most_of};
@@ -11,14 +11,14 @@ use std::alloc::AllocError;
 use std::marker::Sync;
 use std::thread::Threads;
 
-/// The direction in which the arcs of a graph lead, by those of its file.
+/// The direction of a graph's arcs, relative to its file.
 #[derive(Clone, Copy, Debug, PartialEq, Eq)]
 pub enum Direction {
     /// From tail to head.
     AsGiven,
     /// From head to tail: a walk from a vertex is one towards it in the graph of the file.
     Towards,
-    /// From tail to head, and back: each arc of the file stands for two, one behind the other. A loop stands twice.
+    /// From tail to head, and back: each arc of the file gives two arcs, one after the other. A loop appears twice.
     BothWays,
 }
 
@@ -54,9 +54,9 @@ impl Direction {
         Ok(file)
     }
 
-    /// Returns the network with its arcs in this direction. Arcs are turned in place, by as many threads as there are workers or
-    /// fewer, and nothing is known of their rows then; the call fails only if there is no memory for twice the arcs where they are
-    /// to lead both ways.
+    /// Returns the network with its arcs in this direction. Arcs are turned in place, with at most one thread for each worker,
+    /// and nothing is known of their rows afterwards. The call fails only if the arcs lead both ways and there is no memory for
+    /// twice as many.
     pub fn apply<R: Threads + Sync>(
         self,
         rt: &R,

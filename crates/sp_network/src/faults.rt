@@ -3,7 +3,7 @@ use sp_dimacs::DimacsError;
 use sp_packed::PackedFault;
 use thiserror::Error;
 
-/// The first fault of a graph's file. Its `Display` is that of the fault, which is for users of this library.
+/// The first fault of a graph's file. `Display` is that of the inner fault, which is for users of this library.
 #[derive(Clone, Copy, Debug, PartialEq, Eq, Error)]
 pub enum NetworkFault {
     /// The fault of a text, at its line.

@@ -1,4 +1,4 @@
-//! Laws about the networks that texts spell.
+//! Laws about the networks spelled by texts.
 ghost use Rattle.std.specs.Prelude.{◌≡◌, ℕ, List, true, false};
 ghost use Rattle.std.specs.List.Sorted.{IsPermutation};
 ghost use Rattle.sp_word.specs.Word.{max_pred};
@@ -10,7 +10,7 @@ ghost use Rattle.sp_turned.specs.Turned.{IsTurned, IsBothWays};
 ghost use Rattle.sp_network.specs.declared.directions.Direction.TheVariants.{AsGiven, Towards, BothWays};
 ghost use Rattle.sp_network.specs.Network.{directed, is_packed, SpellsNetwork};
 
-/// States that a text of lines which spells a graph isn't packed, and spells this network.
+/// States that a text of lines that spells a graph isn't packed, and that it spells this network.
 pub fn lines_spell_their_network()
     ensures unpacked { (P most : ℕ) (text : List ℕ) (file : GrFile)
         → SpellsUpTo P most text file → is_packed text ≡ false }
@@ -18,7 +18,7 @@ pub fn lines_spell_their_network()
         → SpellsUpTo P most text file → SpellsNetwork P most text file }
 {}
 
-/// States that the packed text of a graph is packed, and spells this network where it is within the limits.
+/// States that the packed text of a graph is packed, and that it spells this network if the network is within the limits.
 pub fn words_spell_their_network()
     ensures packed { (g : Graph) → is_packed (packed_text g) ≡ true }
     ensures spelled { (P most : ℕ) (file : GrFile) → IsPackable (graph_of file)
@@ -26,15 +26,15 @@ pub fn words_spell_their_network()
         → SpellsNetwork P most (packed_text (graph_of file)) file }
 {}
 
-/// States that networks which the same text spells have the same arcs.
+/// States that two networks spelled by the same text have the same arcs.
 pub fn a_text_spells_one_network()
     ensures { (P most : ℕ) (text : List ℕ) (f g : GrFile)
         → SpellsNetwork P most text f → SpellsNetwork P most text g
         → (f.n ≡ g.n) × IsPermutation f.arcs.items g.arcs.items }
 {}
 
-/// States that the graph of a direction is the graph itself, the one that `turned` of `sp_turned` makes, or the one that `both_ways`
-/// makes; up to the order of arcs.
+/// States that the graph of a direction is the graph itself, the one made by `turned` of `sp_turned`, or the one made by
+/// `both_ways`, up to the order of arcs.
 pub fn directions_are_those_of_graphs()
     ensures given { (g : Graph) → directed AsGiven g ≡ g }
     ensures towards { (g : Graph) → IsTurned g (directed Towards g) }

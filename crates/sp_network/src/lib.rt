@@ -1,4 +1,4 @@
-//! The network that a graph's file spells, whose text is one of lines, or packed.
+//! The network spelled by a graph's file, which is a text of lines or packed.
 #![tactic(auto)]
 
 mod directions;

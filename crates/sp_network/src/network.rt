@@ -1,4 +1,4 @@
-//! The network that a graph's file spells, with what the file's form tells of its rows.
+//! The network spelled by a graph's file, with the ends of its rows if the file's form gives them.
 ghost use Rattle.std.specs.Prelude.{◌≡◌, ◌<◌, ◌≤◌, ◌^◌, length, All, IfOk};
 ghost use Rattle.std.specs.List.Sorted.{IsPermutation};
 ghost use Rattle.sp_paths.specs.Paths.{IsArc};
@@ -14,7 +14,7 @@ use std::alloc::{AllocError, Global};
 use std::marker::{Model, Sync};
 use std::thread::Threads;
 
-/// The network of a graph's file, and where the rows of its arcs end, where the file tells that.
+/// The network of a graph's file, and where the rows of its arcs end, if the file gives that.
 ///
 /// Contracts see the number of vertices and the arcs.
 #[derive(Drop)]
@@ -36,14 +36,14 @@ impl Model for Network {
 }
 
 impl Network {
-    /// Returns the network that lines have spelled. Nothing is known of its rows.
+    /// Returns the network spelled by lines. Nothing is known of its rows.
     pub fn of_lines(file: GrFile) -> Network
         ensures { result ≡ file }
     {
         Network { file, rows: None }
     }
 
-    /// Returns the network that words have spelled.
+    /// Returns the network spelled by words.
     pub fn of_words(file: PackedFile) -> Network
         requires { AreRowEnds file.n file.arcs.items file.rows }
         ensures { result ≡ spelled_by file }
@@ -64,13 +64,13 @@ impl Network {
         self.file.n
     }
 
-    /// Returns whether it is known where rows end, so that `build` takes no time. The contract promises nothing about the result,
-    /// which affects only the time.
+    /// Returns whether the ends of the rows are known, so that `build` takes no time. The contract promises nothing about the
+    /// result, which affects only the time.
     pub fn knows_rows(&self) -> bool {
         self.rows.is_some()
     }
 
-    /// Returns the number of vertices and the arcs alone.
+    /// Returns only the number of vertices and the arcs.
     pub fn into_file(self) -> GrFile
         ensures { result ≡ self }
     {
@@ -78,8 +78,8 @@ impl Network {
         file
     }
 
-    /// Builds the graph of the network, as `Graph::from_arcs_by` does. Where its rows are known, nothing is copied, no arc is
-    /// looked at, and no memory is taken.
+    /// Builds the graph of the network, as `Graph::from_arcs_by` does. If its rows are known, it copies nothing, looks at no arc
+    /// and allocates no memory.
     pub fn build<R: Threads + Sync>(
         self,
         rt: &R,

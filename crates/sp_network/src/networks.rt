@@ -1,4 +1,4 @@
-//! A graph's file, read.
+//! Reads a graph's file.
 ghost use Rattle.std.specs.Prelude.{◌≡◌, ℕ, List, true, false, Some, IfOk, IfErr};
 ghost use Rattle.sp_word.specs.Word.{is_layout};
 ghost use Rattle.sp_device.specs.Failing.{Never};
@@ -29,7 +29,7 @@ fn is_marked(next: Option<u8>) -> bool
     }
 }
 
-// Reads the rest of a device's bytes as lines, which may announce as many arcs as this direction allows.
+// Reads the rest of a device's bytes as lines. They may announce as many arcs as this direction allows.
 fn read_directed<const P: u32, H: Crew, R: Read>(
     rt: &H,
     alloc: Global,
@@ -89,10 +89,10 @@ fn read_words<const P: u32, R: Read>(
 }
 
 /// Reads the rest of a device's bytes, and returns the network that they spell, or their first fault. A text whose first byte
-/// is 0x89 is packed, every other one has lines. In both forms it may announce as many arcs as this direction allows.
+/// is 0x89 is packed; every other text has lines. In both forms it may announce as many arcs as this direction allows.
 ///
-/// A text of lines is read by so many workers, this thread among them; this thread alone reads the device. An empty text has no
-/// problem line. A device that fails before the first byte is told as Read at line 1.
+/// A text of lines is read with this many workers, including this thread. Only this thread reads the device. An empty text
+/// lacks a problem line. If the device fails before the first byte, the fault is Read at line 1.
 pub fn read_network<const P: u32, H: Crew, D: Read>(
     rt: &H,
     alloc: Global,

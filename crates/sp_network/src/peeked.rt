@@ -7,7 +7,7 @@ ghost use Rattle.sp_network.specs.Peeked.{IsNext, IsWaiting, Taken, joined, pass
 
 use sp_device::{Failed, Read};
 
-/// A device whose next byte can be looked at before it is read. A byte that was looked at is kept, and is passed first.
+/// A device whose next byte can be looked at before it is read. A byte looked at is kept, and read first.
 #[derive(Drop)]
 pub struct Peeked<D: Read> {
     front: Option<u8>,
@@ -16,7 +16,7 @@ pub struct Peeked<D: Read> {
 }
 
 impl<D: Read> Peeked<D> {
-    /// Returns this device, of which no byte was looked at.
+    /// Returns this device, with no byte looked at.
     pub fn new(device: D) -> Self
         ensures left { ⟦<Peeked<D> as Read>⟧.left result ≡ D.left device }
         ensures passed { ⟦<Peeked<D> as Read>⟧.passed result ≡ D.passed device }
@@ -29,8 +29,8 @@ impl<D: Read> Peeked<D> {
         }
     }
 
-    /// Returns the next byte, which is still to be read, or None where no byte is left. Where the byte has to be read of the
-    /// device first, and this fails, the device has failed.
+    /// Returns the next byte without reading it, or `None` if no byte is left. If the byte has to come from the device and that
+    /// fails, the device has failed.
     pub fn peek(&mut self) -> Result<Option<u8>, Failed>
         ensures kept { Keeps (⟦<Peeked<D> as Read>⟧.left self.old)
             (⟦<Peeked<D> as Read>⟧.left self.new) }

@@ -53,7 +53,7 @@ fn bytes_of(alloc: Global, words: &[u32]) -> Result<Vec<u8>, AllocError> {
     Ok(bytes)
 }
 
-// What reading a device tells of a text whose arcs are to lead in this direction.
+// Returns the result of reading a device whose text has its arcs in this direction.
 fn read_directed<R: Threads + Sync>(
     rt: &R,
     alloc: Global,
@@ -70,12 +70,12 @@ fn read_directed<R: Threads + Sync>(
     )
 }
 
-// The same where they lead one way.
+// Does the same for arcs that lead one way.
 fn read<R: Threads + Sync>(rt: &R, alloc: Global, device: UpTo) -> Result<Network, NetworkFault> {
     read_directed(rt, alloc, device, Direction::AsGiven)
 }
 
-// What reading the first of these bytes alone tells.
+// Returns the result of reading only the first of these bytes.
 fn read_front<R: Threads + Sync>(
     rt: &R,
     alloc: Global,
@@ -88,7 +88,7 @@ fn read_front<R: Threads + Sync>(
     read(rt, alloc, UpTo::whole(&bytes[..count]))
 }
 
-// Whether these are the arcs of the graph, in any order.
+// Returns whether these are the arcs of the graph, in any order.
 fn is_graph(told: Result<Network, NetworkFault>) -> bool {
     let arcs = [(1, 2, 3), (1, 3, 3), (2, 4, 2), (3, 4, 2), (1, 4, 6)];
     match told {
@@ -109,7 +109,7 @@ fn is_graph(told: Result<Network, NetworkFault>) -> bool {
     }
 }
 
-// The network of `n` vertices with these arcs.
+// Returns the network of `n` vertices with these arcs.
 fn network_of(alloc: Global, n: u32, triples: &[Triple]) -> Result<Network, AllocError> {
     let mut arcs = Vec::new(alloc);
     for triple in triples {
@@ -119,7 +119,7 @@ fn network_of(alloc: Global, n: u32, triples: &[Triple]) -> Result<Network, Allo
     Ok(Network::of_lines(GrFile { n, arcs }))
 }
 
-// Whether the file has so many vertices and exactly these arcs, in this order.
+// Returns whether the file has `n` vertices and exactly these arcs, in this order.
 fn has(file: &GrFile, n: u32, want: &[Triple]) -> bool {
     file.n == n
         && file.arcs.len() == want.len()
@@ -130,7 +130,7 @@ fn has(file: &GrFile, n: u32, want: &[Triple]) -> bool {
             .all(|(arc, want)| (arc.tail, arc.head, arc.len) == *want)
 }
 
-// Whether the graph of a text has four vertices and exactly these arcs, in this order, once they lead in this direction.
+// Returns whether the graph of a text, read in this direction, has four vertices and exactly these arcs, in this order.
 fn leads<R: Threads + Sync>(
     rt: &R,
     alloc: Global,
@@ -171,7 +171,7 @@ fn one_graph_in_both_forms(rt: HostRuntime) -> Result<(), Fail> {
     Ok(())
 }
 
-// The graph of a text, built; None where its network or its memory is refused.
+// Builds the graph of a text. Returns `None` if its network or its memory is refused.
 fn built<R: Threads + Sync>(rt: &R, alloc: Global, device: UpTo) -> Option<Graph> {
     let mut peeked = Peeked::new(device);
     let network = read_network::<28, _, _>(
@@ -185,7 +185,7 @@ fn built<R: Threads + Sync>(rt: &R, alloc: Global, device: UpTo) -> Option<Graph
     network.build(rt, alloc, Workers::one()).ok()
 }
 
-// Whether these are the arcs of the built graph, in order, and 6 is the greatest length.
+// Returns whether the built graph has these arcs, in order, and 6 is the greatest length.
 fn is_built(graph: Option<Graph>) -> bool {
     let Some(graph) = graph else {
         return false;

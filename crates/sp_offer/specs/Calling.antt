@@ -10,6 +10,7 @@ use Rattle.sp_offer.specs.Rule.{TableView}
 use Rattle.sp_offer.specs.Trail.{Found, words_of, Stand}
 use Rattle.sp_offer.specs.Lowering.{Finding, Takes}
 
+-- This is the same caller, of the same table and with the same number.
 abbrev pub IsSameCaller : Knowledge → Knowledge → Type 0
 IsSameCaller before after = (after.table ≡ before.table) × (after.number ≡ before.number)
 
@@ -18,6 +19,7 @@ abbrev pub KeepsPlaces : Knowledge → Knowledge → Type 0
 KeepsPlaces before after =
     (after.table ≡ before.table) × (after.number ≡ before.number) × (after.story.own ≡ before.story.own)
 
+-- The caller's own calls are the same.
 abbrev pub HasSameCalls : Knowledge → Knowledge → Type 0
 HasSameCalls before after = own_calls after.story ≡ own_calls before.story
 
@@ -25,6 +27,7 @@ HasSameCalls before after = own_calls after.story ≡ own_calls before.story
 abbrev pub IsBeside : Knowledge → Knowledge → Type 0
 IsBeside first second = (second.table ≡ first.table) × (second.story ≡ story_beside first.story)
 
+-- The caller's steps are the same.
 abbrev pub HasSameTrail : Knowledge → Knowledge → Type 0
 HasSameTrail before after = after.trail ≡ before.trail
 
@@ -34,6 +37,7 @@ HasSameTrail before after = after.trail ≡ before.trail
 abbrev pub offer_of : {P : ℕ} → Knowledge → ℕ → Word → Offered P → Event
 offer_of caller vertex word answer = event caller.number vertex (Offer word answer.found answer.reply)
 
+-- A caller reads the word of a vertex, and this is the event.
 abbrev pub read_of : Knowledge → ℕ → Word → Event
 read_of caller vertex word = event caller.number vertex (Read word)
 
@@ -45,14 +49,15 @@ Tells call before after = Knows call before.story after.story
 abbrev pub OwnsAll : List Event → Knowledge → Knowledge → Type 0
 OwnsAll calls before after = own_calls after.story ≡ own_calls before.story ++ calls
 
+-- This call is added to the caller's own.
 abbrev pub Owns : Event → Knowledge → Knowledge → Type 0
 Owns call before after = OwnsAll (call ∷ []) before after
 
--- The steps of the call found such words, and it takes effect at the last of them.
+-- The steps of the call found words of this kind, and it takes effect at the last of them.
 abbrev pub TakesSteps : Event → (List Word → Type 0) → Knowledge → Knowledge → Type 0
 TakesSteps e finding before after = Takes e finding before.story after.story before.trail after.trail
 
--- The steps of an offer found such words.
+-- The steps of an offer found words of this kind.
 abbrev pub OffersBy : {P : ℕ} → Finding → ℕ → Word → Offered P → Knowledge → Knowledge → Type 0
 OffersBy finding vertex word answer before after =
     TakesSteps (offer_of before vertex word answer) (finding word answer.found answer.tries) before after
@@ -86,7 +91,7 @@ module _ {L : Type 0} (P : ℕ) (allows : L → ℕ → Word → Type 0) (table 
   ReadsWords words before after =
       Reads (lawful P (allows table.law)) before.number 1 words before.story after.story
 
-  -- The words lie between those that the caller knew before and those that it knows after.
+  -- The words are at most those that the caller knew before, and at least those that it knows after.
   abbrev pub CopiesWords : List Word → Knowledge → Knowledge → Type 0
   CopiesWords words before after = IsCopy (lawful P (allows table.law)) words before.story after.story
 

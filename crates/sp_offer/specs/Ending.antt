@@ -27,7 +27,7 @@ pub record IsEnd (law : ℕ → Word → Type 0) (caller : Knowledge) (words : L
   pub interleaved : IsInterleaving steps
   pub calls : history ≡ calls_of steps
   pub within : AreWithin (length words) (length owns) steps
-  -- The trails of all callers, by their numbers. Each step of all callers is told in one of them, once.
+  -- The trails of all callers, by their numbers. Each step of all callers is in one of them, once.
   pub trails : List (List Found)
   pub my_trail : get_elem? trails caller.number ≡ some caller.trail
   pub taken : EachTaken steps trails

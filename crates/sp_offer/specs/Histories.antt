@@ -13,6 +13,7 @@ blank v = Unreached
 abbrev pub event : ℕ → ℕ → Call → Event
 event by v call = record { by = by; vertex = v; call = call }
 
+-- This is the word that a call found.
 abbrev pub found_by : Call → Word
 found_by (Offer word found reply) = found
 found_by (Read found) = found
@@ -25,6 +26,7 @@ is_smaller Shorter = true
 is_smaller SmallerPred = true
 is_smaller Kept = false
 
+-- The call lowered a word.
 abbrev pub is_lowering : Call → Bool
 is_lowering (Offer word found reply) = is_smaller reply
 is_lowering (Read found) = false
@@ -41,6 +43,7 @@ module _ (law : ℕ → Word → Type 0) where
   IsLawful v (Offer word found reply) = law v word
   IsLawful v (Read found) = Unit {0}
 
+  -- The law allows the word of every offer in the history.
   abbrev pub AreLawful : List Event → Type 0
   AreLawful [] = Unit {0}
   AreLawful (e ∷ es) = IsLawful e.vertex e.call × AreLawful es

@@ -1,4 +1,4 @@
--- The atomic steps of all callers, in one order. In each list of steps the one made last stands first.
+-- The atomic steps of all callers, in one order. In each list of steps the latest comes first.
 use Rattle.std.specs.Prelude.{◌≡◌, ℕ, ◌<◌, ◌≤◌, ◌==◌, if◌then◌else◌, List, [], ◌∷◌, ◌++◌}
 use Rattle.sp_word.specs.Word.{Word}
 use Rattle.sp_word.specs.History.{Event, Offer, Read, run}
@@ -24,10 +24,12 @@ pub data Doing : Type 0 where
   Rests : Doing
   Offering : (vertex : ℕ) (word held : Word) → Doing
 
+-- This is the stage of the caller's offer; at rest it is before one.
 abbrev pub stage_at : Doing → Stage
 stage_at Rests = Before
 stage_at (Offering v w h) = Holding h
 
+-- This is what a caller does when its offer is at this stage; it rests before an offer and after it.
 abbrev pub doing_at : (vertex : ℕ) (word : Word) → Stage → Doing
 doing_at v w Before = Rests
 doing_at v w (Holding h) = Offering v w h
@@ -68,7 +70,7 @@ abbrev pub IsAt : (vertex : ℕ) (word : Word) → Doing → Type 0
 IsAt v w Rests = Unit {0}
 IsAt v w (Offering u x h) = (u ≡ v) × (x ≡ w)
 
--- The step may follow: a caller begins a call where it rests, and goes on with its offer until that is over.
+-- The step may follow: a caller begins a call when it rests, and continues its offer until that is over.
 abbrev pub MayFollow : Taken → Asked → Doing → Type 0
 MayFollow s (OfOffer w) d = IsAt s.vertex w d
 MayFollow s OfRead d = d ≡ Rests
@@ -80,7 +82,7 @@ abbrev pub IsInterleaving : List Taken → Type 0
 IsInterleaving [] = Unit {0}
 IsInterleaving (s ∷ before) = (run blank (calls_of before) s.vertex ≡ s.found) × MayFollow s s.asked (doing before s.by) × IsInterleaving before
 
--- The steps are those of so many callers, numbered from 0, on so many vertices.
+-- The steps are those of this number of callers, numbered from 0, on this number of vertices.
 abbrev pub AreWithin : (vertices callers : ℕ) → List Taken → Type 0
 AreWithin n callers [] = Unit {0}
 AreWithin n callers (s ∷ before) = (0 < s.vertex) × (s.vertex ≤ n) × (s.by < callers) × AreWithin n callers before

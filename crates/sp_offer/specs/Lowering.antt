@@ -37,21 +37,21 @@ module _ (P : ℕ) (law : ℕ → Word → Type 0) (by vertex : ℕ) (word : Wor
     abbrev pub HasCome : (held tries : ℕ) → Seat S Sight → Seat S Sight → Type 0
     HasCome held tries p q = IsUnderWay held tries (seat_story p) (seat_story q)
 
-    -- This is what the exchange tells the seat.
+    -- This is what the exchange shows the seat.
     abbrev pub Swaps : (held found : ℕ) → Seat S Sight → Seat S Sight → Type 0
     Swaps held found p q = IsExchanged held found (seat_story p) (seat_story q)
 
 -- ## The steps
 
--- The trail grew by steps of the vertex, which stand in the history.
+-- The trail grew by steps of the vertex, which are in the history.
 pub record Grows (vertex : ℕ) (s t : Story) (before after : List Found) : Type 0 where
   pub found : List Found
   pub trail : after ≡ before ++ found
   pub of : AreOf vertex found
   pub stand : Stand s.seen t.seen found
 
--- What the words are like that the steps of a lowering find, of which so many were counted: one is offered, and one
--- decides.
+-- This describes the words that the steps of a lowering find, for the word offered, the word that decides, and the number of
+-- steps counted.
 abbrev pub Finding : Type 1
 Finding = (word found : Word) → (tries : ℕ) → List Word → Type 0
 
@@ -63,7 +63,7 @@ by_steps word found tries words = (length words ≡ tries) × IsOffer word words
 abbrev pub by_one_step : Finding
 by_one_step word found tries words = words ≡ found ∷ []
 
--- The steps of the call found such words, and it takes effect at the last of them.
+-- The steps of the call found words of this kind, and it takes effect at the last of them.
 pub record Takes (e : Event) (finding : List Word → Type 0) (s t : Story) (before after : List Found) : Type 0 where
   pub grows : Grows e.vertex s t before after
   pub words : finding (words_of grows.found)
@@ -77,6 +77,6 @@ pub record HasFound (P by vertex : ℕ) (word : Word) (bits held tries : ℕ) (u
   pub over : held ≤ bits → Takes (answer_event by vertex word (word_of P held)) (by_steps word (word_of P held) tries) (story u) (story v) u.trail v.trail
 
 module _ {S : Type 0} where
-  -- This is what the steps of a call tell the seat.
+  -- This is what the steps of a call show the seat.
   abbrev pub SeatTakes : Event → (List Word → Type 0) → Seat S Sight → Seat S Sight → Type 0
   SeatTakes e finding p q = Takes e finding (story p.me.0) (story q.me.0) p.me.0.trail q.me.0.trail

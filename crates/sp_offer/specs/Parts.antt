@@ -10,18 +10,23 @@ use Rattle.sp_offer.specs.Rule.{TableView, SeatOffers, answer_event}
 use Rattle.sp_offer.specs.Lowering.{Finding, SeatTakes}
 
 module _ {L : Type 0} where
+  -- This is the table to which the words belong.
   abbrev pub id_of : Words L → TableId
   id_of words = words.table.shared.table_id
 
+  -- This is the number of vertices of the table.
   abbrev pub vertices_of : Words L → ℕ
   vertices_of words = words.table.shared.key.vertices
 
+  -- This is the number of predecessor bits in a word of the table.
   abbrev pub layout_of : Words L → ℕ
   layout_of words = words.table.shared.key.layout
 
+  -- This is the law of the table.
   abbrev pub law_of : Words L → L
   law_of words = words.table.shared.key.law
 
+  -- This is what contracts see of the table.
   abbrev pub table_view : Words L → TableView L
   table_view words = record { id = id_of words; vertices = vertices_of words; law = law_of words }
 
@@ -43,7 +48,7 @@ module _ {L : Type 0} where
     abbrev pub Lowers : {S : Type 0} → (vertex bits found : ℕ) → Seat S Sight → Seat S Sight → Type 0
     Lowers vertex bits found p q = SeatOffers (layout_of words) law_in p.id vertex (word_in words bits) found p q
 
-  -- The steps of the offer of a word found such words.
+  -- The steps of the offer of a word found words of this kind.
   abbrev pub Goes : {S : Type 0} → Finding → Words L → (vertex bits found tries : ℕ) → Seat S Sight → Seat S Sight → Type 0
   Goes finding words vertex bits found tries p q =
       SeatTakes (answer_event p.id vertex (word_in words bits) (word_in words found)) (finding (word_in words bits) (word_in words found) tries) p q

@@ -1,4 +1,4 @@
--- The rule of an offer table, and what its steps tell.
+-- The rule of an offer table, and what its steps show.
 use Rattle.std.specs.Prelude.{◌≡◌, ◌≢◌, ℕ, zero, suc, ◌+◌, ◌<◌, ◌≤◌, true, List, [], ◌∷◌, ◌++◌, length, slice_index, sum_by}
 use mathlib.Core.Option.{some}
 use mathlib.Core.List.{IsPrefix}
@@ -21,9 +21,9 @@ doing_of [] j = Rests
 doing_of (v ∷ vs) zero = v.at
 doing_of (v ∷ vs) (suc j) = doing_of vs j
 
--- There is one legal history, which ends in the words, and whose offers the law allows. Each caller has seen a prefix
--- of it, and each of its calls belongs to exactly one caller. Its calls are those of an interleaving of the callers'
--- steps, which leaves each seat where it is; each step is told in exactly one caller's trail.
+-- There is one legal history, which ends in the words, and whose offers the law allows. Each caller has seen a prefix of it, and
+-- each of its calls belongs to exactly one caller. Its calls are those of an interleaving of the callers' steps, which leaves
+-- each seat where it is; each step is in exactly one caller's trail.
 pub record OneHistory (P : ℕ) (law : ℕ → Word → Type 0) (vertices : ℕ) (words : List ℕ) (views : List Sight) : Type 0 where
   pub log : List Event
   pub wide : length words ≡ vertices
@@ -40,10 +40,11 @@ pub record OneHistory (P : ℕ) (law : ℕ → Word → Type 0) (vertices : ℕ)
   pub told : (p : ℕ) → sum_by (λ (v : Sight). times p (turns_of v.trail)) views ≡ once_below p (length steps)
   pub taken : (j : ℕ) (v : Sight) → get_elem? views j ≡ some v → AreTaken steps v.trail
 
+-- The rule of a table: the words and what its seats have seen come from one legal history.
 abbrev pub rule : {S : Type 0} → ℕ → (ℕ → Word → Type 0) → ℕ → State S Sight → Type 0
 rule P law vertices s = OneHistory P law vertices s.words s.views
 
--- ## What the steps tell
+-- ## What the steps show
 
 -- What a view had heard is in the history that it sees next.
 abbrev pub Hears : Sight → Sight → Type 0
@@ -72,10 +73,12 @@ module _ {S : Type 0} (P : ℕ) (law : ℕ → Word → Type 0) where
   abbrev pub Stays : Me S Sight → Me S Sight → ℕ → Type 0
   Stays m m' found = (m'.1 ≡ m.1) × Hears m.0 m'.0 × (is_word P found ≡ true)
 
+  -- A load that only looks shows the seat the history so far and this word, and adds no call and no step.
   abbrev pub met : Step S → Me S Sight → ℕ → Me S Sight → Type 0
   met st m found m' = Stays m m' found × Looks law (st.word + 1) (word_of P found) (story m.0) (story m'.0) × (m'.0.trail ≡ m.0.trail) × (m'.0.at ≡ m.0.at)
 
   module _ (by : ℕ) where
+    -- The load of a read is the whole call, and finds the word that the read returns.
     abbrev pub was_read : Step S → Me S Sight → ℕ → Me S Sight → Type 0
     was_read st m found m' =
         Stays m m' found
@@ -110,6 +113,7 @@ module _ {S : Type 0} (P : ℕ) (law : ℕ → Word → Type 0) where
           × (found ≤ bits_of P word → m'.0.at ≡ Rests)
           × (found ≢ st.first → bits_of P word < found → m'.0.at ≡ Offering (st.word + 1) word (word_of P found))
 
+      -- The single step that leaves the lesser of two words is the whole offer, and the word that it finds decides the reply.
       abbrev pub lessened : Step S → Me S Sight → ℕ → Me S Sight → Type 0
       lessened st m found m' =
           Stays m m' found
@@ -145,9 +149,11 @@ module _ {S : Type 0} where
   abbrev pub IsFirstSeat : TableId → Seat S Sight → Type 0
   IsFirstSeat table it = (it.table_id ≡ table) × (it.me ≡ (newcomer, []))
 
+  -- This is the same seat, of the same table.
   abbrev pub IsSameSeat : Seat S Sight → Seat S Sight → Type 0
   IsSameSeat p q = (q.table_id ≡ p.table_id) × (q.id ≡ p.id)
 
+  -- This is what contracts see of what the seat has seen.
   abbrev pub seat_story : Seat S Sight → Story
   seat_story it = story it.me.0
 
@@ -171,9 +177,11 @@ module _ {S : Type 0} where
   abbrev pub own_places : Seat S Sight → List ℕ
   own_places it = (seat_story it).own
 
+  -- The places of the seat's own calls are the same.
   abbrev pub HasSamePlaces : Seat S Sight → Seat S Sight → Type 0
   HasSamePlaces p q = own_places q ≡ own_places p
 
+  -- The steps of the seat's calls are the same.
   abbrev pub HasSameTrail : Seat S Sight → Seat S Sight → Type 0
   HasSameTrail p q = trail_of q ≡ trail_of p
 
@@ -185,7 +193,7 @@ module _ {S : Type 0} where
   abbrev pub EndsAt : Event → Seat S Sight → Type 0
   EndsAt e q = EndsWith e q.me.0
 
-  -- ## What a seat is told
+  -- ## What a seat is shown
 
   module _ (law : ℕ → Word → Type 0) where
     -- The seat saw the history so far.

@@ -1,4 +1,4 @@
--- What a caller knows, and what its calls tell it.
+-- What a caller knows, and what its calls show it.
 use Rattle.std.specs.Prelude.{◌≡◌, ℕ, ◌+◌, ◌-◌, ◌<◌, ◌≤◌, ◌==◌, nat_lt, if◌then◌else◌, List, [], ◌∷◌, ◌++◌, length, drop, map, slice_index_or, count_by}
 use mathlib.Core.List.{IsPrefix}
 use Rattle.atomic_table.specs.Seated.{TableId}
@@ -57,7 +57,7 @@ empty_story = record { seen = []; own = [] }
 abbrev pub story_beside : Story → Story
 story_beside s = record { seen = s.seen; own = [] }
 
--- ## What calls tell
+-- ## What calls show
 
 -- These are the calls by which a caller's history grew.
 abbrev pub new_calls : Story → Story → List Event

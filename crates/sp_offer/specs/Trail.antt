@@ -6,16 +6,18 @@ use Rattle.sp_word.specs.History.{Event, run}
 use Rattle.sp_offer.specs.Histories.{blank}
 use Rattle.sp_offer.specs.Interleaving.{Taken, calls_of}
 
--- A step found this word of the vertex, after these calls, and after so many steps of all callers.
+-- A step found this word of the vertex, after these calls, and after this number of steps of all callers.
 pub record Found : Type 0 where
   pub front : List Event
   pub vertex : ℕ
   pub word : Word
   pub turn : ℕ
 
+-- These are the words that the steps found, in order.
 abbrev pub words_of : List Found → List Word
 words_of found = map (λ f. f.word) found
 
+-- For each step, this is the number of steps of all callers before it.
 abbrev pub turns_of : List Found → List ℕ
 turns_of found = map (λ f. f.turn) found
 
@@ -24,8 +26,8 @@ abbrev pub AreOf : ℕ → List Found → Type 0
 AreOf v [] = Unit {0}
 AreOf v (f ∷ fs) = (f.vertex ≡ v) × AreOf v fs
 
--- The steps stand in the history in this order, behind the calls of its front: each stands behind those that the step
--- before it stood behind, and found the word to which all calls before it had led.
+-- The steps are in the history in this order, after the calls of the front: each comes after the calls before the previous step,
+-- and found the word to which all calls before it had led.
 abbrev pub Stand : (front seen : List Event) → List Found → Type 0
 Stand front seen [] = IsPrefix front seen
 Stand front seen (f ∷ fs) = IsPrefix front f.front × (run blank f.front f.vertex ≡ f.word) × Stand f.front seen fs
@@ -36,17 +38,18 @@ last_front [] = []
 last_front (f ∷ []) = f.front
 last_front (f ∷ g ∷ fs) = last_front (g ∷ fs)
 
--- The call stands right behind the calls before the last step, at the end of the history that was seen: the call takes
--- effect at that step.
+-- The call comes right after the calls before the last step, at the end of the history that was seen: the call takes effect at
+-- that step.
 abbrev pub Ends : Event → List Event → List Found → Type 0
 Ends e seen trail = seen ≡ last_front trail ++ e ∷ []
 
--- This is one of the steps of all callers, of which the last stands first.
+-- This is one of the steps of all callers, whose list has the latest first.
 abbrev pub IsTaken : List Taken → Found → Type 0
 IsTaken [] f = ⊥
 IsTaken (s ∷ before) f =
     ((f.turn ≡ length before) × (f.vertex ≡ s.vertex) × (f.word ≡ s.found) × (f.front ≡ calls_of before)) ⊎ IsTaken before f
 
+-- Each step of the trail is one of the steps of all callers.
 abbrev pub AreTaken : List Taken → List Found → Type 0
 AreTaken steps [] = Unit {0}
 AreTaken steps (f ∷ fs) = IsTaken steps f × AreTaken steps fs

@@ -1,7 +1,7 @@
 //! A table of words that many threads lower without a lock, and the one legal history of their calls.
 //!
-//! Each vertex has a word. An offer leaves the lesser of the word and the pair offered. A `Caller` is a thread's right
-//! to call; contracts see the legal history that it has seen, and which of its calls are the caller's own.
+//! Each vertex has a word. An offer leaves the lesser of the current word and the word offered. A `Caller` is a thread's right to
+//! call; contracts see the legal history that it has seen, and which calls in it are its own.
 #![tactic(auto)]
 
 mod law;

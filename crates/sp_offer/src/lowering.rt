@@ -15,7 +15,7 @@ pub trait Lowering {
     // Whether it takes at most one atomic step.
     ghost is_one_step: { Bool };
 
-    // What the words are like that its steps find.
+    // Describes the words that its steps find.
     ghost finds: { Finding };
 
     /// Leaves the lesser of the word of the vertex and the word offered. Returns the word that decided this, and the
@@ -37,7 +37,7 @@ pub trait Lowering {
         ensures steps { Goes Self.finds words.now vertex word result.0 result.1 seat.old seat.new };
 }
 
-/// Lowers by a load and then exchanges, until one wins or finds a word that is no larger than the word offered.
+/// Lowers by a load followed by exchanges, until one succeeds or finds a word that is no larger than the word offered.
 pub struct Loop;
 
 impl Lowering for Loop {
@@ -56,7 +56,7 @@ impl Lowering for Loop {
     }
 }
 
-/// Lowers by one step that leaves the lesser of two words.
+/// Lowers by a single atomic step that leaves the lesser of two words.
 pub struct OneMin;
 
 impl Lowering for OneMin {

@@ -1,4 +1,4 @@
-//! The rule of the table, and what each kind of step tells.
+//! The rule of the table, and what each kind of step shows.
 ghost use Rattle.std.specs.Prelude.{ℕ, ◌+◌, ◌≤◌, ◌<◌};
 ghost use Rattle.sp_word.specs.Word.{Word, Unreached};
 ghost use Rattle.sp_offer.specs.Order.{lawful};
@@ -71,7 +71,7 @@ impl<J: Asking> Play<(), View> for ReadWord<J> {
     ghost then = { was_read J.layout J.law J.by };
 }
 
-/// The load that begins an offer, and ends it if the word found is no larger.
+/// The load that starts an offer, and ends it if the word found is no larger.
 pub struct FirstLook<J> {
     call: PhantomData<J>,
 }
@@ -80,7 +80,7 @@ impl<J: Asking> Play<(), View> for FirstLook<J> {
     ghost then = { loaded J.layout J.law J.by J.word };
 }
 
-/// An exchange for the word offered.
+/// An exchange that replaces the word held by the word offered.
 pub struct Exchange<J> {
     call: PhantomData<J>,
 }
@@ -98,7 +98,7 @@ impl<J: Asking> Play<(), View> for Lessen<J> {
     ghost then = { lessened J.layout J.law J.by J.word };
 }
 
-/// The first seat keeps its view, and a second one has seen as much.
+/// The first seat keeps its view; the second seat has seen the same.
 pub struct Share;
 
 impl Split<View> for Share {
@@ -107,7 +107,7 @@ impl Split<View> for Share {
     ghost right = { listener };
 }
 
-/// The first seat takes over the second one's calls.
+/// The first seat takes over the calls of the second.
 pub struct TakeOver;
 
 impl Join<View> for TakeOver {

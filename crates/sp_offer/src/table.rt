@@ -50,26 +50,26 @@ impl Model for Caller {
     ghost invariant = { λ c. IsCallersSeat c.seat };
 }
 
-/// There was no memory for a second caller. The first is unchanged.
+/// Memory for a second caller was refused. The first caller is unchanged.
 #[derive(Drop)]
 pub struct SplitRefused {
-    /// The caller that was to be split.
+    /// The caller that was not split.
     pub caller: Caller,
 }
 
-/// The answer to an offer.
+/// The result of an offer.
 #[derive(Clone, Copy, Debug, PartialEq, Eq)]
 pub struct Offered<const P: u32> {
     /// What the offer did.
     pub reply: Reply,
     /// The word that decided the reply.
     pub found: Word<P>,
-    /// The number of atomic steps that the call took.
+    /// The number of atomic steps that the offer took.
     pub tries: u64,
 }
 
 impl<L: Lawful, const P: u32> OfferTable<L, P> {
-    /// Makes a table whose words are all unreached, with its first caller, which has seen nothing.
+    /// Makes a table in which every word is unreached, and its first caller, which has seen nothing.
     pub fn new(alloc: Global, n: u32, law: L) -> Result<(OfferTable<L, P>, Caller), AllocError>
     where
         L: Drop,
@@ -83,7 +83,7 @@ impl<L: Lawful, const P: u32> OfferTable<L, P> {
         Ok((OfferTable { words }, Caller { seat }))
     }
 
-    /// Leaves the lesser of the word of the vertex and the word offered. It doesn't wait for other threads.
+    /// Leaves the lesser of the vertex's word and the word offered. Never waits for other threads.
     pub fn offer(&self, caller: &mut Caller, vertex: u32, word: Word<P>) -> Offered<P>
         requires vertex { (0 < vertex) × (vertex ≤ self.now.vertices) }
         requires caller { caller.old.table ≡ self.now.id }
@@ -99,7 +99,7 @@ impl<L: Lawful, const P: u32> OfferTable<L, P> {
         self.offer_by::<Loop>(caller, vertex, word)
     }
 
-    /// Makes an offer like `offer`, by a lowering that the caller chooses.
+    /// Makes an offer like `offer`, with a lowering that the caller chooses.
     pub fn offer_by<M: Lowering>(
         &self,
         caller: &mut Caller,
@@ -142,7 +142,7 @@ impl<L: Lawful, const P: u32> OfferTable<L, P> {
         Word::from_bits(self.words.read::<Brand>(&mut caller.seat, vertex))
     }
 
-    /// Copies the words of all vertices, by one read of each vertex, in rising order.
+    /// Copies the words of all vertices into `words`, with one read of each vertex in ascending order.
     pub fn copy_words(&self, caller: &mut Caller, words: &mut [Word<P>])
         requires caller { caller.old.table ≡ self.now.id }
         requires room { length words.old ≡ self.now.vertices }
@@ -160,8 +160,8 @@ impl<L: Lawful, const P: u32> OfferTable<L, P> {
         }
     }
 
-    /// Returns a list of the words of all vertices, made by one read of each vertex, in rising order. Where there is no memory
-    /// for it, nothing is read.
+    /// Returns a list of the words of all vertices, made with one read of each vertex in ascending order. If memory for the list
+    /// is refused, nothing is read.
     pub fn list_words(&self, alloc: Global, caller: &mut Caller) -> Result<Vec<Word<P>>, AllocError>
         requires { caller.old.table ≡ self.now.id }
         ensures caller { IsSameCaller caller.old caller.new }
@@ -183,7 +183,7 @@ impl<L: Lawful, const P: u32> OfferTable<L, P> {
         Ok(words)
     }
 
-    // Reads the word at an index, counted from 0, into its copy.
+    // Reads the word at an index, counted from 0, into `copy`.
     fn copy_word(&self, caller: &mut Caller, place: usize, copy: &mut Word<P>)
         requires caller { caller.old.table ≡ self.now.id }
         requires place { place < self.now.vertices }
@@ -209,8 +209,7 @@ impl<L: Lawful, const P: u32> OfferTable<L, P> {
         self.read(caller, place as u32 + 1)
     }
 
-    /// Makes a second caller, which has seen what the first has and has made no calls. It allocates no memory, and
-    /// never fails.
+    /// Makes a second caller, which has seen what the first has seen and has made no calls. Allocates no memory and never fails.
     pub fn split(&self, caller: Caller) -> Result<(Caller, Caller), SplitRefused>
         requires { caller.table ≡ self.now.id }
         ensures first { IsOkAnd result (λ c. c.0 ≡ caller) }
@@ -222,7 +221,7 @@ impl<L: Lawful, const P: u32> OfferTable<L, P> {
         Ok((Caller { seat }, Caller { seat: second }))
     }
 
-    /// Joins two callers into one: it has seen what both had seen, and the calls of both are its own.
+    /// Joins two callers into one, which has seen what both had seen and owns the calls of both.
     pub fn join(&self, first: Caller, second: Caller) -> Caller
         requires first { first.table ≡ self.now.id }
         requires second { second.table ≡ self.now.id }
@@ -238,9 +237,9 @@ impl<L: Lawful, const P: u32> OfferTable<L, P> {
         Caller { seat }
     }
 
-    /// Ends the table, with its last caller. Returns the words that are left: all calls that were ever made at the table have
-    /// led to them, and these are the calls of an interleaving of the callers' steps. Where there is no memory for the words,
-    /// table and caller are gone all the same.
+    /// Closes the table, with its last caller, and returns the final words: the result of all calls ever made at the table, which
+    /// are the calls of an interleaving of the callers' steps. If memory for the words is refused, the table and the caller are
+    /// gone all the same.
     pub fn close(self, alloc: Global, caller: Caller) -> Result<Vec<Word<P>>, AllocError>
         requires caller { caller.table ≡ self.id }
         ensures length { IfOk result (λ words. length words.items ≡ self.vertices) }
@@ -252,7 +251,7 @@ impl<L: Lawful, const P: u32> OfferTable<L, P> {
         words.close(alloc, seat)
     }
 
-    /// Lets each caller see what the other has seen. Afterwards the first caller's history is a prefix of the second's.
+    /// Lets each caller see what the other has seen. The first caller's history is then a prefix of the second's.
     pub fn meet(&self, first: &mut Caller, second: &mut Caller)
         requires first { first.old.table ≡ self.now.id }
         requires second { second.old.table ≡ self.now.id }

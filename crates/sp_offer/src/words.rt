@@ -137,8 +137,8 @@ impl<L: Lawful> Words<L> {
         words.compare_exchange::<Exchange<J>>(seat, (vertex - 1) as usize, held, word)
     }
 
-    /// Loads, then exchanges until one wins or finds a word that is no larger. Returns the word found last and the
-    /// number of steps.
+    /// Loads, then exchanges until one succeeds or finds a word that is no larger. Returns the last word found and the number of
+    /// steps.
     #[tactic(auto, using(crate::proofs::Exchanges::won_call, crate::proofs::Exchanges::won_tries, crate::proofs::Exchanges::lost_on))]
     pub(crate) fn lower<J: Asking>(
         &self,
@@ -172,7 +172,7 @@ impl<L: Lawful> Words<L> {
         (held, tries)
     }
 
-    /// Leaves the lesser of two words by one step. Returns the word before it.
+    /// Leaves the lesser of two words in one step. Returns the word that was there before.
     pub(crate) fn lessen<J: Asking>(&self, seat: &mut CallerSeat, vertex: u32, word: u64) -> u64
         requires vertex { (0 < vertex) × (vertex ≤ vertices_of self.now) }
         requires seat { IsAtRest (id_of self.now) seat.old }
@@ -190,7 +190,7 @@ impl<L: Lawful> Words<L> {
         words.fetch_min::<Lessen<J>>(seat, (vertex - 1) as usize, word)
     }
 
-    /// Makes a second seat, which has seen what the first has.
+    /// Makes a second seat, which has seen what the first has seen.
     #[tactic(auto, using(crate::proofs::Moves::splits))]
     pub(crate) fn split(&self, seat: &mut CallerSeat) -> CallerSeat
         requires { IsAtRest (id_of self.now) seat.old }
@@ -200,7 +200,7 @@ impl<L: Lawful> Words<L> {
         self.table.shared.split_seat::<Share>(seat)
     }
 
-    // Makes one load, by which the seat sees the history so far.
+    // Makes one load, which shows the seat the history so far.
     fn look<J: Asking>(&self, seat: &mut CallerSeat)
         requires seat { HoldsNoSlot (id_of self.now) seat.old }
         requires layout { J.layout ≡ layout_of self.now }
@@ -213,7 +213,7 @@ impl<L: Lawful> Words<L> {
         self.table.shared.load::<Meet<J>>(seat, 0);
     }
 
-    // The seat takes over the other's calls, and hears what that one has seen.
+    // The seat takes over the calls of the other seat, and hears what that one has seen.
     #[tactic(auto, using(crate::proofs::Moves::joins))]
     fn merge(&self, seat: &mut CallerSeat, other: CallerSeat)
         requires seat { IsAtRest (id_of self.now) seat.old }
@@ -224,7 +224,7 @@ impl<L: Lawful> Words<L> {
         self.table.shared.join_seat::<TakeOver>(seat, other);
     }
 
-    /// The seat takes over the other's calls, and sees what that one has seen.
+    /// The seat takes over the calls of the other seat, and sees what that one has seen.
     pub(crate) fn take_over(&self, seat: &mut CallerSeat, other: CallerSeat)
         requires seat { IsAtRest (id_of self.now) seat.old }
         requires other { IsAtRest (id_of self.now) other }
@@ -237,7 +237,7 @@ impl<L: Lawful> Words<L> {
         self.look::<Brand>(seat);
     }
 
-    /// The first seat also sees what the second has seen.
+    /// The first seat also sees what the second seat has seen.
     pub(crate) fn hear(&self, first: &mut CallerSeat, second: &mut CallerSeat)
         requires first { IsAtRest (id_of self.now) first.old }
         requires second { IsAtRest (id_of self.now) second.old }
@@ -251,7 +251,7 @@ impl<L: Lawful> Words<L> {
         self.take_over(first, echo);
     }
 
-    /// Ends the table, with its last caller. Returns the words that are left.
+    /// Closes the table, with its last caller. Returns the final words.
     pub(crate) fn close<const P: u32>(
         self,
         alloc: Global,
@@ -274,7 +274,7 @@ impl<L: Lawful> Words<L> {
         Ok(words)
     }
 
-    /// Both seats see what both have seen, and the first one's history is a prefix of the second's.
+    /// Both seats see what either has seen, and the first seat's history is a prefix of the second's.
     pub(crate) fn meet(&self, first: &mut CallerSeat, second: &mut CallerSeat)
         requires first { IsAtRest (id_of self.now) first.old }
         requires second { IsAtRest (id_of self.now) second.old }

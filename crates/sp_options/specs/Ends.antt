@@ -23,6 +23,7 @@ abbrev pub kind_of : Role → FileKind
 kind_of role.Source = file.Sources
 kind_of role.Target = file.Targets
 
+-- The fault for a batch's error.
 abbrev pub fault_of : BatchError → Fault
 fault_of (batch.Gr (network.Text error)) = fault.Input file.Graph error
 fault_of (batch.Gr (network.Packed error)) = fault.Packed error

@@ -3,6 +3,7 @@ use Rattle.std.specs.Prelude.{◌≤◌, ◌<◌, ◌^◌, ◌==◌, ℕ, Bool, 
 use Rattle.std.specs.List.{before_first, after_first}
 use Rattle.sp_options.specs.Numbers.{SpellsNumber}
 
+-- A byte is the dash between two numbers.
 abbrev pub is_dash : ℕ → Bool
 is_dash byte = byte == 45
 

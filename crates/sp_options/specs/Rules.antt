@@ -9,6 +9,7 @@ use Rattle.sp_options.specs.Directions.{direction_rules}
 
 -- ## How runs are made
 
+-- The width, which must be given.
 abbrev pub width_rule : Rule
 width_rule = record (valued_rule (codes "delta")) { required = true }
 
@@ -16,6 +17,7 @@ width_rule = record (valued_rule (codes "delta")) { required = true }
 abbrev pub mean_rule : Rule
 mean_rule = record (valued_rule (codes "delta")) { defaults = codes "mean" ∷ [] }
 
+-- The number of workers, which is 1 by default.
 abbrev pub workers_rule : Rule
 workers_rule = record (valued_rule (codes "workers")) { defaults = codes "1" ∷ [] }
 
@@ -23,6 +25,7 @@ workers_rule = record (valued_rule (codes "workers")) { defaults = codes "1" ∷
 abbrev pub running_rules : List Rule
 running_rules = direction_rules ++ workers_rule ∷ flag_rule (codes "far-ok") ∷ flag_rule (codes "progress") ∷ []
 
+-- The greatest distance to report.
 abbrev pub within_rule : Rule
 within_rule = valued_rule (codes "within")
 
@@ -40,6 +43,7 @@ places_rule = record (valued_rule (codes "sources")) { is_free = false }
 abbrev pub file_unless_given : List ℕ → Rule
 file_unless_given name = record (new_rule name) { is_free = false }
 
+-- The file of sources, sources by their numbers, and places in the file.
 abbrev pub sources_rules : List Rule
 sources_rules = file_unless_given (codes "SS") ∷ given_rule (codes "source") ∷ places_rule ∷ []
 

@@ -1,4 +1,4 @@
-//! The flags for the direction in which the arcs of a graph lead.
+//! The flags for the direction of a graph's arcs.
 ghost use Rattle.std.specs.Prelude.{◌≡◌, IfOk, codes};
 ghost use Rattle.clap.specs.Matches.{found_of};
 ghost use Rattle.clap.specs.Walk.{rule_of};
@@ -11,13 +11,13 @@ use sp_command::{BuiltCommand, flag};
 use sp_network::Direction;
 use std::alloc::{AllocError, Global};
 
-// The flag for a graph whose arcs are turned round.
+// The flag that turns the graph's arcs round.
 const TOWARDS: &str = "towards";
 
-// The flag for a graph whose arcs lead both ways.
+// The flag that lets the graph's arcs lead both ways.
 const BOTH_WAYS: &str = "both-ways";
 
-/// Adds the flags for the direction to a command. A command line has one of them at most.
+/// Adds the flags for the direction to a command. A command line has at most one of them.
 pub fn add_directions<'a>(command: Command<'a>, alloc: Global) -> BuiltCommand<'a>
     ensures { IfOk result (AddsRules command.entry direction_rules) }
 {
@@ -27,7 +27,7 @@ pub fn add_directions<'a>(command: Command<'a>, alloc: Global) -> BuiltCommand<'
 fn towards<'a>(alloc: Global) -> Result<Arg<'a>, AllocError>
     ensures { IfOk result (λ arg. rule_of arg ≡ towards_rule) }
 {
-    let about = "Turn each arc round, for distances towards a vertex";
+    let about = "Reverse each arc, for distances towards a vertex";
     Arg::new(alloc, TOWARDS)
         .long(TOWARDS)
         .action(ArgAction::SetTrue)
@@ -38,7 +38,7 @@ fn towards<'a>(alloc: Global) -> Result<Arg<'a>, AllocError>
 fn both_ways<'a>(alloc: Global) -> Arg<'a>
     ensures { rule_of result ≡ flag_rule (codes "both-ways") }
 {
-    let about = "Let each arc lead both ways";
+    let about = "Use each arc in both directions";
     flag(alloc, BOTH_WAYS, about)
 }
 

@@ -1,4 +1,4 @@
-//! Numbers that the command line gives, in place of a file of sources or of targets.
+//! Numbers given on the command line, instead of a file of sources or of targets.
 ghost use Rattle.std.specs.Prelude.{◌≡◌, ◌<◌, ◌^◌, ℕ, List, All, IfOk, MatchOption};
 ghost use Rattle.clap.specs.Matches.{found_of, values_left};
 ghost use Rattle.clap.specs.Walk.{rule_of};
@@ -14,7 +14,7 @@ use std::alloc::{AllocError, Global};
 // The greatest predecessor in any layout of a word.
 const MAX_VERTEX: i64 = 4_294_967_294;
 
-// The greatest count of the numbers, which is that of a file.
+// The greatest number of numbers, which is the same as for a file.
 const MOST_NUMBERS: usize = 1_048_576;
 
 /// The name of the option that gives a source.
@@ -23,7 +23,8 @@ pub(crate) const SOURCE: &str = "source";
 /// The name of the option that gives a target.
 pub(crate) const TARGET: &str = "target";
 
-/// Numbers that an option of the command line gives. Each is at least 1, and there are no more of them than a file may have.
+/// Numbers given by an option of the command line. Each is at least 1, and there are at most as many as a file may
+/// have.
 #[derive(Drop)]
 pub struct Given {
     pub list: Vec<u32>,
@@ -31,7 +32,7 @@ pub struct Given {
 }
 
 impl Given {
-    /// Returns the option of this name that gives a number, with the text that its help says of it.
+    /// Returns the option with this name, which gives a number. Its help is this text.
     pub fn option<'a>(alloc: Global, name: &'a str, about: &'a str) -> Arg<'a>
         ensures { rule_of result ≡ given_rule name.entry.now }
     {
@@ -43,8 +44,8 @@ impl Given {
             .help(about)
     }
 
-    /// Reads the numbers that the option of this name gives from what `clap` has found, or returns `None` if there are none, if
-    /// one of them is no number of a vertex, or if there are too many.
+    /// Reads the numbers that the option with this name gives, from what `clap` has found. Returns `None` if there are
+    /// none, if one of them can't be the number of a vertex, or if there are too many.
     pub fn read(
         alloc: Global,
         given: &ArgMatches<'_>,
@@ -80,7 +81,7 @@ impl Given {
     }
 }
 
-// Returns the numbers that the values spell, or `None` if one of them spells no number.
+// Returns the numbers that the values spell, or `None` if one of them isn't a number.
 fn numbers_of(alloc: Global, values: ValuesRef<'_, '_, u32>) -> Result<Option<Vec<u32>>, AllocError>
     ensures { IfOk result (λ found. MatchOption found
         ((list : List ℕ) → SpellNumbers (values_left values.entry) list

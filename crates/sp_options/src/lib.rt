@@ -1,4 +1,4 @@
-//! The options that commands share which run from sources, their sources, the lists of `matrix`, reports of a command's
+//! What the commands that run from sources share: their options, their sources, the lists of `matrix`, the reports of
 //! progress, and the way in which a run from sources ends.
 #![tactic(auto)]
 

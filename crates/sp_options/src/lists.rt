@@ -29,15 +29,15 @@ counted from 1. Places beyond its end are ignored";
 /// The lists of a matrix. The targets have no places.
 #[derive(Drop)]
 pub struct Lists<'a> {
-    /// The sources, a row each.
+    /// The sources. Each is a row.
     pub sources: Sources<'a>,
-    /// The targets, a line each in every row.
+    /// The targets. Each is a line in every row.
     pub targets: Sources<'a>,
 }
 
 impl<'a> Lists<'a> {
-    /// Adds the arguments for the two files to a command, and the options for a part of the sources or for numbers in place of
-    /// a file. Where sources are given by their numbers, the one file is that of the targets.
+    /// Adds the arguments for the two files to a command, and the options for a part of the sources and for numbers
+    /// instead of a file. If sources are given by their numbers, the single file is that of the targets.
     pub fn add_to(command: Command<'a>, alloc: Global) -> BuiltCommand<'a>
         ensures { IfOk result (AddsRules command.entry lists_rules) }
     {
@@ -64,15 +64,15 @@ impl<'a> Lists<'a> {
         ensures { IfOk result (λ arg. rule_of arg ≡ file_unless_given (codes "TARGETS")) }
     {
         Arg::new(alloc, TARGETS)
-            .help("The targets, a .ss file; it may be that of the sources")
+            .help("The targets, a .ss file; it may be the file of the sources")
             .required_unless_present(SOURCE)?
             .required_unless_present(TARGET)?
             .conflicts_with(SOURCE)?
             .conflicts_with(TARGET)
     }
 
-    /// Reads the lists from what `clap` has found, or returns `None` if the sources or the targets are missing. If there is a
-    /// file beside numbers of both, the result is the error of `clap` that says so.
+    /// Reads the lists from what `clap` has found, or returns `None` if the sources or the targets are missing. If a
+    /// file is given although both lists are given by numbers, the result is the error with which `clap` says so.
     pub fn read(alloc: Global, given: &ArgMatches<'a>) -> Result<Option<Self>, Error>
         ensures read { IfOk result (λ found. MatchOption found
             (ListsNone (found_of given.now)) (AreListed (found_of given.now))) }
@@ -93,7 +93,7 @@ impl<'a> Lists<'a> {
         }
     }
 
-    // Reads the sources where an option gives these targets.
+    // Reads the sources if an option gives these targets.
     fn read_beside(
         alloc: Global,
         given: &ArgMatches<'a>,
@@ -138,7 +138,8 @@ impl<'a> Lists<'a> {
     }
 }
 
-// Returns the error with which `clap` refuses a file beside numbers of both lists, or `None` if `clap` takes it.
+// Returns the error with which `clap` refuses a file if both lists are given by numbers, or `None` if `clap` accepts
+// it.
 fn refuse<'a>(alloc: Global) -> Result<Option<Lists<'a>>, Error>
     ensures { IfOk result IsNone }
 {

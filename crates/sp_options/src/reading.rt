@@ -1,27 +1,27 @@
-//! Devices that report how much of them has been read.
+//! Devices that report how much has been read from them.
 ghost use Rattle.std.specs.Prelude.{◌≡◌};
 
 use crate::running::Teller;
 use sp_command::{FileKind, Inputs, Report};
 use sp_device::{Failed, Read};
 
-// A report is made each time that this many more bytes have been read.
+// The number of bytes between two reports.
 const STRETCH: u64 = 1 << 20;
 
-/// A device that reports now and then how many of its bytes have been read, and once more at its end.
+/// A device that reports at intervals how many of its bytes have been read, and once more at its end.
 #[derive(Drop)]
 pub struct Watched<'t, 'f, D, F> {
     device: D,
     file: FileKind,
     teller: &'t Teller<'f, F>,
-    // The number of bytes that have been read.
+    // The number of bytes that have been read so far.
     bytes: u64,
     // The number of bytes at which the next report is made.
     next: u64,
 }
 
 impl<'t, 'f, D: Read, F: Inputs> Watched<'t, 'f, D, F> {
-    /// Returns a watched device, of which nothing has been read yet.
+    /// Returns a watched device from which nothing has been read yet.
     pub fn new(device: D, file: FileKind, teller: &'t Teller<'f, F>) -> Self
         ensures left { ⟦<Watched<'static, 'static, D, F> as Read>⟧.left result ≡ D.left device }
         ensures has_failed { ⟦<Watched<'static, 'static, D, F> as Read>⟧.has_failed result
@@ -38,7 +38,7 @@ impl<'t, 'f, D: Read, F: Inputs> Watched<'t, 'f, D, F> {
         }
     }
 
-    // Counts the bytes of a read, which are none at the end of the file, and makes a report if one is due.
+    // Counts the bytes of a read, and makes a report if one is due. At the end of the file a read has no bytes.
     fn count(&mut self, bytes: usize)
         ensures { self.new.device ≡ self.old.device }
     {

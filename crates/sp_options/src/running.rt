@@ -1,4 +1,4 @@
-//! The options that say how runs from sources are made, the reports of their progress, and the way in which they end.
+//! The options for runs from sources, the reports of their progress, and the way in which they end.
 ghost use Rattle.std.specs.Prelude.{◌≡◌, ◌∷◌, ℕ, true, List, Some, Ok, Err, codes, IfOk, IfErr, MatchOption, MatchResult};
 ghost use Rattle.sp_word.specs.Word.{is_layout};
 ghost use Rattle.clap.specs.Matches.{found_of};
@@ -23,30 +23,30 @@ use std::alloc::Global;
 
 /// The options of a command that runs from sources, as the command line gives them.
 ///
-/// They belong to no layout of a word. `settings` resolves them for the layout in which the command runs.
+/// They don't depend on the layout of a word. `settings` resolves them for the layout in which the command runs.
 #[derive(Drop)]
 pub struct RunOptions {
     // The width of a bucket.
     width: Width,
-    // The number of threads that may work, the main thread counted.
+    // The greatest number of threads, including the main thread.
     workers: Workers,
-    /// The direction in which the arcs of the graph lead, by those of its file.
+    /// The direction of the graph's arcs, relative to its file.
     pub direction: Direction,
     /// Whether the exit status is 0 even if a vertex is too far.
     pub far_ok: bool,
-    // Whether the progress is to be reported.
+    // Whether progress is reported.
     progress: bool,
 }
 
 impl RunOptions {
-    /// Adds these options to a command. `workers` is the text that its help adds on the number of threads.
+    /// Adds these options to a command. Its help adds the text `workers` about the number of threads.
     pub fn add_to<'a>(command: Command<'a>, alloc: Global, workers: &'a str) -> BuiltCommand<'a>
         ensures { IfOk result (AddsRules command.entry (width_rule ∷ running_rules)) }
     {
         Self::add_rest(command.arg(Width::option(alloc))?, alloc, workers)
     }
 
-    /// Adds the same options to a command whose width is the mean length where none is given.
+    /// Adds the same options to a command that uses the mean length as the width if none is given.
     pub fn add_with_mean<'a>(
         command: Command<'a>,
         alloc: Global,
@@ -57,7 +57,7 @@ impl RunOptions {
         Self::add_rest(command.arg(Width::option_or_mean(alloc))?, alloc, workers)
     }
 
-    // Adds the options behind the width.
+    // Adds the options that follow the width.
     fn add_rest<'a>(command: Command<'a>, alloc: Global, workers: &'a str) -> BuiltCommand<'a>
         ensures { IfOk result (AddsRules command.entry running_rules) }
     {
@@ -81,8 +81,8 @@ impl RunOptions {
         flag(alloc, "progress", about)
     }
 
-    /// Reads the options from what `clap` has found. If the width or the number of workers is none, the result is the error of
-    /// `clap` that says so; if one of them is missing, it is `None`.
+    /// Reads the options from what `clap` has found. If the width or the number of workers is invalid, the result is
+    /// the error with which `clap` says so. If one of them is missing, the result is `None`.
     pub fn read(alloc: Global, given: &ArgMatches<'_>) -> Result<Option<Self>, Error>
         ensures read { IfOk result (λ found. MatchOption found
             (LacksOptions (found_of given.now)) (IsAskedFor (found_of given.now))) }
@@ -106,8 +106,8 @@ impl RunOptions {
         }))
     }
 
-    /// Returns the settings of a job with this listener, or a fault if words with `P` bits of predecessor have no such
-    /// distance as the width.
+    /// Returns the settings of a job with this listener, or a fault if the width is greater than the greatest distance
+    /// in words with `P` bits of predecessor.
     pub fn settings<'a, const P: u32, L>(
         &self,
         listener: &'a L,
@@ -131,12 +131,12 @@ impl RunOptions {
         })
     }
 
-    /// Returns a teller that reports the progress to the files of the command line, if that was asked for.
+    /// Returns a teller that reports progress to the files of the command line, if the options ask for it.
     pub fn teller<'f, F: Inputs>(&self, files: &'f F) -> Teller<'f, F> {
         Teller::new(files, self.progress)
     }
 
-    /// Returns how a command ends whose batch has answered this.
+    /// Returns how a command ends after its batch gave this answer.
     pub fn end_of(&self, answer: Result<Summary, BatchError>) -> Result<Status, Fault>
         ensures { result ≡ end_after self.now.far_ok answer }
     {
@@ -163,12 +163,12 @@ impl<F> Drop for Teller<'_, F> {
 }
 
 impl<'f, F: Inputs> Teller<'f, F> {
-    /// Returns a teller that reports the progress to these files, if that is asked for.
+    /// Returns a teller that reports progress to these files, if it is asked for.
     pub fn new(files: &'f F, is_asked: bool) -> Self {
         Teller { files, is_asked }
     }
 
-    /// Reports the progress, if that was asked for.
+    /// Reports progress, if it was asked for.
     pub fn tell(&self, report: Report) {
         if self.is_asked {
             self.files.tell(report);
@@ -190,7 +190,7 @@ impl<F: Inputs> Listener for Teller<'_, F> {
     }
 }
 
-// Returns the report of a batch's progress.
+// Returns the report for a batch's progress.
 fn report_of(progress: Progress) -> Report {
     match progress {
         Progress::Graph { vertices, arcs } => Report::Graph {
@@ -230,7 +230,7 @@ fn status_after(summary: Summary, far_ok: bool) -> Status
     }
 }
 
-/// Returns the fault that an error of a batch is told as.
+/// Returns the fault that stands for an error of a batch.
 pub fn fault_of(error: BatchError) -> Fault
     ensures { result ≡ fault_of error }
 {

@@ -1,4 +1,4 @@
-//! The sources of a command, or the targets of a matrix, which stand in a file or on the command line.
+//! The sources of a command, or the targets of a matrix, given in a file or on the command line.
 ghost use Rattle.std.specs.Prelude.{◌≡◌, IfOk};
 ghost use Rattle.clap.specs.Walk.{rule_of};
 ghost use Rattle.sp_options.specs.Rules.{places_rule};
@@ -22,7 +22,7 @@ const TAKEN_LONG: &str = "\
 Use only the sources at places A to B of the file, counted from 1.
 Places beyond its end are ignored";
 
-/// What the help of a command says of the option that gives a source.
+/// The help text of the option that gives a source.
 pub(crate) const A_SOURCE: &str = "A source, instead of a file of them; can be repeated";
 
 /// The sources of a command that runs from them, or the targets of a matrix.
@@ -30,10 +30,10 @@ pub(crate) const A_SOURCE: &str = "A source, instead of a file of them; can be r
 pub enum Sources<'a> {
     /// All sources of the file with this path.
     File(&'a str),
-    /// The sources at these places of the file with this path. There are no places if the word for them isn't `A-B`, with A
-    /// at least 1 and B at least A.
+    /// The sources at these places of the file with this path. The places are `None` if the word for them isn't `A-B`
+    /// with A at least 1 and B at least A.
     Part(&'a str, Option<Places>),
-    /// These sources, which the command line gives.
+    /// These sources, given on the command line.
     Given(Given),
 }
 
@@ -45,21 +45,22 @@ impl<'a> Sources<'a> {
     ghost use Rattle.sp_options.specs.Rules.{file_unless_given, sources_rules};
     ghost use Rattle.sp_options.specs.Sources.{AreNamed, NamesNone, path_of};
 
-    /// Adds the argument for the file to a command, and the options for a part of it or for sources in its place.
+    /// Adds the argument for the file to a command, and the options for a part of the file and for sources instead of a
+    /// file.
     pub fn add_to(command: Command<'a>, alloc: Global) -> BuiltCommand<'a>
         ensures { IfOk result (AddsRules command.entry sources_rules) }
     {
         Self::add_with_part(command, alloc, PART, PART_LONG)
     }
 
-    /// Adds the same to a command that answers all sources at once.
+    /// Adds the same to a command that has one answer for all sources.
     pub fn add_all_to(command: Command<'a>, alloc: Global) -> BuiltCommand<'a>
         ensures { IfOk result (AddsRules command.entry sources_rules) }
     {
         Self::add_with_part(command, alloc, TAKEN, TAKEN_LONG)
     }
 
-    // Adds these, with the texts of the option for a part.
+    // Adds the same, with these help texts for the option for a part.
     fn add_with_part(
         command: Command<'a>,
         alloc: Global,
@@ -100,7 +101,7 @@ impl<'a> Sources<'a> {
         }))
     }
 
-    /// Returns the path of the file, if the sources stand in one.
+    /// Returns the path of the file, if the sources are in a file.
     pub fn path(&self) -> Option<&'a str>
         ensures { option_map (λ path. path.now) result ≡ path_of self.now }
     {
@@ -111,7 +112,7 @@ impl<'a> Sources<'a> {
     }
 }
 
-/// Returns the option for places of a file, with the text that its help says of them in short and in full.
+/// Returns the option for places of a file, with its help text in short and in full.
 pub fn places_option<'a>(
     alloc: Global,
     about: &'a str,

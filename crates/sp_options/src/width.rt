@@ -1,4 +1,4 @@
-//! The width of a bucket, which is a number or the mean length of an arc.
+//! The width of a bucket: a number, or the mean length of an arc.
 ghost use Rattle.std.specs.Prelude.{◌≡◌, ◌≤◌, ℕ, true, Ok, Some, IfOk, IfSome, IsNone, MatchOption};
 ghost use Rattle.std.specs.Option.{SomeIff};
 ghost use Rattle.sp_word.specs.Word.{is_layout};
@@ -40,7 +40,7 @@ impl Width {
     /// The identifier of the option for `clap`.
     pub const ID: &'static str = "delta";
 
-    /// Returns the option, which takes any text as its value.
+    /// Returns the option. It accepts any text as its value.
     pub fn option<'a>(alloc: Global) -> Arg<'a>
         ensures { rule_of result ≡ width_rule }
     {
@@ -48,7 +48,7 @@ impl Width {
         valued(alloc, Self::ID, "D", about, LONG).required(true)
     }
 
-    /// Returns the same option with `mean` for its value where it isn't given.
+    /// Returns the same option, with the value `mean` if it isn't given.
     pub fn option_or_mean<'a>(alloc: Global) -> Arg<'a>
         ensures { rule_of result ≡ mean_rule }
     {
@@ -58,8 +58,8 @@ impl Width {
 
     /// Reads a width from the option's text.
     ///
-    /// A text that spells a width is read. Any other text is refused, by the error with which `clap` refuses a number out of
-    /// range or a text that is no number; if `clap` took it, the result would be `None`.
+    /// If the text spells a width, the result is that width. Otherwise it is the error with which `clap` refuses a
+    /// number out of range or a text that isn't a number; if `clap` accepted the text, the result would be `None`.
     pub fn read(alloc: Global, text: &str) -> Result<Option<Width>, Error>
         ensures spelled { IfOk result (λ found. IfSome found (SpellsWidth text.now)) }
         ensures exactly { (width : Width) → SpellsWidth text.now width
@@ -74,7 +74,8 @@ impl Width {
         }
     }
 
-    /// Returns the width for runs in words with `P` bits of predecessor, or `None` if these have no such distance.
+    /// Returns the width for runs in words with `P` bits of predecessor, or `None` if it is greater than their greatest
+    /// distance.
     pub fn bucket<const P: u32>(self) -> Option<BucketWidth<P>>
         requires { is_layout P ≡ true }
         ensures { SomeIff result (IsBucket P self) (bucket_of self) }
@@ -86,7 +87,7 @@ impl Width {
     }
 }
 
-// Returns the number that a text spells, if it is at least 1 and at most the greatest distance of any word.
+// Returns the number that a text spells, if it is at least 1 and at most the greatest distance in any layout.
 fn number_in(text: &str) -> Option<u64>
     ensures { MatchOption result ((number : ℕ) → SpellsWidth text.now (Width.Number number) → ⊥)
         (λ number. SpellsWidth text.now (Width.Number number)) }
@@ -98,7 +99,8 @@ fn number_in(text: &str) -> Option<u64>
     Some(number)
 }
 
-// Returns the error with which `clap` refuses a text that is no number in range, or `None` if `clap` takes the text.
+// Returns the error with which `clap` refuses a text that isn't a number in range, or `None` if `clap` accepts the
+// text.
 fn refuse(alloc: Global, text: &str) -> Result<Option<Width>, Error>
     ensures { IfOk result IsNone }
 {
@@ -109,7 +111,7 @@ fn refuse(alloc: Global, text: &str) -> Result<Option<Width>, Error>
     Ok(None)
 }
 
-// Returns the option, which takes a number in range as its value.
+// Returns the option. It accepts a number in range as its value.
 fn number_option<'a>(alloc: Global) -> Arg<'a> {
     Width::option(alloc).value_parser(value_parser!(u64).range(1..=MAX_DELTA as i64))
 }

@@ -1,4 +1,4 @@
-//! The distance within which answers are wanted.
+//! The greatest distance to report.
 ghost use Rattle.std.specs.Prelude.{◌≡◌, ℕ, true, Ok, Some, IfOk, IfErr, IfSome, IsNone, MatchOption, MatchResult};
 ghost use Rattle.sp_word.specs.Word.{is_layout};
 ghost use Rattle.clap.specs.Matches.{found_of};
@@ -21,8 +21,8 @@ The greatest distance to report, from 0 to the greatest that fits (see
 the run goes no farther, so a small part of a large graph takes little
 time";
 
-/// The greatest distance that is told, as the command line gives it, if it gives one. It may be greater than the greatest
-/// distance of the layout in which the command runs.
+/// The greatest distance to report, if the command line gives one. It may be greater than the greatest distance of the
+/// layout in which the command runs.
 #[derive(Clone, Copy, Debug, PartialEq, Eq)]
 pub struct Within {
     limit: Option<u64>,
@@ -32,7 +32,7 @@ impl Within {
     /// The identifier of the option for `clap`.
     pub const ID: &'static str = "within";
 
-    /// Returns the option, which takes any text as its value.
+    /// Returns the option. It accepts any text as its value.
     pub fn option<'a>(alloc: Global) -> Arg<'a>
         ensures { rule_of result ≡ within_rule }
     {
@@ -42,8 +42,8 @@ impl Within {
 
     /// Reads the limit from what `clap` has found, if the option was given.
     ///
-    /// A text that spells a limit is read. Any other text is refused, by the error with which `clap` refuses a number out of
-    /// range or a text that is no number; if `clap` took it, the result would be `None`.
+    /// If the text spells a limit, the result is that limit. Otherwise it is the error with which `clap` refuses a
+    /// number out of range or a text that isn't a number; if `clap` accepted the text, the result would be `None`.
     pub fn read(alloc: Global, given: &ArgMatches<'_>) -> Result<Option<Within>, Error>
         ensures read { IfOk result (λ found. MatchOption found
             (LacksLimit (found_of given.now))
@@ -59,8 +59,8 @@ impl Within {
         })
     }
 
-    /// Returns the limit of answers in words with `P` bits of predecessor, if there is one, or a fault if these have no such
-    /// distance.
+    /// Returns the limit for answers in words with `P` bits of predecessor, if there is one; or a fault if it is
+    /// greater than their greatest distance.
     pub fn limit_for<const P: u32>(self) -> Result<Option<u64>, Fault>
         requires { is_layout P ≡ true }
         ensures exactly { MatchResult result (λ _. IsLimit P self.limit)
@@ -85,7 +85,7 @@ fn read_limit(alloc: Global, text: &str) -> Result<Option<u64>, Error>
     }
 }
 
-// Returns the number that a text spells, if it is at most the greatest distance of any word.
+// Returns the number that a text spells, if it is at most the greatest distance in any layout.
 fn number_in(text: &str) -> Option<u64>
     ensures { MatchOption result ((limit : ℕ) → SpellsLimit text.now limit → ⊥)
         (SpellsLimit text.now) }
@@ -97,7 +97,8 @@ fn number_in(text: &str) -> Option<u64>
     Some(number)
 }
 
-// Returns the error with which `clap` refuses a text that is no number in range, or `None` if `clap` takes the text.
+// Returns the error with which `clap` refuses a text that isn't a number in range, or `None` if `clap` accepts the
+// text.
 fn refuse(alloc: Global, text: &str) -> Result<Option<u64>, Error>
     ensures { IfOk result IsNone }
 {
@@ -108,7 +109,7 @@ fn refuse(alloc: Global, text: &str) -> Result<Option<u64>, Error>
     Ok(None)
 }
 
-// Returns the option, which takes a number in range as its value.
+// Returns the option. It accepts a number in range as its value.
 fn number_option<'a>(alloc: Global) -> Arg<'a> {
     Within::option(alloc).value_parser(value_parser!(u64).range(0..=MAX_LIMIT as i64))
 }

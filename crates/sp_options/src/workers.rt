@@ -1,4 +1,4 @@
-//! The number of workers, which is a number or that of the processors.
+//! The number of workers: a number, or the number of processors.
 ghost use Rattle.std.specs.Prelude.{◌≡◌, ℕ, Ok, Some, IfOk, IfSome, IsNone, MatchOption};
 ghost use Rattle.sp_word.specs.Ranges.{IsCrew};
 ghost use Rattle.clap.specs.Walk.{rule_of};
@@ -14,21 +14,21 @@ use std::alloc::Global;
 /// The identifier of the option for `clap`.
 pub const WORKERS: &str = "workers";
 
-// The word for as many workers as there are processors: a run never starts more than these.
+// The word for one worker per processor. A run never starts more than that.
 const ALL: &str = "all";
 
-/// Returns the option, which takes any text as its value. `more` is the text that its help adds.
+/// Returns the option. It accepts any text as its value. Its help adds the text `more`.
 pub fn workers_option<'a>(alloc: Global, more: &'a str) -> Arg<'a>
     ensures { rule_of result ≡ workers_rule }
 {
-    let about = "The most threads to use, or `all`";
+    let about = "The maximum number of threads, or `all`";
     valued(alloc, WORKERS, "W", about, more).default_value("1")
 }
 
 /// Reads a number of workers from the option's text.
 ///
-/// A text that spells one is read. Any other text is refused, by the error with which `clap` refuses a number out of range or
-/// a text that is no number; if `clap` took it, the result would be `None`.
+/// If the text spells one, the result is that number. Otherwise it is the error with which `clap` refuses a number out
+/// of range or a text that isn't a number; if `clap` accepted the text, the result would be `None`.
 pub fn read_workers(alloc: Global, text: &str) -> Result<Option<Workers>, Error>
     ensures spelled { IfOk result (λ found. IfSome found (SpellsWorkers text.now)) }
     ensures exactly { (workers : ℕ) → SpellsWorkers text.now workers
@@ -43,7 +43,7 @@ pub fn read_workers(alloc: Global, text: &str) -> Result<Option<Workers>, Error>
     }
 }
 
-// Returns the number that a text spells, if it is one of workers.
+// Returns the number that a text spells, if it is a possible number of workers.
 fn number_in(text: &str) -> Option<Workers>
     ensures { MatchOption result ((number : ℕ) → SpellsNumber text.now number → IsCrew number → ⊥)
         (λ number. SpellsNumber text.now number × IsCrew number) }
@@ -51,7 +51,8 @@ fn number_in(text: &str) -> Option<Workers>
     Workers::new(text.parse().ok()?)
 }
 
-// Returns the error with which `clap` refuses a text that is no number in range, or `None` if `clap` takes the text.
+// Returns the error with which `clap` refuses a text that isn't a number in range, or `None` if `clap` accepts the
+// text.
 fn refuse(alloc: Global, text: &str) -> Result<Option<Workers>, Error>
     ensures { IfOk result IsNone }
 {
@@ -62,7 +63,7 @@ fn refuse(alloc: Global, text: &str) -> Result<Option<Workers>, Error>
     Ok(None)
 }
 
-// Returns the option, which takes a number in range as its value.
+// Returns the option. It accepts a number in range as its value.
 fn number_option<'a>(alloc: Global) -> Arg<'a> {
     workers_option(alloc, "").value_parser(value_parser!(u32).range(1..=MOST_WORKERS as i64))
 }

@@ -38,6 +38,7 @@ early (fault.Usage error) few = refl
 early fault.DeltaOutOfRange few = refl
 early fault.LimitOutOfRange few = refl
 early fault.InputTwice few = refl
+early (fault.OutputIsInput file) few = refl
 early fault.NoPlaces few = refl
 early (fault.CannotOpen file) few = refl
 early (fault.Input file error) few = refl

@@ -1,14 +1,14 @@
 //! The fields of a line, for advice about it.
 use std::str::from_utf8;
 
-// The greatest number of fields of a line of any file.
+// The greatest number of fields in a line of any file.
 const MOST: usize = 5;
 
 /// The first fields of a line, and the number of all its fields.
 #[derive(Clone, Copy, Debug)]
 pub struct Fields<'l> {
     kept: [&'l str; MOST],
-    /// How many fields the line has.
+    /// The number of fields in the line.
     pub count: usize,
 }
 
@@ -35,13 +35,13 @@ impl<'l> Fields<'l> {
         self.count = self.count.saturating_add(1);
     }
 
-    /// Returns the field at this index, counted from 0; or an empty field if there is none, or if no line of any file
-    /// has a field there.
+    /// Returns the field at this index, counted from 0. If there is none, or if lines of files never have a field
+    /// there, the result is an empty field.
     pub fn at(&self, place: usize) -> &'l str {
         self.kept.get(place).copied().unwrap_or("")
     }
 
-    /// Returns the field at this index if it is a number.
+    /// Returns the field at this index, if it is a number.
     pub fn number(&self, place: usize) -> Option<u64> {
         self.at(place).parse().ok()
     }

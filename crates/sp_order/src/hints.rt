@@ -1,4 +1,4 @@
-//! The report of a fault, and the layout that a graph needs.
+//! Error messages, and the advice to use another layout for a graph.
 ghost use Rattle.std.specs.Prelude.{◌≡◌, ◌≢◌, true};
 ghost use Rattle.sp_command.specs.declared.faults.Fault.TheVariants.{WriteFailed};
 ghost use Rattle.sp_order.specs.declared.hints.Telling.TheVariants.{Nothing};
@@ -19,7 +19,7 @@ use sp_packed::{PackedField, PackedKind};
 use sp_text::{DimacsError, Kind};
 use std::io::ErrorKind;
 
-/// The text about a fault.
+/// The text of an error message.
 #[derive(Clone, Copy)]
 enum Telling<'a> {
     Nothing,
@@ -27,16 +27,16 @@ enum Telling<'a> {
     Lines(Hint<'a>),
 }
 
-/// A fault, with the text about it.
+/// A fault, with the text that reports it.
 #[derive(Drop)]
 pub struct Refusal<'a> {
-    /// Why the order isn't carried out.
+    /// Why the order wasn't carried out.
     pub fault: Fault,
     telling: Telling<'a>,
 }
 
 impl<'a> Refusal<'a> {
-    /// Makes the refusal of an order. If standard output has lost its reader, the refusal has no text.
+    /// Makes the refusal of an order. If standard output has no reader any more, the refusal has no text.
     pub fn new<C: Commands<'a>, T, F: Inputs>(
         fault: Fault,
         order: &Order<'a, C, T>,
@@ -53,7 +53,7 @@ impl<'a> Refusal<'a> {
         Refusal { fault, telling }
     }
 
-    /// Writes the lines. It makes no difference whether the device takes them.
+    /// Writes the lines. A failure of the device is ignored.
     pub fn tell<E: Write>(&self, err: &mut E)
         ensures { Tells E.Write self.now.telling self.now.fault err.old err.new }
     {
@@ -96,7 +96,7 @@ fn is_unread<C, T>(fault: &Fault, order: &Order<'_, C, T>, hint: &Hint<'_>) -> b
     reason.kind() == ErrorKind::BrokenPipe && order.output().is_none()
 }
 
-// Returns the second line of a fault in the words, if it has one.
+// Returns the second line for a fault in the words, if there is one.
 fn told_of_words<'a>(fault: &Fault) -> Option<Hint<'a>> {
     match fault {
         Fault::Usage(error) => usage_hint(error),
@@ -104,7 +104,7 @@ fn told_of_words<'a>(fault: &Fault) -> Option<Hint<'a>> {
     }
 }
 
-// Returns the second line of a fault, if it has one.
+// Returns the second line for a fault, if there is one.
 fn second_line<'a, C: Commands<'a>, T, F: Inputs>(
     fault: &Fault,
     order: &Order<'a, C, T>,
@@ -139,8 +139,8 @@ fn second_line<'a, C: Commands<'a>, T, F: Inputs>(
     }
 }
 
-// Returns the second line of a fault in a file's text, if it has one: how to unpack the file, the layout that its graph
-// needs, or advice about its line.
+// Returns the second line for an error in a file's text, if there is one: how to decompress or convert the file, the
+// layout for its graph, or advice about its line.
 fn input_hint<'a, C: Commands<'a>, F: Inputs>(
     fault: &Fault,
     file: FileKind,
@@ -170,8 +170,8 @@ fn input_hint<'a, C: Commands<'a>, F: Inputs>(
     Some(Hint::Advice { path, advice })
 }
 
-// Returns the advice for a graph with too many vertices for the layout, if another layout holds them. The graph is read
-// again up to its line `p`.
+// Returns the advice for a graph with too many vertices for the layout, if another layout can hold them. The graph is
+// read again, up to its line `p`.
 fn layout_hint<'a, F: Inputs>(
     file: FileKind,
     error: DimacsError,
@@ -191,7 +191,8 @@ fn layout_hint<'a, F: Inputs>(
     layout_for(vertices_on(files.open_again(path)?, line)?, path)
 }
 
-// Returns the advice for a packed graph with too many vertices for the layout: another layout, if one holds them.
+// Returns the advice for a packed graph with too many vertices for the layout: another layout if one can hold them, and
+// otherwise the range of their number.
 fn packed_layout_hint<'a, C: Commands<'a>, F: Inputs>(
     command: &C,
     pred_bits: PredBits,
@@ -212,7 +213,7 @@ fn packed_layout_hint<'a, C: Commands<'a>, F: Inputs>(
     Some(Hint::Advice { path, advice })
 }
 
-// Returns the advice to take the layout that holds so many vertices, if there is one.
+// Returns the advice to use a layout that can hold this many vertices, if there is one.
 fn layout_for(vertices: u64, path: &str) -> Option<Hint<'_>> {
     if vertices == 0 {
         return None;
@@ -225,7 +226,7 @@ fn layout_for(vertices: u64, path: &str) -> Option<Hint<'_>> {
     })
 }
 
-// Returns the number N of the line `p sp N M`, which is the line with this number.
+// Returns the number N in the line `p sp N M`, which has this line number.
 fn vertices_on<R: Read + Drop>(file: R, line: u64) -> Option<u64> {
     let mut lines = Lines::new(file);
     for _ in 1..line {

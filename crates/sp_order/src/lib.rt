@@ -1,7 +1,7 @@
-//! The command line of the program `spt`: reads the order that its words give, carries it out, and reports a fault.
+//! The command line of the program `spt`: reads the order that the words give, carries it out, and reports a fault.
 //!
-//! The commands are a type, `C`. Its impls of `Commands` and `RunIn` do what concerns all commands: they add their words,
-//! read the one that is named, and run it.
+//! The commands are a type, `C`. Its impls of `Commands` and `RunIn` do everything that concerns all commands: they add
+//! the words of each command, read the one that is named, and run it.
 #![tactic(auto)]
 
 mod announced;

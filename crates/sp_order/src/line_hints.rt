@@ -1,4 +1,4 @@
-//! Advice about a line that a reader refused, from its text if that can be read again.
+//! Advice about a line that a reader refused, from the line's text if it can be read again.
 use crate::fields::Fields;
 use sp_command::{Advice, FileKind, PredBits};
 use sp_device::Read;
@@ -10,7 +10,7 @@ use sp_text::Kind;
 pub struct Refused<'a> {
     /// The word that names the command.
     pub command: &'a str,
-    /// The file in which the line stands.
+    /// The file with the line.
     pub file: FileKind,
     /// What is wrong with the line.
     pub kind: Kind,
@@ -20,7 +20,7 @@ pub struct Refused<'a> {
     pub vertices: Option<u64>,
 }
 
-/// Returns the advice about the line with this number of a file.
+/// Returns the advice about the line of a file that has this number.
 pub fn advice_in<'a, R: Read + Drop>(
     refused: Refused<'a>,
     file: R,
@@ -40,7 +40,7 @@ pub fn advice_in<'a, R: Read + Drop>(
     }
 }
 
-/// Returns the advice if the line can't be read.
+/// Returns the advice if the line can't be read again.
 pub fn advice_without<'a>(refused: Refused<'a>) -> Option<Advice<'a>> {
     let file = refused.file;
     match refused.kind {
@@ -50,7 +50,6 @@ pub fn advice_without<'a>(refused: Refused<'a>) -> Option<Advice<'a>> {
         Kind::OutOfRange(field) => Some(range_of(refused, field)),
         Kind::TooMany => match file {
             FileKind::Tree => Some(Advice::Blocks),
-            FileKind::Replay | FileKind::Offers => None,
             _ => Some(Advice::Count(file)),
         },
         Kind::TooFew => match file {
@@ -61,7 +60,7 @@ pub fn advice_without<'a>(refused: Refused<'a>) -> Option<Advice<'a>> {
     }
 }
 
-// Returns the advice about a line, given whether a problem line comes before it.
+// Returns the advice about a line. The flag says whether a problem line comes before it.
 fn advice_on<'a>(refused: Refused<'a>, line: &[u8], has_problem: bool) -> Option<Advice<'a>> {
     let file = refused.file;
     let fields = Fields::of(line);
@@ -82,7 +81,7 @@ fn advice_on<'a>(refused: Refused<'a>, line: &[u8], has_problem: bool) -> Option
     }
 }
 
-// Returns the advice about a line that has no form, or comes before the problem line.
+// Returns the advice about a line that has no valid form, or that comes before the problem line.
 fn advice_on_form<'a>(refused: Refused<'a>, line: &[u8], has_problem: bool) -> Advice<'a> {
     let file = refused.file;
     let fields = Fields::of(line);
@@ -124,7 +123,7 @@ fn begins_packed(line: &[u8]) -> bool {
     }
 }
 
-// Returns whether a line is a comment of another format, or one whose `c` is joined to a word.
+// Returns whether a line is a comment of another format, or a comment whose `c` is joined to a word.
 fn is_foreign_comment(line: &[u8]) -> bool {
     match line.trim_ascii_start() {
         [b'#' | b'%' | b';', ..] | [b'/', b'/' | b'*', ..] => true,
@@ -133,8 +132,8 @@ fn is_foreign_comment(line: &[u8]) -> bool {
     }
 }
 
-// Returns the kind of file that has a line like this, if it is known. Steps and offers share letters with other files, and targets
-// have the lines of sources.
+// Returns the kind of file that has lines like this one, if it is known. The lines of replays and offers begin with
+// letters that other files use too, and lists of targets have the same lines as lists of sources.
 fn kind_of(fields: Fields<'_>, wanted: FileKind) -> Option<FileKind> {
     let is_run = wanted == FileKind::Replay || wanted == FileKind::Offers;
     let list = if wanted == FileKind::Targets {
@@ -168,8 +167,7 @@ fn too_far(refused: Refused<'_>) -> Advice<'_> {
     }
 }
 
-// Returns the index of the first field that should be a number and isn't, on a line that has the right number of
-// fields.
+// On a line with the right number of fields, returns the index of the first field that should be a number and isn't.
 fn misspelled(fields: Fields<'_>, file: FileKind) -> Option<usize> {
     let (first, count) = numbers_on(fields.at(0), file)?;
     if fields.count != count {
@@ -178,7 +176,7 @@ fn misspelled(fields: Fields<'_>, file: FileKind) -> Option<usize> {
     (first..count).find(|place| !is_number(fields.at(*place)))
 }
 
-// Returns where the numbers begin on a line with this first field, and how many fields the line has.
+// Returns the index of the first number on a line with this first field, and the number of the line's fields.
 fn numbers_on(word: &str, file: FileKind) -> Option<(usize, usize)> {
     match (file, word) {
         (FileKind::Sources | FileKind::Targets, "p") => Some((4, 5)),
@@ -201,7 +199,7 @@ fn is_digit(byte: u8) -> bool {
     byte.is_ascii_digit()
 }
 
-// Returns the advice about a field that is no number.
+// Returns the advice about a field that isn't a number.
 fn advice_on_number<'a>(refused: Refused<'a>, fields: Fields<'_>, place: usize) -> Advice<'a> {
     let field = fields.at(place);
     let is_digits = field.bytes().all(is_digit);
@@ -220,7 +218,7 @@ fn advice_on_number<'a>(refused: Refused<'a>, fields: Fields<'_>, place: usize) 
     }
 }
 
-// Returns whether the vertex of this letter is 0.
+// Returns whether the vertex in the field with this letter is 0.
 fn is_zero(fields: Fields<'_>, field: u8) -> bool {
     let place = match (fields.at(0), field, fields.count) {
         ("a", b'U', 4) | ("s" | "i", b'V', _) | ("q", b'S', _) => 1,
@@ -230,7 +228,7 @@ fn is_zero(fields: Fields<'_>, field: u8) -> bool {
     fields.at(place) == "0"
 }
 
-// Returns the advice about the range of a field with this letter.
+// Returns the advice about the range of the field with this letter.
 fn range_of(refused: Refused<'_>, field: u8) -> Advice<'_> {
     let pred = u64::from(refused.pred_bits.max_pred());
     let dist = refused.pred_bits.max_dist();

@@ -1,27 +1,27 @@
 //! A whole run of the program.
-ghost use Rattle.std.specs.Prelude.{◌≡◌, ◌≤◌, true, IfOk, IfErr, MatchResult};
+ghost use Rattle.std.specs.Prelude.{◌≡◌, ◌≤◌, true, false, IfOk, IfErr, MatchOption, MatchResult};
 ghost use Rattle.clap.specs.Walk.{texts};
+ghost use Rattle.sp_command.specs.Causes.{IsSpared, MayBeOutput, SparesInputs};
 ghost use Rattle.sp_command.specs.Faults.{is_done, is_early};
 ghost use Rattle.sp_command.specs.Scene.{scene};
 ghost use Rattle.sp_command.specs.declared.faults.Fault.TheVariants.{WriteFailed};
 ghost use Rattle.sp_order.specs.declared.hints.Telling.TheVariants.{Nothing};
-ghost use Rattle.sp_order.specs.Orders.{IsCarriedOut, IsObeyed, RunsInto, obeying};
+ghost use Rattle.sp_order.specs.Orders.{IsCarriedOut, IsObeyed, RunsApart, RunsInto, obeying};
 ghost use Rattle.sp_order.specs.Told.{EndsWith, IsAnswered};
 ghost use Rattle.sp_order.specs.Words.{names_output};
 
 use crate::hints::Refusal;
 use crate::words::{Answer, Order, read_order};
-use sp_command::{Commands, Fault, Outputs, PredBits, RunIn, Status, print};
+use sp_command::{Commands, Fault, FileKind, Inputs, Outputs, PredBits, RunIn, Status, print};
 use sp_device::Write;
 use std::alloc::Global;
 use std::fmt::Display;
 use std::sync::Wait;
 use std::thread::Threads;
 
-/// Runs the command that the words name, where the first word is the program's name, and returns the exit status. Help and the
-/// version are shown as a `T`, which is made of what `clap` answers. The
-/// command's output goes to `out`, or to the file that the words name for it, and the text of a fault to `err`; whether
-/// `err` takes that text changes no status.
+/// Runs the command that the words name, and returns the exit status. The first word is the program's name. Help and
+/// the version are shown as a `T`, which is made from the error of `clap`. The command's output goes to `out`, or to
+/// the file that the words name for it. The text of a fault goes to `err`; a failure to write it changes no status.
 pub fn run_line<'a, C, T, R: Threads + Wait + Sync, F: Outputs, W: Write, E: Write>(
     rt: &R,
     alloc: Global,
@@ -48,7 +48,7 @@ where
     tell_end(&answer, err).code()
 }
 
-// Tells the fault of an answer, if it has one, and returns the exit status.
+// Reports the fault of an answer, if it has one, and returns the exit status.
 fn tell_end<E: Write>(answer: &Result<Status, Refusal<'_>>, err: &mut E) -> Status
     ensures silent { is_done result ≡ true → err.new ≡ err.old }
     ensures told { EndsWith E.Write answer.now err.old err.new result }
@@ -92,20 +92,20 @@ where
     }
 }
 
-// Carries out the order. If it names a file for the output, nothing is written to `out`.
-fn carry_out<C, T: Display, R: Threads + Wait + Sync, F: Outputs, W: Write>(
+// Carries out the order. If it names an output file, nothing is written to `out`.
+fn carry_out<'a, C, T: Display, R: Threads + Wait + Sync, F: Outputs, W: Write>(
     rt: &R,
     alloc: Global,
-    order: &Order<'_, C, T>,
+    order: &Order<'a, C, T>,
     files: &mut F,
     out: &mut W,
 ) -> Result<Status, Fault>
 where
-    C: RunIn,
+    C: Commands<'a> + RunIn,
     ensures done { IfOk result (λ status. is_done status ≡ true) }
     ensures untouched { IfErr result (λ fault. is_early fault ≡ true → out.new ≡ out.old) }
     ensures elsewhere { names_output order.now ≡ true → out.new ≡ out.old }
-    ensures carried { IsCarriedOut C.runs T.output
+    ensures carried { IsCarriedOut C.runs C.paths T.output
         order.now (scene (F.files files.old)
         (W.written out.old) (W.written out.new) (W.has_failed out.new))
         (F.outputs files.old) (F.outputs files.new) result }
@@ -126,11 +126,34 @@ where
             pred_bits,
             output: Some(path),
             ..
-        } => run_into(rt, alloc, command, *pred_bits, files, path),
+        } => run_apart(rt, alloc, command, *pred_bits, files, path),
     }
 }
 
-// Runs a command into a file, which gets its name once the command is done.
+// Runs a command, with its output in a file that is none of its inputs.
+fn run_apart<'a, C, R: Threads + Wait + Sync, F: Outputs>(
+    rt: &R,
+    alloc: Global,
+    command: &C,
+    pred_bits: PredBits,
+    files: &mut F,
+    path: &str,
+) -> Result<Status, Fault>
+where
+    C: Commands<'a> + RunIn,
+    ensures done { IfOk result (λ status. is_done status ≡ true) }
+    ensures into { RunsApart C.runs C.paths
+        pred_bits command.now path.now (F.files files.old)
+        (F.outputs files.old) (F.outputs files.new) result }
+    ensures inputs { F.files files.new ≡ F.files files.old }
+{
+    match input_of(command, path, files) {
+        Some(file) => Err(Fault::OutputIsInput(file)),
+        None => run_into(rt, alloc, command, pred_bits, files, path),
+    }
+}
+
+// Runs a command, with its output in a file that gets its name once the command is done.
 fn run_into<C, R: Threads + Wait + Sync, F: Outputs>(
     rt: &R,
     alloc: Global,
@@ -159,5 +182,53 @@ where
             files.discard(name, output);
             Err(fault)
         }
+    }
+}
+
+// Returns which input file of a command this output path leads to, if there is one.
+#[tactic(auto, using(crate::proofs::Apart::spares_all))]
+fn input_of<'a, C: Commands<'a>, F: Inputs>(
+    command: &C,
+    output: &str,
+    files: &F,
+) -> Option<FileKind>
+    ensures { MatchOption result (SparesInputs (C.paths command.now) (F.files files.now) output.now)
+        (MayBeOutput (C.paths command.now) (F.files files.now) output.now) }
+{
+    if is_output(command, FileKind::Graph, output, files) {
+        Some(FileKind::Graph)
+    } else if is_output(command, FileKind::Sources, output, files) {
+        Some(FileKind::Sources)
+    } else if is_output(command, FileKind::Targets, output, files) {
+        Some(FileKind::Targets)
+    } else if is_output(command, FileKind::Pairs, output, files) {
+        Some(FileKind::Pairs)
+    } else if is_output(command, FileKind::Tree, output, files) {
+        Some(FileKind::Tree)
+    } else if is_output(command, FileKind::Replay, output, files) {
+        Some(FileKind::Replay)
+    } else if is_output(command, FileKind::Offers, output, files) {
+        Some(FileKind::Offers)
+    } else {
+        None
+    }
+}
+
+// Returns whether a command has an input file of this kind, and this output path leads to it.
+#[tactic(auto, using(crate::proofs::Apart::is_one, crate::proofs::Apart::is_other, crate::proofs::Apart::has_none))]
+fn is_output<'a, C: Commands<'a>, F: Inputs>(
+    command: &C,
+    file: FileKind,
+    output: &str,
+    files: &F,
+) -> bool
+    ensures same { result ≡ true
+        → MayBeOutput (C.paths command.now) (F.files files.now) output.now file }
+    ensures other { result ≡ false
+        → IsSpared (C.paths command.now) (F.files files.now) output.now file }
+{
+    match command.path(file) {
+        Some(path) => files.is_same_file(output, path),
+        None => false,
     }
 }

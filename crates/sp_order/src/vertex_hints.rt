@@ -1,12 +1,12 @@
-//! Finds where a number is given that is no vertex of its graph.
+//! Finds where a command was given a number that isn't a vertex of the graph.
 use crate::announced::announced_vertices;
 use crate::fields::Fields;
 use sp_command::{Commands, FileKind, Hint, Inputs, Naming, option_for};
 use sp_device::Read;
 use sp_dimacs::Lines;
 
-/// Returns the second line about a vertex that a graph doesn't have, and which stands among the sources or the targets. The
-/// sources may be selected by a word for their places.
+/// Returns the second line about a source or a target that isn't a vertex of the graph. A word for places may select a
+/// part of the sources.
 pub fn vertex_hint<'a, C: Commands<'a>, F: Inputs>(
     vertex: u32,
     list: FileKind,
@@ -21,8 +21,8 @@ pub fn vertex_hint<'a, C: Commands<'a>, F: Inputs>(
     }
 }
 
-/// Returns the number of vertices of a graph, if it can be read again: that in its line `p sp N M`, or that which it announces
-/// as a packed graph.
+/// Returns the number of vertices of a graph, if the graph can be read again: the one in its line `p sp N M`, or the
+/// one that it announces as a packed graph.
 pub fn vertices_in<F: Inputs>(graph: Option<&str>, files: &F) -> Option<u64> {
     let path = graph?;
     match announced_vertices(files.open_again(path)?) {
@@ -70,7 +70,7 @@ fn naming_of<'a, C: Commands<'a>, F: Inputs>(
     }
 }
 
-// Returns where a number stands whose file can't be read again.
+// Returns where the command was given a number, if its file can't be read again.
 fn unseen<'a>(list: FileKind) -> Naming<'a> {
     match list {
         FileKind::Targets => Naming::UnseenTarget,
@@ -83,8 +83,8 @@ fn first_place(word: &str) -> Option<u64> {
     word.split_once('-')?.0.parse().ok()
 }
 
-// Finds the first line of a file of pairs that names the number, which is the line of the pair that is refused first.
-// In a pair the source is tested before the target.
+// Finds the first line of a file of pairs that names the number. This is the line of the first refused pair. The source
+// of a pair is tested before its target.
 fn naming_pair<'a, F: Inputs>(vertex: u32, path: &'a str, files: &F) -> Option<Naming<'a>> {
     let mut lines = Lines::new(files.open_again(path)?);
     for line in 1..u64::MAX {
@@ -102,7 +102,7 @@ fn naming_pair<'a, F: Inputs>(vertex: u32, path: &'a str, files: &F) -> Option<N
     None
 }
 
-// Finds the first line of a list of sources, or of targets, that names the number, from this place of the list on.
+// Finds the first line of a list of sources or targets that names the number, from this place of the list on.
 fn line_of<F: Inputs>(vertex: u32, path: &str, first: u64, files: &F) -> Option<u64> {
     let mut lines = Lines::new(files.open_again(path)?);
     let mut place = 0u64;

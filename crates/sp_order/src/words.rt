@@ -15,7 +15,7 @@ use sp_command::{Commands, Fault, OUTPUT, PLACES, PredBits};
 use std::alloc::Global;
 use std::fmt::Display;
 
-/// A text that is shown, made of what `clap` answers.
+/// A text to show, made from the error of `clap`.
 pub trait Answer: Display + From<Error> + Drop {}
 
 impl<T: Display + From<Error> + Drop> Answer for T {}
@@ -26,8 +26,8 @@ pub enum Order<'a, C, T> {
     /// Shows a text of help, or the version.
     Show(T),
     /// Runs a command, in words with this many bits of predecessor. Its output goes to a file if one is named, and
-    /// otherwise to standard output. The order also keeps the word for places of its sources, if there is one, for the
-    /// report of a fault.
+    /// otherwise to standard output. If there is a word for places of its sources, the order keeps it for error
+    /// messages.
     Run {
         command: C,
         pred_bits: PredBits,
@@ -63,7 +63,7 @@ pub fn read_order<'a, C: Commands<'a>, T: Answer>(
     }
 }
 
-/// Returns the order for the case that `clap` found none in the words. A request for help arrives in this way too.
+/// Returns the order if `clap` found no valid command in the words. A request for help also arrives in this way.
 pub fn answer_to<'a, C: Drop, T: Answer>(error: Error) -> Result<Order<'a, C, T>, Fault>
     ensures memory { kind_of error ≡ ErrorKind.OutOfMemory → result ≡ Err Memory }
     ensures text { is_text (kind_of error) ≡ true
@@ -89,7 +89,7 @@ fn match_words<'a, C: Commands<'a>, T: Drop>(
     match program.try_get_matches_from_mut(words) {
         Ok(matches) => match order_of(alloc, &matches) {
             Ok(Some(order)) => Ok(order),
-            // The command's words contain something that `clap` accepted and the command can't read.
+            // `clap` accepted the command's words, but they contain something that the command can't read.
             Ok(None) => Err(program.error(ErrorKind::MissingSubcommand, "a command is needed")?),
             Err(error) => Err(error),
         },
@@ -122,7 +122,7 @@ fn order_of<'a, C: Commands<'a>, T: Drop>(
     }))
 }
 
-// Returns the layout, if its value spells one.
+// Returns the layout, if its value is valid.
 fn layout_of(given: &ArgMatches<'_>) -> Option<PredBits>
     ensures { MatchOption result (LacksLayout (found_of given.now))
         (IsLayout (found_of given.now)) }
@@ -130,7 +130,7 @@ fn layout_of(given: &ArgMatches<'_>) -> Option<PredBits>
     given.get_one(PredBits::ID)
 }
 
-// Returns the file to which the output goes, if it isn't standard output.
+// Returns the file for the output, if it isn't standard output.
 fn output_of<'a>(given: &ArgMatches<'a>) -> Option<&'a str>
     ensures path { MatchOption result (NamesNoOutput (found_of given.now))
         (λ path. NamesOutput (found_of given.now) path.now) }
@@ -141,12 +141,12 @@ fn output_of<'a>(given: &ArgMatches<'a>) -> Option<&'a str>
     }
 }
 
-// Returns what help says about all commands.
+// Returns the program without its commands: what help says about all of them.
 fn told_of_all<'a>(alloc: Global) -> Command<'a>
     ensures { app_of result ≡ bare_app }
 {
     Command::new(alloc, "spt")
-        .version("0.2.0")
+        .version("1.5.0")
         .about(help::PROGRAM)
         .after_help(help::PROGRAM_MORE)
         .subcommand_required(true)

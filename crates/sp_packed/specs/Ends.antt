@@ -8,7 +8,7 @@ use Rattle.sp_packed.specs.Words.{words, sum_on}
 abbrev pub IsRise : (m : ℕ) → (ends : List ℕ) → (k : ℕ) → Type 0
 IsRise m ends k = (slice_index ends (k - 1) ≤ slice_index ends k) × (slice_index ends k ≤ m)
 
--- They begin with 0, and rise.
+-- The ends begin with 0, and rise.
 pub record AreRising (m : ℕ) (ends : List ℕ) : Type 0 where
   pub begin : slice_index ends 0 ≡ 0
   pub rise : (k : ℕ) → 1 ≤ k → k < length ends → IsRise m ends k
@@ -25,7 +25,7 @@ pub record AreFirstEnds (n m : ℕ) (ends : List ℕ) : Type 0 where
   pub rising : AreRising m ends
   pub last : length ends ≡ n + 1 → slice_index ends n ≡ m
 
--- The text spelled these ends, but for the 0.
+-- The text spelled these ends, except for the 0.
 pub record HasEnds (old new : Option (List ℕ)) (before after : Sum) (ends : List ℕ) : Type 0 where
   pub came : List ℕ
   pub is : ends ≡ 0 ∷ came

@@ -1,4 +1,4 @@
--- The fault of a text that is no packed graph.
+-- The fault of a text that is not a packed graph.
 use Rattle.std.specs.Prelude.{◌≡◌, ℕ, ◌+◌, ◌*◌, ◌<◌, ◌≤◌, Bool, true, List, [], ◌++◌, length, take, Option, Some, Result, Ok, Err, ⊤}
 use Rattle.std.specs.Io.KnownBytes.{IsAtEnd}
 use Rattle.sp_paths.specs.Paths.{Graph}
@@ -19,7 +19,7 @@ pub record BeginsBy (top most : ℕ) (g : Graph) (bytes : List ℕ) : Type 0 whe
 abbrev pub Begins : (top most : ℕ) (bytes : List ℕ) → Type 0
 Begins top most bytes = (g : Graph) × BeginsBy top most g bytes
 
--- A fault of this kind is told at the word k, with k words before it, of a text of n vertices and m arcs.
+-- A fault of this kind may be reported at the word that k words precede, in a text of n vertices and m arcs.
 abbrev pub IsPlace : PackedKind → (n m k : ℕ) → Type 0
 IsPlace OtherForm n m k = k < 2
 IsPlace (OutOfRange Vertices) n m k = k ≡ 2
@@ -33,7 +33,7 @@ IsPlace TooFew n m k = k < 9 + n + 2 * m
 IsPlace Memory n m k = k < 9 + n + 2 * m
 IsPlace Read n m k = k ≤ 9 + n + 2 * m
 
--- A fault of this kind is that of a word which came whole.
+-- A fault of this kind concerns a word of which all bytes came.
 abbrev pub IsWordKind : PackedKind → Type 0
 IsWordKind OtherForm = ⊤
 IsWordKind (OutOfRange field) = ⊤
@@ -43,13 +43,13 @@ IsWordKind TooFew = ⊥
 IsWordKind Memory = ⊥
 IsWordKind Read = ⊥
 
--- The word at this byte came whole, and no packed text has it behind the words before it.
+-- All of the word at this byte came, and no packed text has it after the words before it.
 abbrev pub IsOther : (top most : ℕ) (came : List ℕ) (at : ℕ) → Type 0
 IsOther top most came at = (at + 4 ≤ length came) × (Begins top most (take (at + 4) came) → ⊥)
 
--- What came of a text, of which this is left, shows a fault of this kind at this byte: the word there is another than any
--- packed text has; bytes came behind the sum; the text has ended before or within the word; the word came whole, and some
--- packed text has it there, but there was no room; the device has failed before the word came whole.
+-- The part of a text that came shows a fault of this kind at this byte: all of the word there came, and no packed text has
+-- it there; bytes came after the sum; the text ended before or within the word; all of the word came, and some packed text has
+-- it there, but there was no memory; or the device failed before all of the word came.
 abbrev pub Shows : (top most : ℕ) (came : List ℕ) (left : Option (List ℕ)) (has_failed : Bool) (at : ℕ) → PackedKind → Type 0
 Shows top most came left has_failed at OtherForm = IsOther top most came at
 Shows top most came left has_failed at (OutOfRange field) = IsOther top most came at
@@ -59,8 +59,8 @@ Shows top most came left has_failed at TooFew = (length came < at + 4) × IsAtEn
 Shows top most came left has_failed at Memory = (at + 4 ≤ length came) × Begins top most (take (at + 4) came)
 Shows top most came left has_failed at Read = (length came < at + 4) × (has_failed ≡ true)
 
--- The fault of a text, of which so much came: some packed text begins with the words before it, and what stands there is no
--- word that a packed text has behind them.
+-- This is the fault of a text, given the part that came: some packed text begins with the words before the fault, and the
+-- part shows the fault.
 pub record Tells (top most : ℕ) (came : List ℕ) (left : Option (List ℕ)) (has_failed : Bool) (e : PackedFault) : Type 0 where
   pub word : ℕ
   pub place : e.at ≡ 4 * word
@@ -70,8 +70,8 @@ pub record Tells (top most : ℕ) (came : List ℕ) (left : Option (List ℕ)) (
   pub kind : IsPlace e.kind graph.n (length graph.arcs) word
   pub shows : Shows top most came left has_failed e.at e.kind
 
--- The answer to the whole text of a device: it is the packed text of this graph, and all of it was read; or a part of it was
--- read, which shows its fault.
+-- This is the result for the whole text of a device: it is the packed text of this graph, and all of it was read; or a part of
+-- it was read, which shows its fault.
 abbrev pub PackedRead : (top most : ℕ) (text : List ℕ) (left : Option (List ℕ)) (has_failed : Bool) → Result Graph PackedFault → Type 0
 PackedRead top most text left has_failed (Ok g) = (left ≡ Some []) × (text ≡ packed_text g)
 PackedRead top most text left has_failed (Err e) = (came more : List ℕ) × (text ≡ came ++ more) × (left ≡ Some more) × Tells top most came left has_failed e

@@ -5,7 +5,7 @@ use Rattle.sp_packed.specs.Packed.{content, with_sum}
 use Rattle.sp_packed.specs.Ends.{AreEnds}
 use Rattle.sp_packed.specs.Rows.{AreRows}
 
--- They are those of a graph within the limits.
+-- These are the parts of a graph within the limits.
 pub record AreParts (top most n : ℕ) (ends : List ℕ) (arcs : List Arc) : Type 0 where
   pub some : 1 ≤ n
   pub n_fits : n < 2 ^ 32

@@ -11,7 +11,7 @@ use Rattle.sp_packed.specs.Rows.{AreRows}
 use Rattle.sp_packed.specs.Parts.{AreParts}
 use Rattle.sp_packed.specs.Faults.{Tells}
 
--- the words of the head, and the 0 of row 0
+-- These are the words of the head, and the 0 of row 0.
 abbrev pub front_words : (n m : ℕ) → List ℕ
 front_words n m = head_words n m ++ (0 ∷ [])
 
@@ -23,7 +23,7 @@ pub record AreCounts (top most n m : ℕ) : Type 0 where
   pub m_fits : m < 2 ^ 32
   pub m_within : m ≤ most
 
--- This may be the word with k words before it, of the first five.
+-- This may be the word that k words precede, if it is one of the first five.
 abbrev pub IsFrontWord : (top most k w : ℕ) → Type 0
 IsFrontWord top most zero w = w ≡ 0x54505389
 IsFrontWord top most (suc zero) w = w ≡ 0x011A0A0D
@@ -37,16 +37,16 @@ pub record HasFront (top most : ℕ) (old new : Option (List ℕ)) (before after
   pub took : Consumes old new (words (front_words n m))
   pub sum : after ≡ sum_on before (front_words n m)
 
--- What came since then tells this fault.
+-- What came since then shows this fault.
 abbrev pub Told : (top most : ℕ) (old new : Option (List ℕ)) (has_failed : Bool) (e : PackedFault) → Type 0
 Told top most old new has_failed e = (came : List ℕ) × Consumes old new came × Tells top most came new has_failed e
 
--- The same behind these words, of which a text of so many vertices and arcs may begin with the first.
+-- What came after these words shows this fault. The words may begin a text of n vertices and m arcs.
 abbrev pub ToldBehind : (before : List ℕ) (n m : ℕ) (old new : Option (List ℕ)) (has_failed : Bool) (e : PackedFault) → Type 0
 ToldBehind before n m old new has_failed e =
     (top most : ℕ) (start : Option (List ℕ)) → AreCounts top most n m → Consumes start old (words before) → Told top most start new has_failed e
 
--- The same behind the content of a graph with so many vertices and arcs, whose sum is this.
+-- What came after the content of a graph of n vertices and m arcs, which has this sum, shows this fault.
 abbrev pub ToldOfSum : (sum : Sum) (n m : ℕ) (old new : Option (List ℕ)) (has_failed : Bool) (e : PackedFault) → Type 0
 ToldOfSum sum n m old new has_failed e =
     (ends : List ℕ) (arcs : List Arc) → AreEnds n m ends → AreRows n ends arcs → length arcs ≡ m → sum ≡ sum_on no_sum (content n ends arcs)

@@ -11,7 +11,7 @@ use Rattle.sp_packed.specs.declared.faults.PackedField.TheVariants.{Head, Length
 use Rattle.sp_packed.specs.Words.{words, sum_on}
 use Rattle.sp_packed.specs.Packed.{arcs_words}
 
--- The arc at index k stands in the row of t.
+-- The arc at index k is in the row of t.
 abbrev pub IsInRow : (ends : List ℕ) → (k t : ℕ) → Type 0
 IsInRow ends k t = (slice_index ends (t - 1) ≤ k) × (k < slice_index ends t)
 
@@ -22,30 +22,30 @@ pub record AreRows (n : ℕ) (ends : List ℕ) (arcs : List Arc) : Type 0 where
   pub order : IsInOrder arcs
   pub rows : (k : ℕ) (d : Arc) → k < length arcs → IsInRow ends k (slice_index_or arcs k d).tail
 
--- The next arc stands in the row of t or a later one.
+-- The next arc is in the row of t or a later one.
 pub record IsNextRow (n : ℕ) (ends : List ℕ) (k t : ℕ) : Type 0 where
   pub some : 1 ≤ t
   pub within : t ≤ n
   pub begun : slice_index ends (t - 1) ≤ k
 
--- An arc with this tail and this head may come behind that one.
+-- An arc with this tail and this head may follow that one.
 abbrev pub MayFollow : Arc → (tail head : ℕ) → Type 0
 MayFollow last tail head = (last.tail < tail) ⊎ ((last.tail ≡ tail) × (last.head ≤ head))
 
--- The arc's head may stand behind these arcs.
+-- The arc's head may follow these arcs.
 pub record MayHead (n : ℕ) (arcs : List Arc) (a : Arc) : Type 0 where
   pub some : 1 ≤ a.head
   pub within : a.head ≤ n
   pub order : 1 ≤ length arcs → MayFollow (slice_index_or arcs (length arcs - 1) a) a.tail a.head
 
--- The arc may stand behind these.
+-- The arc may follow these.
 pub record MayStand (n : ℕ) (arcs : List Arc) (a : Arc) : Type 0 where
   pub some : 1 ≤ a.head
   pub within : a.head ≤ n
   pub long : 1 ≤ a.len
   pub order : 1 ≤ length arcs → IsNoGreater (slice_index_or arcs (length arcs - 1) a) a
 
--- the tail, and the head behind it
+-- This is the tail, followed by the head.
 abbrev pub arc_key : Arc → ℕ
 arc_key a = a.tail * 2 ^ 32 + a.head
 
@@ -54,11 +54,11 @@ abbrev pub IsLastKey : List Arc → ℕ → Type 0
 IsLastKey arcs key =
     (d : Arc) → 1 ≤ length arcs → let last = slice_index_or arcs (length arcs - 1) d in (key ≡ arc_key last) × (last.head < 2 ^ 32)
 
--- the number of words before the head of the arc at index k
+-- This is the number of words before the head of the arc at index k.
 abbrev pub words_to : (n k : ℕ) → ℕ
 words_to n k = 5 + n + 2 * k
 
--- Why an arc wasn't put behind these: its head may not stand there; or its length may not; or there is no room.
+-- An arc may not follow these: its head or its length is wrong, or there is no memory.
 abbrev pub IsArcRefused : (n : ℕ) (arcs : List Arc) (a : Arc) (e : PackedFault) → Type 0
 IsArcRefused n arcs a e =
     ((e ≡ record { at = 4 * words_to n (length arcs); kind = OutOfRange Head }) × (MayHead n arcs a → ⊥))
@@ -72,7 +72,7 @@ pub record IsNext (n : ℕ) (ends : List ℕ) (arcs : List Arc) (a : Arc) : Type
   pub row : IsInRow ends (length arcs) a.tail
   pub fits : a.len < 2 ^ 32
 
--- Of the arcs that the numbers spell, some were put behind the others, and the next was not.
+-- Some of the arcs that the numbers spell were appended, and the next one was not.
 pub record IsRefusedIn (n : ℕ) (ends : List ℕ) (arcs : List Arc) (numbers : List ℕ) (e : PackedFault) : Type 0 where
   pub added : List Arc
   pub arc : Arc
@@ -82,13 +82,13 @@ pub record IsRefusedIn (n : ℕ) (ends : List ℕ) (arcs : List Arc) (numbers : 
   pub next : IsNext n ends (arcs ++ added) arc
   pub refused : IsArcRefused n (arcs ++ added) arc e
 
--- No more words came whole behind so many.
+-- After k words no more words came whole.
 pub record IsCutAt (k : ℕ) (failed : Bool) (e : PackedFault) : Type 0 where
   pub at : e.at ≡ 4 * k
   pub few : failed ≡ false → e.kind ≡ TooFew
   pub read : failed ≡ true → e.kind ≡ Read
 
--- The numbers ended behind these arcs: with a length; or with a head that may not stand there; or with one that may.
+-- The numbers ended after these arcs: with a length; or with a head that may not follow; or with one that may.
 abbrev pub IsCutIn : (n : ℕ) (ends : List ℕ) (arcs : List Arc) (numbers : List ℕ) (failed : Bool) (e : PackedFault) → Type 0
 IsCutIn n ends arcs numbers failed e =
     ((length numbers % 2 ≡ 0) × IsCutAt (words_to n (length arcs)) failed e)

@@ -1,4 +1,4 @@
-//! Words that come of a device, block after block.
+//! Words that come from a device, block by block.
 ghost use Rattle.std.specs.Prelude.{◌≡◌, ◌≤◌, ◌<◌, ◌*◌, true, false, [], length, take};
 ghost use Rattle.std.specs.Io.KnownBytes.{Consumes, IsAtEnd};
 ghost use Rattle.sp_device.specs.Failing.{Never};
@@ -14,7 +14,7 @@ pub const ROOM: usize = 8192;
 /// The greatest number of bytes of a block.
 pub const BYTES: usize = 32_768;
 
-/// The words that came last, and the sum of all that came. It takes no memory but its own.
+/// The words that came last, and the sum of all words that came. It allocates no memory.
 #[derive(Drop)]
 pub struct Block {
     bytes: [u8; BYTES],
@@ -35,7 +35,7 @@ impl Model for Block {
     ghost invariant = { IsRoom };
 }
 
-/// Reads bytes until the buffer is full, none is left or the device fails. It returns how many came, and whether the device failed.
+/// Reads bytes until the buffer is full, none is left or the device fails. Returns how many came, and whether the device failed.
 pub fn fill<R: Read>(reader: &mut R, bytes: &mut [u8]) -> (usize, bool)
     ensures within { result.0 ≤ length bytes.new }
     ensures bytes { Consumes (R.left reader.old) (R.left reader.new) (take result.0 bytes.new) }
@@ -55,7 +55,7 @@ pub fn fill<R: Read>(reader: &mut R, bytes: &mut [u8]) -> (usize, bool)
     (got, false)
 }
 
-// Reads so many words, or all that are left, to the front of the numbers. It returns how many came, and whether the device failed.
+// Reads `count` words, or all that are left, to the front of the numbers. Returns how many came, and whether the device failed.
 fn take_words<R: Read>(
     reader: &mut R,
     bytes: &mut [u8],
@@ -78,7 +78,7 @@ fn take_words<R: Read>(
 }
 
 impl Block {
-    /// Returns a block to which nothing has come.
+    /// Returns a block that has read nothing.
     pub fn new() -> Block
         ensures numbers { result.numbers ≡ [] }
         ensures sum { result.sum ≡ no_sum }
@@ -91,8 +91,8 @@ impl Block {
         }
     }
 
-    /// Takes so many words of a device in place of those that came last, or fewer where the text is shorter or the device fails.
-    /// It returns whether the device failed.
+    /// Reads `count` words from a device, in place of those that came last, or fewer if the text is shorter or the device fails.
+    /// Returns whether the device failed.
     pub fn take<R: Read>(&mut self, reader: &mut R, count: usize) -> bool
         requires { count ≤ ROOM }
         ensures came { HasCome count (R.left reader.old) self.new.numbers result

@@ -1,4 +1,4 @@
-//! The end of a packed graph: its sum, and nothing behind it.
+//! The end of a packed graph: its sum, and nothing after it.
 ghost use Rattle.std.specs.Prelude.{◌≡◌, ◌≢◌, ◌<◌, ◌≤◌, ◌^◌, ℕ, length, slice_index, OnOk, IfErr};
 ghost use Rattle.std.specs.Io.KnownBytes.{Consumes, IsAtEnd};
 ghost use Rattle.sp_device.specs.Failing.{Never};
@@ -13,7 +13,7 @@ use sp_device::Read;
 // The number of words of a sum.
 const OF_SUM: usize = 4;
 
-// Returns how many numbers of the two lists are the same, up to the first that is another.
+// Returns how many leading numbers of the two lists are equal.
 fn count_same(numbers: &[u32], others: &[u32]) -> usize
     requires { length numbers.now ≤ length others.now }
     ensures within { result ≤ length numbers.now }
@@ -30,7 +30,7 @@ fn count_same(numbers: &[u32], others: &[u32]) -> usize
     numbers.len()
 }
 
-/// Reads the sum of `n` vertices and `m` arcs, and that nothing is left behind it.
+/// Reads the sum of `n` vertices and `m` arcs, and checks that nothing is left after it.
 pub fn read_sum<R: Read>(
     reader: &mut R,
     block: &mut Block,

@@ -9,8 +9,8 @@ use crate::faults::{PackedFault, PackedField, PackedKind};
 use sp_device::Read;
 use std::alloc::Global;
 
-// Returns the place of the first number that can't stand behind the ends, where each is no less than the one before, at most `m`,
-// and the last of all is `m`.
+// Returns the position of the first number that can't follow the ends so far. Each end is no less than the one before and at
+// most `m`, and the end of the last row is `m`.
 fn wrong_end(ends: &[u32], numbers: &[u32], n: u32, m: u32) -> Option<usize>
     requires some { 1 ≤ length ends.now }
     requires first { AreFirstEnds n m ends.now }
@@ -36,7 +36,7 @@ fn wrong_end(ends: &[u32], numbers: &[u32], n: u32, m: u32) -> Option<usize>
     None
 }
 
-/// Reads where the rows of `n` vertices end, behind the 0 of row 0.
+/// Reads where the rows of `n` vertices end, after the 0 of row 0.
 pub fn read_ends<R: Read>(
     alloc: Global,
     reader: &mut R,

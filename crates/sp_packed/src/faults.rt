@@ -1,4 +1,4 @@
-//! Why a text is no packed graph.
+//! Why a text is not a packed graph.
 ghost use Rattle.std.specs.Prelude.{◌≡◌, ◌*◌, ◌<◌, ◌^◌, true, false};
 
 use thiserror::Error;
@@ -26,30 +26,30 @@ pub enum PackedField {
 /// What is wrong with a word.
 #[derive(Clone, Copy, Debug, PartialEq, Eq, Error)]
 pub enum PackedKind {
-    /// The file doesn't begin as a packed graph of this form.
+    /// The file doesn't begin like a packed graph of this form.
     #[error("10 OtherForm")]
     OtherForm,
     /// The field is out of its range, or below the one before it.
     #[error("5 OutOfRange {0}")]
     OutOfRange(PackedField),
-    /// The sum is another one.
+    /// The sum doesn't match.
     #[error("11 OtherSum")]
     OtherSum,
-    /// Bytes stand behind the sum.
+    /// Bytes follow the sum.
     #[error("6 TooMany")]
     TooMany,
     /// The file ends before this word or within it.
     #[error("7 TooFew")]
     TooFew,
-    /// There was no room for this word.
+    /// There was no memory for this word.
     #[error("8 Memory")]
     Memory,
-    /// The device failed before this word came whole.
+    /// The device failed before all of this word came.
     #[error("9 Read")]
     Read,
 }
 
-/// The first fault of a packed graph. Its `Display` is for users of this library, and no contract says what it writes.
+/// The first fault of a packed graph. `Display` is for users of this library, and no contract states its text.
 #[derive(Clone, Copy, Debug, PartialEq, Eq, Error)]
 #[error("byte {at}: {kind}")]
 pub struct PackedFault {
@@ -59,7 +59,7 @@ pub struct PackedFault {
 }
 
 impl PackedFault {
-    // Returns the fault of the word that stands behind so many words.
+    // Returns the fault of the word that `words` words precede.
     pub(crate) fn behind(words: u64, kind: PackedKind) -> Self
         requires { words < 2 ^ 60 }
         ensures at { result.at ≡ 4 * words }
@@ -71,7 +71,7 @@ impl PackedFault {
         }
     }
 
-    // Returns the fault of the word that stands behind so many words, where no more came whole.
+    // Returns the fault of the word that `words` words precede, if no more words came whole.
     pub(crate) fn cut(words: u64, failed: bool) -> Self
         requires { words < 2 ^ 60 }
         ensures at { result.at ≡ 4 * words }

@@ -14,10 +14,10 @@ pub const FIRST: u32 = 0x5450_5389;
 /// The second word: CR LF 0x1A, and the number of the form.
 pub const SECOND: u32 = 0x011A_0A0D;
 
-// The number of words before the first end of a row but the 0.
+// The number of words before the end of row 1.
 const FRONT: usize = 5;
 
-// Returns whether this may be the word with so many words before it.
+// Returns whether this may be the word that `place` words precede.
 fn is_front_word(place: usize, number: u32, top: u32, most_arcs: u32) -> bool
     ensures { IsTrue result ↔ IsFrontWord top most_arcs place number }
 {
@@ -30,7 +30,7 @@ fn is_front_word(place: usize, number: u32, top: u32, most_arcs: u32) -> bool
     }
 }
 
-// Returns how many of the numbers may stand there, up to the first that may not.
+// Returns how many of the leading numbers are allowed there.
 fn count_right(numbers: &[u32], top: u32, most_arcs: u32) -> usize
     ensures within { result ≤ length numbers.now }
     ensures right { (k : ℕ) → k < result → IsFrontWord top most_arcs k (slice_index numbers.now k) }
@@ -46,7 +46,7 @@ fn count_right(numbers: &[u32], top: u32, most_arcs: u32) -> usize
     numbers.len()
 }
 
-// Returns what is told of another word that has so many words before it.
+// Returns what to report of a wrong word that `place` words precede.
 fn front_kind(place: usize) -> PackedKind
     requires { place < 5 }
     ensures place { (n m : ℕ) → IsPlace result n m place }

@@ -30,7 +30,7 @@ pub fn no_text_begins_another()
         → packed_text h ≡ packed_text g ++ more → more ≡ [] }
 {}
 
-/// States that a text of which a fault is told is no packed text, unless the fault is that of the memory or of the device.
+/// States that a text with a reported fault is no packed text, unless the fault is Memory or Read.
 pub fn a_faulty_text_is_none()
     ensures { (top most : ℕ) (came more : List ℕ) (has_failed : Bool) (e : PackedFault)
         → Tells top most came (Some more) has_failed e → e.kind ≢ Memory → e.kind ≢ Read

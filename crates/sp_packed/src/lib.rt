@@ -1,4 +1,4 @@
-//! Packed graphs: each graph has one text of words of 32 bits, which is written and read.
+//! Packed graphs: writes and reads the one text of each graph, in words of 32 bits.
 #![tactic(auto)]
 
 mod blocks;

@@ -1,4 +1,4 @@
-//! A packed graph, read.
+//! Reads a packed graph.
 ghost use Rattle.std.specs.Prelude.{◌≡◌, ◌≢◌, ◌≤◌, ℕ, List, true, Some, IfOk, IfErr};
 ghost use Rattle.sp_device.specs.Failing.{Never};
 ghost use Rattle.sp_word.specs.Word.{is_layout, max_pred};
@@ -20,8 +20,8 @@ use sp_paths::Arc;
 use sp_word::Word;
 use std::alloc::Global;
 
-/// What a packed text spells: the number of vertices, and the arcs by tail, then by head, then by length, with the ends of
-/// their rows.
+/// What a packed text spells: the number of vertices, the arcs by tail, then by head, then by length, and the ends of their
+/// rows.
 #[derive(Drop)]
 pub struct PackedFile {
     pub n: u32,
@@ -29,7 +29,7 @@ pub struct PackedFile {
     pub rows: RowEnds,
 }
 
-// Reads a text whole.
+// Reads a whole text.
 fn read_parts<R: Read>(
     alloc: Global,
     reader: &mut R,
@@ -68,11 +68,12 @@ fn read_parts<R: Read>(
     })
 }
 
-/// Reads the rest of a device's bytes, and returns the numbers of vertices and arcs whose packed text they are, or their first
-/// fault. There are at most as many vertices as a word of `P` bits of predecessor can name, and at most `most_arcs` arcs.
+/// Reads the rest of a device's bytes. Returns the graph whose packed text they are, as a list of arcs with the ends of their
+/// rows, or their first fault. There are at most as many vertices as a word with `P` predecessor bits can name, and at most
+/// `most_arcs` arcs.
 ///
-/// Memory grows with the bytes that come, never by an announced number. If there is none for a word, the fault is Memory at
-/// that word, unless a word up to it has a fault.
+/// Memory grows with the bytes that come, never by an announced number. If there is no memory for a word, the fault is Memory
+/// at that word, unless that word or an earlier one has a fault.
 pub fn read_packed_file<const P: u32, R: Read>(
     alloc: Global,
     reader: &mut R,

@@ -23,7 +23,7 @@ pub struct RowArcs {
     pub lengths: Lengths,
 }
 
-// Returns in which row the arc at index `k` stands, that of `tail` or a later one.
+// Returns the row of the arc at index `k`, which is that of `tail` or a later one.
 fn row_of(ends: &[u32], n: u32, k: usize, tail: u32) -> u32
     requires ends { AreEnds n (slice_index ends.now n) ends.now }
     requires within { k < slice_index ends.now n }
@@ -47,7 +47,7 @@ fn is_no_greater(last: &Arc, arc: &Arc) -> bool
             && (last.head < arc.head || last.head == arc.head && last.len <= arc.len)
 }
 
-// Returns whether an arc may stand behind these.
+// Returns whether an arc may follow these.
 fn may_stand(arcs: &[Arc], n: u32, arc: &Arc) -> bool
     ensures may { result ≡ true → MayStand n arcs.now arc.now }
     ensures only { result ≡ false → MayStand n arcs.now arc.now → ⊥ }
@@ -66,7 +66,7 @@ fn may_follow(last: &Arc, tail: u32, head: u32) -> bool
     last.tail < tail || last.tail == tail && last.head <= head
 }
 
-// Returns whether an arc's head may stand behind these arcs.
+// Returns whether an arc's head may follow these arcs.
 fn may_head(arcs: &[Arc], n: u32, arc: &Arc) -> bool
     ensures may { result ≡ true → MayHead n arcs.now arc.now }
     ensures only { result ≡ false → MayHead n arcs.now arc.now → ⊥ }
@@ -86,7 +86,7 @@ fn words_before(n: u32, k: usize) -> u64
     5 + n as u64 + 2 * k as u64
 }
 
-// Returns the fault of an arc that may not stand behind these.
+// Returns the fault of an arc that may not follow these.
 fn arc_fault(arcs: &[Arc], n: u32, arc: &Arc) -> PackedFault
     requires few { length arcs.now < 2 ^ 32 }
     requires wrong { MayStand n arcs.now arc.now → ⊥ }
@@ -100,7 +100,7 @@ fn arc_fault(arcs: &[Arc], n: u32, arc: &Arc) -> PackedFault
     }
 }
 
-// Puts an arc behind the others, unless it may not stand there.
+// Appends an arc, unless it may not follow the others.
 fn push_arc(arcs: &mut Vec<Arc>, ends: &[u32], n: u32, arc: Arc) -> Result<(), PackedFault>
     requires few { length arcs.old.items < 2 ^ 32 }
     requires rows { AreRows n ends.now arcs.old.items }
@@ -119,8 +119,8 @@ fn push_arc(arcs: &mut Vec<Arc>, ends: &[u32], n: u32, arc: Arc) -> Result<(), P
     Ok(())
 }
 
-// Returns the same as `row_of`, where the row of `tail` has this end. Mostly it is that row or the next one: that takes no branch,
-// since a processor can't predict it.
+// Returns the same as `row_of`, given the end of the row of `tail`. Mostly the result is that row or the next one. This case
+// takes no branch, because a processor can't predict it.
 fn row_by_end(ends: &[u32], n: u32, k: usize, tail: u32, end: u32) -> u32
     requires ends { AreEnds n (slice_index ends.now n) ends.now }
     requires within { k < slice_index ends.now n }
@@ -132,7 +132,7 @@ fn row_by_end(ends: &[u32], n: u32, k: usize, tail: u32, end: u32) -> u32
     row_of(ends, n, k, tail + u32::from(end as usize <= k))
 }
 
-// Returns the key of an arc, by which it comes before others: its tail, and its head behind that.
+// Returns the key that orders an arc: first its tail, then its head.
 fn key_of(arc: &Arc) -> u64
     ensures key { result ≡ arc_key arc.now }
     ensures fits { arc.now.head < 2 ^ 32 }
@@ -140,7 +140,7 @@ fn key_of(arc: &Arc) -> u64
     arc.tail as u64 * 0x1_0000_0000 + arc.head as u64
 }
 
-// Returns the key of the last arc, or 0 where there is none.
+// Returns the key of the last arc, or 0 if there is none.
 fn last_key(arcs: &[Arc]) -> u64
     ensures { IsLastKey arcs.now result }
 {
@@ -151,7 +151,7 @@ fn last_key(arcs: &[Arc]) -> u64
     key_of(&arcs[k - 1])
 }
 
-// Returns whether an arc may stand behind these, the last of which has this key. Mostly the keys tell.
+// Returns whether an arc may follow these, the last of which has this key. Mostly the keys decide.
 fn may_stand_by_key(arcs: &[Arc], last: u64, n: u32, arc: &Arc) -> bool
     requires { IsLastKey arcs.now last }
     ensures { result ≡ true → MayStand n arcs.now arc.now }
@@ -159,8 +159,8 @@ fn may_stand_by_key(arcs: &[Arc], last: u64, n: u32, arc: &Arc) -> bool
     1 <= arc.head && arc.head <= n && 1 <= arc.len && last < key_of(arc) || may_stand(arcs, n, arc)
 }
 
-// Puts the arcs that the numbers spell behind the others up to the first that may not stand there, or none of them where there
-// is no room for all. It returns how many it has put there, and a row for the next one.
+// Appends the arcs that the numbers spell, up to the first that may not follow, or none of them if there is no memory for all.
+// Returns how many were appended, and a row for the next one.
 fn push_right(arcs: &mut Vec<Arc>, numbers: &[u32], ends: &[u32], n: u32, tail: u32) -> (usize, u32)
     requires few { slice_index ends.now n < 2 ^ 32 }
     requires ends { AreEnds n (slice_index ends.now n) ends.now }
@@ -198,7 +198,7 @@ fn push_right(arcs: &mut Vec<Arc>, numbers: &[u32], ends: &[u32], n: u32, tail: 
     (count, row)
 }
 
-// Puts the arcs that the numbers spell behind the others, and returns the row of the last one.
+// Appends the arcs that the numbers spell, and returns the row of the last one.
 fn push_arcs(
     arcs: &mut Vec<Arc>,
     numbers: &[u32],
@@ -234,7 +234,7 @@ fn push_arcs(
     Ok(row)
 }
 
-// Returns the fault where the numbers end before all arcs came: that of a head which stands there alone, or of the next word.
+// Returns the fault if the numbers end before all arcs came: that of a last head without its length, or of the next word.
 fn cut_fault(
     arcs: &[Arc],
     numbers: &[u32],
@@ -265,7 +265,7 @@ fn cut_fault(
     }
 }
 
-/// Reads the arcs of rows that end there.
+/// Reads the arcs of the rows with these ends.
 pub fn read_rows<R: Read>(
     alloc: Global,
     reader: &mut R,

@@ -2,7 +2,7 @@
 ghost use Rattle.std.specs.Prelude.{◌≡◌, ℕ, ◌<◌, ◌^◌, slice_index, ◌+◌, ◌*◌, length};
 ghost use Rattle.sp_packed.specs.Words.{words, sum_on, no_sum, sum_words};
 
-/// The sum of words: the sum of the numbers, and the sum of all sums on the way, both modulo 2^64.
+/// The sum of words: the sum of the numbers, and the sum of all intermediate sums, both modulo 2^64.
 #[derive(Clone, Copy)]
 pub struct Sum {
     pub first: u64,
@@ -20,7 +20,7 @@ impl Sum {
         }
     }
 
-    /// Returns the sum with these words behind.
+    /// Returns the sum after these words are added.
     pub fn on(self, numbers: &[u32]) -> Sum
         ensures { result ≡ sum_on self numbers.now }
     {
@@ -47,7 +47,7 @@ pub fn sum_numbers(sum: Sum) -> [u32; 4]
     ]
 }
 
-/// Puts the numbers that the bytes spell in place of the others, as many as there are.
+/// Replaces all the numbers with those that the bytes spell.
 pub fn decode(bytes: &[u8], numbers: &mut [u32])
     requires { length bytes.now ≡ 4 * length numbers.old }
     ensures { bytes.now ≡ words numbers.new }

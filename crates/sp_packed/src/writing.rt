@@ -1,4 +1,4 @@
-//! A packed graph, written.
+//! Writes a packed graph.
 ghost use Rattle.std.specs.Prelude.{◌≡◌, ◌<◌, ◌^◌, length};
 ghost use Rattle.sp_device.specs.Printing.{Sends, Finished, Counted};
 ghost use Rattle.sp_packed.specs.Words.{words, sum_on};
@@ -10,7 +10,7 @@ use sp_device::{Printer, Write, WriteFault, finish, print_text};
 use sp_graph::Graph;
 use sp_paths::Arc;
 
-// Sends words behind the others, and returns the sum with them.
+// Sends words after the others, and returns the sum that includes them.
 fn print_words<W: Write>(out: &mut W, printer: &mut Printer, sum: Sum, numbers: &[u32]) -> Sum
     ensures sends { Sends W.Write (words numbers.now) out.old printer.old out.new printer.new }
     ensures sum { result ≡ sum_on sum numbers.now }
@@ -21,7 +21,7 @@ fn print_words<W: Write>(out: &mut W, printer: &mut Printer, sum: Sum, numbers: 
     sum.on(numbers)
 }
 
-// Sends the ends of the rows of a graph behind the others, and returns the sum with them.
+// Sends the ends of the rows of a graph, and returns the sum that includes them.
 fn print_ends<W: Write>(out: &mut W, printer: &mut Printer, sum: Sum, graph: &Graph) -> Sum
     requires { length graph.now.arcs < 2 ^ 32 }
     ensures sends { Sends W.Write (words (ends_of graph.now)) out.old printer.old
@@ -37,7 +37,7 @@ fn print_ends<W: Write>(out: &mut W, printer: &mut Printer, sum: Sum, graph: &Gr
     all
 }
 
-// Sends the words of arcs behind the others, and returns the sum with them.
+// Sends the words of arcs, and returns the sum that includes them.
 fn print_arcs<W: Write>(out: &mut W, printer: &mut Printer, sum: Sum, arcs: &[Arc]) -> Sum
     ensures sends { Sends W.Write (words (arcs_words arcs.now)) out.old printer.old
         out.new printer.new }

@@ -67,6 +67,7 @@ pub record AreHeld (P : ℕ) (g : Graph) (pairs : List (ℕ × ℕ)) (slots : Li
   pub size : length slots ≡ length pairs
   pub held : (i : ℕ) (slot : Slot) → i < length slots → IsHeld P g (pair_at pairs i) (slice_index_or slots i slot)
 
+-- The answer at this place is known.
 abbrev pub IsClosedAt : (place : ℕ) → List Slot → Type 0
 IsClosedAt place slots = (slot : Slot) → IsClosed (slice_index_or slots place slot)
 

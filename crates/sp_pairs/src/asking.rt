@@ -6,22 +6,23 @@ ghost use Rattle.sp_jobs.specs.Ready.{IsReady};
 ghost use Rattle.sp_pairs.specs.Slots.{IsClosed, slot_of, IsPairOf, AreAllOpen, pair_at, AreHeld, AreFirstClosed, StayClosed, IsPlaceBehind, AreTargetsOf, IsFor, IsClosedAt};
 
 use sp_answer::PairAnswer;
+use sp_engine::Engine;
 use sp_graph::Graph;
-use sp_jobs::{Job, Listener, Progress, find_targets};
-use sp_serial::Rooms;
-use sp_word::Crew;
+use sp_jobs::{Job, Listener, Progress};
+use sp_serial::{Rooms, answers_near};
 use std::alloc::{AllocError, Global};
 
-// Of so few pairs each looks itself for the next one of its source: a table of all vertices would take longer.
+// For at most this many pairs, each searches for the next pair of its source, because a table of all vertices would
+// take longer.
 const FEW: usize = 64;
 
-/// What is known of a pair, in 16 bytes: fields lie in the order in which they stand here.
+/// What is known of a pair, in 16 bytes. The fields are in memory in the order in which they are declared.
 #[derive(Clone, Copy)]
 pub(crate) enum Slot {
-    /// No answer is known yet. The next pair of the same source stands at this place; where there is none, it is the number
-    /// of pairs.
+    /// The answer isn't known yet. The next pair of the same source is at this place. If there is none, it is the
+    /// number of pairs.
     Open { next: usize },
-    /// The target has this word of the tree.
+    /// The target has this word in the tree.
     Found { pred: u32, dist: u64 },
     /// The target has no word, and this is the smallest vertex that is too far.
     TooFar(u32),
@@ -29,7 +30,7 @@ pub(crate) enum Slot {
     NoWalk,
 }
 
-/// Returns the slot in which an answer is kept.
+/// Returns the slot that holds this answer.
 pub(crate) fn slot_of(answer: PairAnswer) -> Slot
     ensures { result ≡ slot_of answer }
 {
@@ -40,7 +41,7 @@ pub(crate) fn slot_of(answer: PairAnswer) -> Slot
     }
 }
 
-// Whether no answer is known yet.
+// Returns whether the answer isn't known yet.
 fn is_open(slot: &Slot) -> bool
     ensures { result ≡ false → IsClosed slot.now }
 {
@@ -50,7 +51,7 @@ fn is_open(slot: &Slot) -> bool
     }
 }
 
-// Returns the first place behind this one whose pair has the same source, or the number of pairs.
+// Returns the first place after this one whose pair has the same source, or the number of pairs.
 fn place_behind(pairs: &[(u32, u32)], place: usize) -> usize
     requires { place < length pairs.now }
 {
@@ -63,7 +64,7 @@ fn place_behind(pairs: &[(u32, u32)], place: usize) -> usize
     pairs.len()
 }
 
-// Makes an open slot for each of few pairs, without a table.
+// Makes an open slot for each of a few pairs, without a table.
 fn open_few(alloc: Global, pairs: &[(u32, u32)]) -> Result<Vec<Slot>, AllocError>
     ensures { IfOk result (λ slots. AreAllOpen pairs.now slots.items) }
 {
@@ -76,8 +77,8 @@ fn open_few(alloc: Global, pairs: &[(u32, u32)]) -> Result<Vec<Slot>, AllocError
     Ok(slots)
 }
 
-// Makes an open slot for each pair. From the last pair to the first, a table tells for each vertex where the next pair with
-// this source stands.
+// Makes an open slot for each pair. It goes from the last pair to the first, with a table that says for each vertex
+// where the next pair with this source is.
 fn open_slots(alloc: Global, n: u32, pairs: &[(u32, u32)]) -> Result<Vec<Slot>, AllocError>
     requires { All (IsPairOf n) pairs.now }
     ensures { IfOk result (λ slots. AreAllOpen pairs.now slots.items) }
@@ -99,7 +100,7 @@ fn open_slots(alloc: Global, n: u32, pairs: &[(u32, u32)]) -> Result<Vec<Slot>, 
     Ok(slots)
 }
 
-// Returns the place of the next pair of the same source, if there is one.
+// Returns the place of the next pair with the same source, if there is one.
 fn next_place(pairs: &[(u32, u32)], slots: &[Slot], place: usize) -> Option<usize>
     requires here { place < length pairs.now }
     requires size { length slots.now ≡ length pairs.now }
@@ -114,7 +115,7 @@ fn next_place(pairs: &[(u32, u32)], slots: &[Slot], place: usize) -> Option<usiz
     None
 }
 
-// Returns the target of the pair at a place, and those of the pairs of the same source behind it.
+// Returns the target of the pair at a place, and those of the later pairs with the same source.
 fn targets_from(
     alloc: Global,
     graph: &Graph,
@@ -138,7 +139,7 @@ fn targets_from(
     Ok(targets)
 }
 
-// The answers for targets of a source, in their order.
+// The answers for the targets of a source, in their order.
 #[derive(Clone, Copy)]
 struct Known<'k> {
     source: u32,
@@ -146,7 +147,7 @@ struct Known<'k> {
     answers: &'k [PairAnswer],
 }
 
-// Keeps the answer for the target number `k` as that of the pair at a place, if it is that pair's.
+// Keeps the answer for target number `k` as that of the pair at a place, if it belongs to that pair.
 fn keep_answer<const P: u32>(
     graph: &Graph,
     known: Known,
@@ -172,7 +173,7 @@ fn keep_answer<const P: u32>(
     }
 }
 
-// Keeps the answers that were found for the pair at a place, and for those of the same source behind it.
+// Keeps the answers that were found for the pair at a place and for the later pairs with the same source.
 fn keep_answers<const P: u32>(
     graph: &Graph,
     known: Known,
@@ -202,13 +203,13 @@ fn keep_answers<const P: u32>(
 }
 
 /// Finds the answers for pairs, in their order.
-pub(crate) fn find_answers<const P: u32, R: Crew, L: Listener>(
-    rt: &R,
+pub(crate) fn find_answers<const P: u32, E: Engine<P>, L: Listener>(
     alloc: Global,
-    job: &Job<P>,
+    job: &Job<E>,
     listener: &L,
     pairs: &[(u32, u32)],
 ) -> Result<Vec<Slot>, AllocError>
+    requires engine { E.can_run job.now.engine }
     requires ready { IsReady P job.now.graph.now }
     requires pairs { All (IsPairOf job.now.graph.now.n) pairs.now }
     ensures held { IfOk result (λ slots. AreHeld P job.now.graph.now pairs.now slots.items) }
@@ -226,7 +227,7 @@ pub(crate) fn find_answers<const P: u32, R: Crew, L: Listener>(
         });
         let targets = targets_from(alloc, job.graph, pairs, &slots, place)?;
         let source = pairs[place].0;
-        let answers = find_targets(rt, alloc, &rooms, job, source, &targets)?;
+        let answers = answers_near(&job.engine, &rooms, alloc, job.graph, source, &targets)?;
         let known = Known {
             source,
             targets: &targets,

@@ -1,4 +1,4 @@
-//! From bytes to bytes: a graph and a list of pairs are read, and for each pair of a source and a target a line is written.
+//! From bytes to bytes: reads a graph and a list of pairs of a source and a target, and writes a line for each pair.
 #![tactic(auto)]
 
 mod asking;

@@ -1,5 +1,5 @@
-//! Pairs of a turned graph whose ends lie near each other, found in the graph as it is: a walk to the target there is one
-//! from the target here.
+//! Pairs of a turned graph whose ends are near each other. They are found in the graph as it is: a walk to the target
+//! in the turned graph is a walk from the target in this one.
 ghost use Rattle.std.specs.Prelude.{◌≡◌, ◌≤◌, ◌↔◌, All, IfOk, IfSome, IsTrue};
 ghost use Rattle.sp_word.specs.Word.{max_dist};
 ghost use Rattle.sp_paths.specs.Paths.{IsVertex, IsArc, IsLeast};
@@ -11,10 +11,10 @@ use sp_paths::Arc;
 use sp_serial::Room;
 use std::alloc::AllocError;
 
-// About how many vertices a search for a pair may relax: so many take less than a millisecond.
+// The approximate number of vertices that a search for a pair may relax. That many take less than a millisecond.
 const MOST: usize = 1 << 13;
 
-// Returns the least length of a walk from a vertex to another, where it is found near the first.
+// Returns the least length of a walk from one vertex to another, if the other is found near the first.
 fn distance<const P: u32>(room: &mut Room<P>, from: u32, to: u32) -> Result<Option<u64>, AllocError>
     requires from { IsVertex room.old.n from }
     requires to { IsVertex room.old.n to }
@@ -31,8 +31,8 @@ fn distance<const P: u32>(room: &mut Room<P>, from: u32, to: u32) -> Result<Opti
     }
 }
 
-// Returns whether a walk of this length to a vertex, which is the least one from the arc's tail, may go by this arc first. There is
-// no answer where the vertex isn't found near the arc's head.
+// Returns whether a walk with the given length to a vertex may begin with this arc. The length is the least one from
+// the arc's tail. There is no result if the vertex isn't found near the arc's head.
 fn is_first_arc<const P: u32>(
     room: &mut Room<P>,
     arc: &Arc,
@@ -51,7 +51,7 @@ fn is_first_arc<const P: u32>(
     Ok(Some(rest <= dist && dist - rest == arc.len as u64))
 }
 
-// Returns whether there is a vertex, of a number that is no greater than this one.
+// Returns whether there is a vertex and its number is at most this one.
 fn comes_no_later(vertex: Option<u32>, other: u32) -> bool
     ensures { IsTrue result ↔ ComesNoLater vertex other }
 {
@@ -61,8 +61,8 @@ fn comes_no_later(vertex: Option<u32>, other: u32) -> bool
     }
 }
 
-// Returns the smallest vertex to which a least walk of this length to a vertex goes first, of the heads of a row. There is none
-// where the vertex isn't found near one of them.
+// Of the heads of a row, returns the smallest one to which a shortest walk to a vertex, of this length, can go first.
+// There is none if the vertex isn't found near one of them.
 fn next_of<const P: u32>(
     room: &mut Room<P>,
     row: &[Arc],
@@ -89,8 +89,8 @@ fn next_of<const P: u32>(
     Ok(next)
 }
 
-/// Returns the answer for a target of a source in the graph whose arcs are those of this one turned round, if the source is found
-/// near the target here. The room is one of this graph.
+/// Returns the answer for a target of a source in the turned form of this graph, if the source is found near the target
+/// here. The room belongs to this graph.
 pub(crate) fn near_answer<const P: u32>(
     room: &mut Room<P>,
     graph: &Graph,

@@ -1,4 +1,4 @@
-//! The answers for pairs, written a line each and counted.
+//! The answers for pairs, written as one line each and counted.
 ghost use Rattle.std.specs.Prelude.{◌≡◌, length, map, All};
 ghost use Rattle.std.specs.List.{count_by};
 ghost use Rattle.sp_device.specs.Printing.{Sends};
@@ -13,7 +13,7 @@ use sp_device::{Printer, Write, finish};
 use sp_files::send_pair;
 use sp_jobs::{BatchError, Summary};
 
-// Returns the answer that is known.
+// Returns the known answer.
 fn answer_in(slot: &Slot) -> PairAnswer
     requires { IsClosed slot.now }
     ensures { answer_of result ≡ answer_in slot.now }
@@ -62,7 +62,7 @@ fn count_far(slots: &[Slot]) -> u64
 
 /// Writes the lines of pairs whose answers are known, in their order, and counts them.
 ///
-/// It takes no memory. Where the writer fails, a beginning of the lines stands.
+/// It allocates no memory. If the writer fails, a prefix of the lines has been written.
 pub(crate) fn write_pairs<W: Write>(
     pairs: &[(u32, u32)],
     slots: &[Slot],

@@ -14,10 +14,11 @@ use crate::towards::find_slots;
 use sp_dimacs::{PairsFile, Read, Write, read_pairs};
 use sp_jobs::{BatchError, BucketWidth, Listener, Nobody, Role, Settings, Summary};
 use sp_network::{Direction, Network, Peeked};
-use sp_word::{Crew, Workers};
+use sp_run::RunCrew;
+use sp_word::Workers;
 use std::alloc::Global;
 
-// Returns the first number that isn't a vertex, of a pair the source before the target, if one isn't.
+// Returns the first number that isn't a vertex, if there is one. In a pair, the source comes before the target.
 fn first_pair_above(pairs: &[(u32, u32)], n: u32) -> Option<(u32, Role)>
     ensures first { IfSome result (λ named. IsFirstPairAbove n pairs.now named.0 named.1) }
     ensures none { IfNone result (All (IsPairUpTo n) pairs.now) }
@@ -35,7 +36,7 @@ fn first_pair_above(pairs: &[(u32, u32)], n: u32) -> Option<(u32, Role)>
 
 // Tests the pairs, finds all their answers, and then writes them.
 #[tactic(auto, using(crate::proofs::SamePairs::pairs_not_early))]
-fn answer_pairs<const P: u32, R: Crew, W: Write, L: Listener>(
+fn answer_pairs<const P: u32, R: RunCrew<P>, W: Write, L: Listener>(
     rt: &R,
     alloc: Global,
     file: Network,
@@ -43,6 +44,7 @@ fn answer_pairs<const P: u32, R: Crew, W: Write, L: Listener>(
     settings: &Settings<P, L>,
     out: &mut W,
 ) -> Result<Summary, BatchError>
+    requires crew { R.is_shared }
     requires layout { is_layout P ≡ true }
     requires network { IsNetworkUpTo P (most_of settings.now.direction) file }
     requires pairs { ArePairsWithin P list.now }
@@ -57,16 +59,18 @@ fn answer_pairs<const P: u32, R: Crew, W: Write, L: Listener>(
     write_pairs(&list.pairs, &slots, out)
 }
 
-/// Reads a graph and a list of pairs, and writes for each pair, in the order of the list, one line: the target's word of the
-/// source's shortest-path tree, or the vertex that is too far for a word of `P` bits of predecessor, or that no walk leads
-/// there.
+/// Reads a graph and a list of pairs. For each pair, in the order of the list, writes one line: the target's word of
+/// the source's shortest-path tree, or the vertex that is too far for a word of `P` bits of predecessor, or that no
+/// walk leads to the target.
 ///
-/// The graph is read first, then the pairs; then all their numbers are tested, and all answers are found, before anything
-/// is written. `width` is the width of a bucket, and `workers` the number of threads, this one counted; what is written is
-/// the same for all widths and numbers. Where the writer fails, a beginning of the text stands.
+/// The graph is read first, then the pairs; then all their numbers are tested, and all answers are found, before
+/// anything is written. `width` is the width of a bucket, and `workers` is the number of threads, including this one.
+/// The text is the same for all widths and numbers of threads. If the writer fails, a prefix of the text has been
+/// written.
 ///
-/// It makes one run from each source, wherever its pairs stand, and no further than to the farthest of their targets.
-pub fn run_pairs<const P: u32, R: Crew, G: Read, S: Read, W: Write>(
+/// It makes one run from each source, wherever its pairs are in the list. The run goes no farther than the farthest of
+/// their targets. The crew is as in `run_batch_told`.
+pub fn run_pairs<const P: u32, R: RunCrew<P>, G: Read, S: Read, W: Write>(
     rt: &R,
     alloc: Global,
     gr: &mut Peeked<G>,
@@ -75,6 +79,7 @@ pub fn run_pairs<const P: u32, R: Crew, G: Read, S: Read, W: Write>(
     width: BucketWidth<P>,
     workers: Workers,
 ) -> Result<Summary, BatchError>
+    requires crew { R.is_shared }
     requires layout { is_layout P ≡ true }
     ensures exact { (gr_text list_text : List ℕ)
         → ⟦<Peeked<G> as Read>⟧.left gr.old ≡ Some gr_text → S.left pairs.old ≡ Some list_text
@@ -94,8 +99,9 @@ pub fn run_pairs<const P: u32, R: Crew, G: Read, S: Read, W: Write>(
     run_pairs_told::<P, R, G, S, W, Nobody>(rt, alloc, gr, pairs, out, &settings)
 }
 
-/// Does what `run_pairs` does, and tells a listener how far it is: when the graph stands, and before each run from a source.
-pub fn run_pairs_told<const P: u32, R: Crew, G: Read, S: Read, W: Write, L: Listener>(
+/// Does what `run_pairs` does, and reports the progress to a listener: when the graph has been built, and before each
+/// run from a source.
+pub fn run_pairs_told<const P: u32, R: RunCrew<P>, G: Read, S: Read, W: Write, L: Listener>(
     rt: &R,
     alloc: Global,
     gr: &mut Peeked<G>,
@@ -103,6 +109,7 @@ pub fn run_pairs_told<const P: u32, R: Crew, G: Read, S: Read, W: Write, L: List
     out: &mut W,
     settings: &Settings<P, L>,
 ) -> Result<Summary, BatchError>
+    requires crew { R.is_shared }
     requires layout { is_layout P ≡ true }
     ensures exact { (gr_text list_text : List ℕ)
         → ⟦<Peeked<G> as Read>⟧.left gr.old ≡ Some gr_text → S.left pairs.old ≡ Some list_text

@@ -1,2 +1,2 @@
-//! What no contract says of pairs.
+//! Properties of pairs that no contract states.
 mod slots;

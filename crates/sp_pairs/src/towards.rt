@@ -1,5 +1,5 @@
-//! The answers for pairs by their network: where arcs are to be turned round for few pairs, those that lie near each other are found
-//! without that.
+//! The answers for pairs in a network. If arcs have to be turned round for a few pairs, pairs whose ends are near each
+//! other are answered without doing so.
 ghost use Rattle.std.specs.Prelude.{◌≡◌, ◌≤◌, true, All, IfOk, IfSome};
 ghost use Rattle.std.specs.List.{AllZip};
 ghost use Rattle.sp_word.specs.Word.{is_layout, max_pred};
@@ -13,16 +13,18 @@ use crate::asking::{Slot, find_answers, slot_of};
 use crate::near::near_answer;
 use sp_dimacs::GrFile;
 use sp_graph::Graph;
-use sp_jobs::{Job, Listener, Progress, Settings};
+use sp_jobs::{Listener, Progress, Settings};
 use sp_network::{Direction, Network};
+use sp_run::RunCrew;
 use sp_serial::Room;
 use sp_word::{Crew, Meter};
 use std::alloc::{AllocError, Global};
 
-// For more pairs the arcs are turned at once: searches for pairs of which one lies far would be lost.
+// For more pairs the arcs are turned at once. If one of the pairs were far, the searches for the others would be
+// wasted.
 const FEW: usize = 8;
 
-// Finds what is known of pairs in the graph whose arcs are those of this one turned round, if the ends of each lie near each other.
+// Finds what is known of pairs in the turned form of this graph, if the ends of each pair are near each other.
 fn near_slots<const P: u32>(
     alloc: Global,
     graph: &Graph,
@@ -45,8 +47,8 @@ fn near_slots<const P: u32>(
     Ok(Some(slots))
 }
 
-// Finds what is known of pairs in a network whose arcs are to be turned round, in the network as it is, if they are few and their ends
-// lie near each other. The network comes back with the arcs that it had, in any order.
+// Finds what is known of pairs in a network whose arcs have to be turned round, in the network as it is, if the pairs
+// are few and their ends are near each other. The network is returned with the arcs that it had, in any order.
 fn near_in<const P: u32, R: Crew, L: Listener>(
     rt: &R,
     alloc: Global,
@@ -85,14 +87,15 @@ fn near_in<const P: u32, R: Crew, L: Listener>(
     Ok((Network::of_lines(GrFile { n, arcs }), slots))
 }
 
-/// Finds the answers for pairs of a network whose arcs lead in the direction that is asked for, in the order of the pairs.
-pub(crate) fn find_slots<const P: u32, R: Crew, L: Listener>(
+/// Finds the answers for pairs of a network with its arcs in the requested direction, in the order of the pairs.
+pub(crate) fn find_slots<const P: u32, R: RunCrew<P>, L: Listener>(
     rt: &R,
     alloc: Global,
     file: Network,
     pairs: &[(u32, u32)],
     settings: &Settings<P, L>,
 ) -> Result<Vec<Slot>, AllocError>
+    requires crew { R.is_shared }
     requires layout { is_layout P ≡ true }
     requires network { IsNetworkUpTo P (most_of settings.now.direction) file }
     requires pairs { All (IsPairOf file.n) pairs.now }
@@ -106,10 +109,6 @@ pub(crate) fn find_slots<const P: u32, R: Crew, L: Listener>(
     }
     let graph = settings.build(rt, alloc, file)?;
     let uncounted = Meter::new();
-    let job = Job {
-        graph: &graph,
-        team: settings.team_for(&graph),
-        meter: settings.listener.meter().unwrap_or(&uncounted),
-    };
-    find_answers::<P, R, L>(rt, alloc, &job, settings.listener, pairs)
+    let job = settings.job(rt, &graph, &uncounted);
+    find_answers::<P, _, L>(alloc, &job, settings.listener, pairs)
 }

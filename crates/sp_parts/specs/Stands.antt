@@ -1,4 +1,4 @@
--- Where a text stands that several threads read.
+-- The state of a text that several threads read.
 use Rattle.std.specs.Prelude.{◌≡◌, ◌≤◌, ◌^◌, ℕ, false, List, ◌++◌, length, Option, Some}
 use Rattle.std.specs.Io.KnownBytes.{Consumes}
 use Rattle.sp_device.specs.declared.devices.Read.{Ghosts as Device}
@@ -14,8 +14,8 @@ use Rattle.sp_parts.specs.declared.receiving.Received.{Received}
 use Rattle.sp_parts.specs.Groups.{HasComeTo, HasAnswered}
 use Rattle.sp_parts.specs.Parts.{IsAt}
 
--- Some bytes were read alone, with the problem line. Of a device that then had this source left, where it is known, so many
--- have come since, of which the reader has taken so many.
+-- Some bytes were read alone, with the problem line. The device then had this source left, if it is known. Since then `came`
+-- bytes have come from it, of which the reader has taken `taken`.
 pub record Stands {R K V : Type 0} {keeper : Keeper K V} (r : Device R) (source problem : Option (List ℕ)) (begun device : R) (reader : Feeder (Collector K V keeper)) (came taken : ℕ) : Type 0 where
   pub alone : List ℕ
   pub text : List ℕ
@@ -33,7 +33,7 @@ pub record Stands {R K V : Type 0} {keeper : Keeper K V} (r : Device R) (source 
   pub found : problem_of keeper.format (ended (alone ++ front)) ≡ Some ps
   pub same : problem ≡ Some ps
 
--- What holds while several threads read, since they began behind some reader: what has come, and how the device has answered.
+-- What holds while several threads read, since they began after some reader: what has come, and the device's last result.
 pub record Goes {R K V : Type 0} {keeper : Keeper K V} (r : Device R) (source problem : Option (List ℕ)) (first : R) (old : Feeder (Collector K V keeper)) (begun_came begun_taken : ℕ) (device : R) (reader : Feeder (Collector K V keeper)) (came taken : ℕ) (received : Received) : Type 0 where
   pub come : HasComeTo r source device came
   pub answer : HasAnswered (r.left device) (r.has_failed device) received

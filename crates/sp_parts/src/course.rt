@@ -1,4 +1,4 @@
-//! How far a text has got that several threads read: what came of the device, and what the reader has taken.
+//! The progress of a text that several threads read: what came from the device, and what the reader has taken.
 ghost use Rattle.std.specs.Prelude.{◌≡◌, ◌+◌, ◌<◌, ◌≤◌, true, false, [], length, IfOk, OnOk};
 ghost use Rattle.std.specs.Arc.{arc_value};
 ghost use Rattle.std.specs.VecDeque.{deque_len, deque_capacity};
@@ -16,31 +16,31 @@ use sp_text::{Collector, DimacsError, Feeder, KeepParts};
 use std::collections::VecDeque;
 use std::sync::Arc;
 
-/// How far a text has got.
+/// A position in a text, in pieces and in bytes.
 #[derive(Clone, Copy)]
 pub struct Mark {
     pub(crate) pieces: u64,
     pub(crate) bytes: u64,
 }
 
-/// How far a text has got, with what one thread has alone: the reader, and the pieces that came.
+/// The progress of a text, with what belongs to one thread alone: the reader, and the pieces that came.
 #[derive(Drop)]
 pub struct Course<K: KeepParts> {
     pub(crate) reader: Feeder<Collector<K>>,
-    /// How the device has answered last.
+    /// The last result of the device.
     pub(crate) received: Received,
-    /// Whether the last piece didn't fill its buffer, as of a pipe: there may be no more for a while.
+    /// Whether the last piece didn't fill its buffer, as with a pipe: for a while no more bytes may come.
     is_short: bool,
-    /// How much came of the device.
+    /// How much came from the device.
     pub(crate) came: Mark,
     /// How much of it the reader has taken.
     pub(crate) taken: Mark,
-    /// The pieces that came and weren't taken yet.
+    /// The pieces that came and aren't taken yet.
     pub(crate) flying: VecDeque<Flight>,
 }
 
 impl<K: KeepAcross> Course<K> {
-    /// Returns the course of a text of which nothing came yet.
+    /// Returns the progress of a text from which nothing came yet.
     pub(crate) fn new(reader: Feeder<Collector<K>>, flying: VecDeque<Flight>) -> Course<K>
         ensures reader { result.reader ≡ reader }
         ensures received { result.received ≡ Received.More }
@@ -70,7 +70,7 @@ impl<K: KeepAcross> Course<K> {
         reader
     }
 
-    // Reads once from the device, and lets what came be read. A short piece waits for nobody: this thread reads it.
+    // Reads once from the device, and offers what comes to the other threads. This thread reads a short piece itself.
     fn receive<O: Origin, R: Read>(
         &mut self,
         device: &mut R,
@@ -110,8 +110,8 @@ impl<K: KeepAcross> Course<K> {
         }
     }
 
-    // Returns whether to ask the device for more. Behind a short piece all that came is taken first, so that a fault is told
-    // as soon as it has come.
+    // Returns whether to read more from the device. After a short piece all that came is taken first, so that a fault is
+    // reported as soon as its bytes have come.
     fn is_open<O: Origin>(&self, shared: &Shared<K, O>) -> bool
         ensures { result ≡ true
             → deque_len self.now.flying < deque_capacity self.now.flying }
@@ -123,7 +123,7 @@ impl<K: KeepAcross> Course<K> {
         }
     }
 
-    /// Reads once from the device, if it goes on and there is room for what comes. Returns whether it has.
+    /// Reads once from the device, if it goes on and there is room for what comes. Returns whether it has read.
     pub(crate) fn receive_more<O: Origin, R: Read>(
         &mut self,
         device: &mut R,
@@ -150,7 +150,7 @@ impl<K: KeepAcross> Course<K> {
         true
     }
 
-    // Goes on behind a piece that was taken, which ends no farther than this place.
+    // Moves past a piece that was taken and ends at this position or before it.
     fn pass(&mut self, group: &Group, end: u64)
         requires { self.old.taken.bytes + length group.now ≤ end }
         ensures bytes { self.new.taken.bytes ≡ self.old.taken.bytes + length group.now }
@@ -165,8 +165,8 @@ impl<K: KeepAcross> Course<K> {
         };
     }
 
-    /// Takes the piece that comes next: by what was read of it, if this is of that piece, else by itself. Returns whether one
-    /// came.
+    /// Takes the next piece: by what was read from it, if that belongs to this piece, and otherwise by itself. Returns whether
+    /// there was a next piece.
     pub(crate) fn take_front<O: Origin>(
         &mut self,
         stock: &mut Stock<O>,
@@ -195,7 +195,7 @@ impl<K: KeepAcross> Course<K> {
         Ok(true)
     }
 
-    // Returns whether the piece that comes next is read by others.
+    // Returns whether other threads may read the next piece.
     fn is_shared(&self) -> bool {
         match self.flying.front() {
             Some(front) => front.is_shared,
@@ -203,7 +203,7 @@ impl<K: KeepAcross> Course<K> {
         }
     }
 
-    /// Takes the piece that comes next, if it was read, or if no other reads it. Returns whether it has.
+    /// Takes the next piece, if it was read or if no other thread may read it. Returns whether it has taken one.
     pub(crate) fn take_next<O: Origin>(
         &mut self,
         stock: &mut Stock<O>,

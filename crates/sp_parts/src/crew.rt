@@ -1,26 +1,26 @@
-//! Who reads a text, and how it is cut.
+//! How many threads read a text, and how it is cut.
 ghost use Rattle.std.specs.Prelude.{◌<◌};
 
 use sp_word::Workers;
 use std::thread;
 use std::thread::Threads;
 
-/// How a text is cut. No answer depends on it.
+/// How a text is cut. No result depends on it.
 #[derive(Clone, Copy, Debug)]
 pub struct Sizes {
     /// The number of bytes that one thread reads before others join.
     pub alone: usize,
-    /// The greatest number of bytes that come of the device at a time.
+    /// The greatest number of bytes that come from the device at a time.
     pub piece: usize,
 }
 
-/// The sizes that read sooner than others.
+/// The default sizes, which are faster than others.
 pub const SIZES: Sizes = Sizes {
     alone: 262_144,
     piece: 131_072,
 };
 
-/// The number of pieces for each thread that there may be at a time.
+/// The greatest number of pieces for each thread at a time.
 const EACH: usize = 4;
 
 /// How many threads read a text, and how it is cut.
@@ -31,7 +31,7 @@ pub struct Plan {
 }
 
 impl Plan {
-    /// Returns how many pieces there may be at a time.
+    /// Returns the greatest number of pieces at a time.
     pub(crate) fn pieces(&self) -> usize
         ensures { 0 < result }
     {
@@ -44,7 +44,7 @@ impl Plan {
     }
 }
 
-/// Returns how many threads read: as many as there are workers, but no more than processors.
+/// Returns the number of threads that read: one for each worker, but no more than there are processors.
 pub(crate) fn count_threads<H: Threads>(rt: &H, workers: Workers) -> usize {
     match thread::available_parallelism(rt) {
         Ok(count) => workers.at_most(count.get()).get() as usize,

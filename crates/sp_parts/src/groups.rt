@@ -1,4 +1,4 @@
-//! A text that one thread reads at first, and several as soon as it is long.
+//! A text that one thread reads at first, and several once it is long.
 ghost use Rattle.std.specs.Prelude.{◌≡◌, ℕ, List, [], Some, true, false, IfOk, IfErr};
 ghost use Rattle.sp_device.specs.Failing.{Never};
 ghost use Rattle.sp_text.specs.declared.faults.Kind.{Kind};
@@ -17,7 +17,7 @@ use sp_word::{Crew, Workers};
 use std::alloc::Global;
 use std::marker::Brand;
 
-// Reads a text alone, until so much came that others join.
+// Reads a text alone, until enough came for others to join.
 fn read_alone<K: KeepAcross + Send + Sync, H: Crew, R: Read>(
     rt: &H,
     alloc: Global,
@@ -51,10 +51,10 @@ fn read_alone<K: KeepAcross + Send + Sync, H: Crew, R: Read>(
     }
 }
 
-/// Reads the rest of a device's bytes as `read_items` does, by so many workers, this thread among them.
+/// Reads the rest of a device's bytes as `read_items` does, with this many workers, including this thread.
 ///
-/// No more threads read than there are processors. This thread alone reads the device. If there is no memory for what other
-/// threads would read, it reads that itself.
+/// There are no more threads than processors. Only this thread reads the device. If there is no memory for what other threads
+/// would read, this thread reads that itself.
 pub fn read_items_by<K: KeepAcross + Send + Sync, H: Crew, R: Read>(
     rt: &H,
     alloc: Global,

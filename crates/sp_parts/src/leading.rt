@@ -1,4 +1,4 @@
-//! What the thread does that reads the device, while others read pieces of what came.
+//! The work of the thread that reads the device, while other threads read pieces of what came.
 ghost use Rattle.std.specs.Prelude.{◌≡◌, ◌≤◌, ℕ, List, [], Some, true, false, Err, IfErr, IfNone, IfOk, IfSome, OnErr, OnOk};
 ghost use Rattle.sp_device.specs.Failing.{Never};
 ghost use Rattle.sp_text.specs.Text.{judge};
@@ -23,8 +23,8 @@ use std::alloc::{AllocError, Global};
 use std::collections::VecDeque;
 use std::thread::{join_mut, map_indices};
 
-// Reads the device to its end, and takes all pieces in order, also such as it reads itself. None says that it gave up in
-// between.
+// Reads the device to its end and takes all pieces in order, including those that it reads itself. None means that it gave up
+// before the end.
 fn read_through<K: KeepAcross, O: Origin, H: Crew, R: Read>(
     rt: &H,
     device: &mut R,
@@ -75,7 +75,7 @@ fn read_through<K: KeepAcross, O: Origin, H: Crew, R: Read>(
     None
 }
 
-// Reads the device to its end so, and then tells the others that all is read.
+// Reads the device to its end in this way, and then signals to the other threads that all is read.
 fn lead<K: KeepAcross, O: Origin, H: Crew, R: Read>(
     rt: &H,
     device: &mut R,
@@ -107,7 +107,7 @@ fn lead<K: KeepAcross, O: Origin, H: Crew, R: Read>(
     result
 }
 
-// Reads pieces by so many threads, this one among them, until all is read.
+// Reads pieces with this many threads, including this one, until all is read.
 fn serve_by<K: KeepAcross + Send + Sync, O: Origin + Send + Sync, H: Crew>(
     rt: &H,
     shared: &Shared<K, O>,
@@ -117,7 +117,7 @@ fn serve_by<K: KeepAcross + Send + Sync, O: Origin + Send + Sync, H: Crew>(
     let _ = map_indices(rt, shared.alloc, threads, &serve);
 }
 
-// Reads the device to its end, while other threads read pieces. None says that it gave up in between.
+// Reads the device to its end, while other threads read pieces. None means that it gave up before the end.
 fn read_beside<K: KeepAcross + Send + Sync, O: Origin + Send + Sync, H: Crew, R: Read>(
     rt: &H,
     device: &mut R,
@@ -170,7 +170,7 @@ fn read_beside<K: KeepAcross + Send + Sync, O: Origin + Send + Sync, H: Crew, R:
     join_mut(rt, &mut serve, &mut read).1
 }
 
-// Takes all that came of a device, by this thread alone.
+// Takes the rest of a device's text, by this thread alone.
 fn take_rest<K: KeepAcross, O: Origin, R: Read>(
     device: &R,
     course: &mut Course<K>,
@@ -201,7 +201,7 @@ fn take_rest<K: KeepAcross, O: Origin, R: Read>(
     }
 }
 
-// Makes what the threads share, and what this one has alone: the pieces that came, none so far, and what it needs for them.
+// Makes what the threads share, and what this thread has alone: the pieces that came, none so far, and what it needs for them.
 fn begin<K: KeepAcross, O: Origin>(
     alloc: Global,
     reader: &Feeder<Collector<K>>,
@@ -219,8 +219,9 @@ fn begin<K: KeepAcross, O: Origin>(
     ))
 }
 
-/// Reads the rest of a text by several threads, behind what a reader has read, a problem line among it. Where that can't be
-/// done, the reader comes back, behind all that came of the device: where there is no memory for what they share, nothing came.
+/// Reads the rest of a text with several threads, after what a reader has read, including a problem line. If that can't be done,
+/// it returns the reader, which has taken all that came from the device. If there is no memory for what the threads share,
+/// nothing came.
 pub(crate) fn read_together<K: KeepAcross + Send + Sync, O: Origin + Send + Sync, H: Crew, R: Read>(
     rt: &H,
     alloc: Global,

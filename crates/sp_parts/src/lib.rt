@@ -1,4 +1,4 @@
-//! Texts that several workers read: each reads pieces of what came of the device, and one puts them together.
+//! Texts that several threads read: each reads pieces of what came from the device, and one thread puts them together.
 #![tactic(auto)]
 
 mod course;

@@ -1,4 +1,4 @@
-//! Parts of a text: whole plain lines, read apart from what stands before them. Each part tells which bytes were read.
+//! Parts of a text: whole plain lines, read apart from the lines before them. Each part records which bytes were read.
 ghost use Rattle.std.specs.Prelude.{◌<◌, ◌≤◌, length, All, IfOk};
 ghost use Rattle.sp_parts.specs.Parts.{IsPart};
 
@@ -6,10 +6,10 @@ use memchr::memchr;
 use sp_text::{Collector, Feeder, KeepParts};
 use std::alloc::{AllocError, Global};
 
-/// The greatest number of parts that are read of a text.
+/// The greatest number of parts that are read from a text.
 const MOST: u32 = 8;
 
-/// What was read of some whole lines of a text.
+/// What was read from some whole lines of a text.
 #[derive(Drop)]
 pub struct Part<K> {
     /// The items.
@@ -18,11 +18,11 @@ pub struct Part<K> {
     pub(crate) lines: u64,
     /// Where the first line begins.
     pub(crate) from: usize,
-    /// Where the last line has ended.
+    /// Where the last line ends.
     pub(crate) to: usize,
 }
 
-// Returns the position after the first LF at or after the byte before this position; the end, where there is none.
+// Returns the position after the first LF at or after the byte before this position, or the end if there is no such LF.
 fn line_start(text: &[u8], place: usize) -> usize
     requires { 0 < place }
     ensures { result ≤ length text.now }
@@ -37,8 +37,8 @@ fn line_start(text: &[u8], place: usize) -> usize
     }
 }
 
-// Reads the plain lines of a text from a position on, up to the first line that begins at `until` or after it, or to one
-// that isn't plain.
+// Reads the plain lines of a text from a position on, up to the first line that isn't plain or that begins at or after
+// `until`.
 fn read_part<K: KeepParts>(
     reader: &Feeder<Collector<K>>,
     text: &[u8],
@@ -66,8 +66,8 @@ fn read_part<K: KeepParts>(
     })
 }
 
-// Reads the part that begins at the first line behind this position. The line of the first byte may have begun before the
-// text, and belongs to no part.
+// Reads the part that begins at the first line after this position. The line with the first byte may have begun before the text,
+// and belongs to no part.
 fn part_behind<K: KeepParts>(
     reader: &Feeder<Collector<K>>,
     text: &[u8],

@@ -1,4 +1,4 @@
-//! Pieces of a text, which threads hand to one another. What is known of a piece that comes back is what its type says.
+//! Pieces of a text, which threads pass to one another. The type of a piece that comes back says what is known of it.
 ghost use Rattle.std.specs.Prelude.{◌≡◌, ℕ, List, Option, Some, None};
 ghost use Rattle.std.specs.Arc.{arc_value};
 ghost use Rattle.sp_text.specs.Text.{Item};
@@ -12,15 +12,15 @@ use std::alloc::Global;
 use std::marker::{Brand, PhantomData};
 use std::sync::Arc;
 
-/// Keeps items that another thread has read, too. There is one proof at most that it keeps them, so that what was read of a
-/// piece can bring it along.
+/// Also keeps items that another thread has read. There is at most one proof that it keeps them, so that the result for a piece
+/// can bring it along.
 pub trait KeepAcross: KeepParts {
     ghost one_proof: { (keep : Self) (items : List Item) → IsProp (Self.Kept keep items) };
 }
 
-/// Where the pieces of one call come from. The call chooses it, only for its proof.
+/// Where the pieces of one call come from. The call chooses it, for its proof only.
 pub trait Origin {
-    // The text that the device had left when the first piece came, where it is known.
+    // The text that the device had left when the first piece came, if it is known.
     ghost text: { Option (List ℕ) };
 
     // The numbers of the problem line that was read before, if one was.
@@ -33,7 +33,7 @@ impl Origin for Brand {
     ghost problem = { None };
 }
 
-/// Some bytes that came of the device at once, which several may hold.
+/// Some bytes that came from the device at once, and that several threads may hold.
 #[derive(Drop)]
 pub struct Piece<O: Origin> {
     /// The number of pieces that came before it.
@@ -45,7 +45,7 @@ pub struct Piece<O: Origin> {
     ghost came: { IsAt O.text start (arc_value group) },
 }
 
-/// What was read of a piece.
+/// What was read from a piece.
 #[derive(Drop)]
 pub struct ReadPiece<K: KeepParts, O: Origin> {
     pub(crate) piece: Piece<O>,
@@ -68,7 +68,7 @@ impl<O: Origin> Piece<O> {
     }
 }
 
-/// Reads the plain lines of a piece, as far as there is memory.
+/// Reads the plain lines of a piece, as long as there is memory.
 pub(crate) fn read_piece<K: KeepParts, O: Origin>(
     alloc: Global,
     reader: &Feeder<Collector<K>>,

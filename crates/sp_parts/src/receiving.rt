@@ -1,4 +1,4 @@
-//! What comes of a device at a time.
+//! Groups of bytes that come from a device at a time.
 ghost use Rattle.std.specs.Prelude.{◌≡◌, ◌+◌, ◌<◌, ◌≤◌, ◌^◌, [], ℕ, List, length, take, false, vec_len, IfOk, IfSome, IfNone};
 ghost use Rattle.std.specs.Arc.{arc_value};
 ghost use Rattle.std.specs.Io.KnownBytes.{Consumes};
@@ -10,7 +10,7 @@ use std::alloc::{AllocError, Global};
 use std::marker::Model;
 use std::sync::Arc;
 
-/// How a device has answered.
+/// The result of a read from a device.
 #[derive(Clone, Copy)]
 pub enum Received {
     /// Some bytes came.
@@ -21,8 +21,8 @@ pub enum Received {
     Failed,
 }
 
-/// Reads once into the buffer, and returns how many bytes came. A file fills the buffer; of a pipe comes what there is, so that the
-/// program at its other end needn't wait while that is read.
+/// Reads once into the buffer, and returns how many bytes came. A file fills the buffer. A pipe gives the bytes that it has, so
+/// that the program at its other end needn't wait while they are read.
 fn receive<R: Read>(reader: &mut R, buffer: &mut [u8]) -> (usize, Received)
     requires { 0 < length buffer.old }
     ensures within { result.0 ≤ length buffer.new }
@@ -48,7 +48,7 @@ fn buffer_of(alloc: Global, size: usize) -> Result<Vec<u8>, AllocError>
     vec![in alloc; 0; size]
 }
 
-/// What came of a device at a time, in its buffer.
+/// The bytes that came from a device at a time, in their buffer.
 #[derive(Drop)]
 pub struct Group {
     buffer: Vec<u8>,
@@ -84,12 +84,12 @@ impl Group {
         &self.buffer[..self.count]
     }
 
-    /// Returns whether they fill the buffer.
+    /// Returns whether the bytes fill the buffer.
     pub(crate) fn is_full(&self) -> bool {
         self.count == self.buffer.len()
     }
 
-    /// Reads once from the device, in place of what came before.
+    /// Reads once from the device, and replaces what came before.
     pub(crate) fn receive<R: Read>(&mut self, device: &mut R) -> Received
         ensures { Brings R.Read device.old device.new self.new result }
     {
@@ -99,7 +99,7 @@ impl Group {
     }
 }
 
-/// Reads once from the device into a buffer, if nobody else holds it.
+/// Reads once from the device into a buffer, if no other thread holds it.
 pub(crate) fn fill<R: Read>(device: &mut R, group: &mut Arc<Group>) -> Option<Received>
     ensures some { IfSome result
         (λ received. Brings R.Read device.old device.new (arc_value group.new) received) }

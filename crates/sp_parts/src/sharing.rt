@@ -1,4 +1,4 @@
-//! What the threads that read a text share: the pieces that are still to be read, and those that were.
+//! What the threads that read a text share: the pieces still to be read, and those already read.
 ghost use Rattle.std.specs.Prelude.{◌≡◌, ◌<◌, ℕ, List, Some, vec_len, IfOk};
 ghost use Rattle.sp_text.specs.Plain.{HasProblem};
 
@@ -12,13 +12,13 @@ use std::alloc::{AllocError, Global};
 use std::hint::spin_loop;
 use std::sync::{Mutex, MutexGuard};
 
-/// How often one who reads looks for a piece. No run looks so often: who has, reads no more.
+/// The most often that a thread looks for a piece. It never happens in practice; a thread that reaches it stops reading.
 pub(crate) const ROUNDS: u64 = 1 << 60;
 
-/// How often a place that another one holds, which is for a moment, is tried. No run tries so often.
+/// The most often that a thread tries to lock a place, which others hold only briefly. It never happens in practice.
 const TRIES: u64 = 1 << 60;
 
-/// How often pieces that are neither got nor gone are asked for again at once.
+/// The most often that a thread asks the deque for a piece at once, while the deque asks it to retry.
 const ASKS: u32 = 100;
 
 /// What the threads that read a text share.
@@ -27,17 +27,17 @@ pub struct Shared<K: KeepParts, O: Origin> {
     pub(crate) alloc: Global,
     pub(crate) plan: Plan,
     pub(crate) signals: Signals,
-    // reads plain lines behind the problem line
+    // reads plain lines after the problem line
     plain: Feeder<Collector<K>>,
-    // the pieces that are still to be read
+    // the pieces still to be read
     todo: Stealer<Piece<O>>,
-    // the places of those that were, a piece's by its number
+    // a place for each piece that was read, by its number
     places: Vec<Mutex<Option<ReadPiece<K, O>>>>,
     ghost same: { (ps : List ℕ) → O.problem ≡ Some ps → HasProblem plain ps },
     ghost some: { 0 < vec_len places },
 }
 
-// Returns so many empty places.
+// Returns this many empty places.
 fn empty_places<K: KeepParts, O: Origin>(
     alloc: Global,
     count: usize,
@@ -52,7 +52,7 @@ fn empty_places<K: KeepParts, O: Origin>(
     Ok(places)
 }
 
-// Holds a place, once whoever else holds it lets go of it. None says that it was tried as often as no run tries.
+// Locks a place, once any other thread has released it. None means that all tries failed, which never happens in practice.
 fn hold<T>(place: &Mutex<T>) -> Option<MutexGuard<'_, T>> {
     for _ in 0..TRIES {
         if let Some(held) = place.try_lock() {
@@ -64,7 +64,7 @@ fn hold<T>(place: &Mutex<T>) -> Option<MutexGuard<'_, T>> {
 }
 
 impl<K: KeepParts, O: Origin> Shared<K, O> {
-    /// Makes what those share who read what comes behind the problem line that a reader has read.
+    /// Makes what the threads share that read what comes after the problem line of this reader.
     pub(crate) fn new(
         alloc: Global,
         reader: &Feeder<Collector<K>>,
@@ -83,12 +83,12 @@ impl<K: KeepParts, O: Origin> Shared<K, O> {
         })
     }
 
-    /// Returns how many pieces there may be at a time.
+    /// Returns the greatest number of pieces at a time.
     pub(crate) fn room(&self) -> usize {
         self.places.len()
     }
 
-    // Returns the index of the place of a piece, given its number.
+    // Returns the index of the place for a piece, given its number.
     fn place(&self, number: u64) -> usize
         ensures { result < vec_len self.now.places }
     {
@@ -111,7 +111,7 @@ impl<K: KeepParts, O: Origin> Shared<K, O> {
         held.take()
     }
 
-    // Takes a piece that is still to be read, if one is got.
+    // Takes a piece that is still to be read, if it gets one.
     fn find(&self) -> Option<Piece<O>> {
         for _ in 0..ASKS {
             match self.todo.steal() {
@@ -123,7 +123,7 @@ impl<K: KeepParts, O: Origin> Shared<K, O> {
         None
     }
 
-    /// Reads a piece, if one is still to be read. Returns whether there was one.
+    /// Reads a piece, if it gets one that is still to be read. Returns whether it did.
     pub(crate) fn read_one(&self) -> bool {
         let Some(piece) = self.find() else {
             return false;
@@ -132,7 +132,7 @@ impl<K: KeepParts, O: Origin> Shared<K, O> {
         true
     }
 
-    /// Reads pieces until the text is over.
+    /// Reads pieces until the whole text is read.
     pub(crate) fn serve<H: Crew>(&self, rt: &H) {
         let mut turn: u32 = 0;
         for _ in 0..ROUNDS {

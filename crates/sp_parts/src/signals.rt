@@ -1,31 +1,31 @@
-//! What those who read a text tell one another. All of it is advice: nothing is proved of it, and nothing rests on it.
+//! Signals between the threads that read a text. They are hints only: nothing is proved about them, and no proof uses them.
 
 use sp_word::Crew;
 use std::hint::spin_loop;
 use std::sync::atomic::{AtomicBool, AtomicU64, Ordering};
 use std::thread::yield_now;
 
-/// How often one who has nothing to do looks for something before it yields, and how often before it sleeps.
+/// An idle thread yields once it has looked in vain `LOOKS` times, and sleeps after `YIELDS` times.
 const LOOKS: u32 = 1000;
 
 const YIELDS: u32 = 2000;
 
-/// How many microseconds it sleeps at most.
+/// The longest sleep, in microseconds.
 const NAP: u64 = 500;
 
-/// What those who read a text tell one another.
+/// The signals between the threads that read a text.
 #[derive(Drop)]
 pub struct Signals {
     // Whether all is read.
     over: AtomicBool,
-    // How many sleep.
+    // The number of threads that sleep.
     asleep: AtomicU64,
-    // Changes when those who sleep are to look again.
+    // Changes when sleeping threads should look again.
     bell: AtomicU64,
 }
 
 impl Signals {
-    /// Makes the signals of those who begin to read.
+    /// Makes the signals for threads that start to read.
     pub(crate) fn new() -> Signals {
         Signals {
             over: AtomicBool::new(false),
@@ -34,31 +34,31 @@ impl Signals {
         }
     }
 
-    /// Whether all is read.
+    /// Returns whether all is read.
     pub(crate) fn is_over(&self) -> bool {
         self.over.load(Ordering::SeqCst)
     }
 
-    /// Tells that all is read.
+    /// Signals that all is read.
     pub(crate) fn end(&self) {
         self.over.store(true, Ordering::SeqCst);
         self.wake();
     }
 
-    /// Tells that there is something to do.
+    /// Signals that there is something to do.
     pub(crate) fn ring(&self) {
         if self.asleep.load(Ordering::SeqCst) > 0 {
             self.wake();
         }
     }
 
-    // Wakes those who sleep.
+    // Wakes the threads that sleep.
     fn wake(&self) {
         self.bell.fetch_add(1, Ordering::SeqCst);
         self.bell.wake_all();
     }
 
-    // Sleeps for some microseconds at most, unless all is read.
+    // Sleeps until the bell changes, or for at most `NAP` microseconds, unless all is read.
     fn nap<H: Crew>(&self, rt: &H) {
         self.asleep.fetch_add(1, Ordering::SeqCst);
         let seen = self.bell.load(Ordering::SeqCst);
@@ -69,7 +69,7 @@ impl Signals {
         self.asleep.fetch_sub(1, Ordering::SeqCst);
     }
 
-    /// Waits for some time, the longer the more often one has looked in vain.
+    /// Waits for some time, the longer the more often the thread has looked in vain.
     pub(crate) fn rest<H: Crew>(&self, rt: &H, turn: u32) {
         if turn < LOOKS {
             spin_loop();

@@ -1,4 +1,4 @@
-//! What the thread that reads a device has for its pieces: buffers that are free, and a deque that others take pieces from.
+//! The buffers and pieces of the thread that reads a device: free buffers, and a deque from which other threads take pieces.
 ghost use Rattle.std.specs.Arc.{arc_value};
 ghost use Rattle.sp_parts.specs.Parts.{IsAt};
 
@@ -9,19 +9,19 @@ use crossbeam_deque::{Stealer, Worker};
 use std::alloc::{AllocError, Global};
 use std::sync::Arc;
 
-/// A piece that came and wasn't taken yet.
+/// A piece that came and isn't taken yet.
 #[derive(Drop)]
 pub struct Flight {
     pub(crate) group: Arc<Group>,
-    /// Whether others may read it.
+    /// Whether other threads may read it.
     pub(crate) is_shared: bool,
 }
 
-/// Buffers that are free, and pieces that others may take.
+/// Free buffers, and pieces that other threads may take.
 #[derive(Drop)]
 pub struct Stock<O: Origin> {
     alloc: Global,
-    // how many bytes a buffer has room for
+    // the size of a buffer in bytes
     size: usize,
     spare: Vec<Arc<Group>>,
     own: Worker<Piece<O>>,
@@ -43,7 +43,7 @@ impl<O: Origin> Stock<O> {
         Ok(stock)
     }
 
-    /// Returns where others take pieces from.
+    /// Returns a handle from which other threads take pieces.
     pub(crate) fn stealer(&self) -> Result<Stealer<Piece<O>>, AllocError> {
         self.own.stealer()
     }
@@ -57,12 +57,12 @@ impl<O: Origin> Stock<O> {
         Arc::new(self.alloc, group).ok()
     }
 
-    /// Keeps a buffer that is free.
+    /// Keeps a free buffer.
     pub(crate) fn free(&mut self, group: Arc<Group>) {
         let _ = self.spare.push(group);
     }
 
-    /// Lets others take a piece. Returns whether they may.
+    /// Offers a piece to other threads. Returns whether they may take it.
     pub(crate) fn share(&mut self, number: u64, start: u64, group: &Arc<Group>) -> bool
         requires { IsAt O.text start (arc_value group.now) }
     {

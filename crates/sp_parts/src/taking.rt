@@ -1,4 +1,4 @@
-//! A reader takes the parts of a text that were read apart, and what stands between them.
+//! Takes the parts of a text that were read separately, and the text between them.
 ghost use Rattle.std.specs.Prelude.{◌≡◌, ◌≤◌, ◌^◌, ℕ, List, [], ◌++◌, Some, All, true, length, take, IfOk, IfErr};
 ghost use Rattle.std.specs.Arc.{arc_value};
 ghost use Rattle.sp_text.specs.Lines.{ended};
@@ -11,8 +11,8 @@ use crate::pieces::{KeepAcross, Origin, ReadPiece};
 use crate::receiving::Group;
 use sp_text::{Collector, DimacsError, Feeder, KeepParts, LineTaker};
 
-// Takes the text up to the end of a part, given how many bytes of it were taken before, and returns how many were taken
-// then.
+// Takes the text up to the end of a part, given how many bytes of it are already taken. Returns how many bytes are taken
+// afterwards.
 fn take_part<K: KeepParts>(
     reader: &mut Feeder<Collector<K>>,
     text: &[u8],
@@ -47,7 +47,7 @@ fn take_part<K: KeepParts>(
     }
 }
 
-// Takes a text of which these parts were read.
+// Takes a text from which these parts were read.
 fn take_parts<K: KeepParts>(
     reader: &mut Feeder<Collector<K>>,
     text: &[u8],
@@ -62,7 +62,7 @@ fn take_parts<K: KeepParts>(
     reader.feed_items(&text[done..])
 }
 
-// Takes a piece that was read.
+// Takes a piece, given what was read from it.
 fn take_read<K: KeepAcross, O: Origin>(
     reader: &mut Feeder<Collector<K>>,
     read: &ReadPiece<K, O>,
@@ -73,7 +73,7 @@ fn take_read<K: KeepAcross, O: Origin>(
     take_parts(reader, read.piece.group.bytes(), &read.parts)
 }
 
-// Returns whether this was read of a piece that stands at this place and has as many bytes.
+// Returns whether this was read from a piece at this position with the same number of bytes.
 fn is_of<K: KeepAcross, O: Origin>(read: &ReadPiece<K, O>, start: u64, group: &Group) -> bool
     ensures place { result ≡ true → read.now.piece.start ≡ start }
     ensures same { result ≡ true → length (arc_value read.now.piece.group) ≡ length group.now }
@@ -82,7 +82,7 @@ fn is_of<K: KeepAcross, O: Origin>(read: &ReadPiece<K, O>, start: u64, group: &G
     read.piece.start == start && count == group.bytes().len()
 }
 
-/// Takes a piece that stands at this place of the text: by what was read of it, if this is that piece, else by itself.
+/// Takes a piece at this position of the text: by what was read from it, if that belongs to it, and otherwise by itself.
 pub(crate) fn take_piece<K: KeepAcross, O: Origin>(
     reader: &mut Feeder<Collector<K>>,
     group: &Group,

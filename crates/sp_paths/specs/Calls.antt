@@ -10,6 +10,7 @@ pub record IsOpening (n s : ℕ) (words : Table) : Type 0 where
   pub source : words s ≡ Pair 0 0
   pub others : (v : ℕ) → IsVertex n v → v ≢ s → words v ≡ Unreached
 
+-- This is the table at the beginning of a run from s.
 abbrev pub opening : (s : ℕ) → Table
 opening s v = if v == s then Pair 0 0 else Unreached
 
@@ -62,5 +63,6 @@ ClosedEndsInTree = (g : Graph) (s max : ℕ) (first final : Table) (events : Lis
 abbrev pub OneCallMore : Type 0
 OneCallMore = (g : Graph) (max : ℕ) (events : List Event) (e : Event) → IsByArcs g max events → IsByArc g max events e.vertex e.call → IsByArcs g max (events ++ e ∷ [])
 
+-- In it the source has (0, 0), and every other vertex is unreached.
 abbrev pub OpeningOpens : Type 0
 OpeningOpens = (n s : ℕ) → IsOpening n s (opening s)

@@ -14,6 +14,7 @@ pub record Graph : Type 0 where
   pub n : ℕ
   pub arcs : List Arc
 
+-- The vertices are the numbers from 1 to n.
 abbrev pub IsVertex : ℕ → ℕ → Type 0
 IsVertex n v = (1 ≤ v) × (v ≤ n)
 
@@ -21,9 +22,11 @@ IsVertex n v = (1 ≤ v) × (v ≤ n)
 abbrev pub IsArc : ℕ → Arc → Type 0
 IsArc n a = IsVertex n a.tail × IsVertex n a.head × (1 ≤ a.len)
 
+-- Every arc connects vertices of the graph and has a positive length.
 abbrev pub IsGraph : Graph → Type 0
 IsGraph g = All (IsArc g.n) g.arcs
 
+-- The graph has an arc from u to v of length l.
 abbrev pub HasArc : Graph → (u v l : ℕ) → Type 0
 HasArc g u v l = Contains g.arcs (record { tail = u; head = v; len = l })
 
@@ -34,10 +37,12 @@ abbrev pub LeadsTo : List Arc → (s v : ℕ) → Type 0
 LeadsTo [] s v = s ≡ v
 LeadsTo (a ∷ rest) s v = (a.tail ≡ s) × LeadsTo rest a.head v
 
+-- A walk from s to v is a list of arcs of the graph that leads from s to v.
 pub record IsWalk (g : Graph) (s v : ℕ) (walk : List Arc) : Type 0 where
   pub of_arcs : All (λ a. Contains g.arcs a) walk
   pub leads : LeadsTo walk s v
 
+-- The length of a walk is the sum of the lengths of its arcs.
 abbrev pub walk_length : List Arc → ℕ
 walk_length walk = sum_by (λ a. a.len) walk
 
@@ -104,6 +109,8 @@ IsFar g s max (Some v) = IsBeyond g s max v × ((w : ℕ) → IsBeyond g s max w
 
 -- ## One target
 
+-- The answer for a target: its distance and its predecessor, or a vertex that is too far, or that there is no walk to
+-- it.
 pub data PairAnswer : Type 0 where
   Found : (dist pred : ℕ) → PairAnswer
   TooFar : (vertex : ℕ) → PairAnswer
@@ -127,7 +134,7 @@ abbrev pub IsLawful : Graph → (s v : ℕ) → Word → Type 0
 IsLawful g s v Unreached = Unit {0}
 IsLawful g s v (Pair d p) = IsSourcePair s v d p ⊎ HasWalkBy g s v d p
 
--- What the arc offers its head where its tail has the word `from`: the sum and the tail, where the sum is within max.
+-- What the arc offers its head if its tail has the word `from`: the sum and the tail, if the sum is at most max.
 abbrev pub IsOffered : {P : ℕ} → (max : ℕ) → (from : Word) → Arc → Offer P → Type 0
 IsOffered max from a NoTail = from ≡ Unreached
 IsOffered max from a Beyond = (d p : ℕ) × (from ≡ Pair d p) × (max < d + a.len)
@@ -143,6 +150,7 @@ IsAtMost (Pair e q) d p = (e < d) ⊎ ((e ≡ d) × (q ≤ p))
 abbrev pub IsRelaxed : (limit : ℕ) → Table → (u v l : ℕ) → Type 0
 IsRelaxed limit words u v l = (d p : ℕ) → words u ≡ Pair d p → d + l ≤ limit → IsAtMost (words v) (d + l) u
 
+-- Every arc of the graph is relaxed.
 abbrev pub IsClosed : Graph → (limit : ℕ) → Table → Type 0
 IsClosed g limit words = (u v l : ℕ) → HasArc g u v l → IsRelaxed limit words u v l
 

@@ -37,6 +37,7 @@ SweptEndsInTree = (g : Graph) (s max delta : ℕ) (known words : Table) (light h
 abbrev pub SweptIsTree : Type 0
 SweptIsTree = (g : Graph) (s max delta : ℕ) (known words : Table) (light heavy : ℕ → Option ℕ) → IsMarkedCopy g s max delta known words light heavy → HasNoOpen g words light heavy → ((v : ℕ) → IsLeftOut g words v → ⊥) → IsTree g s words × IsFar g s max None
 
+-- If some vertex is left out, the smallest such vertex is the one that is too far.
 abbrev pub SweptIsFar : Type 0
 SweptIsFar = (g : Graph) (s max delta : ℕ) (known words : Table) (light heavy : ℕ → Option ℕ) → IsMarkedCopy g s max delta known words light heavy → HasNoOpen g words light heavy → (v : ℕ) → IsLeftOut g words v → ((w : ℕ) → IsLeftOut g words w → v ≤ w) → IsFar g s max (Some v)
 
@@ -54,16 +55,17 @@ TestedIsSettled = (g : Graph) (s max delta i : ℕ) (known words : Table) (light
 abbrev pub SettledIsLeast : Type 0
 SettledIsLeast = (g : Graph) (s max bound : ℕ) (words : Table) → IsGraph g → IsSettled g s max bound words → (v d p : ℕ) → IsLawful g s v (Pair d p) → d < bound → d ≤ max → (e q : ℕ) × (words v ≡ Pair e q) × (e ≤ d)
 
--- An offer that shortens the distance of a word therefore has a distance at or above the bound, and its entry belongs
--- to a later bucket.
+-- The distance d is less than that of the word, which may be unreached.
 abbrev pub IsShorter : ℕ → Word → Type 0
 IsShorter d Unreached = Unit {0}
 IsShorter d (Pair e q) = d < e
 
+-- An offer that shortens the distance of a word therefore has a distance at or above the bound, and its entry belongs
+-- to a later bucket.
 abbrev pub ShorterIsLater : Type 0
 ShorterIsLater = (g : Graph) (s max bound : ℕ) (words : Table) → IsGraph g → IsSettled g s max bound words → (v d p : ℕ) → IsLawful g s v (Pair d p) → d ≤ max → IsShorter d (words v) → bound ≤ d
 
--- A target whose copied word lies in a tested bucket, or in an earlier one, has its answer.
+-- A target whose copied word is in a tested bucket, or in an earlier one, has its answer.
 abbrev pub TestedIsPair : Type 0
 TestedIsPair = (g : Graph) (s max delta i : ℕ) (known words : Table) (light heavy : ℕ → Option ℕ) → IsMarkedCopy g s max delta known words light heavy → PassesTest g delta i words light heavy → (t d p : ℕ) → IsVertex g.n t → words t ≡ Pair d p → d < (i + 1) * delta → IsPair g s t max (Found d p)
 

@@ -5,12 +5,15 @@ use Rattle.sp_paths.specs.declared.arc.Arc.{Arc}
 use Rattle.sp_word.specs.Word.{Pair}
 use Rattle.sp_paths.specs.Paths.{Graph, IsVertex, IsGraph, HasArc, IsAtMost, IsRelaxedLight, IsRelaxedHeavy}
 
+-- The row of v: the arcs that leave v.
 abbrev pub row_of : List Arc → (v : ℕ) → List Arc
 row_of arcs v = filter (λ a. nat_eq a.tail v) arcs
 
+-- The light arcs of v: those of length at most delta.
 abbrev pub light_of : List Arc → (delta v : ℕ) → List Arc
 light_of arcs delta v = filter (λ a. nat_le a.len delta) (row_of arcs v)
 
+-- The heavy arcs of v: those of length above delta.
 abbrev pub heavy_of : List Arc → (delta v : ℕ) → List Arc
 heavy_of arcs delta v = filter (λ a. nat_lt delta a.len) (row_of arcs v)
 
@@ -24,6 +27,7 @@ pub record RowsAreArcs (g : Graph) (delta : ℕ) : Type 0 where
   pub light : (u v l : ℕ) → (HasArc g u v l × (l ≤ delta)) ↔ Contains (light_of g.arcs delta u) (record { tail = u; head = v; len = l })
   pub heavy : (u v l : ℕ) → (HasArc g u v l × (delta < l)) ↔ Contains (heavy_of g.arcs delta u) (record { tail = u; head = v; len = l })
 
+-- This is true of every graph and every delta.
 abbrev pub RowsHoldArcs : Type 0
 RowsHoldArcs = (g : Graph) (delta : ℕ) → RowsAreArcs g delta
 
@@ -33,6 +37,7 @@ LightRowsRelaxed = (g : Graph) (max delta bound : ℕ) (words : Table) → IsGra
     → ((u d p : ℕ) → IsVertex g.n u → words u ≡ Pair d p → d < bound → All (IsArcRelaxed max words d) (light_of g.arcs delta u))
     → IsRelaxedLight g max delta bound words
 
+-- If the heavy row of each vertex below the bound was relaxed, then its heavy arcs were relaxed.
 abbrev pub HeavyRowsRelaxed : Type 0
 HeavyRowsRelaxed = (g : Graph) (max delta bound : ℕ) (words : Table) → IsGraph g
     → ((u d p : ℕ) → IsVertex g.n u → words u ≡ Pair d p → d < bound → All (IsArcRelaxed max words d) (heavy_of g.arcs delta u))

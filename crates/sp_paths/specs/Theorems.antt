@@ -30,6 +30,7 @@ pub record FinishedAnswers (g : Graph) (s max : ℕ) (words : Table) (t : ℕ) :
   pub too_far : (v : ℕ) → words t ≡ Unreached → IsLeftOut g words v → ((w : ℕ) → IsLeftOut g words w → v ≤ w) → IsPair g s t max (TooFar v)
   pub no_walk : words t ≡ Unreached → ((v : ℕ) → IsLeftOut g words v → ⊥) → IsPair g s t max NoWalk
 
+-- A finished table has the answer for every target.
 abbrev pub FinishedIsPair : Type 0
 FinishedIsPair = (g : Graph) (s max : ℕ) (words : Table) → IsFinished g s max words → (t : ℕ) → FinishedAnswers g s max words t
 
@@ -43,11 +44,11 @@ pub record HasPassed (g : Graph) (s max delta i : ℕ) (words : Table) : Type 0 
   pub light : IsRelaxedLight g max delta ((i + 1) * delta) words
   pub heavy : IsRelaxedHeavy g max delta (i * delta) words
 
--- Then every vertex whose least length lies in the bucket or in an earlier one is final.
+-- Then every vertex whose least length is in the bucket or in an earlier one is final.
 abbrev pub PassedIsSettled : Type 0
 PassedIsSettled = (g : Graph) (s max delta i : ℕ) (words : Table) → HasPassed g s max delta i words → IsSettled g s max ((i + 1) * delta) words
 
--- A target whose word lies there has its answer.
+-- A target whose word is in one of these buckets has its answer.
 abbrev pub PassedIsPair : Type 0
 PassedIsPair = (g : Graph) (s max delta i : ℕ) (words : Table) → HasPassed g s max delta i words → (t d p : ℕ) → IsVertex g.n t → words t ≡ Pair d p → d < (i + 1) * delta → d ≤ max → IsPair g s t max (Found d p)
 
@@ -67,6 +68,7 @@ pub record FarMeans (g : Graph) (s max : ℕ) : Type 0 where
   pub none : IsFar g s max None ↔ ((v d : ℕ) → IsLeast g s v d → d ≤ max)
   pub no_walk : (t : ℕ) → IsPair g s t max NoWalk → (d : ℕ) → HasWalk g s t d → ⊥
 
+-- This is true of every graph.
 abbrev pub FarIsMeant : Type 0
 FarIsMeant = (g : Graph) (s max : ℕ) → IsGraph g → FarMeans g s max
 

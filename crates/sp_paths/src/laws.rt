@@ -48,8 +48,7 @@ pub fn tested_copy()
     ensures later { ShorterIsLater }
 {}
 
-/// States that the rows of a graph hold its arcs: what was done for each arc of the rows was done for each arc of the
-/// graph.
+/// States that the rows of a graph hold its arcs: whatever was done for each arc of the rows was done for each arc of the graph.
 pub fn rows_of_arcs()
     ensures rows { RowsHoldArcs }
     ensures light { LightRowsRelaxed }

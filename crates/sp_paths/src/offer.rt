@@ -18,7 +18,7 @@ pub enum Offer<const P: u32> {
 }
 
 impl Arc {
-    /// What the arc offers its head where its tail has the word `from`.
+    /// Returns what the arc offers its head if its tail has the word `from`.
     #[inline(always)]
     pub fn offer<const P: u32>(self, from: Word<P>) -> Offer<P>
         requires layout { is_layout P ≡ true }

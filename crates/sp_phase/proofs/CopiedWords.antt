@@ -1,6 +1,7 @@
 -- What a leader's copy of the words shows, and the tree that is made of it.
-use Rattle.std.proofs.Common.{◌≡◌, ℕ, ◌+◌, ◌-◌, ◌<◌, ◌≤◌, ◌⊎◌, inl, inr, List, [], ◌∷◌, ◌++◌, length, get_or, Option, Some, None, true, refl, sym, ap, ◌∙◌, subst, arith}
+use Rattle.std.proofs.Common.{◌≡◌, ℕ, ◌+◌, ◌-◌, ◌<◌, ◌≤◌, ◌⊎◌, inl, inr, List, [], ◌∷◌, ◌++◌, length, get_or, take, Option, Some, None, true, refl, sym, ap, ◌∙◌, subst, arith}
 use Rattle.std.specs.Prelude.{All, IfSome, IfNone, option_to_list, slice_get}
+use Rattle.std.specs.List.Sorted.{IsPermutation}
 use Rattle.std.proofs.lemmas.Bool.{cases_lt}
 use Rattle.std.proofs.lemmas.List.{get_or_default, append-nil}
 use Rattle.std.proofs.lemmas.List.Elements.{All-push}
@@ -17,6 +18,7 @@ use Rattle.sp_paths.proofs.Walks.{arc_in, walk_by_parts}
 use Rattle.sp_offer.specs.Order.{IsKnownWord, IsNoMore}
 use Rattle.sp_offer.specs.Story.{Knowledge, known_table, IsCopy}
 use Rattle.sp_bins.specs.declared.entry.Entry.{Entry}
+use Rattle.sp_rounds.specs.Content.{Content}
 use Rattle.sp_answer.specs.Table.{TreeTable, HasPredWithin, table_of, tree_of}
 use Rattle.sp_phase.specs.declared.marks.LeaderMark.{LeaderMark}
 use Rattle.sp_answer.specs.declared.answer.RunError.TheVariants.{TooFar}
@@ -24,12 +26,13 @@ use Rattle.sp_phase.specs.Stage.{Stage, IsStage, law_of}
 use Rattle.sp_phase.specs.Marks.{Noted, mark_of, light_at, heavy_at}
 use Rattle.sp_phase.proofs.TaskMarks.{some_same}
 use Rattle.sp_phase.specs.declared.sweeping.Bounds.{Bounds}
-use Rattle.sp_phase.specs.Running.{IsQueued, Holds}
-use Rattle.sp_phase.specs.Sweep.{IsMarkedAt, IsRelaxedAtDist, IsRelaxedHere, AreRelaxed, IsOpen, IsCopied, IsSwept, HasWords}
+use Rattle.sp_phase.specs.Lead.{Lead}
+use Rattle.sp_phase.specs.Running.{IsQueued, Holds, Leads}
+use Rattle.sp_phase.specs.Sweep.{IsMarkedAt, IsRelaxedAtDist, IsRelaxedHere, AreRelaxed, IsOpen, IsCopied, IsSwept, HasCopied, HasWords}
 use Rattle.sp_answer.specs.Answer.{IsAnswer, IsRefusal}
 use Rattle.sp_run.proofs.LawfulWalks.{lawful_walk}
-use Rattle.sp_phase.proofs.KnownWords.{at_most_pair, zero_stays, known_pair, known_lawful, walk_vertex, tree_known}
-use Rattle.sp_phase.proofs.LeaderHolds.{dist_pair}
+use Rattle.sp_phase.proofs.KnownWords.{dist_pair, at_most_pair, zero_stays, known_pair, known_lawful, walk_vertex, tree_known}
+use Rattle.sp_phase.proofs.LeaderHolds.{leads_queued, put_queued}
 
 -- nothing is known of what is no vertex
 known_outside : (P : ℕ) (st : Stage) (v : ℕ) (w : Word) (d p : ℕ) → IsStage P st → (IsVertex st.graph.n v → ⊥) → IsKnownWord (law_of P st) v w → IsAtMost w d p → ⊥
@@ -189,14 +192,21 @@ told_open words marks b u dist w m None at read is mark same h = tt
 told_open words marks b u dist w m (Some e) at read is mark same h = subst (IsOpen words marks b) (sym same) (open_here words marks b u dist w m at read is mark h)
 
 -- what is open may be queued
-pub open_queued : (P : ℕ) (st : Stage) (c : Knowledge) (marks : List LeaderMark) (words : List Word) (b : Bounds) (open' : List Entry) → IsCopied P st c marks words → All (IsOpen words marks b) open' → All (IsQueued P st 0) open'
+open_queued : (P : ℕ) (st : Stage) (c : Knowledge) (marks : List LeaderMark) (words : List Word) (b : Bounds) (open' : List Entry) → IsCopied P st c marks words → All (IsOpen words marks b) open' → All (IsQueued P st) open'
 open_queued P st c marks words b open' copy all k d lt =
     let h = all k d lt in
     let e = get_or open' k d in
     let size = copy.size in
     let low = h.0.1 in
     let at : IsVertex st.graph.n e.vertex = (h.0.0, omega arith) in
-    (at, omega arith, copy.of.within e.vertex e.dist h.1.0 at h.1.1)
+    (at, copy.of.within e.vertex e.dist h.1.0 at h.1.1)
+
+-- some of the open vertices were queued
+pub leads_opened : (P : ℕ) (l : Lead) (q : Content) (b : Bounds) (open' xs : List Entry) (k : ℕ) → HasCopied P l → xs ≡ open' → All (IsOpen l.words l.marks.each b) open' → q.delta ≡ l.buckets.delta
+    → IsPermutation (l.buckets.entries ++ take k xs) q.entries → Leads P l.stage l → Leads P l.stage (record l { buckets = q })
+leads_opened P l q b open' xs k copy is all width moved led =
+    let queued = subst (λ es. All (IsQueued P l.stage) es) (sym is) (open_queued P l.stage l.caller l.marks.each l.words b open' copy all) in
+    leads_queued P l.stage l q width (put_queued (IsQueued P l.stage) l.buckets.entries xs q.entries k moved led.entries queued) led
 
 -- ## Vertices that are left out
 

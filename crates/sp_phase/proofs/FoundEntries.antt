@@ -1,16 +1,16 @@
--- The entries that a round finds are vertices, at distances that are no less than those of its tasks.
-use Rattle.std.proofs.Common.{◌≡◌, ℕ, ◌+◌, ◌<◌, ◌≤◌, ⊎_elim, ◌&&◌, nat_le, Bool, true, false, cond, List, [], ◌∷◌, get_or, map, refl, sym, ap, ◌∙◌, subst, arith}
+-- The entries that a round finds are vertices, at distances that fit words.
+use Rattle.std.proofs.Common.{◌≡◌, ℕ, ◌+◌, ◌≤◌, ◌&&◌, nat_le, Bool, true, false, cond, List, [], ◌∷◌, get_or, map, refl, sym, ap, ◌∙◌, subst, arith}
 use Rattle.std.specs.Prelude.{All, filter, flat_map, sum_by}
 use Rattle.std.proofs.lemmas.Bool.{leb-true, le-leb, and_parts}
 use Rattle.std.proofs.lemmas.List.Elements.{All-nil, All-cons, All-head, All-tail, All-append, All-map, All-filter, filter_passes}
 use Rattle.std.proofs.lemmas.List.Sums.{sum_by-cons, get_or-le-sum_by}
 use Rattle.sp_word.specs.Word.{Word, Unreached, Pair, max_dist}
-use Rattle.sp_word.specs.History.{Table, Call, Offer, Read, Event}
+use Rattle.sp_word.specs.History.{Call, Offer, Read, Event}
 use Rattle.sp_word.specs.declared.reply.Reply.{Reply}
 use Rattle.sp_word.specs.declared.reply.Reply.TheVariants.{Shorter, SmallerPred, Kept}
 use Rattle.sp_paths.specs.declared.arc.Arc.{Arc}
-use Rattle.sp_paths.specs.Paths.{IsGraph, IsVertex, IsArc, IsAtMost}
-use Rattle.sp_paths.specs.Rows.{row_of, IsArcRelaxed}
+use Rattle.sp_paths.specs.Paths.{IsGraph, IsVertex, IsArc}
+use Rattle.sp_paths.specs.Rows.{row_of}
 use Rattle.sp_bins.specs.declared.entry.Entry.{Entry}
 use Rattle.sp_graph.specs.RowsValue.{Split}
 use Rattle.sp_rounds.specs.declared.task.TaskKind.{TaskKind}
@@ -81,101 +81,51 @@ module _ (test : ℕ → ℕ → Bool) where
 
 -- ## The test that is wanted here
 
-abbrev is_queued : (n low max : ℕ) → ℕ → ℕ → Bool
-is_queued n low max v d = (nat_le 1 v && nat_le v n) && (nat_le low d && nat_le d max)
+abbrev is_queued : (n max : ℕ) → ℕ → ℕ → Bool
+is_queued n max v d = (nat_le 1 v && nat_le v n) && nat_le d max
 
 and_true : (a b : Bool) → a ≡ true → b ≡ true → (a && b) ≡ true
 and_true a b x y = ap (λ c. c && b) x ∙ y
 
-pub queued_true : (n low max v d : ℕ) → IsVertex n v → low ≤ d → d ≤ max → is_queued n low max v d ≡ true
-queued_true n low max v d at above within =
-    and_true (nat_le 1 v && nat_le v n) (nat_le low d && nat_le d max)
-    (and_true (nat_le 1 v) (nat_le v n) (le-leb 1 v at.0) (le-leb v n at.1))
-    (and_true (nat_le low d) (nat_le d max) (le-leb low d above) (le-leb d max within))
+queued_true : (n max v d : ℕ) → IsVertex n v → d ≤ max → is_queued n max v d ≡ true
+queued_true n max v d at within =
+    and_true (nat_le 1 v && nat_le v n) (nat_le d max) (and_true (nat_le 1 v) (nat_le v n) (le-leb 1 v at.0) (le-leb v n at.1)) (le-leb d max within)
 
-queued_means : (n low max v d : ℕ) → is_queued n low max v d ≡ true → IsVertex n v × (low ≤ d) × (d ≤ max)
-queued_means n low max v d h =
-    let both = and_parts (nat_le 1 v && nat_le v n) (nat_le low d && nat_le d max) h in
+queued_means : (n max v d : ℕ) → is_queued n max v d ≡ true → IsVertex n v × (d ≤ max)
+queued_means n max v d h =
+    let both = and_parts (nat_le 1 v && nat_le v n) (nat_le d max) h in
     let one = and_parts (nat_le 1 v) (nat_le v n) both.0 in
-    let two = and_parts (nat_le low d) (nat_le d max) both.1 in
-    ((leb-true 1 v one.0, leb-true v n one.1), leb-true low d two.0, leb-true d max two.1)
+    ((leb-true 1 v one.0, leb-true v n one.1), leb-true d max both.1)
 
 row_arcs : (rows : Split) (kind : TaskKind) (v : ℕ) → IsGraph rows.graph → All (IsArc rows.graph.n) (arcs_of_kind rows kind v)
 row_arcs rows Light v gr = All-filter _ (IsArc rows.graph.n) (row_of rows.graph.arcs v) (All-filter _ (IsArc rows.graph.n) rows.graph.arcs gr)
 row_arcs rows Heavy v gr = All-filter _ (IsArc rows.graph.n) (row_of rows.graph.arcs v) (All-filter _ (IsArc rows.graph.n) rows.graph.arcs gr)
 
-module _ (n low max : ℕ) where
+module _ (n max : ℕ) where
   abbrev Fits : Asked → Type 0
-  Fits a = passes (is_queued n low max) a ≡ true
+  Fits a = passes (is_queued n max) a ≡ true
 
-  along : (d : ℕ) (arcs : List Arc) → low ≤ d → All (IsArc n) arcs → All Fits (offers_along max d arcs)
-  along d arcs above fine =
+  along : (d : ℕ) (arcs : List Arc) → All (IsArc n) arcs → All Fits (offers_along max d arcs)
+  along d arcs fine =
       let short : Arc → Bool = λ a. nat_le (d + a.len) max in
       All-map Fits (offer_along d) (filter short arcs)
       (λ k dd lt.
       let a = get_or (filter short arcs) k dd in
       let arc = All-filter short (IsArc n) arcs fine k dd lt in
       let within = leb-true (d + a.len) max (filter_passes short arcs k dd lt) in
-      queued_true n low max a.head (d + a.len) arc.1 (omega arith) within)
+      queued_true n max a.head (d + a.len) arc.1 within)
 
-  tasks_pass : (rows : Split) (tasks : List Task) → IsGraph rows.graph → rows.graph.n ≡ n → All (λ t. low ≤ t.dist) tasks → All Fits (flat_map (offers_of max rows) tasks)
-  tasks_pass rows [] gr same all = All-nil Fits
-  tasks_pass rows (t ∷ ts) gr same all =
+  tasks_pass : (rows : Split) (tasks : List Task) → IsGraph rows.graph → rows.graph.n ≡ n → All Fits (flat_map (offers_of max rows) tasks)
+  tasks_pass rows [] gr same = All-nil Fits
+  tasks_pass rows (t ∷ ts) gr same =
       let A : ℕ → Type 0 = λ m. All (IsArc m) (arcs_of rows t) in
-      All-append Fits (offers_of max rows t) (flat_map (offers_of max rows) ts)
-      (along t.dist (arcs_of rows t) (All-head (λ t. low ≤ t.dist) t ts all) (subst A same (row_arcs rows t.kind t.vertex gr)))
-      (tasks_pass rows ts gr same (All-tail (λ t. low ≤ t.dist) t ts all))
+      All-append Fits (offers_of max rows t) (flat_map (offers_of max rows) ts) (along t.dist (arcs_of rows t) (subst A same (row_arcs rows t.kind t.vertex gr))) (tasks_pass rows ts gr same)
 
-pub found_queued : (P : ℕ) (st : Stage) (low : ℕ) (tasks : List Task) (calls : List Event) (found : List Entry) → IsGraph st.graph → All (λ t. low ≤ t.dist) tasks
-    → AreSameOffers (map question_of calls) (flat_map (offers_of (max_dist P) (rows_of st)) tasks) → found ≡ entries calls → All (IsQueued P st low) found
-found_queued P st low tasks calls found gr above same is k d lt =
-    let test = is_queued st.graph.n low (max_dist P) in
-    let all = entries_pass test calls (same_pass test (map question_of calls) (flat_map (offers_of (max_dist P) (rows_of st)) tasks) same (tasks_pass st.graph.n low (max_dist P) (rows_of st) tasks gr refl above)) in
+pub found_queued : (P : ℕ) (st : Stage) (tasks : List Task) (calls : List Event) (found : List Entry) → IsGraph st.graph
+    → AreSameOffers (map question_of calls) (flat_map (offers_of (max_dist P) (rows_of st)) tasks) → found ≡ entries calls → All (IsQueued P st) found
+found_queued P st tasks calls found gr same is k d lt =
+    let test = is_queued st.graph.n (max_dist P) in
+    let all = entries_pass test calls (same_pass test (map question_of calls) (flat_map (offers_of (max_dist P) (rows_of st)) tasks) same (tasks_pass st.graph.n (max_dist P) (rows_of st) tasks gr refl)) in
     let every : All (entry_passes test) found = subst (λ xs. All (entry_passes test) xs) (sym is) all in
     let e = get_or found k d in
-    queued_means st.graph.n low (max_dist P) e.vertex e.dist (every k d lt)
-
--- ## What is known of the vertices that a round finds
-
-abbrev word_within : Word → ℕ → Bool
-word_within Unreached d = false
-word_within (Pair e q) d = nat_le e d
-
-at_most_within : (w : Word) (d p : ℕ) → IsAtMost w d p → word_within w d ≡ true
-at_most_within Unreached d p le = absurd le
-at_most_within (Pair e q) d p le =
-    le-leb e d (⊎_elim (λ (k : e < d). let h : e ≤ d = omega arith in h) (λ (k : (e ≡ d) × (q ≤ p)). let one = k.0 in let h : e ≤ d = omega arith in h) le)
-
-within_means : (w : Word) (d : ℕ) → word_within w d ≡ true → (e q : ℕ) × (w ≡ Pair e q) × (e ≤ d)
-within_means Unreached d h = absurd (cc)
-within_means (Pair e q) d h = (e, q, refl, leb-true e d h)
-
-module _ (max : ℕ) (rows : Split) (words : Table) where
-  abbrev test_known : ℕ → ℕ → Bool
-  test_known v d = word_within (words v) d
-
-  abbrev IsReached : Asked → Type 0
-  IsReached a = passes test_known a ≡ true
-
-  relaxed_along : (d : ℕ) (arcs : List Arc) → All (IsArcRelaxed max words d) arcs → All IsReached (offers_along max d arcs)
-  relaxed_along d arcs all =
-      let short : Arc → Bool = λ a. nat_le (d + a.len) max in
-      All-map IsReached (offer_along d) (filter short arcs)
-      (λ k dd lt.
-      let a = get_or (filter short arcs) k dd in
-      at_most_within (words a.head) (d + a.len) a.tail (All-filter short (IsArcRelaxed max words d) arcs all k dd lt (leb-true (d + a.len) max (filter_passes short arcs k dd lt))))
-
-  tasks_reach : (tasks : List Task) → All (λ t. All (IsArcRelaxed max words t.dist) (arcs_of rows t)) tasks → All IsReached (flat_map (offers_of max rows) tasks)
-  tasks_reach [] all = All-nil IsReached
-  tasks_reach (t ∷ ts) all =
-      let D : Task → Type 0 = λ t. All (IsArcRelaxed max words t.dist) (arcs_of rows t) in
-      All-append IsReached (offers_of max rows t) (flat_map (offers_of max rows) ts) (relaxed_along t.dist (arcs_of rows t) (All-head D t ts all)) (tasks_reach ts (All-tail D t ts all))
-
-  -- each entry's vertex is known at its distance or a lesser one
-  pub found_known : (tasks : List Task) (calls : List Event) (found : List Entry) → All (λ t. All (IsArcRelaxed max words t.dist) (arcs_of rows t)) tasks → AreSameOffers (map question_of calls) (flat_map (offers_of max rows) tasks) → found ≡ entries calls
-      → All (λ e. (d p : ℕ) × (words e.vertex ≡ Pair d p) × (d ≤ e.dist)) found
-  found_known tasks calls found done same is k none lt =
-      let all = entries_pass test_known calls (same_pass test_known (map question_of calls) (flat_map (offers_of max rows) tasks) same (tasks_reach tasks done)) in
-      let every : All (entry_passes test_known) found = subst (λ xs. All (entry_passes test_known) xs) (sym is) all in
-      let e = get_or found k none in
-      within_means (words e.vertex) e.dist (every k none lt)
+    queued_means st.graph.n (max_dist P) e.vertex e.dist (every k d lt)

@@ -1,7 +1,7 @@
 -- What a caller knows of a run, as its words fall.
-use Rattle.std.proofs.Common.{◌≡◌, ℕ, ◌+◌, ◌<◌, ◌≤◌, ◌⊎◌, inl, inr, List, sym, ◌∙◌, subst, arith, ⊎_elim}
+use Rattle.std.proofs.Common.{◌≡◌, ℕ, ◌+◌, ◌<◌, ◌≤◌, ◌⊎◌, inl, inr, List, Some, sym, ◌∙◌, subst, arith, ⊎_elim}
 use Rattle.std.proofs.lemmas.Bool.{cases_lt}
-use Rattle.sp_word.specs.Word.{Word, Unreached, Pair, Fits, max_dist}
+use Rattle.sp_word.specs.Word.{Word, Unreached, Pair, Fits, dist_of, max_dist}
 use Rattle.sp_word.specs.History.{Table}
 use Rattle.sp_paths.specs.Paths.{Graph, IsGraph, IsVertex, HasArc, HasWalk, HasWalkBy, IsLeast, IsPredecessor, IsTreePair, IsLawful, IsTreeWord, IsAtMost}
 use Rattle.sp_paths.proofs.Walks.{arc_in, walk_from_by, walk_by_parts, walk_cases, walk_more}
@@ -44,6 +44,10 @@ running_falls P st before after marks falls lawful run = record {
 
 -- ## Lawful words
 
+pub dist_pair : (w : Word) (d : ℕ) → dist_of w ≡ Some d → (p : ℕ) × (w ≡ Pair d p)
+dist_pair Unreached d is = absurd (cc)
+dist_pair (Pair e q) d is = let same : e ≡ d = cc in (q, λ i. Pair (same i) q)
+
 -- what is known of a vertex as a pair is the length of a walk, and fits
 pub known_pair : (P : ℕ) (st : Stage) (v : ℕ) (w : Word) (d p : ℕ) → IsKnownWord (law_of P st) v w → w ≡ Pair d p → IsLawful st.graph st.source v (Pair d p) × (d ≤ max_dist P)
 known_pair P st v Unreached d p known is = absurd (cc)
@@ -82,7 +86,7 @@ tree_first g s v d p e q tree by = go (walk_by_parts g s v e q by) (cases_lt d e
         let before : IsPredecessor g s v d q = (c, l, least, a, sum ∙ sym same) in
         inr (same, tree.smallest q before)
 
-pub tree_lowest : (g : Graph) (s v : ℕ) (w x : Word) → IsTreeWord g s v w → IsLawful g s v x → IsNoMore w x
+tree_lowest : (g : Graph) (s v : ℕ) (w x : Word) → IsTreeWord g s v w → IsLawful g s v x → IsNoMore w x
 tree_lowest g s v w Unreached tree law = tt
 tree_lowest g s v Unreached (Pair e q) tree law = absurd (tree e (lawful_walk g s v e q law))
 tree_lowest g s v (Pair d p) (Pair e q) (inl own) law = zero_first d p e q own.1 own.2

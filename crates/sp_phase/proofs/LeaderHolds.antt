@@ -1,32 +1,27 @@
 -- A run before and after a round.
-use Rattle.std.proofs.Common.{◌≡◌, ◌≢◌, ℕ, zero, suc, replicate, ◌+◌, ◌-◌, ◌*◌, ◌/◌, ◌≤◌, inl, inr, ⊎_elim, ◌<◌, List, [], ◌∷◌, ◌++◌, length, get_or, take, drop, append_assoc, Option, Some, None, refl, sym, ap, ◌∙◌, subst, arith}
-use Rattle.std.specs.Prelude.{All, IfSome, option_to_list}
+use Rattle.std.proofs.Common.{◌≡◌, ℕ, zero, suc, replicate, ◌+◌, ◌-◌, inl, inr, ◌<◌, List, [], ◌∷◌, ◌++◌, length, get_or, take, drop, append_assoc, Some, None, refl, sym, ap, ◌∙◌, subst, arith}
+use Rattle.std.specs.Prelude.{All}
 use Rattle.std.specs.List.Sorted.{IsPermutation}
 use Rattle.std.proofs.lemmas.List.Elements.{All-append, All-push, All-nil, All-cons}
 use Rattle.std.proofs.lemmas.List.Sorted.{All-permutation, IsPermutation-push_more, IsPermutation-refl}
-use Rattle.std.proofs.lemmas.Bool.{cases_lt}
-use Rattle.std.proofs.lemmas.Nat.{div_below, le-div}
 use Rattle.std.proofs.lemmas.List.{take_more, take-append-drop, append-nil, length-replicate}
-use Rattle.sp_word.specs.Word.{Word, Pair, Unreached, dist_of, max_dist}
+use Rattle.sp_word.specs.Word.{Pair, max_dist}
 use Rattle.sp_word.specs.History.{Table}
 use Rattle.sp_paths.specs.Paths.{IsGraph, IsVertex}
 use Rattle.sp_offer.specs.Story.{Knowledge, known_table}
 use Rattle.sp_bins.specs.declared.entry.Entry.{Entry}
-use Rattle.sp_rounds.specs.Content.{Content, bucket_of, Puts, Takes}
+use Rattle.sp_rounds.specs.Content.{Content, Puts, Takes}
 use Rattle.sp_rounds.proofs.EntryPlaces.{All-before, All-behind}
-use Rattle.sp_rounds.specs.declared.task.TaskKind.{TaskKind}
 use Rattle.sp_rounds.specs.declared.task.Task.{Task}
 use Rattle.sp_rounds.specs.Left.{RoundDone}
 use Rattle.sp_phase.specs.declared.marks.LeaderMark.{LeaderMark}
 use Rattle.sp_phase.specs.Stage.{Stage, IsStage, Learns, law_of, rows_of}
 use Rattle.sp_phase.specs.Marks.{Noted, no_mark, mark_of, light_at, heavy_at, SameDistances, Remembers}
-use Rattle.sp_phase.specs.Rounds.{IsRunning, IsDue, KeepsRunning}
+use Rattle.sp_phase.specs.Rounds.{IsRunning, KeepsRunning}
 use Rattle.sp_phase.proofs.TaskMarks.{running_same}
 use Rattle.sp_phase.specs.Lead.{Lead}
-use Rattle.sp_phase.specs.Running.{IsQueued, Holds, Leads, TasksFrom, EntriesFrom}
-use Rattle.sp_phase.specs.Behind.{IsPast}
-use Rattle.sp_run.proofs.LawfulWalks.{lawful_walk}
-use Rattle.sp_phase.proofs.KnownWords.{running_falls, known_pair}
+use Rattle.sp_phase.specs.Running.{IsQueued, Holds, Leads}
+use Rattle.sp_phase.proofs.KnownWords.{running_falls}
 use Rattle.sp_phase.proofs.FoundEntries.{found_queued}
 
 -- a caller that learns more holds what it held
@@ -64,26 +59,12 @@ holds_forgets P st c before after gr same more h = record {
   remembered = subst (λ xs. All (IsVertex st.graph.n) xs) (sym more) h.remembered;
 }
 
-pub dist_pair : (w : Word) (d : ℕ) → dist_of w ≡ Some d → (p : ℕ) × (w ≡ Pair d p)
-dist_pair Unreached d is = absurd (cc)
-dist_pair (Pair e q) d is = let same : e ≡ d = cc in (q, λ i. Pair (same i) q)
-
--- a vertex at the distance that was read is due
-pub read_due : (P : ℕ) (st : Stage) (c : Knowledge) (m : Noted) (v d : ℕ) (w : Word) (kind : TaskKind) → Holds P st c m → IsVertex st.graph.n v → known_table c.story v ≡ w → dist_of w ≡ Some d → IsDue P st (record { vertex = v; dist = d; kind = kind })
-read_due P st c m v d w kind h at read is =
-    let pair = dist_pair w d is in
-    let told = known_pair P st v (known_table c.story v) d pair.0 (h.running.lawful v) (read ∙ pair.1) in
-    (at, told.1, lawful_walk st.graph st.source v d pair.0 told.0)
-
 -- ## Rounds
 
 all_put : (F : Entry → Type 0) (old found new : List Entry) → IsPermutation (old ++ found) new → All F old → All F found → All F new
 all_put F old found new moved a b = All-permutation F (old ++ found) new moved (All-append F old found a b)
 
 module _ (P : ℕ) (st : Stage) (stage : IsStage P st) (tasks : List Task) (before after : Knowledge) (found : List Entry) (done : RoundDone (law_of P st) (max_dist P) (rows_of st) tasks before after found) where
-  pub found_from : (low : ℕ) → TasksFrom low tasks → All (IsQueued P st low) found
-  found_from low above = found_queued P st low tasks done.calls found stage.graph above done.each done.shorter
-
   pub round_holds : (m m' : Noted) → Holds P st before m → KeepsRunning tasks m.each m'.each → m'.remembered ≡ m.remembered → Holds P st after m'
   round_holds m m' h keeps same = record {
     stage = stage;
@@ -92,11 +73,8 @@ module _ (P : ℕ) (st : Stage) (stage : IsStage P st) (tasks : List Task) (befo
     remembered = subst (λ xs. All (IsVertex st.graph.n) xs) (sym same) h.remembered;
   }
 
-  pub round_entries : (old new : List Entry) → IsPermutation (old ++ found) new → All (IsQueued P st 0) old → All (IsQueued P st 0) new
-  round_entries old new moved all = all_put (IsQueued P st 0) old found new moved all (found_from 0 (λ k d lt. omega arith))
-
-  pub round_from : (low : ℕ) (old new : List Entry) → IsPermutation (old ++ found) new → EntriesFrom low old → TasksFrom low tasks → EntriesFrom low new
-  round_from low old new moved all above = all_put (λ e. low ≤ e.dist) old found new moved all (λ k d lt. (found_from low above k d lt).1)
+  pub round_entries : (old new : List Entry) → IsPermutation (old ++ found) new → All (IsQueued P st) old → All (IsQueued P st) new
+  round_entries old new moved all = all_put (IsQueued P st) old found new moved all (found_queued P st tasks done.calls found stage.graph done.each done.shorter)
 
 -- ## Loops
 
@@ -125,32 +103,18 @@ pub leads_holds : (P : ℕ) (st : Stage) (l : Lead) (c : Knowledge) (m : Noted) 
 leads_holds P st l c m holds h = record { holds = holds; width = h.width; entries = h.entries; size = h.size }
 
 -- what is queued changed
-pub leads_queued : (P : ℕ) (st : Stage) (l : Lead) (q : Content) → q.delta ≡ l.buckets.delta → All (IsQueued P st 0) q.entries
+pub leads_queued : (P : ℕ) (st : Stage) (l : Lead) (q : Content) → q.delta ≡ l.buckets.delta → All (IsQueued P st) q.entries
     → Leads P st l → Leads P st (record l { buckets = q })
 leads_queued P st l q width all h =
     record { holds = h.holds; width = width ∙ h.width; entries = all; size = h.size }
 
--- one task more, if there is one
-pub all_pushed : (F : Task → Type 0) (old new : List Task) (o : Option Task) → new ≡ old ++ option_to_list o → All F old → IfSome o F → All F new
-all_pushed F old new None is all one = subst (λ xs. All F xs) (sym (is ∙ append-nil old)) all
-all_pushed F old new (Some t) is all one = subst (λ xs. All F xs) (sym is) (All-push F old t all one)
-
-task_from : (low dist : ℕ) (o : Option Task) → low ≤ dist → IfSome o (λ t. t.dist ≡ dist) → IfSome o (λ t. low ≤ t.dist)
-task_from low dist None le is = tt
-task_from low dist (Some t) le is = omega arith
-
-pub from_pushed : (entries : List Entry) (e none : Entry) (i : ℕ) (old new : List Task) (o : Option Task) → i < length entries → get_or entries i none ≡ e → new ≡ old ++ option_to_list o → IfSome o (λ t. t.dist ≡ e.dist)
-    → ((low : ℕ) → EntriesFrom low entries → TasksFrom low old) → (low : ℕ) → EntriesFrom low entries → TasksFrom low new
-from_pushed entries e none i old new o inside is pushed dist before low from =
-    all_pushed (λ t. low ≤ t.dist) old new o pushed (before low from) (task_from low e.dist o (subst (λ x. low ≤ x.dist) is (from i none inside)) dist)
-
 -- a bucket is taken out
 pub takes_queued : (P : ℕ) (st : Stage) (l : Lead) (q : Content) (i : ℕ) (taken : List Entry) → Takes i taken l.buckets q
-    → Leads P st l → Leads P st (record l { buckets = q }) × All (IsQueued P st 0) taken
+    → Leads P st l → Leads P st (record l { buckets = q }) × All (IsQueued P st) taken
 takes_queued P st l q i taken takes h =
-    let all = All-permutation (IsQueued P st 0) l.buckets.entries (taken ++ q.entries) takes.entries h.entries in (
-      leads_queued P st l q takes.delta (All-behind (IsQueued P st 0) taken q.entries all) h,
-      All-before (IsQueued P st 0) taken q.entries all,
+    let all = All-permutation (IsQueued P st) l.buckets.entries (taken ++ q.entries) takes.entries h.entries in (
+      leads_queued P st l q takes.delta (All-behind (IsQueued P st) taken q.entries all) h,
+      All-before (IsQueued P st) taken q.entries all,
     )
 
 -- some of the entries are put
@@ -171,7 +135,7 @@ round_leads P st tasks l c m q found h done keeps same width moved = record {
   size = h.size;
 }
 
-pub replicate_at : (k i : ℕ) → get_or (replicate k no_mark) i no_mark ≡ no_mark
+replicate_at : (k i : ℕ) → get_or (replicate k no_mark) i no_mark ≡ no_mark
 replicate_at zero i = refl
 replicate_at (suc k) zero = refl
 replicate_at (suc k) (suc i) = replicate_at k i
@@ -196,8 +160,8 @@ first_leads P st before l n old stage caller learns source size marks remembered
     remembered = subst (λ xs. All (IsVertex st.graph.n) xs) (sym remembered) (All-nil (IsVertex st.graph.n));
   };
   width = puts.delta ∙ width;
-  entries = All-permutation (IsQueued P st 0) (record { vertex = st.source; dist = 0 } ∷ old.entries) l.buckets.entries puts.entries
-      (subst (λ xs. All (IsQueued P st 0) (record { vertex = st.source; dist = 0 } ∷ xs)) (sym empty) (All-cons (IsQueued P st 0) (record { vertex = st.source; dist = 0 }) [] (stage.source, omega arith, omega arith) (All-nil (IsQueued P st 0))));
+  entries = All-permutation (IsQueued P st) (record { vertex = st.source; dist = 0 } ∷ old.entries) l.buckets.entries puts.entries
+      (subst (λ xs. All (IsQueued P st) (record { vertex = st.source; dist = 0 } ∷ xs)) (sym empty) (All-cons (IsQueued P st) (record { vertex = st.source; dist = 0 }) [] (stage.source, omega arith) (All-nil (IsQueued P st))));
   size = words;
 }
   where
@@ -209,32 +173,3 @@ first_leads P st before l n old stage caller learns source size marks remembered
 
     heavy_none : (u : ℕ) → heavy_at l.marks.each u ≡ None
     heavy_none u = ap (λ ms. heavy_at ms u) marks ∙ ap (λ m. m.heavy) (blank n u)
-
-pub takes_from : (low i : ℕ) (taken : List Entry) (old new : Content) → Takes i taken old new → EntriesFrom low old.entries → EntriesFrom low taken × EntriesFrom low new.entries
-takes_from low i taken old new takes from =
-    let all = All-permutation (λ e. low ≤ e.dist) old.entries (taken ++ new.entries) takes.entries from in
-    (All-before (λ e. low ≤ e.dist) taken new.entries all, All-behind (λ e. low ≤ e.dist) taken new.entries all)
-
--- a bucket is taken out of a leader that is past some distances
-pub takes_past : (P : ℕ) (st : Stage) (light heavy : ℕ) (l : Lead) (q : Content) (i : ℕ) (taken : List Entry)
-    → Takes i taken l.buckets q → IsPast P st light heavy l → IsPast P st light heavy (record l { buckets = q })
-takes_past P st light heavy l q i taken takes past = record {
-  owes = past.owes;
-  final = past.final;
-  entries = (takes_from light i taken l.buckets q takes past.entries).1;
-}
-
--- what is in no bucket up to i lies behind it
-pub bucket_next : (delta i : ℕ) (entries : List Entry) → 1 ≤ delta → All (λ e. bucket_of delta e ≢ i) entries → EntriesFrom (i * delta) entries → EntriesFrom ((i + 1) * delta) entries
-bucket_next delta i entries wide others from k none inside =
-    let e = get_or entries k none in
-    let here : i * delta ≤ e.dist = from k none inside in
-    let ne = others k none inside in
-    let positive : 0 < delta = omega arith in
-    ⊎_elim {C = (i + 1) * delta ≤ e.dist}
-    (λ (below : e.dist < (i + 1) * delta).
-    let less : e.dist / delta < i + 1 = div_below e.dist delta (i + 1) positive below in
-    let more : i ≤ e.dist / delta = le-div i e.dist delta positive here in
-    let same : e.dist / delta ≡ i = omega arith in
-    absurd (ne same))
-    (λ (above : (i + 1) * delta ≤ e.dist). above) (cases_lt e.dist ((i + 1) * delta))

@@ -1,12 +1,8 @@
 pub mod TaskMarks
 pub mod StageTasks
-pub mod RoundMarks
 pub mod KnownWords
 pub mod FoundEntries
 pub mod LeaderHolds
 pub mod CopiedWords
 pub mod SettledBuckets
-pub mod FallingWords
-pub mod PastRounds
 pub mod MadeTasks
-pub mod BucketsBehind

@@ -90,7 +90,7 @@ module _ (P : ℕ) (st : Stage) (c : Knowledge) (marks : List LeaderMark) (words
       heavy_below = λ u d p h is lt. (all u d p (in_copy u h) is).1 (subst (λ k. d < k) (sym heavy) lt);
     }
 
-    pub test_settled : TestedIsSettled → IsSettled st.graph st.source (max_dist P) ((i + 1) * st.delta) (word_at words)
+    test_settled : TestedIsSettled → IsSettled st.graph st.source (max_dist P) ((i + 1) * st.delta) (word_at words)
     test_settled law = law st.graph st.source (max_dist P) st.delta i copy.words (word_at words) (light_at marks) (heavy_at marks) copy.of passes
 
     -- so a target whose copied word lies below its end has its answer
@@ -129,13 +129,13 @@ sweep_none P st c marks words swept law t none out =
 
 module _ (P : ℕ) (st : Stage) (before after : Table) (falls : Falls before after) (lawful : (v : ℕ) → IsKnownWord (law_of P st) v (after v)) where
   -- a word of the tree falls no further
-  pub word_stays : (v : ℕ) → IsTreeWord st.graph st.source v (before v) → after v ≡ before v
+  word_stays : (v : ℕ) → IsTreeWord st.graph st.source v (before v) → after v ≡ before v
   word_stays v tree = tree_known P st v (before v) (after v) tree (lawful v) (falls v)
 
   pub tree_stays : (v : ℕ) → IsTreeWord st.graph st.source v (before v) → IsTreeWord st.graph st.source v (after v)
   tree_stays v tree = subst (IsTreeWord st.graph st.source v) (sym (word_stays v tree)) tree
 
-  pub settled_stays : (bound : ℕ) → IsSettled st.graph st.source (max_dist P) bound before → IsSettled st.graph st.source (max_dist P) bound after
+  settled_stays : (bound : ℕ) → IsSettled st.graph st.source (max_dist P) bound before → IsSettled st.graph st.source (max_dist P) bound after
   settled_stays bound settled v d least below fits = tree_stays v (settled v d least below fits)
 
 module _ (P : ℕ) (st : Stage) (stage : IsStage P st) (before after : Knowledge) (falls : Falls (known_table before.story) (known_table after.story)) (lawful : (v : ℕ) → IsKnownWord (law_of P st) v (known_table after.story v)) where
@@ -154,14 +154,14 @@ twice_fits : (P a b : ℕ) → is_layout P ≡ true → a ≤ max_dist P → b �
 twice_fits P a b layout one two =
     by_layout (λ Q. a ≤ max_dist Q → b ≤ max_dist Q → a + b < 18446744073709551616) P layout (λ h k. omega arith) (λ h k. omega arith) (λ h k. omega arith) (λ h k. omega arith) one two
 
-pub bucket_fits : (P : ℕ) (st : Stage) → IsStage P st → (b : Content) (i : ℕ) → b.delta ≡ st.delta → All (IsQueued P st 0) b.entries → IsLowest b i → i * st.delta + st.delta < 18446744073709551616
+pub bucket_fits : (P : ℕ) (st : Stage) → IsStage P st → (b : Content) (i : ℕ) → b.delta ≡ st.delta → All (IsQueued P st) b.entries → IsLowest b i → i * st.delta + st.delta < 18446744073709551616
 bucket_fits P st stage b i width all lowest =
     let e : Entry = lowest.here.1 in
     let there = all lowest.here.0 e lowest.here.2 in
-    let queued = subst (IsQueued P st 0) lowest.here.3 there in
+    let queued = subst (IsQueued P st) lowest.here.3 there in
     let number : e.dist / b.delta ≡ i = lowest.here.4 in
     let whole : e.dist / b.delta * b.delta + e.dist % b.delta ≡ e.dist = div-add-mod' e.dist b.delta in
     let D : ℕ → ℕ → Type 0 = λ n m. n * m + e.dist % b.delta ≡ e.dist in
     let same : i * st.delta + e.dist % b.delta ≡ e.dist = subst (λ m. D i m) width (subst (λ n. D n b.delta) number whole) in
-    let low = queued.2 in
+    let low = queued.1 in
     twice_fits P (i * st.delta) st.delta stage.layout (omega arith) stage.narrow

@@ -18,10 +18,10 @@ use Rattle.sp_phase.specs.Marks.{no_mark, mark_of, light_at, heavy_at, with_task
 use Rattle.sp_phase.specs.Rounds.{IsRunning, IsDone}
 
 -- the mark of a vertex after a write
-pub mark_here : (marks : List LeaderMark) (v u : ℕ) (m : LeaderMark) → IsVertex (length marks) v → u ≡ v → mark_of (set marks (v - 1) m) u ≡ m
+mark_here : (marks : List LeaderMark) (v u : ℕ) (m : LeaderMark) → IsVertex (length marks) v → u ≡ v → mark_of (set marks (v - 1) m) u ≡ m
 mark_here marks v u m at same = ap (λ x. get_or (set marks (v - 1) m) (x - 1) no_mark) same ∙ get_or-set_same marks (v - 1) m no_mark (let h = at in omega arith)
 
-pub mark_other : (marks : List LeaderMark) (v u : ℕ) (m : LeaderMark) → 1 ≤ v → 1 ≤ u → (u ≡ v → ⊥) → mark_of (set marks (v - 1) m) u ≡ mark_of marks u
+mark_other : (marks : List LeaderMark) (v u : ℕ) (m : LeaderMark) → 1 ≤ v → 1 ≤ u → (u ≡ v → ⊥) → mark_of (set marks (v - 1) m) u ≡ mark_of marks u
 mark_other marks v u m at there ne = get_or-set_other marks (v - 1) (u - 1) m no_mark (λ same. ne (omega arith))
 
 pub some_same : (a b : ℕ) → Some a ≡ Some b → a ≡ b

@@ -1,11 +1,9 @@
 pub mod Stage
-pub mod Held
 pub mod Marks
 pub mod Rounds
 pub mod Lead
 pub mod Running
 pub mod Sweep
-pub mod Behind
 pub mod Progress
 pub mod Settling
 pub mod Pairs

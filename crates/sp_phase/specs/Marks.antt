@@ -1,5 +1,5 @@
 -- What a leader records about each vertex.
-use Rattle.std.specs.Prelude.{◌≡◌, ℕ, ◌-◌, ◌⊎◌, List, [], ◌∷◌, ◌++◌, length, slice_index_or, slice_set, Option, Some, None, Bool, true, false}
+use Rattle.std.specs.Prelude.{◌≡◌, ℕ, ◌-◌, ◌⊎◌, List, [], ◌∷◌, ◌++◌, length, slice_index_or, slice_set, fold, Option, Some, None, Bool, true, false}
 use Rattle.sp_paths.specs.Paths.{IsVertex}
 use Rattle.sp_phase.specs.declared.marks.LeaderMark.{LeaderMark}
 use Rattle.sp_phase.specs.declared.marks.LeaderMarks.{LeaderMarks}
@@ -12,12 +12,15 @@ pub record Noted : Type 0 where
   pub each : List LeaderMark
   pub remembered : List ℕ
 
+-- This is what contracts see of the leader's marks.
 abbrev pub notes_of : LeaderMarks → Noted
 notes_of m = record { each = m.each.items; remembered = m.remembered.items }
 
+-- This is the mark of a vertex that took part in no round.
 abbrev pub no_mark : LeaderMark
 no_mark = record { light = None; heavy = None; round = 0; remembered = false }
 
+-- This is the mark of a vertex; vertex v has index v - 1.
 abbrev pub mark_of : List LeaderMark → (v : ℕ) → LeaderMark
 mark_of marks v = slice_index_or marks (v - 1) no_mark
 
@@ -34,8 +37,13 @@ abbrev pub with_task : TaskKind → (dist : ℕ) → LeaderMark → LeaderMark
 with_task Light dist mark = record mark { light = Some dist }
 with_task Heavy dist mark = record mark { heavy = Some dist }
 
+-- These are the marks once the task was run.
 abbrev pub marks_with : List LeaderMark → Task → List LeaderMark
 marks_with marks t = slice_set marks (t.vertex - 1) (with_task t.kind t.dist (mark_of marks t.vertex))
+
+-- These are the marks once the tasks were run, one after the other.
+abbrev pub marks_after : List LeaderMark → List Task → List LeaderMark
+marks_after marks tasks = fold marks_with marks tasks
 
 -- The recorded distances of each vertex stay the same.
 abbrev pub SameDistances : (before after : List LeaderMark) → Type 0

@@ -10,6 +10,7 @@ use Rattle.sp_phase.specs.declared.advancing.Until.TheVariants.{Final}
 use Rattle.sp_phase.specs.Lead.{Lead}
 use Rattle.sp_phase.specs.Sweep.{HasSwept}
 
+-- The source and the target are vertices of the graph.
 abbrev pub AreVertices : Graph → (s t : ℕ) → Type 0
 AreVertices g s t = IsVertex g.n s × IsVertex g.n t
 

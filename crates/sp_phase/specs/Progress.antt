@@ -1,12 +1,11 @@
 -- What contracts see of a run.
-use Rattle.std.specs.Prelude.{◌≡◌, ℕ, Option, Some, None, IsSome, IsSomeAnd}
+use Rattle.std.specs.Prelude.{◌≡◌, ℕ, Option, Some, None, IfSome, IsSome, IsSomeAnd}
 use Rattle.sp_word.specs.Word.{Word}
 use Rattle.sp_offer.specs.Story.{Knowledge, known_table}
 use Rattle.sp_answer.specs.declared.answer.RunError.{RunError}
 use Rattle.sp_answer.specs.declared.answer.RunError.TheVariants.{Memory, TooFar, NoSuchVertex}
 use Rattle.sp_phase.specs.Stage.{Stage}
 use Rattle.sp_phase.specs.Lead.{Lead}
-use Rattle.sp_phase.specs.Behind.{HasCome}
 
 -- The store's stage, and the caller of a run that isn't spent. `settled` is the bucket of the last answer that no round
 -- of heavy arcs has followed yet, and `closed` is the last bucket that was settled and then relaxed heavy.
@@ -16,18 +15,20 @@ pub record Progress : Type 0 where
   pub settled : Option ℕ
   pub closed : Option ℕ
 
+-- This is the caller of the leader, if there is a leader.
 abbrev pub caller_of : Option Lead → Option Knowledge
 caller_of None = None
 caller_of (Some l) = Some l.caller
 
--- If there is a leader, it belongs to the stage and has come this far.
-abbrev pub MayLead : (P : ℕ) → Stage → (settled closed : Option ℕ) → Option Lead → Type 0
-MayLead P st settled closed None = Unit {0}
-MayLead P st settled closed (Some l) = (l.stage ≡ st) × HasCome P st settled closed l
+-- If there is a leader, it belongs to the stage.
+abbrev pub MayLead : Stage → Option Lead → Type 0
+MayLead st leader = IfSome leader (λ l. l.stage ≡ st)
 
+-- The run isn't spent: it still has its caller.
 abbrev pub IsUnspent : Progress → Type 0
 IsUnspent run = IsSome run.caller
 
+-- The run is spent: it has no caller any more.
 abbrev pub IsSpent : Progress → Type 0
 IsSpent run = run.caller ≡ None
 

@@ -1,5 +1,5 @@
 -- What the tasks of a round do to the words and to the marks.
-use Rattle.std.specs.Prelude.{◌≡◌, ℕ, ◌≤◌, ◌⊎◌, List, length, All, Contains, Option, Some}
+use Rattle.std.specs.Prelude.{◌≡◌, ℕ, ◌≤◌, List, length, All}
 use Rattle.sp_word.specs.Word.{Pair, max_dist}
 use Rattle.sp_word.specs.History.{Table}
 use Rattle.sp_paths.specs.Paths.{IsGraph, IsVertex, HasWalk}
@@ -8,14 +8,12 @@ use Rattle.sp_paths.specs.Rows.{IsArcRelaxed}
 use Rattle.sp_offer.specs.Order.{IsKnownWord}
 use Rattle.sp_offer.specs.Story.{Knowledge}
 use Rattle.sp_bins.specs.declared.entry.Entry.{Entry}
-use Rattle.sp_rounds.specs.declared.task.TaskKind.{TaskKind}
-use Rattle.sp_rounds.specs.declared.task.TaskKind.TheVariants.{Light, Heavy}
 use Rattle.sp_rounds.specs.declared.task.Task.{Task}
 use Rattle.sp_rounds.specs.Left.{RoundDone}
 use Rattle.sp_rounds.specs.Offers.{arcs_of}
 use Rattle.sp_phase.specs.declared.marks.LeaderMark.{LeaderMark}
 use Rattle.sp_phase.specs.Stage.{Stage, law_of, rows_of}
-use Rattle.sp_phase.specs.Marks.{light_at, heavy_at, is_remembered}
+use Rattle.sp_phase.specs.Marks.{light_at, heavy_at}
 
 -- The task's distance is the length of a walk to its vertex.
 abbrev pub IsDue : (P : ℕ) → Stage → Task → Type 0
@@ -40,18 +38,3 @@ pub record IsRunning (P : ℕ) (st : Stage) (words : Table) (marks : List Leader
 -- What holds for a run still holds once the completed tasks are marked.
 abbrev pub KeepsRunning : List Task → (before after : List LeaderMark) → Type 0
 KeepsRunning tasks before after = (P : ℕ) (st : Stage) (words : Table) → IsGraph st.graph → All (IsDone P st words) tasks → IsRunning P st words before → IsRunning P st words after
-
--- ## Marks of the tasks
-
-abbrev pub HasTask : List Task → TaskKind → (v d : ℕ) → Type 0
-HasTask tasks kind v d = Contains tasks (record { vertex = v; dist = d; kind = kind })
-
--- A task of this kind at the vertex set the recorded distance; if there is no such task, it stays.
-abbrev pub IsMarkedBy : List Task → TaskKind → (v : ℕ) → (before after : Option ℕ) → Type 0
-IsMarkedBy tasks kind v before after = ((d : ℕ) × HasTask tasks kind v d × (after ≡ Some d)) ⊎ ((after ≡ before) × ((d : ℕ) → HasTask tasks kind v d → ⊥))
-
-pub record AreMarked (tasks : List Task) (before after : List LeaderMark) : Type 0 where
-  pub size : length after ≡ length before
-  pub light : (v : ℕ) → IsVertex (length before) v → IsMarkedBy tasks Light v (light_at before v) (light_at after v)
-  pub heavy : (v : ℕ) → IsVertex (length before) v → IsMarkedBy tasks Heavy v (heavy_at before v) (heavy_at after v)
-  pub remembered : (v : ℕ) → IsVertex (length before) v → is_remembered after v ≡ is_remembered before v

@@ -6,15 +6,14 @@ use Rattle.sp_paths.specs.Paths.{IsVertex}
 use Rattle.sp_offer.specs.Story.{Knowledge, known_table}
 use Rattle.sp_bins.specs.declared.entry.Entry.{Entry}
 use Rattle.sp_rounds.specs.Content.{Content}
-use Rattle.sp_rounds.specs.declared.task.Task.{Task}
 use Rattle.sp_phase.specs.Stage.{Stage, IsStage}
 use Rattle.sp_phase.specs.Marks.{Noted}
 use Rattle.sp_phase.specs.Rounds.{IsRunning}
 use Rattle.sp_phase.specs.Lead.{Lead}
 
--- The entry has a vertex, and a distance from low to max.
-abbrev pub IsQueued : (P : ℕ) → Stage → (low : ℕ) → Entry → Type 0
-IsQueued P st low e = IsVertex st.graph.n e.vertex × (low ≤ e.dist) × (e.dist ≤ max_dist P)
+-- The entry has a vertex, and a distance that fits a word.
+abbrev pub IsQueued : (P : ℕ) → Stage → Entry → Type 0
+IsQueued P st e = IsVertex st.graph.n e.vertex × (e.dist ≤ max_dist P)
 
 -- The caller belongs to the stage's table, and it made these marks.
 pub record Holds (P : ℕ) (st : Stage) (c : Knowledge) (m : Noted) : Type 0 where
@@ -27,16 +26,9 @@ pub record Holds (P : ℕ) (st : Stage) (c : Knowledge) (m : Noted) : Type 0 whe
 pub record Leads (P : ℕ) (st : Stage) (l : Lead) : Type 0 where
   pub holds : Holds P st l.caller l.marks
   pub width : l.buckets.delta ≡ st.delta
-  pub entries : All (IsQueued P st 0) l.buckets.entries
+  pub entries : All (IsQueued P st) l.buckets.entries
   pub size : length l.words ≡ st.graph.n
-
--- The tasks' distances are at least low.
-abbrev pub TasksFrom : (low : ℕ) → List Task → Type 0
-TasksFrom low tasks = All (λ t. low ≤ t.dist) tasks
 
 -- The entries are added to the old ones.
 abbrev pub HasPut : List Entry → (old new : Content) → Type 0
 HasPut entries old new = IsPermutation (old.entries ++ entries) new.entries
-
-abbrev pub EntriesFrom : (low : ℕ) → List Entry → Type 0
-EntriesFrom low entries = All (λ e. low ≤ e.dist) entries

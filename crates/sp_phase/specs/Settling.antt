@@ -7,6 +7,8 @@ use Rattle.sp_offer.specs.Story.{Knowledge, known_table}
 use Rattle.sp_phase.specs.Stage.{Stage}
 use Rattle.sp_phase.specs.Lead.{Lead}
 use Rattle.sp_phase.specs.Progress.{Progress}
+use Rattle.sp_phase.specs.declared.advancing.Until.{Until}
+use Rattle.sp_phase.specs.declared.advancing.Until.TheVariants.{BucketSettled, Swept, Final}
 
 -- Each vertex whose least length is below the bound has its word in the tree, and each pair whose distance is below the
 -- bound is its vertex's word in the tree.
@@ -36,3 +38,9 @@ IsToldBy P bucket run = IsSomeAnd run.caller (IsTold P run.stage bucket)
 -- A bucket that the answer names is later than the closed one, if there is one.
 abbrev pub IsLaterBucket : (closed bucket : Option ℕ) → Type 0
 IsLaterBucket closed bucket = IfSome bucket (λ i. IfSome closed (λ j. j < i))
+
+-- The bucket is later than the closed one that the leader is to leave behind, if there is one.
+abbrev pub IsBeyond : Until → (bucket : ℕ) → Type 0
+IsBeyond (BucketSettled closed) i = IfSome closed (λ j. j < i)
+IsBeyond Swept i = Unit {0}
+IsBeyond (Final t) i = Unit {0}

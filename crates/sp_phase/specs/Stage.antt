@@ -25,6 +25,7 @@ pub record Stage : Type 0 where
 abbrev pub law_of : (P : ℕ) → Stage → ℕ → Word → Type 0
 law_of P st = lawful P (IsLawful st.graph st.source)
 
+-- These are the rows of the stage's graph, split at its width.
 abbrev pub rows_of : Stage → Split
 rows_of st = record { graph = st.graph; delta = st.delta }
 
@@ -40,10 +41,6 @@ pub record IsStage (P : ℕ) (st : Stage) : Type 0 where
 -- This is a stage of the graph.
 abbrev pub IsOf : Graph → (delta source : ℕ) → Stage → Type 0
 IsOf g delta s st = (st.graph ≡ g) × (st.source ≡ s) × (st.delta ≡ delta)
-
--- These are the rows of a graph, split at a width.
-abbrev pub AreRowsOf : Graph → (delta : ℕ) → Split → Type 0
-AreRowsOf g delta rows = (rows.graph ≡ g) × (rows.delta ≡ delta)
 
 -- The rows and the tables are those of the stage.
 pub record AreOfStage (st : Stage) (split : Split) (walks : WalksFrom) (words claims : ℕ) : Type 0 where

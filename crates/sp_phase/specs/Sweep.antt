@@ -9,7 +9,7 @@ use Rattle.sp_offer.specs.Story.{Knowledge, known_table}
 use Rattle.sp_answer.specs.Table.{TreeTable, table_of}
 use Rattle.sp_bins.specs.declared.entry.Entry.{Entry}
 use Rattle.sp_phase.specs.declared.marks.LeaderMark.{LeaderMark}
-use Rattle.sp_phase.specs.Stage.{Stage, IsStage, Learns, law_of}
+use Rattle.sp_phase.specs.Stage.{Stage, IsStage, law_of}
 use Rattle.sp_phase.specs.Marks.{mark_of, light_at, heavy_at}
 use Rattle.sp_phase.specs.declared.sweeping.Bounds.{Bounds}
 use Rattle.sp_phase.specs.Lead.{Lead}
@@ -18,6 +18,7 @@ use Rattle.sp_phase.specs.Lead.{Lead}
 abbrev pub IsMarkedAt : LeaderMark → Bounds → (d : ℕ) → Type 0
 IsMarkedAt m b d = (d < b.light → m.light ≡ Some d) × (d < b.heavy → m.heavy ≡ Some d)
 
+-- The marks say so of this vertex.
 abbrev pub IsRelaxedAtDist : List LeaderMark → Bounds → (u d : ℕ) → Type 0
 IsRelaxedAtDist marks b u d = IsMarkedAt (mark_of marks u) b d
 
@@ -51,6 +52,7 @@ IsSwept P st c marks copy = IsCopied P st c marks copy × HasNoOpen st.graph (wo
 abbrev pub HasCopied : (P : ℕ) → Lead → Type 0
 HasCopied P l = IsCopied P l.stage l.caller l.marks.each l.words
 
+-- The leader has copied the words, and no vertex is open in its copy.
 abbrev pub HasSwept : (P : ℕ) → Lead → Type 0
 HasSwept P l = IsSwept P l.stage l.caller l.marks.each l.words
 
@@ -62,8 +64,6 @@ HasRelaxed b l = AreRelaxed l.words l.marks.each b (length l.words)
 pub record TakesCopy (P : ℕ) (l l' : Lead) : Type 0 where
   pub rest : l' ≡ record l { caller = l'.caller; words = l'.words }
   pub copied : HasCopied P l'
-  pub below : (v : ℕ) → IsVertex l.stage.graph.n v → IsNoMore (word_at l'.words v) (known_table l.caller.story v)
-  pub learns : Learns P l.stage l.caller l'.caller
 
 -- The tree has these words.
 abbrev pub HasWords : TreeTable → (n : ℕ) → Table → Type 0

@@ -1,9 +1,8 @@
 //! Advances a leader from bucket to bucket.
-ghost use Rattle.std.specs.Prelude.{◌≡◌, ◌+◌, ◌*◌, ◌<◌, Some, None, IsTrue, IfOk, IfSome, IfNone};
+ghost use Rattle.std.specs.Prelude.{◌≡◌, ◌+◌, ◌*◌, ◌<◌, ◌↔◌, Some, None, IsTrue, IfOk, IfSome, IfNone};
 ghost use Rattle.sp_paths.specs.Paths.{IsVertex};
 ghost use Rattle.sp_rounds.specs.Content.{IsLowest};
-ghost use Rattle.sp_phase.specs.Settling.{Tells};
-ghost use Rattle.sp_phase.specs.Behind.{Reaches, ComesOn};
+ghost use Rattle.sp_phase.specs.Settling.{Tells, IsLaterBucket, IsBeyond};
 ghost use Rattle.sp_phase.specs.Sweep.{HasSwept};
 ghost use Rattle.sp_phase.specs.Pairs.{IsBelowDist, IsWithinGraph, KnowsFinal, KnowsTarget};
 
@@ -19,9 +18,9 @@ use std::thread::Threads;
 /// The point up to which a leader advances.
 #[derive(Clone, Copy, Debug)]
 pub(crate) enum Until {
-    /// Until a bucket is final, or all words are. Each bucket is tested by a copy of all words, and heavy arcs are
-    /// left.
-    BucketSettled,
+    /// Until a bucket later than this one, the last that is closed, is final, or all words are. Each bucket is tested by
+    /// a copy of all words, and heavy arcs are left.
+    BucketSettled(Option<u64>),
     /// Until all words are final. Heavy arcs are relaxed after each bucket, and the words are copied once no entry is
     /// queued.
     Swept,
@@ -51,6 +50,16 @@ fn bounds_of(bucket: u64, delta: u64) -> Bounds
     }
 }
 
+// Returns whether the bucket is later than the closed one, if there is one.
+fn is_later(closed: Option<u64>, bucket: u64) -> bool
+    ensures { IsTrue result ↔ IsLaterBucket closed (Some bucket) }
+{
+    match closed {
+        None => true,
+        Some(last) => last < bucket,
+    }
+}
+
 // Returns whether the word has a distance below this one.
 fn is_within<const P: u32>(word: Word<P>, end: u64) -> bool
     ensures { IsTrue result → IsBelowDist word.entry end }
@@ -62,21 +71,28 @@ fn is_within<const P: u32>(word: Word<P>, end: u64) -> bool
 }
 
 impl<'a, 'g, const P: u32> Leader<'a, 'g, P> {
-    // Empties the lowest bucket, tests it, and returns whether it passed. The vertices that failed the test are queued.
+    // Empties the lowest bucket, tests it, and returns whether it passed. The vertices that failed the test are queued. A
+    // bucket that isn't later than the closed one has come back, which never happens in practice. It is closed again, and
+    // doesn't pass.
     fn settle_bucket<R: Threads + Sync, G: Gate + Sync>(
         self,
         rt: &R,
         gate: &G,
+        closed: Option<u64>,
         bucket: u64,
     ) -> Result<(Leader<'a, 'g, P>, bool), AllocError>
         requires { IsLowest self.buckets bucket }
         ensures stage { IfOk result (λ done. done.0.stage ≡ self.entry.stage) }
         ensures told { IfOk result (λ done. IsTrue done.1 → Tells P (Some bucket) done.0) }
-        ensures comes { IfOk result (ComesOn P (Some bucket) self.entry) }
+        ensures later { IfOk result (λ done. IsTrue done.1 → IsLaterBucket closed (Some bucket)) }
     {
         tested_copy();
         let bounds = bounds_of(bucket, self.store.delta().get());
         let mut leader = self.empty_bucket(rt, gate, bucket)?;
+        if !is_later(closed, bucket) {
+            leader.count_came_back();
+            return Ok((leader.heavy_round(rt, gate)?, false));
+        }
         let passed = leader.queue_open(bounds)?;
         Ok((leader, passed))
     }
@@ -117,11 +133,10 @@ impl<'a, 'g, const P: u32> Leader<'a, 'g, P> {
         gate: &G,
         until: Until,
     ) -> Result<Leader<'a, 'g, P>, AllocError>
-        ensures stage { IfOk result (λ after. after.stage ≡ self.entry.stage) }
-        ensures left { until ≡ Until.BucketSettled → IfOk result (λ after. after ≡ self.entry) }
+        ensures { IfOk result (λ after. after.stage ≡ self.entry.stage) }
     {
         match until {
-            Until::BucketSettled => Ok(self),
+            Until::BucketSettled(_) => Ok(self),
             Until::Swept | Until::Final(_) => self.heavy_round(rt, gate),
         }
     }
@@ -139,7 +154,7 @@ impl<'a, 'g, const P: u32> Leader<'a, 'g, P> {
         requires target { IsWithinGraph self.stage.graph until }
         ensures stage { IfOk result (λ done. done.0.stage ≡ self.entry.stage) }
         ensures told { IfOk result (λ done. IsTrue done.1 → Tells P bucket done.0) }
-        ensures comes { until ≡ Until.BucketSettled → IfOk result (ComesOn P bucket self.entry) }
+        ensures later { IfOk result (λ done. IsTrue done.1 → IfSome bucket (IsBeyond until)) }
         ensures swept { IfOk result (λ done. IsTrue done.1 → IfNone bucket (HasSwept P done.0)) }
         ensures whole { IfOk result (λ done. IsTrue done.1 → until ≡ Until.Swept → bucket ≡ None) }
         ensures target { IfOk result (λ done. IsTrue done.1 → KnowsFinal P until done.0) }
@@ -150,7 +165,7 @@ impl<'a, 'g, const P: u32> Leader<'a, 'g, P> {
                 Ok((self, none))
             }
             Some(lowest) => match until {
-                Until::BucketSettled => self.settle_bucket(rt, gate, lowest),
+                Until::BucketSettled(closed) => self.settle_bucket(rt, gate, closed, lowest),
                 Until::Final(target) => self.settle_target(rt, gate, lowest, target),
                 Until::Swept => {
                     let leader = self.empty_bucket(rt, gate, lowest)?;
@@ -170,8 +185,7 @@ impl<'a, 'g, const P: u32> Leader<'a, 'g, P> {
         requires { IsWithinGraph self.stage.graph until }
         ensures stage { IfOk result (λ done. done.leader.stage ≡ self.entry.stage) }
         ensures told { IfOk result (λ done. Tells P done.bucket done.leader) }
-        ensures come { until ≡ Until.BucketSettled
-            → IfOk result (λ done. Reaches P done.bucket self.entry done.leader) }
+        ensures later { IfOk result (λ done. IfSome done.bucket (IsBeyond until)) }
         ensures swept { IfOk result (λ done. IfNone done.bucket (HasSwept P done.leader)) }
         ensures whole { IfOk result (λ done. until ≡ Until.Swept → done.bucket ≡ None) }
         ensures target { IfOk result (λ done. KnowsFinal P until done.leader) }

@@ -1,11 +1,10 @@
 //! The leader of a run.
-ghost use Rattle.std.specs.Prelude.{◌≡◌, ◌≤◌, None, IfOk, IfSome};
+ghost use Rattle.std.specs.Prelude.{◌≡◌, ◌≤◌, IfOk, IfSome};
 ghost use Rattle.sp_paths.specs.Paths.{IsVertex};
 ghost use Rattle.sp_offer.specs.Story.{known_table};
 ghost use Rattle.sp_rounds.specs.Content.{IsLowest};
 ghost use Rattle.sp_phase.specs.Stage.{IsStage};
-ghost use Rattle.sp_phase.specs.Lead.{lead_without_memory};
-ghost use Rattle.sp_phase.specs.Behind.{HasCome, Reads};
+ghost use Rattle.sp_phase.specs.Lead.{lead_without_memory, Reads};
 
 use crate::marks::LeaderMarks;
 use crate::store::Store;
@@ -15,7 +14,8 @@ use sp_word::{Word, Workers};
 use std::alloc::{AllocError, Global};
 use std::marker::Model;
 
-/// More rounds than any run takes, and more buckets. A run that took more would end as one that is refused memory.
+/// Upper bound on the rounds of a run, and on its buckets; never reached in practice. A run that took more would fail as if
+/// memory had been refused.
 pub(crate) const MOST_ROUNDS: u64 = 1 << 60;
 
 /// The leader of a run over a store. It makes tasks, lets workers run them round after round, and looks at copies of
@@ -34,6 +34,8 @@ pub(crate) struct Leader<'a, 'g, const P: u32> {
     pub(crate) buckets: Buckets,
     /// Room for a copy of all words.
     pub(crate) words: Vec<Word<P>>,
+    /// How many buckets have come back.
+    pub(crate) came_back: u64,
 }
 
 impl<'a, 'g, const P: u32> Model for Leader<'a, 'g, P> {
@@ -62,7 +64,6 @@ impl<'a, 'g, const P: u32> Leader<'a, 'g, P> {
         requires claimer { claimer.table ≡ store.now.claims }
         ensures stage { IfOk result (λ leader. leader.stage ≡ store.entry.now) }
         ensures range { IfOk result (λ leader. IsStage P leader.stage) }
-        ensures come { IfOk result (λ leader. HasCome P leader.stage None None leader) }
     {
         let n = store.n();
         let mut buckets = Buckets::with_longest(
@@ -86,6 +87,7 @@ impl<'a, 'g, const P: u32> Leader<'a, 'g, P> {
             marks,
             buckets,
             words,
+            came_back: 0,
         })
     }
 
@@ -117,6 +119,13 @@ impl<'a, 'g, const P: u32> Leader<'a, 'g, P> {
         ensures { self.new ≡ self.old }
     {
         self.marks.begin_round();
+    }
+
+    /// Counts a bucket that has come back.
+    pub(crate) fn count_came_back(&mut self)
+        ensures { self.new ≡ self.old }
+    {
+        self.came_back = self.came_back.saturating_add(1);
     }
 
     /// Returns the vertices that are remembered.

@@ -1,13 +1,11 @@
-//! Runs from a source by rounds: they find which words are final before the end, and the shortest-path tree or the
-//! vertex that is too far. What a run works on stands beside it: rows and tables for a source, and marks of what was
-//! relaxed.
+//! Runs from a source by rounds: they find which words are final before the end, and the shortest-path tree or the vertex that is
+//! too far. Beside the runs are the data that they work on: rows and tables for a source, and marks that record what was relaxed.
 //!
 //! This crate is the engine by rounds, a library beside the engine that the program runs; it isn't part of the program.
 #![tactic(auto)]
 
 mod advancing;
 mod finish;
-mod held;
 mod leader;
 mod marks;
 mod pair;

@@ -1,8 +1,8 @@
 //! What the leader records about each vertex.
 ghost use Rattle.std.specs.Prelude.{◌≡◌, ◌+◌, ◌<◌, [], false, vec_len, replicate, All, IsTrue, IfOk, OnOk};
 ghost use Rattle.sp_paths.specs.Paths.{IsVertex};
-ghost use Rattle.sp_phase.specs.Marks.{no_mark, notes_of, mark_of, marks_with, SameDistances, Remembers, Enters, Forgets};
-ghost use Rattle.sp_phase.specs.Rounds.{KeepsRunning, AreMarked};
+ghost use Rattle.sp_phase.specs.Marks.{no_mark, notes_of, mark_of, marks_with, marks_after, SameDistances, Remembers, Enters, Forgets};
+ghost use Rattle.sp_phase.specs.Rounds.{KeepsRunning};
 
 use sp_rounds::{Task, TaskKind};
 use std::alloc::{AllocError, Global};
@@ -67,7 +67,7 @@ impl LeaderMarks {
         self.round = self.round.saturating_add(1);
     }
 
-    /// Lets a vertex into the round, and remembers it. Returns whether the vertex wasn't in the round yet.
+    /// Adds a vertex to the round, and remembers it. Returns whether the vertex wasn't in the round yet.
     pub fn enter(&mut self, vertex: u32) -> Result<bool, AllocError>
         requires { IsVertex (vec_len self.old.each) vertex }
         ensures distances { SameDistances self.old.each.items self.new.each.items }
@@ -120,7 +120,7 @@ impl LeaderMarks {
     pub fn write(&mut self, tasks: &[Task])
         requires { All (λ t. IsVertex (vec_len self.old.each) t.vertex) tasks.now }
         ensures running { KeepsRunning tasks.now self.old.each.items self.new.each.items }
-        ensures marked { AreMarked tasks.now self.old.each.items self.new.each.items }
+        ensures marked { self.new.each.items ≡ marks_after self.old.each.items tasks.now }
         ensures remembered { self.new.remembered ≡ self.old.remembered }
         ensures round { self.new.round ≡ self.old.round }
     {
@@ -145,7 +145,7 @@ fn mark_tasks(marks: &mut Vec<LeaderMark>, tasks: &[Task])
     requires { All (λ t. IsVertex (vec_len marks.old) t.vertex) tasks.now }
     ensures length { vec_len marks.new ≡ vec_len marks.old }
     ensures running { KeepsRunning tasks.now marks.old.items marks.new.items }
-    ensures marked { AreMarked tasks.now marks.old.items marks.new.items }
+    ensures marked { marks.new.items ≡ marks_after marks.old.items tasks.now }
 {
     for task in tasks {
         mark_task(marks, *task);

@@ -2,13 +2,11 @@
 //!
 //! A bucket is emptied by rounds of light arcs, and one round of heavy arcs follows. (U. Meyer and P. Sanders,
 //! "Delta-stepping: a parallelizable shortest path algorithm", Journal of Algorithms 49, 2003, section 2.)
-ghost use Rattle.std.specs.Prelude.{◌≡◌, ℕ, ◌++◌, All, IfOk, IfSome, OnOk, option_to_list, take};
+ghost use Rattle.std.specs.Prelude.{◌≡◌, ℕ, ◌++◌, All, IfOk, OnOk, option_to_list, take};
 ghost use Rattle.sp_paths.specs.Paths.{IsVertex};
-ghost use Rattle.sp_rounds.specs.Content.{Takes};
-ghost use Rattle.sp_phase.specs.Stage.{Learns};
 ghost use Rattle.sp_phase.specs.Rounds.{IsDue};
 ghost use Rattle.sp_phase.specs.Running.{IsQueued, HasPut};
-ghost use Rattle.sp_phase.specs.Behind.{HasRun, PreparesLight, GivesHeavy, KeepsPast, KeepsFrom, CatchesUp, Empties};
+ghost use Rattle.sp_phase.specs.Lead.{GoesOn, MakesDue};
 
 use crate::leader::{Leader, MOST_ROUNDS};
 use crate::store::RoundTeam;
@@ -47,7 +45,7 @@ impl<'a, 'g, const P: u32> Leader<'a, 'g, P> {
         tasks: Vec<Task>,
     ) -> Result<Leader<'a, 'g, P>, AllocError>
         requires { All (IsDue P self.stage) tasks.items }
-        ensures { IfOk result (HasRun P self.entry.stage tasks.items self.entry) }
+        ensures { IfOk result (GoesOn P self.entry) }
     {
         let Leader {
             alloc,
@@ -58,6 +56,7 @@ impl<'a, 'g, const P: u32> Leader<'a, 'g, P> {
             mut marks,
             mut buckets,
             words,
+            came_back,
         } = self;
         let team = RoundTeam {
             alloc,
@@ -79,6 +78,7 @@ impl<'a, 'g, const P: u32> Leader<'a, 'g, P> {
             marks,
             buckets,
             words,
+            came_back,
         })
     }
 
@@ -86,8 +86,7 @@ impl<'a, 'g, const P: u32> Leader<'a, 'g, P> {
     // yet.
     fn light_task(&mut self, entry: &Entry) -> Result<Option<Task>, AllocError>
         requires { IsVertex self.old.stage.graph.n entry.now.vertex }
-        ensures dist { IfOk result (λ found. IfSome found (λ task. task.dist ≡ entry.now.dist)) }
-        ensures prepares { IfOk result (λ t. PreparesLight P (option_to_list t) self.old self.new) }
+        ensures { IfOk result (λ task. MakesDue P (option_to_list task) self.old self.new) }
     {
         let word = self.read(entry.vertex);
         if word.dist() != Some(entry.dist) {
@@ -110,10 +109,8 @@ impl<'a, 'g, const P: u32> Leader<'a, 'g, P> {
         gate: &G,
         entries: &[Entry],
     ) -> Result<Leader<'a, 'g, P>, AllocError>
-        requires { All (IsQueued P self.stage 0) entries.now }
-        ensures stage { IfOk result (λ after. after.stage ≡ self.entry.stage) }
-        ensures past { IfOk result (KeepsPast P self.entry) }
-        ensures from { IfOk result (KeepsFrom entries.now self.entry) }
+        requires { All (IsQueued P self.stage) entries.now }
+        ensures { IfOk result (GoesOn P self.entry) }
     {
         let mut tasks = Vec::new(self.alloc);
         self.begin_round();
@@ -127,7 +124,7 @@ impl<'a, 'g, const P: u32> Leader<'a, 'g, P> {
     // Returns the heavy task of a vertex, at its current distance.
     fn heavy_task(&mut self, vertex: u32) -> Option<Task>
         requires { IsVertex self.old.stage.graph.n vertex }
-        ensures { GivesHeavy P vertex result self.old self.new }
+        ensures { MakesDue P (option_to_list result) self.old self.new }
     {
         self.marks.forget(vertex);
         let dist = self.read(vertex).dist()?;
@@ -144,9 +141,7 @@ impl<'a, 'g, const P: u32> Leader<'a, 'g, P> {
         rt: &R,
         gate: &G,
     ) -> Result<Leader<'a, 'g, P>, AllocError>
-        ensures stage { IfOk result (λ after. after.stage ≡ self.entry.stage) }
-        ensures learns { IfOk result (λ l. Learns P self.entry.stage self.entry.caller l.caller) }
-        ensures past { IfOk result (CatchesUp P self.entry) }
+        ensures { IfOk result (GoesOn P self.entry) }
     {
         let mut tasks = Vec::new(self.alloc);
         self.begin_round();
@@ -161,9 +156,7 @@ impl<'a, 'g, const P: u32> Leader<'a, 'g, P> {
     // Removes and returns the entries of a bucket.
     fn take_bucket(&mut self, bucket: u64) -> Vec<Entry>
         ensures rest { self.new ≡ record self.old { buckets = self.new.buckets } }
-        ensures queued { All (IsQueued P self.old.stage 0) result.items }
-        ensures takes { Takes bucket result.items self.old.buckets self.new.buckets }
-        ensures empties { Empties bucket self.old self.new }
+        ensures queued { All (IsQueued P self.old.stage) result.items }
     {
         self.buckets.take(bucket)
     }
@@ -175,9 +168,7 @@ impl<'a, 'g, const P: u32> Leader<'a, 'g, P> {
         gate: &G,
         bucket: u64,
     ) -> Result<Leader<'a, 'g, P>, AllocError>
-        ensures stage { IfOk result (λ after. after.stage ≡ self.entry.stage) }
-        ensures past { IfOk result (KeepsPast P self.entry) }
-        ensures empties { IfOk result (Empties bucket self.entry) }
+        ensures { IfOk result (λ after. after.stage ≡ self.entry.stage) }
     {
         for _ in 0..MOST_ROUNDS {
             let taken = self.take_bucket(bucket);

@@ -19,7 +19,7 @@ use std::alloc::Global;
 use std::marker::Model;
 use std::thread::Threads;
 
-/// What a run begins with: the first caller and the first claimer of its store, and its workers.
+/// What a run starts with: the first caller and the first claimer of its store, and its workers.
 #[derive(Drop)]
 pub(crate) struct RunStart {
     pub caller: Caller,
@@ -36,7 +36,7 @@ pub struct Run<'a, 'g, const P: u32> {
     leader: Option<Leader<'a, 'g, P>>,
     // The bucket of the last answer that no `heavy` has followed yet.
     settled: Option<u64>,
-    // The last bucket that `heavy` followed.
+    // The last settled bucket that `heavy` followed.
     closed: Option<u64>,
 }
 
@@ -53,8 +53,7 @@ impl<'a, 'g, const P: u32> Model for Run<'a, 'g, P> {
       closed = r.closed;
     } };
 
-    ghost invariant = { λ r. IsStage P r.store.now
-        × MayLead P r.store.now r.settled r.closed r.leader };
+    ghost invariant = { λ r. IsStage P r.store.now × MayLead r.store.now r.leader };
 }
 
 // Returns the last bucket that is closed, once heavy arcs were relaxed after the settled one.
@@ -95,7 +94,7 @@ impl<'a, 'g, const P: u32> Run<'a, 'g, P> {
     /// Empties the lowest bucket with an entry by rounds of light arcs, and copies all words, until no vertex is left
     /// to relax. Then the bucket is final, and its number is returned before its heavy arcs are relaxed. If no entry is
     /// left and no vertex is open, all words are final. A bucket that is returned is later than each that `heavy`
-    /// followed. If it fails, the run is spent.
+    /// followed: one that isn't is closed again, and not returned. If it fails, the run is spent.
     pub fn settle<R: Threads + Sync, G: Gate + Sync>(
         &mut self,
         rt: &R,
@@ -112,7 +111,7 @@ impl<'a, 'g, const P: u32> Run<'a, 'g, P> {
         let Some(leader) = self.leader.take() else {
             return Err(RunError::Memory);
         };
-        match leader.advance(rt, gate, Until::BucketSettled) {
+        match leader.advance(rt, gate, Until::BucketSettled(self.closed)) {
             Err(_) => Err(RunError::Memory),
             Ok(settled) => {
                 let Settled { leader, bucket } = settled;
@@ -171,7 +170,18 @@ impl<'a, 'g, const P: u32> Run<'a, 'g, P> {
         }
     }
 
-    /// Completes the run, and returns its caller, which knows the tree's words. A spent run answers Memory.
+    /// Returns how many buckets came back: they were the lowest and not later than the closed one, so `settle` closed them
+    /// again. In practice there is none, though this isn't proved. A spent run has none.
+    pub fn came_back(&self) -> u64
+        ensures { IsSpent self.now → result ≡ 0 }
+    {
+        match &self.leader {
+            Some(leader) => leader.came_back,
+            None => 0,
+        }
+    }
+
+    /// Completes the run, and returns the tree and the caller, which knows the tree's words. A spent run fails with `Memory`.
     pub fn finish<R: Threads + Sync, G: Gate + Sync>(
         self,
         rt: &R,

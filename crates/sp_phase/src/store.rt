@@ -3,11 +3,9 @@ ghost use Rattle.std.specs.Prelude.{◌≡◌, ◌<◌, ◌≤◌, [], true, len
 ghost use Rattle.sp_word.specs.Word.{Pair, is_layout, max_pred};
 ghost use Rattle.sp_paths.specs.Paths.{IsVertex, IsArc};
 ghost use Rattle.sp_offer.specs.Story.{empty_story, known_table, IsCopy};
-ghost use Rattle.sp_phase.specs.Stage.{IsUnstored, IsStage, IsOf, AreRowsOf, Learns, law_of};
-ghost use Rattle.sp_phase.specs.Held.{split_of};
+ghost use Rattle.sp_phase.specs.Stage.{IsUnstored, IsStage, IsOf, Learns, law_of};
 ghost use Rattle.sp_phase.specs.Rounds.{IsDue, IsRoundOf};
 
-use crate::held::Held;
 use sp_answer::RunError;
 use sp_graph::{Graph, Rows};
 use sp_offer::{Caller, OfferTable};
@@ -31,8 +29,7 @@ pub struct RoundTeam {
 }
 
 /// The tables of a run from one source of a graph: its rows, split at `delta`, and a word and a claim for each vertex.
-/// The rows belong to the store, or are lent to it, so that runs from several sources share them. Callers of its table
-/// may read and offer while a run continues.
+/// Callers of its table may read and offer while a run continues.
 ///
 /// Contracts see the graph, the source, `delta`, which tables these are, and the number of tasks from which a round is
 /// shared.
@@ -41,7 +38,7 @@ pub struct Store<'g, const P: u32> {
     graph: &'g Graph,
     delta: Delta<P>,
     source: u32,
-    rows: Held<'g>,
+    rows: Rows,
     table: OfferTable<Walks<'g>, P>,
     claims: ClaimTable,
     shared_from: usize,
@@ -49,7 +46,6 @@ pub struct Store<'g, const P: u32> {
 
 impl<'g, const P: u32> Model for Store<'g, P> {
     ghost use Rattle.sp_phase.specs.Stage.{Stage, IsStage, AreOfStage};
-    ghost use Rattle.sp_phase.specs.Held.{split_of};
 
     ghost Value = { Stage };
 
@@ -71,7 +67,7 @@ impl<'g, const P: u32> Model for Store<'g, P> {
       shared_from = s.shared_from;
     }
         in IsStage P st
-        × AreOfStage st (split_of s.rows) s.table.law s.table.vertices s.claims.words };
+        × AreOfStage st s.rows s.table.law s.table.vertices s.claims.words };
 }
 
 impl<'g, const P: u32> Store<'g, P> {
@@ -97,49 +93,18 @@ impl<'g, const P: u32> Store<'g, P> {
         if !graph.has_vertex(source) {
             return Err(RunError::NoSuchVertex);
         }
-        let Ok(rows) = Rows::split(alloc, graph, delta.get()) else {
-            return Err(RunError::Memory);
-        };
-        Store::make(alloc, graph, Held::Own(rows), delta, source).map_err(|_| RunError::Memory)
-    }
-
-    /// Makes the tables over rows that are lent, so that runs from several sources split the rows of the graph once.
-    pub fn over(
-        alloc: Global,
-        graph: &'g Graph,
-        rows: &'g Rows,
-        delta: Delta<P>,
-        source: u32,
-    ) -> Result<(Store<'g, P>, Caller, Claimer), RunError>
-        requires layout { is_layout P ≡ true }
-        requires n { graph.now.n ≤ max_pred P }
-        requires rows { AreRowsOf graph.now delta rows.now }
-        ensures store { IfOk result (λ made. IsOf graph.entry.now delta.entry source made.0) }
-        ensures range { IfOk result (λ made. IsStage P made.0) }
-        ensures shared_from { IfOk result (λ made. made.0.shared_from ≡ 0) }
-        ensures caller { IfOk result
-            (λ made. (made.1.table ≡ made.0.table) × (made.1.story ≡ empty_story)) }
-        ensures claimer { IfOk result
-            (λ made. (made.2.table ≡ made.0.claims) × (made.2.grants ≡ [])) }
-        ensures refused { IfErr result (IsUnstored graph.entry.now source) }
-    {
-        if !graph.has_vertex(source) {
-            return Err(RunError::NoSuchVertex);
-        }
-        Store::make(alloc, graph, Held::Lent(rows), delta, source).map_err(|_| RunError::Memory)
+        Store::make(alloc, graph, delta, source).map_err(|_| RunError::Memory)
     }
 
     // Makes the tables for a source that is a vertex.
     fn make(
         alloc: Global,
         graph: &'g Graph,
-        rows: Held<'g>,
         delta: Delta<P>,
         source: u32,
     ) -> Result<(Store<'g, P>, Caller, Claimer), AllocError>
         requires layout { is_layout P ≡ true }
         requires n { graph.now.n ≤ max_pred P }
-        requires rows { AreRowsOf graph.now delta (split_of rows) }
         requires source { IsVertex graph.now.n source }
         ensures store { IfOk result (λ made. IsOf graph.entry.now delta.entry source made.0) }
         ensures range { IfOk result (λ made. IsStage P made.0) }
@@ -150,7 +115,7 @@ impl<'g, const P: u32> Store<'g, P> {
             (λ made. (made.2.table ≡ made.0.claims) × (made.2.grants ≡ [])) }
     {
         let n = graph.n();
-        let _ = delta.get();
+        let rows = Rows::split(alloc, graph, delta.get())?;
         let (table, caller) = OfferTable::new(alloc, n, Walks::new(graph, source))?;
         let (claims, claimer) = ClaimTable::new(alloc, n)?;
         let store = Store {
@@ -165,8 +130,8 @@ impl<'g, const P: u32> Store<'g, P> {
         Ok((store, caller, claimer))
     }
 
-    /// Returns the same tables, except that the leader alone runs a round of fewer than `tasks` tasks: starting threads
-    /// takes longer than a short round.
+    /// Returns the same tables, except that the leader alone runs a round of fewer than `tasks` tasks: for a short round,
+    /// starting threads takes longer than the round.
     pub fn sharing_from(self, tasks: usize) -> Store<'g, P>
         ensures { result ≡ record self.entry { shared_from = tasks } }
     {
@@ -285,7 +250,7 @@ impl<'g, const P: u32> Store<'g, P> {
         let round = Round {
             table: &self.table,
             claims: &self.claims,
-            rows: self.rows.rows(),
+            rows: &self.rows,
             tasks,
             number: team.number,
             workers: self.workers_for(tasks.len(), team.workers),

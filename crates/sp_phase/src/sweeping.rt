@@ -3,7 +3,6 @@ ghost use Rattle.std.specs.Prelude.{◌≡◌, ◌<◌, ◌↔◌, [], Some, Non
 ghost use Rattle.sp_paths.specs.Paths.{IsVertex};
 ghost use Rattle.sp_phase.specs.Marks.{mark_of};
 ghost use Rattle.sp_phase.specs.Settling.{Tells};
-ghost use Rattle.sp_phase.specs.Behind.{KeepsLevel, StaysFrom};
 ghost use Rattle.sp_phase.specs.Sweep.{IsMarkedAt, AreRelaxed, IsRelaxedHere, IsOpen, HasRelaxed, HasCopied, HasSwept, TakesCopy};
 
 use crate::leader::Leader;
@@ -105,8 +104,6 @@ impl<'a, 'g, const P: u32> Leader<'a, 'g, P> {
         ensures stage { self.new.stage ≡ self.old.stage }
         ensures copied { OnOk result (HasCopied P self.new) }
         ensures none { IfOk result (λ none. IsTrue none → HasRelaxed bounds self.new) }
-        ensures past { OnOk result (KeepsLevel P self.old self.new) }
-        ensures kept { IfOk result (λ none. IsTrue none → StaysFrom self.old self.new) }
     {
         self.take_copy();
         let marks = self.marks.each.as_slice();
@@ -121,7 +118,6 @@ impl<'a, 'g, const P: u32> Leader<'a, 'g, P> {
         ensures stage { self.new.stage ≡ self.old.stage }
         ensures swept { IfOk result (λ none. IsTrue none → HasSwept P self.new) }
         ensures told { IfOk result (λ none. IsTrue none → Tells P None self.new) }
-        ensures past { OnOk result (KeepsLevel P self.old self.new) }
     {
         swept_copy();
         let every = Bounds {

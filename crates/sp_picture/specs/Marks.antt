@@ -20,6 +20,7 @@ abbrev pub marks_from : {P : ℕ} → Machine P → (actors : List ℕ) → List
 marks_from m [] = []
 marks_from m (actor ∷ more) = mark_of m actor ∷ marks_from (machine_after m actor) more
 
+-- This is what a step was, given its exchange, if it made one, and the vertex whose word it looked at.
 abbrev pub deed_by : (exchange : Option Exchange) → (vertex : ℕ) → Deed
 deed_by None vertex = if nat_eq vertex 0 then Rest else Load
 deed_by (Some IsWon) vertex = Won
@@ -34,6 +35,7 @@ abbrev pub offered_by : {P : ℕ} → Call P → Option Word
 offered_by (Offer word found reply) = Some word
 offered_by (Read found) = None
 
+-- This is the word that a winning step offered.
 abbrev pub offered_at : {P : ℕ} → Deed → Option (Ended P) → Option Word
 offered_at Won (Some ended) = offered_by ended.call
 offered_at deed ended = None
@@ -42,6 +44,6 @@ offered_at deed ended = None
 abbrev pub stored_by : {P : ℕ} → StepMark P → Option Word
 stored_by mark = offered_at (deed_of mark) mark.effect.ended
 
--- The step stored to the word of the vertex.
+-- The step stored a word at the vertex.
 abbrev pub IsStoreTo : {P : ℕ} → (vertex : ℕ) → StepMark P → Type 0
 IsStoreTo vertex mark = (mark.vertex ≡ vertex) × (deed_of mark ≡ Won)

@@ -6,6 +6,7 @@ use Rattle.sp_picture.specs.declared.marks.Deed.TheVariants.{Rest, Load, Won, Lo
 use Rattle.sp_picture.specs.declared.ties.Tie.{Tie}
 use Rattle.sp_picture.specs.Marks.{deed_of, IsStoreTo}
 
+-- This puts the index of the mark, if it is a lost exchange, before the others.
 abbrev pub lost_by : Deed → (place : ℕ) → List ℕ → List ℕ
 lost_by Rest place more = more
 lost_by Load place more = more

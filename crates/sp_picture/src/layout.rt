@@ -5,10 +5,10 @@ use crate::labels::{Label, Side, most_lines};
 use crate::texts::LINE;
 use std::alloc::{AllocError, Global};
 
-// The width to the left of all steps, which the names of lanes take.
+// The width to the left of all steps, for the names of lanes.
 const LEFT: u64 = 100;
 
-// The height above all lanes, which the numbers of steps take.
+// The height above all lanes, for the numbers of steps.
 const TOP: u64 = 34;
 
 // The space between two lanes of words.
@@ -25,7 +25,7 @@ const BELOW: u64 = 24;
 // No coordinate exceeds the sum of this one and the height of the legend.
 const FARTHEST: u64 = 1 << 20;
 
-// The names of lanes are repeated after this many pixels.
+// The names of lanes are repeated once in this many pixels.
 const AGAIN: u64 = 600;
 
 // The approximate width of a name.
@@ -133,7 +133,7 @@ impl Layout {
         repeats_in(self.end() - LEFT)
     }
 
-    /// Returns where the names of lanes are repeated for this time, counted from 1.
+    /// Returns where the names of lanes are repeated for the given time, counted from 1.
     pub(crate) fn again(&self, time: u64) -> u64 {
         AGAIN.saturating_mul(time).saturating_add(LEFT)
     }

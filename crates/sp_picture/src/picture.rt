@@ -32,7 +32,7 @@ pub struct Picture<const P: u32> {
     pub text: String,
 }
 
-// What is drawn of a run, with its layout.
+// What is drawn for a run, with its layout.
 #[derive(Drop)]
 struct Plan<const P: u32> {
     lanes: Vec<Lane<P>>,
@@ -85,7 +85,7 @@ fn plan_of<const P: u32>(
     })
 }
 
-// Returns the text of a picture. What lies underneath is drawn first.
+// Returns the text of a picture. It draws the bottom layers first.
 fn text_of<const P: u32>(
     alloc: Global,
     programme: &Programme<P>,

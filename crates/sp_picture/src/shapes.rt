@@ -22,7 +22,7 @@ fn point_of<const P: u32>(layout: &Layout, place: usize, mark: &StepMark<P>) -> 
     }
 }
 
-// Writes what a step was, in words.
+// Writes in words what a step was.
 fn tell_step<const P: u32>(
     text: &mut String,
     place: usize,

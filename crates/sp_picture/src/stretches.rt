@@ -73,7 +73,7 @@ fn stretches_of<const P: u32>(
     Ok(stretches)
 }
 
-/// Returns the words at which some step looked, by rising vertex.
+/// Returns the words that some step looked at, by rising vertex.
 pub(crate) fn lanes_of<const P: u32>(
     alloc: Global,
     programme: &Programme<P>,

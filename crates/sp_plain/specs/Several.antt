@@ -1,4 +1,4 @@
--- Tables of words of a run from several sources.
+-- Tables of words for runs from several sources.
 use Rattle.std.specs.Prelude.{◌≡◌, ℕ, List, length}
 use Rattle.sp_word.specs.Word.{Word}
 use Rattle.sp_paths.specs.Paths.{Graph, word_at}

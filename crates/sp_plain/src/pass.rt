@@ -11,7 +11,8 @@ use sp_paths::{Arc, Offer};
 use sp_word::Word;
 use std::alloc::{AllocError, Global};
 
-/// Returns the word with which an arc from a vertex with the word `from` replaces the head's word, if it does.
+/// Returns the word by which an arc replaces its head's word if its tail has the word `from`, or `None` if the arc doesn't
+/// replace it.
 pub fn lesser_offer<const P: u32>(from: Word<P>, arc: Arc, found: Word<P>) -> Option<Word<P>>
     requires layout { is_layout P ≡ true }
     requires tail { arc.tail ≤ max_pred P }
@@ -52,7 +53,7 @@ fn pass<const P: u32>(words: &mut Vec<Word<P>>, arcs: &[Arc]) -> bool
     changed
 }
 
-/// Relaxes the arcs until no word changes, in words that any other program may have lowered before.
+/// Relaxes the arcs until no word changes. Any other program may have lowered the words before.
 pub fn relax_all<const P: u32>(words: &mut Vec<Word<P>>, arcs: &[Arc])
     requires layout { is_layout P ≡ true }
     requires room { vec_len words.old ≤ max_pred P }

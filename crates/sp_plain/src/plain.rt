@@ -16,13 +16,13 @@ use std::alloc::{AllocError, Global};
 pub enum Answer<const P: u32> {
     /// The words of the tree, that of vertex `v` at `v - 1`.
     Tree(Vec<Word<P>>),
-    /// The smallest vertex whose least length is above the greatest distance of a word, while some vertex with an arc
-    /// to it has a least length that is not.
+    /// The smallest vertex whose least length is above the greatest distance of a word, although some vertex with an arc to it
+    /// has a least length that is at most this distance.
     TooFar(u32),
 }
 
-/// Computes the shortest-path tree from `source`, or finds the smallest vertex that is too far. It fails if there is no
-/// memory for one word for each vertex.
+/// Computes the shortest-path tree from `source`, or finds the smallest vertex that is too far. It fails if there is no memory
+/// for a word for each vertex.
 pub fn plain_tree<const P: u32>(
     alloc: Global,
     graph: &Graph,

@@ -19,7 +19,7 @@ pub struct Random {
 }
 
 impl Random {
-    /// Returns the sequence of `seed`. The same seed gives the same sequence.
+    /// Returns the sequence for `seed`. The same seed gives the same sequence.
     pub fn new(seed: u64) -> Random {
         Random { state: seed }
     }
@@ -71,7 +71,7 @@ struct Shape {
     longest: u32,
     // A head is one of this many vertices from the tail on, wrapping round from the last vertex to the first ..
     reach: u32,
-    // .. unless it lies in another part than the tail; each part has this many vertices.
+    // .. unless it is in another part than the tail; each part has this many vertices.
     part: u32,
     ghost vertices: { (1 ≤ n) × (n ≤ 2000) },
     ghost lengths: { 1 ≤ longest },

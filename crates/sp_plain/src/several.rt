@@ -1,4 +1,4 @@
-//! Tables of words of a run from several sources.
+//! Tables of words for runs from several sources.
 ghost use Rattle.std.specs.Prelude.{◌≡◌, ◌≤◌, true, All};
 ghost use Rattle.sp_word.specs.Word.{is_layout, max_dist, max_pred};
 ghost use Rattle.sp_paths.specs.Paths.{IsVertex};
@@ -8,7 +8,8 @@ use crate::pass::relax_all;
 use sp_graph::Graph;
 use sp_word::Word;
 
-/// Relaxes the arcs until no word changes, in a table of walks from the sources that any other program may have lowered before.
+/// Relaxes the arcs until no word changes, in a table of walks from the sources. Any other program may have lowered the words
+/// before.
 pub fn close_table_of_any<const P: u32>(graph: &Graph, sources: &[u32], words: &mut Vec<Word<P>>)
     requires layout { is_layout P ≡ true }
     requires sources { All (IsVertex graph.now.n) sources.now }

@@ -8,6 +8,7 @@ use Rattle.sp_replay.specs.declared.keeper.Keeper.{Keeper}
 use Rattle.sp_replay.specs.declared.keeper.ReplayParts.{ReplayParts}
 use Rattle.sp_replay.specs.Replay.{AreKept, IsReplay}
 
+-- The keeper has kept the parts of these lines.
 abbrev pub Keeps : {P : ℕ} → Keeper P → List Line → Type 0
 Keeps k lines = AreKept lines (contains nat_eq k.known) k.named.items k.rows k.steps.items
 
@@ -21,5 +22,6 @@ IsNamed old vertex word new =
 abbrev pub plan_of : {P : ℕ} → ReplayParts P → Programme P
 plan_of parts = record { words = parts.words; actors = parts.actors; named = parts.named.items; rows = map (λ row. row.items) parts.rows.items }
 
+-- The problem line and the other lines give these parts.
 abbrev pub Says : {P : ℕ} → List ℕ → List Line → ReplayParts P → Type 0
 Says problem lines parts = IsReplay problem lines (plan_of parts) parts.steps.items

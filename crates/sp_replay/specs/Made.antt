@@ -44,6 +44,6 @@ pub record KnowsActor {P : ℕ} (p : Programme P) (actor : ℕ) (s : Story) : Ty
 abbrev pub KnowsOffers : {P : ℕ} → Programme P → Story → Type 0
 KnowsOffers p s = (v : ℕ) (w : Word) → IsOffered p v w → IsNoMore (known_table s v) w
 
--- This holds for the actors behind one and up to another.
+-- This holds for the actors after one and up to another.
 pub record KnowsActors {P : ℕ} (p : Programme P) (before last : ℕ) (s : Story) : Type 0 where
   pub each : (actor : ℕ) → before < actor → actor ≤ last → KnowsActor p actor s

@@ -6,6 +6,7 @@ use Rattle.sp_replay.specs.declared.offers.OfferKeeper.{OfferKeeper}
 use Rattle.sp_replay.specs.declared.offers.OfferParts.{OfferParts}
 use Rattle.sp_replay.specs.Offers.{HasOffers, IsOffers}
 
+-- The keeper has kept the offers of these lines.
 abbrev pub KeepsOffers : {P : ℕ} → OfferKeeper P → List Line → Type 0
 KeepsOffers k lines = (actor : ℕ) → 1 ≤ actor → HasOffers k.rows actor lines
 
@@ -13,5 +14,6 @@ KeepsOffers k lines = (actor : ℕ) → 1 ≤ actor → HasOffers k.rows actor l
 abbrev pub plan_of : {P : ℕ} → OfferParts P → Programme P
 plan_of parts = record { words = parts.words; actors = parts.actors; named = []; rows = map (λ row. row.items) parts.rows.items }
 
+-- The problem line and the offers give these parts.
 abbrev pub SaysOffers : {P : ℕ} → List ℕ → List Line → OfferParts P → Type 0
 SaysOffers problem lines parts = IsOffers problem lines (plan_of parts)

@@ -13,10 +13,11 @@ vertex = field 86 1 (Problem 0)
 abbrev pub actor : Field
 actor = field 65 1 (Problem 1)
 
--- D and P are the distance and the predecessor.
+-- This is the field of a distance.
 abbrev pub dist : Field
 dist = field 68 0 Dist
 
+-- This is the field of a predecessor.
 abbrev pub pred : Field
 pred = field 80 0 Vertex
 
@@ -58,6 +59,7 @@ step_line = record { words = codes "s" ∷ []; fields = actor ∷ []; fresh = fa
 abbrev pub actors_file : List ℕ → List LineForm → Format
 actors_file word forms = record { problem = actors_line word; items = forms; needed = Number 0 }
 
+-- These are the forms of the lines of a replay file.
 abbrev pub replay_lines : List LineForm
 replay_lines = start_line ∷ offer_line ∷ read_line ∷ relax_line ∷ step_line ∷ []
 

@@ -15,6 +15,7 @@ abbrev pub word_text : Word → List ℕ
 word_text Unreached = codes " none"
 word_text (Pair d p) = number_text d ++ number_text p
 
+-- This is the text of a reply.
 abbrev pub reply_text : Reply → List ℕ
 reply_text Shorter = codes " shorter"
 reply_text SmallerPred = codes " smaller"
@@ -57,6 +58,7 @@ words_text words = reached_from 1 words ++ count_text (reached_count words)
 abbrev pub totals_text : (wins losses : ℕ) → List ℕ
 totals_text wins losses = codes "t" ++ number_text wins ++ number_text losses ++ codes "\n"
 
+-- This is the line that says whether the run is closed.
 abbrev pub closed_text : Bool → List ℕ
 closed_text true = codes "closed yes\n"
 closed_text false = codes "closed no\n"

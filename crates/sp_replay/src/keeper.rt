@@ -16,7 +16,7 @@ use std::alloc::{AllocError, Global};
 use std::collections::HashSet;
 use std::mem;
 
-/// What the lines so far hold.
+/// What the lines read so far hold.
 #[derive(Drop)]
 pub struct Keeper<const P: u32> {
     alloc: Global,
@@ -65,7 +65,7 @@ pub fn offer_at<const P: u32>(values: &Values) -> Item<P>
 impl<const P: u32> Keeper<P> {
     ghost use Rattle.sp_replay.specs.Keeping.{Keeps, IsNamed};
 
-    /// Returns a keeper before the first line.
+    /// Returns a keeper that has read no line.
     pub fn new(alloc: Global) -> Keeper<P>
         requires { is_layout P ≡ true }
         ensures { Keeps result [] }

@@ -1,9 +1,9 @@
 //! The files of the step machine: reads replay files and offers files, and writes the report of a run, or the words
 //! that offers leave.
 //!
-//! It also makes the offers of a programme, with a thread for each actor, and finds the words that they leave: it is proved
-//! that these are the least that are offered, in whatever order the offers are made. That threads make the offers isn't
-//! proved: a body that makes all of them itself meets the same contract.
+//! It also makes the offers of a programme, with a thread for each actor, and finds the words that they leave. It is proved
+//! that these are the least words offered, in whatever order the offers are made. It isn't proved that threads make the
+//! offers: a body that makes all of them itself meets the same contract.
 #![tactic(auto)]
 
 mod actors;

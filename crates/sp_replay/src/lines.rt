@@ -93,7 +93,7 @@ pub fn push_reached<const P: u32>(block: &mut Block, vertex: u64, word: Word<P>)
     block.push(b"\n");
 }
 
-/// Appends the line that says how many vertices are reached.
+/// Appends the line with the number of reached vertices.
 pub fn push_count(block: &mut Block, count: u64)
     requires { length block.old + COUNT_ROOM ≤ 8192 }
     ensures { block.new ≡ block.old ++ count_text count }

@@ -15,7 +15,7 @@ use sp_text::{
 };
 use std::alloc::{AllocError, Global};
 
-/// The offers that were read so far.
+/// The offers read so far.
 #[derive(Drop)]
 pub struct OfferKeeper<const P: u32> {
     rows: ActorItems<P>,
@@ -33,7 +33,7 @@ pub struct OfferParts<const P: u32> {
 impl<const P: u32> OfferKeeper<P> {
     ghost use Rattle.sp_replay.specs.OfferKeeping.{KeepsOffers};
 
-    /// Returns a keeper before the first line.
+    /// Returns a keeper that has read no line.
     pub fn new(alloc: Global) -> Self
         requires { is_layout P ≡ true }
         ensures { KeepsOffers result [] }
@@ -91,9 +91,8 @@ impl<const P: u32> Keep for OfferKeeper<P> {
 /// Reads the rest of a reader's bytes, and returns the programme of the offers file that they spell, or their first
 /// fault. The programme's items are the offers, and it has no word at the start.
 ///
-/// It allocates memory for the offers as they come. If an allocation fails, the fault is Memory at the line whose offer
-/// found no room, unless a line up to it has a fault. It is unspecified how much a reader that is refused took from its
-/// source.
+/// It allocates memory for the offers as they come. If an allocation fails, the fault is Memory at the line of that offer,
+/// unless that line or an earlier one has a fault. After a fault it is unspecified how much the reader took from its source.
 pub fn read_offers<const P: u32, R: Read>(
     alloc: Global,
     reader: &mut R,

@@ -36,9 +36,8 @@ fn file_of<const P: u32>(parts: ReplayParts<P>) -> ReplayFile<P>
 
 /// Reads the rest of a reader's bytes, and returns the replay file that they spell, or their first fault.
 ///
-/// It allocates memory for the values as they come. If an allocation fails, the fault is Memory at the line whose value
-/// found no room, unless a line up to it has a fault. It is unspecified how much a reader that is refused took from its
-/// source.
+/// It allocates memory for the values as they come. If an allocation fails, the fault is Memory at the line of that value,
+/// unless that line or an earlier one has a fault. After a fault it is unspecified how much the reader took from its source.
 pub fn read_replay<const P: u32, R: Read>(
     alloc: Global,
     reader: &mut R,

@@ -8,7 +8,7 @@ use std::alloc::{AllocError, Global};
 use std::marker::Model;
 use std::mem;
 
-/// The items of the actors so far. There are at most as many rows as the actors need.
+/// The items of the actors so far. There are no more rows than the actors need.
 #[derive(Drop)]
 pub struct ActorItems<const P: u32> {
     alloc: Global,
@@ -43,7 +43,7 @@ impl<const P: u32> ActorItems<P> {
         push_item(self.alloc, &mut self.rows, actor, item)
     }
 
-    /// Returns the rows of `actors` actors, and begins again.
+    /// Returns the rows of `actors` actors, and starts over.
     pub fn give(&mut self, actors: u64) -> Vec<Vec<Item<P>>>
         ensures given { map (λ row. row.items) result.items ≡ take actors self.old }
         ensures new { self.new ≡ [] }

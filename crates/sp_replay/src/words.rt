@@ -39,8 +39,8 @@ fn print_words<const P: u32, W: Write>(words: &[Word<P>], out: &mut W) -> Printe
     printer
 }
 
-/// Writes the lines of the vertices that are reached, by rising vertex, the first word being that of vertex 1, and then
-/// their number. Returns the number of bytes.
+/// Writes the lines of the reached vertices, by rising vertex, and then their number. The first word is that of vertex 1.
+/// Returns the number of bytes.
 ///
 /// It allocates no memory. If the writer fails, a prefix of the lines is written.
 pub fn write_words<const P: u32, W: Write>(

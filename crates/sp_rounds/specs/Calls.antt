@@ -14,6 +14,7 @@ abbrev pub word_offered : Call → Word
 word_offered (Offer word found reply) = word
 word_offered (Read found) = Unreached
 
+-- This is the offer that a call makes, as a vertex and a word; a read offers unreached.
 abbrev pub question_of : Event → Asked
 question_of e = record { vertex = e.vertex; word = word_offered e.call }
 
@@ -24,6 +25,7 @@ entry_of_reply v (Pair d p) Shorter = record { vertex = v; dist = d } ∷ []
 entry_of_reply v (Pair d p) SmallerPred = []
 entry_of_reply v (Pair d p) Kept = []
 
+-- This is the entry of a call that made the distance of its vertex smaller; other calls have none.
 abbrev pub entry_of_call : ℕ → Call → List Entry
 entry_of_call v (Offer word found reply) = entry_of_reply v word reply
 entry_of_call v (Read found) = []

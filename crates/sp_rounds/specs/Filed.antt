@@ -14,6 +14,7 @@ pub record IsBucket (delta key : ℕ) (bucket : Vec Entry Global) : Type 0 where
   pub some : bucket.items ≢ []
   pub same : All (λ entry. bucket_of delta entry ≡ key) bucket.items
 
+-- Each key of the map has entries, and all of them belong to the bucket that the key names.
 abbrev pub IsFiled : ℕ → List (ℕ × Vec Entry Global) → Type 0
 IsFiled delta [] = Unit {0}
 IsFiled delta (b ∷ bs) = IsBucket delta b.0 b.1 × IsFiled delta bs

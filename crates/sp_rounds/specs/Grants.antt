@@ -4,12 +4,15 @@ use Rattle.sp_rounds.specs.declared.grants.Grant.{Grant}
 use Rattle.sp_rounds.specs.declared.grants.View.{View}
 use Rattle.atomic_table.specs.Table.{Step, Me}
 
+-- This is the grant of a slot for a round.
 abbrev pub grant : ℕ → ℕ → Grant
 grant slot round = record { slot = slot; round = round }
 
+-- This is the view of a claimer that has no grants.
 abbrev pub nothing : View
 nothing = record { grants = [] }
 
+-- This is a view with the grants of both.
 abbrev pub both : View → View → View
 both v w = record { grants = v.grants ++ w.grants }
 
@@ -18,6 +21,7 @@ abbrev pub times : ℕ → ℕ → List Grant → ℕ
 times slot round [] = 0
 times slot round (g ∷ gs) = (if ((g.slot == slot) && (g.round == round)) then 1 else 0) + times slot round gs
 
+-- This counts how often the slot and round occur among the grants of all views.
 abbrev pub times_in_all : ℕ → ℕ → List View → ℕ
 times_in_all slot round [] = 0
 times_in_all slot round (v ∷ vs) = times slot round v.grants + times_in_all slot round vs

@@ -4,6 +4,7 @@ use Rattle.sp_rounds.specs.declared.buckets.Kept.{Kept}
 use Rattle.sp_rounds.specs.declared.buckets.Kept.TheVariants.{Map, Ring}
 use Rattle.sp_rounds.specs.Content.{Content}
 
+-- This is what contracts see of the entries, in whichever way they are kept.
 abbrev pub kept_content : Kept → Content
 kept_content (Map map) = map
 kept_content (Ring ring) = ring

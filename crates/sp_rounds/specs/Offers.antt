@@ -31,6 +31,7 @@ offer_along d a = record { vertex = a.head; word = Pair (d + a.len) a.tail }
 abbrev pub offers_along : (max d : ℕ) → List Arc → List Asked
 offers_along max d arcs = map (offer_along d) (filter (λ a. nat_le (d + a.len) max) arcs)
 
+-- These are the offers of a task: those along its arcs whose sums are at most max.
 abbrev pub offers_of : (max : ℕ) → Split → Task → List Asked
 offers_of max rows t = offers_along max t.dist (arcs_of rows t)
 
@@ -40,6 +41,7 @@ offers_of max rows t = offers_along max t.dist (arcs_of rows t)
 abbrev pub AreAllowed : (law : ℕ → Word → Type 0) → (max d : ℕ) → List Arc → Type 0
 AreAllowed law max d arcs = All (λ (a : Arc). d + a.len ≤ max → law a.head (Pair (d + a.len) a.tail)) arcs
 
+-- Each offer of the task is a word that the table takes.
 abbrev pub IsAllowed : (law : ℕ → Word → Type 0) → (max : ℕ) → Split → Task → Type 0
 IsAllowed law max rows t = AreAllowed law max t.dist (arcs_of rows t)
 

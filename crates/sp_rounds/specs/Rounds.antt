@@ -26,6 +26,7 @@ use Rattle.sp_rounds.specs.Left.{RanLeft, RoundDone}
 -- ## A round
 
 module _ {L : Type 0} {P : ℕ} where
+  -- These are the jobs of the round's tasks.
   abbrev pub jobs_in : Round L P → List Job
   jobs_in round = jobs_of (max_dist P) round.rows.now round.tasks.now
 
@@ -51,9 +52,11 @@ module _ {L : Type 0} {P : ℕ} where
     IsRoundDone caller out =
         RoundDone law_in (max_dist P) round.rows.now round.tasks.now caller out.caller out.found.items
 
+    -- This is the same caller after further calls, under the law of the round's table.
     abbrev pub IsLaterIn : (before after : Knowledge) → Type 0
     IsLaterIn before after = IsLater law_in before after
 
+    -- The caller's history is legal under the law of the round's table.
     abbrev pub HasLegalHistoryIn : Knowledge → Type 0
     HasLegalHistoryIn caller = HasLegalHistory law_in caller
 
@@ -82,11 +85,13 @@ most_workers prepared = max 1 (vec_len prepared.deques.owners)
 
 -- ## Room
 
+-- The list has room for this many more items.
 abbrev pub HasRoom : {A : Type 0} → Vec A Global → ℕ → Type 0
 HasRoom items more = vec_len items + more ≤ vec_capacity items
 
 -- ## What workers share
 
+-- These are the jobs of the tasks over these rows.
 abbrev pub jobs_at : (P : ℕ) → Split → List Task → List Job
 jobs_at P rows tasks = jobs_of (max_dist P) rows tasks
 
@@ -115,11 +120,12 @@ module _ {L : Type 0} (P : ℕ) (allows : L → ℕ → Word → Type 0) (table 
   abbrev pub CanWork : TableId → Split → List Task → Start → Type 0
   CanWork claims rows tasks start = IsReadyFor claims rows tasks × AreOf table.id claims start.caller start.claimer
 
-  -- This is what one worker gives back, and what it and the workers of the other deques do.
+  -- This is what one worker gives back.
   abbrev pub OneGives : List Job → (number : ℕ) → Start → Result Done RoundRefused → Type 0
   OneGives jobs number start result =
       Answers (lawful P (allows table.law)) jobs number start.caller start.claimer 1 result
 
+  -- This is what one worker and the workers of the other deques give back together.
   abbrev pub AllGive : {A : Type 0} → List Job → (number : ℕ) → Vec A Global → Start → Result Done RoundRefused → Type 0
   AllGive jobs number others start result =
       Answers (lawful P (allows table.law)) jobs number start.caller start.claimer (vec_len others + 1) result

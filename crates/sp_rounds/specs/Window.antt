@@ -14,6 +14,7 @@ pub record Window : Type 0 where
   pub len : ℕ
   pub entries : List Entry
 
+-- This is what contracts see of the entries in a window.
 abbrev pub content_of : Window → Content
 content_of w = record { delta = w.delta; ring = Some w.len; entries = w.entries }
 
@@ -26,6 +27,7 @@ abbrev pub Stand : ℕ → ℕ → ℕ → List (Vec Entry Global) → Type 0
 Stand delta len j [] = Unit {0}
 Stand delta len j (slot ∷ slots) = All (λ entry. bucket_of delta entry % len ≡ j) slot.items × Stand delta len (suc j) slots
 
+-- This is the window that starts at bucket `first` and has these slots.
 abbrev pub window_of : ℕ → ℕ → List (Vec Entry Global) → Window
 window_of delta first slots = record { delta = delta; first = first; len = length slots; entries = all_entries slots }
 

@@ -24,9 +24,11 @@ pub record Job : Type 0 where
   pub slot : ℕ
   pub offers : List Asked
 
+-- This is the job of a task, which is claimed by the slot of the task's vertex.
 abbrev pub job_of : (max : ℕ) → Split → Task → Job
 job_of max rows t = record { slot = t.vertex - 1; offers = offers_of max rows t }
 
+-- These are the jobs of the tasks, in their order.
 abbrev pub jobs_of : (max : ℕ) → Split → List Task → List Job
 jobs_of max rows tasks = map (job_of max rows) tasks
 
@@ -36,6 +38,7 @@ offers_at [] k = []
 offers_at (j ∷ js) zero = j.offers
 offers_at (j ∷ js) (suc k) = offers_at js k
 
+-- This is the slot by which job k is claimed.
 abbrev pub slot_at : List Job → ℕ → ℕ
 slot_at [] k = 0
 slot_at (j ∷ js) zero = j.slot
@@ -51,10 +54,11 @@ grant_at jobs number k = grant (slot_at jobs k) number
 abbrev pub weight_at : (Asked → ℕ) → List Job → List ℕ → ℕ
 weight_at h jobs ks = sum_by (λ k. sum_by h (offers_at jobs k)) ks
 
+-- This is the total weight of the offers that these calls made.
 abbrev pub calls_weight : (Asked → ℕ) → List Event → ℕ
 calls_weight h calls = sum_by h (map question_of calls)
 
--- ## What a round stands on
+-- ## What a round requires
 
 -- The tables have a word and a slot for each vertex, and the table takes the offers of each task.
 pub record IsReady (P : ℕ) (law : ℕ → Word → Type 0) (vertices slots : ℕ) (rows : Split) (tasks : List Task) : Type 0 where
@@ -73,18 +77,23 @@ HasNoGrants claims claimer = (claimer.table ≡ claims) × (claimer.grants ≡ [
 
 -- ## Calls and receipts
 
+-- This is what a worker, or a group of workers, has done: its caller, its claimer, the numbers of its tasks, and the entries
+-- found.
 pub record Did : Type 0 where
   pub caller : Knowledge
   pub claimer : Held
   pub receipts : List ℕ
   pub found : List Entry
 
+-- These are the numbers of the tasks that the receipts name.
 abbrev pub numbers_of : List Receipt → List ℕ
 numbers_of receipts = map (λ r. r.task) receipts
 
+-- This is what a worker has done when it gives back its result.
 abbrev pub did : Done → Did
 did d = record { caller = d.caller; claimer = d.claimer; receipts = numbers_of d.receipts.items; found = d.found.items }
 
+-- This is what a worker has done at the start: nothing.
 abbrev pub at_start : Knowledge → Held → Did
 at_start caller claimer = record { caller = caller; claimer = claimer; receipts = []; found = [] }
 
@@ -131,10 +140,12 @@ Answers law jobs number caller claimer count (Ok d) =
     Goes law jobs number (at_start caller claimer) (did d) × (1 ≤ d.started) × (d.started ≤ count)
 Answers law jobs number caller claimer count (Err r) = IsRefused law caller claimer r
 
+-- This is the caller that comes back, from a success or from a refusal.
 abbrev pub caller_of : Result Done RoundRefused → Knowledge
 caller_of (Ok d) = d.caller
 caller_of (Err r) = r.caller
 
+-- This is the claimer that comes back, from a success or from a refusal.
 abbrev pub claimer_of : Result Done RoundRefused → Held
 claimer_of (Ok d) = d.claimer
 claimer_of (Err r) = r.claimer

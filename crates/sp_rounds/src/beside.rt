@@ -74,8 +74,8 @@ impl RingBesideMap {
         }
     }
 
-    /// Takes the bucket out of the ring, or out of the map if the ring has no entry of it. The ring's window then
-    /// begins at this bucket, if that leaves no entry outside it.
+    /// Takes the bucket out of the ring, or out of the map if the ring has no entry of it. The ring's window then starts at this
+    /// bucket, if that leaves no entry outside it.
     pub fn take(&mut self, number: u64) -> Vec<Entry>
         ensures { Takes number result.items self.old self.new }
     {

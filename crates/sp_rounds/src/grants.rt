@@ -4,14 +4,14 @@ ghost use Rattle.std.specs.Prelude.{◌≡◌, ℕ};
 use atomic_table::{Join, Play, Split, TableRule};
 use std::collections::LinkedList;
 
-/// The right to run, in this round, whatever the slot stands for.
+/// The right to run, in this round, the work that the slot stands for.
 #[derive(Clone, Copy, PartialEq, Eq, Debug)]
 pub struct Grant {
     pub slot: u32,
     pub round: u64,
 }
 
-/// What a claimer knows: the grants that it was given. No value of this type is made.
+/// The grants that a claimer was given. No value of this type is made.
 pub struct View {
     pub grants: LinkedList<Grant>,
 }

@@ -41,7 +41,7 @@ impl Model for Claimer {
     ghost invariant = { λ c. c.seat.me.1 ≡ [] };
 }
 
-/// There was no memory for a second claimer. The claimer that was to be split is returned.
+/// Memory for a second claimer was refused. The claimer that was to be split is returned.
 #[derive(Drop)]
 pub struct SplitRefused {
     pub claimer: Claimer,

@@ -1,4 +1,4 @@
-//! What workers have when they end.
+//! The results of workers and of rounds.
 
 use crate::table::Claimer;
 use sp_bins::Entry;
@@ -16,7 +16,7 @@ pub struct Receipt {
     pub task: usize,
 }
 
-/// What one worker, or a group of workers, has at its end.
+/// The result of one worker, or of a group of workers.
 #[derive(Drop)]
 pub struct Done {
     pub caller: Caller,
@@ -29,7 +29,7 @@ pub struct Done {
     pub started: u32,
 }
 
-/// What a round gives back.
+/// The result of a round.
 #[derive(Drop)]
 pub struct RoundOut {
     pub caller: Caller,
@@ -40,7 +40,7 @@ pub struct RoundOut {
     pub started: u32,
 }
 
-/// There was no memory to complete a round. Offers that were made stay made, and the caller's history has them.
+/// Memory to complete a round was refused. Offers already made stay made, and the caller's history has them.
 #[derive(Drop)]
 pub struct RoundRefused {
     pub caller: Caller,

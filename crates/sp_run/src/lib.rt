@@ -1,9 +1,11 @@
-//! Runs by a team, from one source or several: the shortest-path tree, its part within a distance, what is to be told of some
-//! targets, or the forest, in which each vertex's least distance is from the nearest source.
+//! Runs by a team, from one source or several. They return the shortest-path tree, its part within a distance, the answers for
+//! some targets, or the forest, in which each vertex has its least distance from the nearest source.
 //!
-//! `words_of_run` does the work for all of them; the others read their answers off its words.
+//! `words_of_run` does the work for all of them; the others derive their answers from its words. `ByTeam` makes an engine of
+//! a team (`sp_engine`): it holds its crew, so functions that take an engine take no crew.
 #![tactic(auto)]
 
+mod by_team;
 mod near_walks;
 mod nearest;
 mod run;
@@ -14,11 +16,12 @@ mod walks;
 mod within;
 mod words;
 
-pub use nearest::{Nearest, run_nearest, run_nearest_metered};
-pub use source::{run_by_team, run_source, useful_team, words_by_team};
-pub use sp_answer::{PairAnswer, RunError, WordTree};
+pub use by_team::{ByTeam, RunCrew, TeamEngine};
+pub use nearest::{Nearest, run_nearest};
+pub use source::{run_by_team, run_source, useful_team};
+pub use sp_answer::{PairAnswer, RunError};
 pub use sp_forest::{Forest, Run, RunWords, Until};
 pub use targets::{Query, run_targets};
 pub use walks::Walks;
-pub use within::{Part, run_within, run_within_metered};
+pub use within::run_within;
 pub use words::words_of_run;

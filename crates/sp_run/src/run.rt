@@ -1,6 +1,6 @@
 //! A run by a team, from one source or several.
 //!
-//! The team lowers the words, in whatever order. What the run answers rests on a copy of the words alone.
+//! The team lowers the words in any order. The result of the run depends only on a copy of the words.
 ghost use Rattle.std.specs.Prelude.{◌≡◌, ◌≤◌, true, All, IfOk};
 ghost use Rattle.sp_word.specs.Word.{is_layout, max_dist, max_pred};
 ghost use Rattle.sp_paths.specs.Paths.{IsVertex, word_at};
@@ -22,7 +22,7 @@ pub(crate) struct NearRun<'g, const P: u32> {
     pub(crate) graph: &'g Graph,
     pub(crate) sources: &'g [u32],
     pub(crate) team: Team<P>,
-    // where the team counts what it has relaxed
+    // where the team counts the vertices that it relaxes
     pub(crate) meter: &'g Meter,
 }
 
@@ -93,8 +93,8 @@ impl<'g, const P: u32> NearRun<'g, P> {
         Ok((table, caller))
     }
 
-    /// Lets the team relax what the queue asks for, as far as the targets and the limit lie. Returns a copy of all words, in
-    /// which the marks are true.
+    /// Lets the team relax the arcs that the queue asks for, as far as the targets and the limit require. Returns a copy of all
+    /// words, in which the marks are true.
     pub(crate) fn lower<C: Crew>(
         &self,
         rt: &C,

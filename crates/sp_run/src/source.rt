@@ -4,7 +4,7 @@ ghost use Rattle.sp_word.specs.Word.{is_layout, max_pred};
 ghost use Rattle.sp_answer.specs.Answer.{IsAnswer, IsRefusal};
 
 use crate::words::words_of_run;
-use sp_answer::{RunError, Tree, WordTree};
+use sp_answer::{RunError, Tree};
 use sp_forest::{Run, Until};
 use sp_graph::Graph;
 use sp_word::{Crew, Delta, Meter, Team, Workers};
@@ -15,7 +15,7 @@ use std::thread::Threads;
 // A worker for fewer vertices takes longer to start than it saves.
 const LEAST_VERTICES: u32 = 5000;
 
-// Returns for how many of the workers there is work: for no more than processors, and one for some thousand vertices.
+// Returns the number of workers that have enough to do: at most one for each processor, and one for every few thousand vertices.
 fn useful_workers<R: Threads>(rt: &R, n: u32, workers: Workers) -> Workers
     ensures { result ≤ workers }
 {
@@ -29,7 +29,7 @@ fn useful_workers<R: Threads>(rt: &R, n: u32, workers: Workers) -> Workers
     }
 }
 
-/// Returns the team with no more workers than there is work for in a graph of `n` vertices.
+/// Returns the team, with at most as many workers as are useful for a graph of `n` vertices.
 pub fn useful_team<const P: u32, R: Threads>(rt: &R, n: u32, team: &Team<P>) -> Team<P>
     ensures delta { result.delta ≡ team.now.delta }
     ensures fewer { result.workers ≤ team.now.workers }
@@ -42,8 +42,8 @@ pub fn useful_team<const P: u32, R: Threads>(rt: &R, n: u32, team: &Team<P>) -> 
 
 /// Returns the shortest-path tree from the source, or the vertex that is too far for a word of `P` bits of predecessor.
 ///
-/// `delta` is the width of a bucket, and `workers` the greatest number of threads, this one counted. The answer is the same
-/// for all widths and numbers. There are no more threads than processors, and one for some thousand vertices.
+/// `delta` is the width of a bucket, and `workers` the greatest number of threads, including this one. The answer doesn't depend
+/// on either. There are never more threads than processors, and at most one for every few thousand vertices, but always this one.
 pub fn run_source<const P: u32, C: Crew>(
     rt: &C,
     alloc: Global,
@@ -64,8 +64,8 @@ pub fn run_source<const P: u32, C: Crew>(
     run_by_team(rt, alloc, graph, team, &Meter::new(), source)
 }
 
-/// Returns what `run_source` does, by exactly as many threads as the team has workers. They count on the meter the vertices
-/// that they relax.
+/// Does what `run_source` does, with exactly as many threads as the team has workers. They count the vertices that they relax
+/// on the meter.
 pub fn run_by_team<const P: u32, C: Crew>(
     rt: &C,
     alloc: Global,
@@ -79,33 +79,14 @@ pub fn run_by_team<const P: u32, C: Crew>(
     ensures tree { IfOk result (IsAnswer P graph.now source) }
     ensures refused { IfErr result (IsRefusal P graph.now source) }
 {
-    let words = words_by_team(rt, alloc, graph, team, meter, source)?;
-    match words.to_tree(alloc) {
-        Ok(tree) => Ok(tree),
-        Err(_) => Err(RunError::Memory),
-    }
-}
-
-/// Returns what `run_by_team` does, as the words of all vertices: the tree's rows, which take time and memory, aren't made.
-pub fn words_by_team<const P: u32, C: Crew>(
-    rt: &C,
-    alloc: Global,
-    graph: &Graph,
-    team: Team<P>,
-    meter: &Meter,
-    source: u32,
-) -> Result<WordTree<P>, RunError>
-    requires layout { is_layout P ≡ true }
-    requires n { graph.now.n ≤ max_pred P }
-    ensures tree { IfOk result (IsAnswer P graph.now source) }
-    ensures refused { IfErr result (IsRefusal P graph.now source) }
-{
     let run = Run {
         sources: &[source],
         until: Until::All,
     };
-    match words_of_run(rt, alloc, graph, team, meter, run) {
-        Ok(words) => words.tree(graph, source),
-        Err(error) => Err(error),
+    let words = words_of_run(rt, alloc, graph, team, meter, run)?;
+    let tree = words.tree(graph, source)?;
+    match tree.to_tree(alloc) {
+        Ok(tree) => Ok(tree),
+        Err(_) => Err(RunError::Memory),
     }
 }

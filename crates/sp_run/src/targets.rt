@@ -10,18 +10,18 @@ use sp_graph::Graph;
 use sp_word::{Crew, Meter, Team};
 use std::alloc::Global;
 
-/// What a run for targets is asked: the source that it begins at, and the targets, in any order.
+/// A query for targets: the source, and the targets in any order.
 #[derive(Clone, Copy)]
 pub struct Query<'t> {
     pub source: u32,
     pub targets: &'t [u32],
 }
 
-/// Returns the answers for targets of a source, in their order. The run ends as soon as the words of all targets are final, so
-/// near targets take little time.
+/// Returns the answers for a source's targets, in the order of the targets. The run ends once the words of all targets are final,
+/// so near targets take little time.
 ///
-/// The number of threads and the width of a bucket have no bearing on the answers. The workers count on the meter the
-/// vertices that they relax.
+/// The answers don't depend on the number of threads or on the width of a bucket. The workers count the vertices that they relax
+/// on the meter.
 pub fn run_targets<const P: u32, C: Crew>(
     rt: &C,
     alloc: Global,

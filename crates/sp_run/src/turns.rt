@@ -1,4 +1,4 @@
-//! Turns of a run, until a copy of the words shows what was asked.
+//! Repeats turns of a team until a copy of the words answers the query.
 ghost use Rattle.std.specs.Prelude.{◌≡◌, length, IfOk};
 ghost use Rattle.sp_word.specs.Word.{max_dist};
 ghost use Rattle.sp_paths.specs.Paths.{word_at};
@@ -19,10 +19,10 @@ use sp_team::Search;
 use sp_word::{Crew, Word};
 use std::alloc::AllocError;
 
-// So many turns of a team a run takes at most, which no run comes to: the plain program relaxes what is open then.
+// Upper bound on the turns of a team in a run; never reached in practice. After it, the plain program relaxes what is still open.
 const TURNS: u32 = 8;
 
-// Returns how far arcs bear on what is asked: those within the limit, or within the farthest target. Where there is none, all do.
+// Returns how far arcs matter to the query: up to the limit, or up to the farthest target. `None` means that all arcs do.
 fn bearing<const P: u32>(words: &[Word<P>], until: Until) -> Option<u64>
     requires { IsAsked P (length words.now) until }
     ensures { BearsOn until.entry words.now result }
@@ -35,7 +35,7 @@ fn bearing<const P: u32>(words: &[Word<P>], until: Until) -> Option<u64>
 }
 
 impl<'g, const P: u32> NearRun<'g, P> {
-    // Judges a copy of the words by the arcs that bear on what is asked. It passes over vertices that a mark says to be relaxed.
+    // Judges a copy of the words by the arcs that matter to the query. It skips vertices that a mark shows to be relaxed.
     fn judge<C: Crew>(&self, rt: &C, words: &[Word<P>], marks: &[Vec<Mark>], until: Until) -> Scan
         requires copy { IsOfWalks P self.now words.now }
         requires marks { AreTrueMarks (max_dist P) self.now.graph (word_at words.now) marks.now }
@@ -53,7 +53,7 @@ impl<'g, const P: u32> NearRun<'g, P> {
         }
     }
 
-    // Relaxes the arcs until no word changes, in a copy of the words, by this thread.
+    // Relaxes arcs in a copy of the words, on this thread, until no word changes.
     fn close(&self, words: &mut Vec<Word<P>>)
         requires { IsOfWalks P self.now words.old.items }
         ensures { IsRelaxedCopy P self.now words.new.items }
@@ -62,7 +62,7 @@ impl<'g, const P: u32> NearRun<'g, P> {
         close_table_of_any(self.graph, self.sources, words);
     }
 
-    // Relaxes the arcs that the turns of the team have left open, in a copy of the words. Returns it, and the smallest vertex
+    // Relaxes the arcs that the team's turns have left open, in a copy of the words. Returns the copy, and the smallest vertex
     // that it leaves out, if there is one.
     fn finish(&self, mut words: Vec<Word<P>>) -> (Vec<Word<P>>, Option<u32>)
         requires { IsOfWalks P self.now words.items }
@@ -74,7 +74,7 @@ impl<'g, const P: u32> NearRun<'g, P> {
         (words, left)
     }
 
-    // Answers what is asked by a copy of the words in which the turns of the team have left arcs open.
+    // Answers the query from a copy of the words in which the team's turns have left arcs open.
     fn finish_until(&self, words: Vec<Word<P>>, until: Until) -> RunWords<P>
         requires copy { IsOfWalks P self.now words.items }
         requires asked { IsAsked P self.now.graph.n until }
@@ -90,7 +90,7 @@ impl<'g, const P: u32> NearRun<'g, P> {
         }
     }
 
-    // Relaxes turn after turn, until a copy of all words answers what is asked.
+    // Repeats turns until a copy of all words answers the query.
     fn turns<C: Crew>(
         &self,
         rt: &C,
@@ -132,7 +132,7 @@ impl<'g, const P: u32> NearRun<'g, P> {
         Ok(self.finish_until(copy, until))
     }
 
-    /// Lowers words until they answer what is asked, in a table that is given back before it returns.
+    /// Lowers words until they answer the query, in a table that is freed before it returns.
     pub(crate) fn relax<C: Crew>(&self, rt: &C, until: Until) -> Result<RunWords<P>, AllocError>
         requires { IsAsked P self.now.graph.n until }
         ensures { IfOk result (λ made. AreRunWords P self.now.graph self.now.sources until.entry

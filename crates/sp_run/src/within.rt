@@ -10,18 +10,11 @@ use sp_graph::Graph;
 use sp_word::{Crew, Meter, Team};
 use std::alloc::Global;
 
-/// What a run within a distance is asked: the source that it begins at, and the greatest distance that it tells.
-#[derive(Clone, Copy, Debug, PartialEq, Eq)]
-pub struct Part {
-    pub source: u32,
-    pub limit: u64,
-}
-
-/// Returns the part of the shortest-path tree within a distance of its source: the vertices whose least length is at most
-/// the limit, each with its word in the tree. The run goes no farther, so a small part of a large graph takes little time.
+/// Returns the part of the shortest-path tree within a distance of its source: the vertices whose least length is at most the
+/// limit, each with its word in the tree. The run goes no farther, so a small part of a large graph takes little time.
 ///
-/// A vertex beyond the limit plays no part, however far it is. The number of threads and the width of a bucket have no
-/// bearing on the answer.
+/// Vertices beyond the limit don't matter, however far they are. The answer doesn't depend on the number of threads or on the
+/// width of a bucket.
 pub fn run_within<const P: u32, C: Crew>(
     rt: &C,
     alloc: Global,
@@ -36,31 +29,12 @@ pub fn run_within<const P: u32, C: Crew>(
     ensures tree { IfOk result (IsTreeWithin graph.now source limit) }
     ensures refused { IfErr result (IsRefusalWithin graph.now source) }
 {
-    let part = Part { source, limit };
-    run_within_metered(rt, alloc, graph, team, &Meter::new(), part)
-}
-
-/// Returns what `run_within` does. The workers count on the meter the vertices that they relax.
-pub fn run_within_metered<const P: u32, C: Crew>(
-    rt: &C,
-    alloc: Global,
-    graph: &Graph,
-    team: Team<P>,
-    meter: &Meter,
-    part: Part,
-) -> Result<Tree<P>, RunError>
-    requires layout { is_layout P ≡ true }
-    requires n { graph.now.n ≤ max_pred P }
-    requires limit { part.limit ≤ max_dist P }
-    ensures tree { IfOk result (IsTreeWithin graph.now part.source part.limit) }
-    ensures refused { IfErr result (IsRefusalWithin graph.now part.source) }
-{
     let run = Run {
-        sources: &[part.source],
-        until: Until::Limit(part.limit),
+        sources: &[source],
+        until: Until::Limit(limit),
     };
-    let words = words_of_run(rt, alloc, graph, team, meter, run)?;
-    match words.part(alloc, graph, part.source, part.limit) {
+    let words = words_of_run(rt, alloc, graph, team, &Meter::new(), run)?;
+    match words.part(alloc, graph, source, limit) {
         Ok(tree) => Ok(tree),
         Err(_) => Err(RunError::Memory),
     }

@@ -1,4 +1,4 @@
-//! Runs by a team, one for all that is asked of sources.
+//! One run by a team for everything that can be asked about sources.
 ghost use Rattle.std.specs.Prelude.{◌≡◌, ◌≤◌, true, IfOk, IfErr};
 ghost use Rattle.sp_word.specs.Word.{is_layout, max_pred};
 ghost use Rattle.sp_forest.specs.Run.{IsAsked, AreRunWords, IsRunRefusal};
@@ -10,12 +10,12 @@ use sp_graph::Graph;
 use sp_word::{Crew, Meter, Team};
 use std::alloc::Global;
 
-/// Runs from the sources, as far as is asked. Returns the words of all vertices, and the smallest vertex that is too far, if
-/// one is and bears on what was asked: those of the forest of the sources; those of its part within a limit, beyond which a word
-/// tells nothing; or the targets' words, where nothing is told of any other vertex.
+/// Runs from the sources as far as `until` asks. Returns the words of all vertices, and the smallest vertex that is too far, if
+/// there is one and it matters to the query. The words are those of the forest of the sources; or those of its part within a
+/// limit, beyond which a word says nothing; or those of the targets, and then the words of other vertices say nothing.
 ///
-/// The order of the sources has no bearing on the answer, nor has how often one of them is named, the number of threads, or
-/// the width of a bucket. The workers count on the meter the vertices that they relax.
+/// The answer doesn't depend on the order of the sources, on how often one is named, on the number of threads, or on the width of
+/// a bucket. The workers count the vertices that they relax on the meter.
 pub fn words_of_run<const P: u32, C: Crew>(
     rt: &C,
     alloc: Global,

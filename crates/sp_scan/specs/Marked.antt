@@ -1,4 +1,4 @@
--- What is shown where marks say that the arcs of vertices were relaxed.
+-- What is shown if marks say that the arcs of vertices were relaxed.
 use Rattle.std.specs.Prelude.{◌≡◌, ℕ, ◌+◌, ◌<◌, ◌≤◌, Bool, true, false, List, All, Contains, Vec, slice_index_or}
 use Rattle.std.specs.declared.alloc.Global.{Global}
 use Rattle.sp_word.specs.History.{Table}
@@ -11,16 +11,16 @@ use Rattle.sp_scan.specs.declared.scan.Scan.{Scan}
 use Rattle.sp_scan.specs.declared.scan.Scan.TheVariants.{Whole}
 use Rattle.sp_scan.specs.Shown.{Shows}
 
--- each mark of these lists is true
+-- Each mark of these lists is true.
 abbrev pub AreTrueMarks : (max : ℕ) → Graph → Table → List (Vec Mark Global) → Type 0
 AreTrueMarks max g words marks = All (λ list. All (IsTrueMark max g words) list.items) marks
 
--- where such a flag is set, every arc of its vertex is relaxed, and none leads out. The first flag is that of the vertex
--- above low
+-- If a flag is set, every arc of its vertex is relaxed, and none leads out. The first flag belongs to the vertex after
+-- low.
 abbrev pub AreTrueFlags : (max : ℕ) → Graph → Table → (low : ℕ) → List Bool → Type 0
 AreTrueFlags max g words low flags = (k : ℕ) → slice_index_or flags k false ≡ true → Shows max words (row_of g.arcs (low + k + 1)) Whole
 
--- flags that were set by these marks too are true where the marks are
+-- If the marks are true and the flags were true before, the flags are true after these marks have set theirs.
 abbrev pub TakesMarks : (max : ℕ) → Table → (low : ℕ) → List Mark → (before after : List Bool) → Type 0
 TakesMarks max words low marks before after = (g : Graph) → All (IsTrueMark max g words) marks → AreTrueFlags max g words low before → AreTrueFlags max g words low after
 

@@ -1,4 +1,4 @@
-//! What arcs show of a list of words: whether each is relaxed, and which vertex they leave out.
+//! What arcs show about a list of words: whether each arc is relaxed, and which vertex the arcs leave out.
 #![tactic(auto)]
 
 mod marked;

@@ -1,5 +1,5 @@
-//! The scan of the arcs of all vertices but those that a mark says to be relaxed. Each thread has a range of vertices, with a
-//! flag for each of them: it sets those of the marks, and looks at the rows of the others.
+//! Scans the arcs of all vertices except those whose arcs are relaxed according to a mark. Each thread has a range of vertices,
+//! with a flag for each of them. It sets the flags of the marked vertices, and reads the rows of the others.
 ghost use Rattle.std.specs.Prelude.{◌≡◌, ◌+◌, ◌<◌, ◌≤◌, ◌↔◌, ◌∷◌, true, [], length, All, Some, IsTrue, IfOk};
 ghost use denote.Param.Send.{IsSync};
 ghost use Rattle.sp_word.specs.Word.{is_layout, max_dist, max_pred, dist_of};
@@ -15,7 +15,7 @@ use sp_word::Word;
 use std::alloc::{AllocError, Global};
 use std::thread::{Threads, join};
 
-// The vertices above one number, up to another, and how many threads look at their rows.
+// The vertices above one number, up to another, and the number of threads that read their rows.
 #[derive(Clone, Copy)]
 struct Share {
     low: u32,
@@ -23,7 +23,7 @@ struct Share {
     threads: u32,
 }
 
-// Parts a share in two: the first is for one thread, and the second for the others.
+// Cuts a share in two: the first part is for one thread, and the second for the others.
 fn part(share: Share) -> (Share, Share)
     requires range { share.low ≤ share.high }
     requires threads { 1 < share.threads }
@@ -58,8 +58,8 @@ fn has_dist<const P: u32>(word: Word<P>, dist: u32) -> bool
     }
 }
 
-// Sets the flag of a mark's vertex, if the vertex is in the range and has the mark's distance. The first flag is that of the
-// vertex above `low`.
+// Sets the flag of a mark's vertex, if the vertex is in the range and has the mark's distance. The first flag belongs to vertex
+// `low + 1`.
 fn set_flag<const P: u32>(words: &[Word<P>], low: u32, mark: Mark, flags: &mut [bool])
     requires { low + length flags.old ≤ length words.now }
     ensures { TakesMarks (max_dist P) (word_at words.now) low (mark ∷ []) flags.old flags.new }
@@ -83,7 +83,7 @@ fn set_flags<const P: u32>(words: &[Word<P>], low: u32, marks: &[Mark], flags: &
     }
 }
 
-// Returns what the row of a vertex shows. It isn't looked at where the vertex is marked.
+// Returns what the row of a vertex shows. It doesn't read the row of a marked vertex.
 fn scan_row<const P: u32>(words: &[Word<P>], graph: &Graph, vertex: u32, marked: bool) -> Scan
     requires layout { is_layout P ≡ true }
     requires most { graph.now.n ≤ max_pred P }
@@ -102,7 +102,7 @@ fn scan_row<const P: u32>(words: &[Word<P>], graph: &Graph, vertex: u32, marked:
     scan_part(words, graph.row(vertex))
 }
 
-// Returns what the rows of the vertices above `low` show, each of which has a flag. Those whose flag is set aren't looked at.
+// Returns what the rows of the vertices above `low` show. Each vertex has a flag; a row isn't read if its flag is set.
 fn scan_rows<const P: u32>(words: &[Word<P>], graph: &Graph, low: u32, flags: &[bool]) -> Scan
     requires layout { is_layout P ≡ true }
     requires most { graph.now.n ≤ max_pred P }
@@ -120,7 +120,7 @@ fn scan_rows<const P: u32>(words: &[Word<P>], graph: &Graph, low: u32, flags: &[
     told
 }
 
-// Returns what the rows of a share show, looked at by this thread.
+// Returns what the rows of a share show, on this thread.
 fn scan_share<const P: u32>(
     alloc: Global,
     words: &[Word<P>],
@@ -144,7 +144,7 @@ fn scan_share<const P: u32>(
     Ok(scan_rows(words, graph, share.low, &flags))
 }
 
-// Returns what the rows of a share show, looked at by as many threads as it says.
+// Returns what the rows of a share show, on the share's number of threads.
 fn scan_share_by<R: Threads + Sync, const P: u32>(
     rt: &R,
     alloc: Global,
@@ -197,8 +197,8 @@ fn count(marks: &[Vec<Mark>]) -> usize {
     all
 }
 
-/// Returns what `scan_arcs` does of all arcs of a graph. It looks at no arc of a vertex that has a mark of its distance, if
-/// there are marks for half of the vertices, and memory for a flag for each vertex.
+/// Returns what `scan_arcs` returns for all arcs of a graph. If there are marks for half of the vertices, and memory for a flag
+/// for each vertex, it reads no arc of a vertex that has a mark with its distance.
 pub fn scan_unmarked<R: Threads + Sync, const P: u32>(
     rt: &R,
     alloc: Global,

@@ -1,4 +1,4 @@
-//! The scan of arcs over a list of words: whether all of them are relaxed, and which vertex they leave out.
+//! Scans arcs over a list of words: whether all arcs are relaxed, and which vertex they leave out.
 ghost use Rattle.std.specs.Prelude.{◌≡◌, ◌≤◌, ◌↔◌, true, [], ◌∷◌, length, All, IsTrue, IfOk, OnOk};
 ghost use denote.Param.Send.{IsSync};
 ghost use Rattle.sp_word.specs.Word.{is_layout, max_dist, max_pred};
@@ -11,7 +11,7 @@ use sp_word::Word;
 use std::alloc::{AllocError, Global};
 use std::thread::{Threads, join};
 
-/// What arcs show of a list of words.
+/// What arcs show about a list of words.
 #[derive(Clone, Copy, Debug, PartialEq, Eq)]
 pub enum Scan {
     /// Every arc is relaxed, and none leads from a reached vertex to an unreached one.
@@ -51,7 +51,7 @@ fn scan_arc<const P: u32>(words: &[Word<P>], arc: Arc) -> Scan
     }
 }
 
-/// Returns what arcs show, looked at one after the other.
+/// Returns what arcs show, reading one after the other.
 pub(crate) fn scan_part<const P: u32>(words: &[Word<P>], arcs: &[Arc]) -> Scan
     requires layout { is_layout P ≡ true }
     requires most { length words.now ≤ max_pred P }
@@ -65,7 +65,7 @@ pub(crate) fn scan_part<const P: u32>(words: &[Word<P>], arcs: &[Arc]) -> Scan
     told
 }
 
-// Whether an arc is relaxed, where its tail has this word.
+// Returns whether an arc is relaxed if its tail has this word.
 fn is_arc_relaxed<const P: u32>(words: &[Word<P>], arc: Arc, from: Word<P>) -> bool
     requires layout { is_layout P ≡ true }
     requires most { length words.now ≤ max_pred P }
@@ -78,7 +78,7 @@ fn is_arc_relaxed<const P: u32>(words: &[Word<P>], arc: Arc, from: Word<P>) -> b
     }
 }
 
-// Whether the arcs of a row are relaxed, where their tail has this word.
+// Returns whether the arcs of a row are relaxed if their tail has this word.
 fn is_row_relaxed<const P: u32>(words: &[Word<P>], row: &[Arc], from: Word<P>) -> bool
     requires layout { is_layout P ≡ true }
     requires most { length words.now ≤ max_pred P }
@@ -94,7 +94,7 @@ fn is_row_relaxed<const P: u32>(words: &[Word<P>], row: &[Arc], from: Word<P>) -
     true
 }
 
-// Whether the arcs of a vertex are relaxed, if its distance is no greater than this one.
+// Returns whether the arcs of a vertex are relaxed, if its distance is at most `far`.
 fn is_vertex_relaxed<const P: u32>(words: &[Word<P>], graph: &Graph, far: u64, vertex: u32) -> bool
     requires layout { is_layout P ≡ true }
     requires most { graph.now.n ≤ max_pred P }
@@ -110,7 +110,7 @@ fn is_vertex_relaxed<const P: u32>(words: &[Word<P>], graph: &Graph, far: u64, v
     }
 }
 
-/// Returns whether each arc is relaxed whose tail has no greater distance than `far`. It looks at no other arcs.
+/// Returns whether each arc is relaxed whose tail has a distance of at most `far`. It reads no other arcs.
 pub fn is_relaxed_up_to<const P: u32>(words: &[Word<P>], graph: &Graph, far: u64) -> bool
     requires layout { is_layout P ≡ true }
     requires most { graph.now.n ≤ max_pred P }
@@ -125,7 +125,7 @@ pub fn is_relaxed_up_to<const P: u32>(words: &[Word<P>], graph: &Graph, far: u64
     true
 }
 
-// Puts the tail of an arc behind others, if the arc isn't relaxed.
+// Appends the tail of an arc to the list, if the arc isn't relaxed.
 fn push_tail<const P: u32>(
     words: &[Word<P>],
     arc: Arc,
@@ -163,8 +163,7 @@ pub fn open_tails<const P: u32>(
     Ok(tails)
 }
 
-/// Returns what arcs show of a list of words that has the word of vertex `v` at `v - 1`. As many threads look at them as
-/// `threads` says.
+/// Returns what arcs show about a list of words that has the word of vertex `v` at `v - 1`. It uses `threads` threads.
 pub fn scan_arcs<R: Threads + Sync, const P: u32>(
     rt: &R,
     words: &[Word<P>],

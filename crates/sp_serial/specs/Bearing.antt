@@ -6,7 +6,8 @@ use Rattle.sp_forest.specs.Run.{IsUpTo}
 use Rattle.sp_forest.specs.declared.asked.Until.{Until}
 use Rattle.sp_forest.specs.declared.asked.Until.TheVariants.{All as AllWords, Limit, Targets}
 
--- Arcs bear on it so far, or all do: up to the limit, or to a distance that no target's word is beyond.
+-- Arcs bear on what is asked up to this distance, or all arcs do. It is the limit, or a distance that no target's word
+-- exceeds.
 abbrev pub BearsOn : Until → List Word → (far : Option ℕ) → Type 0
 BearsOn AllWords words far = far ≡ None
 BearsOn (Limit limit) words far = far ≡ Some limit

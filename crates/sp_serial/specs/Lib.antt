@@ -1,4 +1,3 @@
-pub mod Asked
 pub mod Bearing
 pub mod Touched
 pub mod Part

@@ -10,7 +10,7 @@ use Rattle.sp_forest.specs.Forests.{IsForestWithin}
 abbrev pub HasNoOther : TreeTable → (v : ℕ) → Word → Type 0
 HasNoOther t v word = (table_of t v ≡ Unreached) ⊎ (table_of t v ≡ word)
 
--- The vertex has this word in the tree afterwards, and every other its word of before.
+-- The vertex has this word in the tree afterwards, and every other vertex keeps its word.
 pub record HasGained (before : TreeTable) (v : ℕ) (word : Word) (after : TreeTable) : Type 0 where
   pub n : after.n ≡ before.n
   pub source : after.source ≡ before.source
@@ -23,7 +23,7 @@ pub record IsPartOf (s limit : ℕ) (words : List Word) (t : TreeTable) : Type 0
   pub source : t.source ≡ s
   pub each : (v : ℕ) → IsVertex (length words) v → table_of t v ≡ up_to limit (word_at words v)
 
--- The rows are those of the part of the forest within the limit; the first source stands for all.
+-- The rows are those of the part of the forest within the limit. The first source represents all sources.
 pub record HasPart (g : Graph) (sources : List ℕ) (limit : ℕ) (t : TreeTable) : Type 0 where
   pub n : t.n ≡ g.n
   pub source : t.source ≡ slice_index_or sources 0 0

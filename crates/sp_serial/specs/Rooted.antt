@@ -15,7 +15,7 @@ pub record AreKnownRoots (t : TreeTable) (roots : List ℕ) : Type 0 where
   pub size : length roots ≡ length t.rows
   pub known : (k : ℕ) (none : ℕ × Word) → k < length t.rows → 0 < slice_index_or roots k 0 → IsRoot (table_of t) (slice_index_or t.rows k none).0 (slice_index_or roots k 0)
 
--- The forest afterwards has one row more.
+-- The forest has one more row afterwards.
 pub record HasRow (before : ForestTable) (v : ℕ) (word : Word) (root : ℕ) (after : ForestTable) : Type 0 where
   pub n : after.n ≡ before.n
   pub rows : after.rows ≡ before.rows ++ (v, word, root) ∷ []

@@ -1,8 +1,8 @@
-//! Entries worked off many at a time.
+//! Processes many entries at a time.
 //!
-//! One after the other, each entry would wait for its words, its row and the words of its heads, since what is done depends on them.
-//! So many entries are gone over in several passes, each of which reads for all of them what the pass before has told the places
-//! of.
+//! If entries were processed one by one, each would wait for its word, its row and the words of its heads, since the next step
+//! depends on them. Many entries are therefore processed together, in several passes. Each pass reads, for all of them, the data
+//! whose places the pass before has found.
 ghost use Rattle.std.specs.Prelude.{◌≡◌, ◌<◌, ◌≤◌, ◌++◌, true, false, length, vec_len, All, IsTrue, OnOk};
 ghost use Rattle.sp_word.specs.Word.{is_layout, max_pred};
 ghost use Rattle.sp_paths.specs.Paths.{IsArc, IsVertex};
@@ -18,33 +18,33 @@ use sp_paths::Arc;
 use sp_word::Word;
 use std::alloc::{AllocError, Global};
 
-// So many entries are worked off at once, at most.
+// At most this many entries are processed together.
 const STRETCH: usize = 64;
 
-// Fewer entries than these are worked off one after the other.
+// Fewer entries than this are processed one by one.
 const FEW: usize = 8;
 
-// The words of fewer vertices than these lie in a core's own cache, so that hardly anything is waited for: all entries are worked
-// off one after the other.
+// The words of fewer vertices than this fit in a core's own cache, so that reads hardly wait: all entries are then processed one
+// by one.
 const FAR: usize = 131_072;
 
-// So many arcs are relaxed at once, at most.
+// At most this many arcs are relaxed together.
 const MOST: usize = 256;
 
-// A row of so many arcs at most is put among those to be relaxed without a branch for each arc.
+// A row of at most this many arcs is added to the waiting arcs without a branch for each arc.
 const FEW_ARCS: usize = 4;
 
-/// Room for what is worked off at once.
+/// Memory for the entries that are processed together.
 #[derive(Drop)]
 pub(crate) struct Batch {
-    // room for the vertices that still have their entry's distance
+    // Room for the vertices that still have the distance of their entry.
     vertices: Vec<u32>,
-    // arcs of these that are to be relaxed
+    // Arcs of these vertices that wait to be relaxed.
     arcs: Vec<Arc>,
 }
 
 impl Batch {
-    /// Makes room that grows as it is used.
+    /// Returns an empty one, which grows as it is used.
     pub(crate) fn new(alloc: Global) -> Batch {
         Batch {
             vertices: Vec::new(alloc),
@@ -53,8 +53,8 @@ impl Batch {
     }
 }
 
-// Whether all arcs lead to sources, which none of them lowers. So it reads the words of all heads: the shorter a loop, the more of
-// its reads are on their way at once.
+// Returns whether all arcs lead to sources, whose words no arc lowers. In doing so it reads the words of all heads: the shorter a
+// loop, the more of its reads are in flight at once.
 fn lead_to_sources<const P: u32>(words: &[Word<P>], arcs: &[Arc]) -> bool
     requires { All (IsArc (length words.now)) arcs.now }
 {
@@ -65,7 +65,7 @@ fn lead_to_sources<const P: u32>(words: &[Word<P>], arcs: &[Arc]) -> bool
     bits == 0
 }
 
-// Drops the arcs that are relaxed, which are most of them. No branch depends on a head's word.
+// Drops the relaxed arcs, which are most of the arcs. No branch depends on a head's word.
 fn drop_relaxed<const P: u32>(graph: &Graph, words: &[Word<P>], arcs: &mut Vec<Arc>)
     requires layout { is_layout P ≡ true }
     requires room { graph.now.n ≤ max_pred P }
@@ -89,7 +89,7 @@ fn drop_relaxed<const P: u32>(graph: &Graph, words: &[Word<P>], arcs: &mut Vec<A
     arcs.truncate(kept);
 }
 
-// Relaxes the arcs that wait, one after the other, and leaves none. Heads that came nearer are put into buckets.
+// Relaxes the waiting arcs, one after the other, and empties their list. Heads that came nearer are added to buckets.
 fn relax_waiting<T: Table<P>, const P: u32>(
     graph: &Graph,
     arcs: &mut Vec<Arc>,
@@ -118,7 +118,7 @@ fn relax_waiting<T: Table<P>, const P: u32>(
     Ok(())
 }
 
-// Relaxes the arcs that wait, if they are as many as may.
+// Relaxes the waiting arcs, if there are as many as may wait.
 fn relax_full<T: Table<P>, const P: u32>(
     graph: &Graph,
     arcs: &mut Vec<Arc>,
@@ -137,8 +137,8 @@ fn relax_full<T: Table<P>, const P: u32>(
     relax_waiting(graph, arcs, table, bins)
 }
 
-// Puts the arcs of a row behind others, where these are few and there is room: as many as the longest such row has, and then
-// without those that there are too many. So no branch depends on how many arcs there are. Tells whether it did.
+// Appends the arcs of a row if they are few and there is room, and returns whether it did. It appends as many arcs as the longest
+// such row has, and then drops the surplus, so that no branch depends on the number of arcs.
 fn put_few(row: &[Arc], arcs: &mut Vec<Arc>) -> bool
     requires { 0 < length row.now }
     ensures put { IsTrue result → arcs.new.items ≡ arcs.old.items ++ row.now }
@@ -157,7 +157,7 @@ fn put_few(row: &[Arc], arcs: &mut Vec<Arc>) -> bool
     true
 }
 
-// Lets the arcs of a vertex wait behind others, one after the other.
+// Appends the arcs of a vertex to the waiting arcs, one after the other.
 fn put_each<T: Table<P>, const P: u32>(
     graph: &Graph,
     vertex: u32,
@@ -179,7 +179,7 @@ fn put_each<T: Table<P>, const P: u32>(
     Ok(())
 }
 
-// Lets the arcs of a vertex wait behind others.
+// Appends the arcs of a vertex to the waiting arcs.
 fn put_row<T: Table<P>, const P: u32>(
     graph: &Graph,
     vertex: u32,
@@ -223,8 +223,8 @@ fn relax_live<T: Table<P>, const P: u32>(
     relax_waiting(graph, arcs, table, bins)
 }
 
-// Relaxes the arcs of an entry's vertex, if the vertex still has the entry's distance. Heads that came nearer are put
-// into buckets.
+// Relaxes the arcs of an entry's vertex, if the vertex still has the entry's distance. Heads that came nearer are added to
+// buckets.
 fn relax_row<T: Table<P>, const P: u32>(
     graph: &Graph,
     entry: Entry,
@@ -270,7 +270,7 @@ fn relax_each<T: Table<P>, const P: u32>(
     Ok(())
 }
 
-// Makes a list as long as this, where it is shorter.
+// Extends a list to `count` places, if it is shorter.
 fn make_room(vertices: &mut Vec<u32>, count: usize) -> Result<(), AllocError>
     ensures { OnOk result (count ≤ vec_len vertices.new) }
 {
@@ -308,8 +308,8 @@ fn relax_some<T: Table<P>, const P: u32>(
     relax_live(graph, live, arcs, table, bins)
 }
 
-/// Relaxes the arcs of the vertex of each entry, if the vertex still has the entry's distance. Heads that came nearer are put into
-/// buckets.
+/// Relaxes the arcs of the vertex of each entry, if the vertex still has the entry's distance. Heads that came nearer are added
+/// to buckets.
 pub(crate) fn relax_rows<T: Table<P>, const P: u32>(
     graph: &Graph,
     entries: &[Entry],

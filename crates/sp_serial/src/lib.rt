@@ -1,17 +1,19 @@
-//! Runs on the calling thread. They start no other thread and never wait. One run answers whatever is asked of one source or
-//! several (`words_alone`); a tree, its part within a distance, a forest and the answers for targets are read off it.
+//! Runs on the calling thread. They start no other thread and never wait. One kind of run answers every question about one source
+//! or several (`words_alone`), and `ByCaller` is the calling thread as an engine (`sp_engine`), off whose words a tree, a part, a forest
+//! and answers for targets are read. Where a small part of a graph is enough, a room finds it first (`near.rt`).
 //!
-//! A run lowers the words bucket after bucket, as delta-stepping does (Meyer and Sanders, "Delta-stepping: a parallelizable
-//! shortest path algorithm", Journal of Algorithms 49 (2003)), by buckets that find their width themselves. Then the words are
-//! judged by the arcs that bear on what is asked. Where one of these isn't relaxed, the plain program passes over all arcs until
-//! no word changes. So the answer rests on looks at arcs alone, whatever the buckets held.
+//! A run lowers the words bucket by bucket, as delta-stepping does (Meyer and Sanders, "Delta-stepping: a parallelizable shortest
+//! path algorithm", Journal of Algorithms 49 (2003)), with buckets that adapt their width. Then it checks the arcs that bear on
+//! what is asked. If one of them isn't relaxed, the plain program passes over all arcs until no word changes. So the answer
+//! depends only on checks of arcs, whatever the buckets held.
 #![tactic(auto)]
 
-mod alone;
 mod batch;
+mod by_caller;
 mod live;
 mod lowering;
 mod misses;
+mod near;
 mod part;
 mod reach;
 mod room;
@@ -21,14 +23,13 @@ mod search;
 mod shelf;
 mod spare;
 mod table;
-mod targets;
 mod touched;
 mod words;
 
-pub use alone::{run_nearest_alone, run_source_alone, run_within_alone};
+pub use by_caller::ByCaller;
+pub use near::{answers_near, forest_near, part_near};
 pub use room::Room;
 pub use rooms::{OwnRoom, Rooms, RoomsOn};
 pub use sp_answer::{PairAnswer, RunError, Tree};
 pub use sp_forest::{Forest, Run, RunWords, Until};
-pub use targets::{run_target_alone, run_targets_alone};
 pub use words::words_alone;

@@ -1,4 +1,4 @@
-//! Entries whose vertices still have their distances, and what is read for these before their arcs are relaxed.
+//! Entries whose vertices still have their distances, and the reads for these vertices before their arcs are relaxed.
 //!
 //! No branch of these passes depends on a word, nor on where a row begins and ends, so their reads don't wait for one another.
 ghost use Rattle.std.specs.Prelude.{◌≡◌, ◌≤◌, length, take, All};
@@ -9,7 +9,7 @@ use sp_bins::Entry;
 use sp_graph::{Graph, look_up};
 use sp_word::Word;
 
-// Whether the vertex of an entry has arcs, and still has the entry's distance.
+// Returns whether the vertex of an entry has arcs, and still has the entry's distance.
 fn is_live<const P: u32>(graph: &Graph, words: &[Word<P>], entry: Entry) -> bool
     requires { length words.now ≡ graph.now.n }
     ensures { OnTrue result (IsTail graph.now entry.vertex) }
@@ -22,7 +22,7 @@ fn is_live<const P: u32>(graph: &Graph, words: &[Word<P>], entry: Entry) -> bool
     has_dist & !graph.row(vertex).is_empty()
 }
 
-/// Returns how many of the entries have a vertex that has arcs and still has the entry's distance, and so reads for all of them
+/// Returns the number of entries whose vertex has arcs and still has the entry's distance. In doing so it reads, for all entries,
 /// the vertex's word and where its row begins and ends.
 pub(crate) fn count_live<const P: u32>(graph: &Graph, words: &[Word<P>], entries: &[Entry]) -> usize
     requires { length words.now ≡ graph.now.n }
@@ -34,8 +34,8 @@ pub(crate) fn count_live<const P: u32>(graph: &Graph, words: &[Word<P>], entries
     live
 }
 
-/// Writes the vertices that have arcs and still have their entry's distance to the front of a list, and returns how many these
-/// are. Behind them the list has others.
+/// Writes the vertices that have arcs and still have their entry's distance to the front of a list, and returns their number. The
+/// places behind them hold other numbers.
 pub(crate) fn take_live<const P: u32>(
     graph: &Graph,
     words: &[Word<P>],
@@ -55,7 +55,7 @@ pub(crate) fn take_live<const P: u32>(
     live
 }
 
-// Returns the bits that the first heads of the vertices' rows have; 0 where there is no vertex.
+// Returns the bitwise OR of the first heads of the vertices' rows, or 0 if there is no vertex.
 fn first_bits(graph: &Graph, vertices: &[u32]) -> u32
     requires { All (IsTail graph.now) vertices.now }
 {
@@ -66,7 +66,7 @@ fn first_bits(graph: &Graph, vertices: &[u32]) -> u32
     bits
 }
 
-// Returns the bits that the last heads of the vertices' rows have; 0 where there is no vertex.
+// Returns the bitwise OR of the last heads of the vertices' rows, or 0 if there is no vertex.
 fn last_bits(graph: &Graph, vertices: &[u32]) -> u32
     requires { All (IsTail graph.now) vertices.now }
 {
@@ -78,8 +78,9 @@ fn last_bits(graph: &Graph, vertices: &[u32]) -> u32
     bits
 }
 
-/// Returns the bits that the first and last heads of the vertices' rows have, and so reads where all of these rows begin and end; 0
-/// where there is no vertex. The shorter a loop, the more of its reads are on their way at once: so there are two.
+/// Returns the bitwise OR of the first and last heads of the vertices' rows, or 0 if there is no vertex. In doing so it reads the
+/// first and the last arc of all these rows. There are two loops, since the shorter a loop, the more of its reads are in flight
+/// at once.
 pub(crate) fn end_bits(graph: &Graph, vertices: &[u32]) -> u32
     requires { All (IsTail graph.now) vertices.now }
 {

@@ -1,4 +1,4 @@
-//! Words lowered from sources on.
+//! Lowers words from sources on.
 ghost use Rattle.std.specs.Prelude.{◌≡◌, All, IfOk, OnOk, length};
 ghost use Rattle.sp_word.specs.Word.{max_dist};
 ghost use Rattle.sp_paths.specs.Paths.{IsVertex};
@@ -11,7 +11,8 @@ use sp_forest::Run;
 use sp_graph::Graph;
 use std::alloc::{AllocError, Global};
 
-// Gives the sources their words, where all vertices are unreached. Where memory is refused, some of them have these.
+// Gives the sources their words, when all vertices are unreached. If an allocation fails, only some of the sources have their
+// words.
 fn start<T: Table<P>, const P: u32>(
     graph: &Graph,
     sources: &[u32],
@@ -31,9 +32,9 @@ fn start<T: Table<P>, const P: u32>(
     Ok(())
 }
 
-/// Lowers words from the sources on, where all vertices are unreached, as far as is asked. It gives up where more entries than
-/// `most` would be worked off. Returns whether it has gone as far as it was to. The buckets begin with a width of this power of
-/// 2, and leave there the one that they have found.
+/// Lowers words from the sources on, as far as is asked, when all vertices are unreached. It gives up rather than process more
+/// than `most` entries, and returns whether it has gone as far as asked. `shift` is the initial width of the buckets, as a power
+/// of 2; at the end it is set to the width that they have adapted to.
 pub(crate) fn lower_from<T: Table<P>, const P: u32>(
     alloc: Global,
     graph: &Graph,

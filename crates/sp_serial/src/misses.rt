@@ -1,19 +1,19 @@
 //! Searches that gave up.
 use std::sync::atomic::{AtomicU32, Ordering};
 
-// After searches that gave up in a row, so many at most that count, no search is made for twice as many sources each time.
+// After two searches in a row that gave up, the next 2 sources skip the search; after this many or more, the next 6 do.
 const MOST_MISSES: u32 = 3;
 
-/// Counts the searches that gave up in a row, by several threads.
+/// Counts the searches that gave up in a row, on several threads.
 #[derive(Drop)]
 pub(crate) struct Misses {
-    // how many they are, and for how many sources no search is made now
+    // The number of these searches, and the number of sources that still skip the search.
     misses: AtomicU32,
     rest: AtomicU32,
 }
 
 impl Misses {
-    /// Counts none yet.
+    /// Returns a counter of no search.
     pub(crate) fn new() -> Misses {
         Misses {
             misses: AtomicU32::new(0),
@@ -21,25 +21,25 @@ impl Misses {
         }
     }
 
-    /// Returns whether no search is made now.
+    /// Returns whether this source skips the search.
     pub(crate) fn rests(&self) -> bool {
         let rest = self.rest.load(Ordering::SeqCst);
         if rest == 0 {
             return false;
         }
-        // where another thread counts at the same time, one of them is enough
+        // If another thread counts down at the same time, one of the two is enough.
         let _ = self
             .rest
             .compare_exchange(rest, rest - 1, Ordering::SeqCst, Ordering::SeqCst);
         true
     }
 
-    /// Takes note of a search that found its answer.
+    /// Records a search that found its answer.
     pub(crate) fn hit(&self) {
         self.misses.store(0, Ordering::SeqCst);
     }
 
-    /// Takes note of a search that gave up.
+    /// Records a search that gave up.
     pub(crate) fn miss(&self) {
         let misses = self
             .misses

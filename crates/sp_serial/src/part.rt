@@ -26,8 +26,8 @@ fn up_to<const P: u32>(word: Word<P>, limit: u64) -> Word<P>
     }
 }
 
-// Appends the row of a vertex with this word, unless it is unreached or has its row. Returns whether it has it then: none is
-// appended behind the row of a greater vertex.
+// Appends the row of a vertex with this word, unless it is unreached or has its row already. If the last row is that of a greater
+// vertex, it appends nothing and returns false; otherwise it returns true.
 fn push_word<const P: u32>(
     tree: &mut Tree<P>,
     vertex: u32,
@@ -54,7 +54,7 @@ fn push_word<const P: u32>(
     Ok(true)
 }
 
-// Returns the tree of the listed vertices whose distances are at most the limit, if the list rises.
+// Returns the tree of the listed vertices whose distances are at most the limit, if the list is in rising order.
 fn tree_of<const P: u32>(
     alloc: Global,
     graph: &Graph,
@@ -81,8 +81,8 @@ fn tree_of<const P: u32>(
     Ok(Some(tree))
 }
 
-/// Looks for the rows of the part of the forest of the sources within a limit, where all vertices are unreached. It gives up where
-/// more entries than `most` would be worked off.
+/// Searches for the rows of the part of the sources' forest within a limit, when all vertices are unreached. It gives up rather
+/// than process more than `most` entries.
 pub(crate) fn rows_in<const P: u32>(
     alloc: Global,
     graph: &Graph,

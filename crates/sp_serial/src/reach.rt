@@ -1,4 +1,4 @@
-//! Searches in words of all vertices, all of them unreached, that cost what they touch.
+//! Searches in the words of all vertices, all of them unreached. A search takes time only for the vertices that it touches.
 ghost use Rattle.std.specs.Prelude.{◌≡◌, ◌≤◌, true, vec_len, All, None, IfOk};
 ghost use Rattle.std.specs.Bool.{OnTrue};
 ghost use Rattle.sp_word.specs.Word.{is_layout, max_dist, max_pred};
@@ -14,7 +14,8 @@ use sp_forest::Run;
 use sp_graph::Graph;
 use std::alloc::{AllocError, Global};
 
-// Returns whether the words tell what is asked: each target has a distance, and all arcs are relaxed that bear on it.
+// Returns whether the words answer what is asked: each target has a distance, and all arcs that bear on what is asked are
+// relaxed.
 fn is_shown<const P: u32>(graph: &Graph, run: Run, touched: &Touched<P>) -> bool
     requires layout { is_layout P ≡ true }
     requires sources { All (IsVertex graph.now.n) run.sources.now }
@@ -32,8 +33,8 @@ fn is_shown<const P: u32>(graph: &Graph, run: Run, touched: &Touched<P>) -> bool
     }
 }
 
-/// Searches as far as is asked, up to a limit or for targets, and gives up where more entries than `most` would be worked off.
-/// Returns whether the words tell what is asked. Whatever comes, the list has each vertex with a word.
+/// Searches as far as is asked, up to a limit or for targets. It gives up rather than process more than `most` entries, and
+/// returns whether the words answer what is asked. In every case the list afterwards has each vertex with a word.
 pub(crate) fn reach<const P: u32>(
     alloc: Global,
     graph: &Graph,

@@ -1,4 +1,4 @@
-//! Searches that cost what they touch.
+//! Searches that take time only for the vertices that they touch.
 ghost use Rattle.std.specs.Prelude.{◌≡◌, ◌≤◌, true, vec_len, All, Some, IfOk, IfSome};
 ghost use Rattle.sp_word.specs.Word.{is_layout, max_dist, max_pred};
 ghost use Rattle.sp_paths.specs.Paths.{IsVertex};
@@ -19,8 +19,9 @@ use std::alloc::{AllocError, Global};
 use std::marker::Model;
 use std::mem::replace;
 
-/// Words of all vertices of a graph, for searches that touch few of them: all are unreached between two searches, and each
-/// puts back what it has touched. So a search costs what lies nearer than its targets, however large the graph is.
+/// The words of all vertices of a graph, for searches that touch few of them. All words are unreached between two searches, since
+/// each search resets the words that it has touched. So a search takes time only for the vertices nearer than its targets,
+/// however large the graph is.
 ///
 /// Contracts see the graph.
 #[derive(Drop)]
@@ -41,8 +42,7 @@ impl<'g, const P: u32> Model for Room<'g, P> {
     ghost invariant = { λ r. IsClear P r.graph.now r.touched.words.items };
 }
 
-// Looks for targets from a source, where all vertices are unreached. It gives up where more entries than `most` would be worked
-// off.
+// Searches for targets from a source, when all vertices are unreached. It gives up rather than process more than `most` entries.
 fn find_in<const P: u32>(
     alloc: Global,
     graph: &Graph,
@@ -76,7 +76,7 @@ fn find_in<const P: u32>(
 }
 
 impl<'g, const P: u32> Room<'g, P> {
-    /// Makes a room for a graph: 8 bytes for each vertex. It fails only if there is no memory for them.
+    /// Returns a room for a graph, which takes 8 bytes for each vertex. The call fails only if there is no memory for them.
     pub fn new(alloc: Global, graph: &'g Graph) -> Result<Room<'g, P>, AllocError>
         requires layout { is_layout P ≡ true }
         requires n { graph.now.n ≤ max_pred P }
@@ -93,12 +93,12 @@ impl<'g, const P: u32> Room<'g, P> {
         })
     }
 
-    /// Looks for targets from a source, by rising distance, until all of them have their final words. It gives up once it would
-    /// relax more than about `most` vertices, and where a target isn't reached: then there is no answer, and another run is to
-    /// find it.
+    /// Searches for targets from a source, by rising distance, until all of them have their final words. It gives up once it
+    /// would relax more than about `most` vertices, or if a target isn't reached. It then returns no answer, and another run has
+    /// to find it.
     ///
-    /// It takes no time for vertices that it doesn't touch, and memory for those that it does. Whatever comes, the room serves
-    /// the next search.
+    /// It takes no time for vertices that it doesn't touch, and memory for those that it does. In every case the room is ready
+    /// for the next search.
     pub fn find(
         &mut self,
         source: u32,
@@ -121,10 +121,10 @@ impl<'g, const P: u32> Room<'g, P> {
         found
     }
 
-    /// Looks for the part of the tree within a distance of its source, by rising distance. It gives up once it would relax more
-    /// than about `most` vertices: then there is no part, and another run is to find it.
+    /// Searches for the part of the tree within a distance of its source, by rising distance. It gives up once it would relax
+    /// more than about `most` vertices. It then returns no part, and another run has to find it.
     ///
-    /// It takes time and memory for the vertices that it touches alone. Whatever comes, the room serves the next search.
+    /// It takes time and memory only for the vertices that it touches. In every case the room is ready for the next search.
     pub fn part(
         &mut self,
         source: u32,
@@ -143,7 +143,7 @@ impl<'g, const P: u32> Room<'g, P> {
         part
     }
 
-    /// Looks for the part of the forest of the sources within a distance, as `part` does for one source. Without sources it finds
+    /// Searches for the part of the sources' forest within a distance, as `part` does for one source. Without sources it finds
     /// none.
     pub fn forest(
         &mut self,

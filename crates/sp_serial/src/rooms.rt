@@ -1,4 +1,4 @@
-//! Searches that cost what they touch, in rooms whose words wait for the next search.
+//! Searches that take time only for the vertices that they touch, in rooms whose words are kept for the next search.
 ghost use Rattle.std.specs.Prelude.{◌≡◌, ◌≤◌, true, All, Some, IfSome};
 ghost use Rattle.sp_word.specs.Word.{is_layout, max_dist, max_pred};
 ghost use Rattle.sp_paths.specs.Paths.{IsVertex};
@@ -15,24 +15,25 @@ use sp_forest::Forest;
 use sp_graph::Graph;
 use std::alloc::Global;
 
-// A search gives up when it has relaxed one of this many vertices, since another run is better there, ..
+// A search gives up when it has relaxed one in this many vertices, since another run is then better, ..
 const SHARE: u32 = 64;
 
-// .. but not before so many, which take no longer than a run takes to begin.
+// .. but not before it has relaxed this many, which takes no longer than a run takes to begin.
 const LEAST: u32 = 1024;
 
-/// Rooms for searches: the words of a search that has found its answer wait for the next one on a shelf.
+/// Rooms for searches. The words of a search that found its answer are kept on a shelf for the next one.
 #[derive(Drop)]
 pub struct RoomsOn<S, const P: u32> {
     shelf: S,
     misses: Misses,
 }
 
-/// Rooms for searches by several threads that share them: the words of a search that has found its answer wait for the next one,
-/// of whichever thread. No thread waits for another.
+/// Rooms for searches, shared by several threads. The words of a search that found its answer are kept for the next search of any
+/// thread. No thread waits for another.
 pub type Rooms<const P: u32> = RoomsOn<Places<P>, P>;
 
-/// The words of a search, which wait for the next one: what `Rooms` is for several threads, for a single one and without a lock.
+/// A room for the searches of a single thread: the same as `Rooms` for several threads, but without a lock. The words of a search
+/// are kept for the next one.
 pub type OwnRoom<const P: u32> = RoomsOn<OnePlace<P>, P>;
 
 // Returns how many vertices a search may relax before it gives up.
@@ -41,7 +42,8 @@ fn most_of(graph: &Graph) -> usize {
 }
 
 impl<const P: u32> RoomsOn<Places<P>, P> {
-    /// Returns rooms for so many threads. It takes no memory for words yet; where there is none for the places, no words wait.
+    /// Returns rooms for `most` threads. It takes no memory for words yet. If there is no memory for the places, no words are
+    /// kept.
     pub fn new(alloc: Global, most: usize) -> Rooms<P> {
         RoomsOn {
             shelf: Places::new(alloc, most),
@@ -61,7 +63,7 @@ impl<const P: u32> RoomsOn<OnePlace<P>, P> {
 }
 
 impl<S: Shelf<P>, const P: u32> RoomsOn<S, P> {
-    // Takes note of whether a search has found its answer, and keeps its words where it has.
+    // Records whether a search found its answer, and keeps its words if it did.
     fn close(&self, room: Room<P>, found: bool) {
         if found {
             self.misses.hit();
@@ -71,7 +73,7 @@ impl<S: Shelf<P>, const P: u32> RoomsOn<S, P> {
         }
     }
 
-    // Makes a room of words that wait, or a new one, unless no search is made now.
+    // Returns a room with the kept words, or a new one, unless this source skips the search.
     fn open<'g>(&self, alloc: Global, graph: &'g Graph) -> Option<Room<'g, P>>
         requires layout { is_layout P ≡ true }
         requires n { graph.now.n ≤ max_pred P }
@@ -88,9 +90,9 @@ impl<S: Shelf<P>, const P: u32> RoomsOn<S, P> {
         Room::new(alloc, graph).ok()
     }
 
-    /// Returns the answers for targets that lie near their source, as `Room::find` does. Where they don't, or where memory is
-    /// refused, nothing is kept of the search: then another run has as much memory as before. Behind several that gave up, some
-    /// sources are not searched from.
+    /// Returns the answers for targets near their source, as `Room::find` does. If the targets aren't near, or if an allocation
+    /// fails, nothing is kept of the search, so that another run has as much memory as before. After several searches that gave
+    /// up, some sources skip the search.
     pub fn find(
         &self,
         alloc: Global,
@@ -111,8 +113,8 @@ impl<S: Shelf<P>, const P: u32> RoomsOn<S, P> {
         found
     }
 
-    /// Returns the part of the tree within a distance of its source, as `Room::part` does, where it is small. Where it isn't, or
-    /// where memory is refused, nothing is kept of the search, and behind several that gave up some sources are not searched from.
+    /// Returns the part of the tree within a distance of its source, as `Room::part` does, if it is small. If it isn't, or if an
+    /// allocation fails, nothing is kept of the search. After several searches that gave up, some sources skip the search.
     pub fn part(&self, alloc: Global, graph: &Graph, source: u32, limit: u64) -> Option<Tree<P>>
         requires layout { is_layout P ≡ true }
         requires n { graph.now.n ≤ max_pred P }
@@ -126,9 +128,9 @@ impl<S: Shelf<P>, const P: u32> RoomsOn<S, P> {
         found
     }
 
-    /// Returns the part of the forest of the sources within a distance, as `Room::forest` does, where it is small. Where it isn't,
-    /// where there are no sources, or where memory is refused, nothing is kept of the search. Of more sources than a search relaxes
-    /// vertices there is none at all: how often a source is named costs no memory.
+    /// Returns the part of the forest of the sources within a distance, as `Room::forest` does, if it is small. If it isn't, if
+    /// there are no sources, or if an allocation fails, nothing is kept of the search. If there are more sources than a search
+    /// may relax vertices, there is no search at all, so that naming a source repeatedly costs no memory.
     pub fn forest(
         &self,
         alloc: Global,

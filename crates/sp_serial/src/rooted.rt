@@ -34,8 +34,8 @@ fn row_at<const P: u32>(tree: &Tree<P>, place: usize) -> (u32, Word<P>)
     tree.rows()[place]
 }
 
-// Returns the root of the vertex of a row: itself, if it is a source, or else that of its predecessor. It is 0 where that isn't
-// known.
+// Returns the root of a row's vertex: the vertex itself if it is a source, and otherwise the root of its predecessor, or 0 if
+// that isn't known.
 fn root_of<const P: u32>(tree: &Tree<P>, roots: &[u32], place: usize) -> u32
     requires place { place < length tree.now.rows }
     requires known { AreKnownRoots tree.now roots.now }
@@ -59,7 +59,7 @@ fn root_of<const P: u32>(tree: &Tree<P>, roots: &[u32], place: usize) -> u32
     }
 }
 
-// Returns the places of the rows by rising distance, so that each stands behind that of its predecessor.
+// Returns the places of the rows by rising distance, so that each comes after that of its predecessor.
 fn by_distance<const P: u32>(
     alloc: Global,
     rows: &[(u32, Word<P>)],
@@ -74,7 +74,7 @@ fn by_distance<const P: u32>(
     Ok(order)
 }
 
-// Puts the root of a row into the list, if it is known.
+// Writes the root of a row into the list, if it is known.
 fn put_root<const P: u32>(tree: &Tree<P>, roots: &mut [u32], place: usize)
     requires { AreKnownRoots tree.now roots.old }
     ensures { AreKnownRoots tree.entry.now roots.new }
@@ -84,7 +84,7 @@ fn put_root<const P: u32>(tree: &Tree<P>, roots: &mut [u32], place: usize)
     }
 }
 
-// Puts the roots of the rows into the list, in this order of their places.
+// Writes the roots of the rows into the list, in this order of their places.
 fn fill_roots<const P: u32>(tree: &Tree<P>, order: &[(u64, usize)], roots: &mut [u32])
     requires { AreKnownRoots tree.now roots.old }
     ensures { AreKnownRoots tree.entry.now roots.new }
@@ -94,7 +94,7 @@ fn fill_roots<const P: u32>(tree: &Tree<P>, order: &[(u64, usize)], roots: &mut 
     }
 }
 
-// Returns the roots of the rows, in their order; 0 where one isn't known.
+// Returns the roots of the rows, in the order of the rows; 0 for a root that isn't known.
 fn roots_of<const P: u32>(alloc: Global, tree: &Tree<P>) -> Result<Vec<u32>, AllocError>
     ensures { IfOk result (λ roots. AreKnownRoots tree.now roots.items) }
 {
@@ -104,7 +104,7 @@ fn roots_of<const P: u32>(alloc: Global, tree: &Tree<P>) -> Result<Vec<u32>, All
     Ok(roots)
 }
 
-// Appends a row with its root, unless that isn't known. Returns whether it has.
+// Appends a row with its root, if the root is known. Returns whether it did.
 fn push_rooted<const P: u32>(
     forest: &mut Forest<P>,
     vertex: u32,
@@ -126,7 +126,7 @@ fn push_rooted<const P: u32>(
     Ok(true)
 }
 
-// Returns the forest of the rows with these roots, if all are known.
+// Returns the forest of the rows with these roots, if all roots are known.
 fn forest_of<const P: u32>(
     alloc: Global,
     tree: &Tree<P>,
@@ -145,7 +145,7 @@ fn forest_of<const P: u32>(
     Ok(Some(forest))
 }
 
-/// Returns the rows of a part with the root of each: where its chain of predecessors begins. It takes time for the rows alone.
+/// Returns the rows of a part with the root of each: where its chain of predecessors begins. It takes time only for the rows.
 pub(crate) fn rooted<const P: u32>(
     alloc: Global,
     tree: &Tree<P>,

@@ -1,4 +1,4 @@
-//! Words lowered bucket by bucket.
+//! Lowers words bucket by bucket.
 ghost use Rattle.std.specs.Prelude.{◌≡◌, length};
 ghost use Rattle.sp_serial.specs.Lowers.{CanLower, HasLowered};
 
@@ -10,19 +10,19 @@ use sp_graph::{Graph, look_up};
 use sp_word::Word;
 use std::alloc::{AllocError, Global};
 
-/// How far a search goes. It is a schedule, of which nothing is promised.
+/// How far a search goes. This is only a schedule, about which contracts promise nothing.
 #[derive(Clone, Copy)]
 pub(crate) struct Bounds<'t> {
-    /// It ends where all of these have their final words, if there are any, ..
+    /// It ends when all of these have their final words, if there are any, ..
     targets: &'t [u32],
-    /// .. or where no entry within this distance waits.
+    /// .. or when no entry within this distance is left.
     limit: u64,
-    /// It gives up where more entries than these would be worked off.
+    /// It gives up rather than process more entries than this.
     most: usize,
 }
 
 impl<'t> Bounds<'t> {
-    /// Returns how far a search goes for what is asked, and where it gives up.
+    /// Returns how far a search goes for what is asked, and when it gives up.
     pub(crate) fn of(until: Until<'t>, most: usize) -> Bounds<'t> {
         Bounds {
             targets: until.targets(),
@@ -70,8 +70,7 @@ fn first_open<const P: u32>(
     targets.len()
 }
 
-/// Returns buckets in which the sources wait. They begin with a width of this power of 2, and find a better one as they are
-/// worked off.
+/// Returns buckets with the entries of the sources. Their initial width is 2 to the power of `shift`; it adapts during the run.
 pub(crate) fn open_bins(alloc: Global, shift: u32, sources: &[u32]) -> Result<Bins, AllocError> {
     let mut bins = Bins::new(alloc, shift)?;
     for source in sources {
@@ -83,8 +82,7 @@ pub(crate) fn open_bins(alloc: Global, shift: u32, sources: &[u32]) -> Result<Bi
     Ok(bins)
 }
 
-/// Lowers words as the buckets are worked off, by rising distance. Returns whether it has gone as far as it was to, and hasn't
-/// given up.
+/// Lowers words while it empties the buckets, by rising distance. Returns whether it has gone as far as asked, without giving up.
 pub(crate) fn search<T: Table<P>, const P: u32>(
     alloc: Global,
     graph: &Graph,
@@ -100,7 +98,7 @@ pub(crate) fn search<T: Table<P>, const P: u32>(
     let mut entries = Vec::new(alloc);
     let mut left = bounds.most;
     let mut open = 0;
-    // If entries were left after so many buckets, the judgement would still find what they lead to.
+    // If entries were left after this many steps, the check of the arcs would still find what they lead to.
     for _ in 0..u64::MAX {
         bins.adjust()?;
         bins.refill(&mut entries)?;

@@ -1,15 +1,15 @@
-//! Where the words of a search wait for the next one.
+//! Places where the words of a search are kept for the next one.
 use crate::spare::Spare;
 use std::alloc::{AllocError, Global};
 use std::cell::RefCell;
 use std::sync::Mutex;
 
-/// Where the words of a search that has found its answer wait for the next one.
+/// A place where the words of a search that found its answer are kept for the next one.
 pub trait Shelf<const P: u32> {
-    /// Takes words that wait, if there are any.
+    /// Takes kept words, if there are any.
     fn take(&self) -> Option<Spare<P>>;
 
-    /// Puts words where they wait. If there is no place for them, they are let go.
+    /// Keeps words for the next search. If there is no place for them, they are freed.
     fn put(&self, spare: Spare<P>);
 }
 
@@ -19,7 +19,7 @@ pub struct Places<const P: u32> {
     places: Vec<Mutex<Option<Spare<P>>>>,
 }
 
-// Returns so many empty places.
+// Returns `most` empty places.
 fn open_places<const P: u32>(
     alloc: Global,
     most: usize,
@@ -32,7 +32,7 @@ fn open_places<const P: u32>(
 }
 
 impl<const P: u32> Places<P> {
-    /// Returns so many empty places, or none where there is no memory for them.
+    /// Returns `most` empty places, or none if there is no memory for them.
     pub(crate) fn new(alloc: Global, most: usize) -> Places<P> {
         let places = match open_places(alloc, most) {
             Ok(places) => places,

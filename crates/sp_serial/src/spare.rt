@@ -1,4 +1,4 @@
-//! Words that wait to serve another room.
+//! Words that are kept for another room.
 ghost use Rattle.std.specs.Prelude.{◌≡◌, ◌≤◌, IfSome};
 ghost use Rattle.sp_word.specs.Word.{max_pred};
 
@@ -8,10 +8,10 @@ use sp_graph::Graph;
 use std::alloc::Global;
 use std::marker::Model;
 
-/// The words of a room that was given back, all of them unreached. They know of no graph, so that threads can hand them to one
-/// another: a room is made of them again where a graph has as many vertices, and takes no time for that.
+/// The words of a room that is no longer in use, all of them unreached. They don't refer to a graph, so that threads can pass
+/// them to one another. They become a room again for any graph with the same number of vertices, which takes no time.
 ///
-/// Contracts see how many they are.
+/// Contracts see the number of words.
 #[derive(Drop)]
 pub struct Spare<const P: u32> {
     touched: Touched<P>,
@@ -29,7 +29,7 @@ impl<const P: u32> Model for Spare<P> {
 }
 
 impl<const P: u32> Spare<P> {
-    /// Gives back the words of a room.
+    /// Returns the words of a room that is no longer used.
     pub(crate) fn of_room(room: Room<P>) -> Spare<P>
         ensures { result ≡ room.entry.n }
     {

@@ -13,7 +13,7 @@ use std::alloc::AllocError;
 pub(crate) trait Table<const P: u32> {
     ghost labels: { Self → List Label };
 
-    // what is kept up beside the words
+    // What the table maintains beside the words.
     ghost IsKept: { Self → Type 0 };
 
     /// Returns the words.

@@ -13,13 +13,13 @@ use sp_plain::relax;
 use sp_word::Word;
 use std::alloc::AllocError;
 
-/// The words of all vertices, and a list that has each vertex with a word: what touches few of them is put back in the time
-/// that it took.
+/// The words of all vertices, and a list that has each vertex with a word. Resetting the words takes no more time than touching
+/// them did.
 #[derive(Drop)]
 pub(crate) struct Touched<const P: u32> {
     pub(crate) words: Vec<Word<P>>,
     pub(crate) reached: Vec<u32>,
-    /// The width that the buckets of the last search have found, as a power of 2.
+    /// The width that the buckets of the last search have adapted to, as a power of 2.
     pub(crate) shift: u32,
 }
 
@@ -52,7 +52,7 @@ impl<const P: u32> Table<P> for Touched<P> {
         Ok(())
     }
 
-    // A head that was unreached stands in the list first.
+    // An unreached head is added to the list first.
     fn lower(&mut self, arc: Arc) -> Result<Option<u64>, AllocError> {
         note(self, arc.head)?;
         Ok(relax(&mut self.words, arc))
@@ -68,7 +68,7 @@ pub(crate) fn sort<const P: u32>(touched: &mut Touched<P>)
     touched.reached.sort_unstable();
 }
 
-/// Whether an arc is relaxed, where its tail has this word.
+/// Returns whether an arc is relaxed if its tail has this word.
 pub(crate) fn is_arc_relaxed<const P: u32>(words: &[Word<P>], arc: Arc, from: Word<P>) -> bool
     requires layout { is_layout P ≡ true }
     requires most { length words.now ≤ max_pred P }
@@ -81,7 +81,7 @@ pub(crate) fn is_arc_relaxed<const P: u32>(words: &[Word<P>], arc: Arc, from: Wo
     }
 }
 
-// Whether the arcs of a row are relaxed, where their tail has this word.
+// Returns whether the arcs of a row are relaxed if their tail has this word.
 fn is_row_relaxed<const P: u32>(words: &[Word<P>], row: &[Arc], from: Word<P>) -> bool
     requires layout { is_layout P ≡ true }
     requires most { length words.now ≤ max_pred P }
@@ -97,7 +97,7 @@ fn is_row_relaxed<const P: u32>(words: &[Word<P>], row: &[Arc], from: Word<P>) -
     true
 }
 
-// Whether the arcs of a vertex are relaxed, if its distance is no greater than this one.
+// Returns whether the arcs of a vertex are relaxed, if its distance is at most `far`.
 fn is_vertex_relaxed<const P: u32>(words: &[Word<P>], graph: &Graph, far: u64, vertex: u32) -> bool
     requires layout { is_layout P ≡ true }
     requires most { graph.now.n ≤ max_pred P }
@@ -113,8 +113,8 @@ fn is_vertex_relaxed<const P: u32>(words: &[Word<P>], graph: &Graph, far: u64, v
     }
 }
 
-/// Returns whether each arc is relaxed whose tail has no greater distance than `far`. It looks at the listed vertices alone:
-/// every other is unreached.
+/// Returns whether each arc is relaxed whose tail has a distance of at most `far`. It reads only the listed vertices, since every
+/// other vertex is unreached.
 pub(crate) fn are_relaxed_up_to<const P: u32>(graph: &Graph, touched: &Touched<P>, far: u64) -> bool
     requires layout { is_layout P ≡ true }
     requires most { graph.now.n ≤ max_pred P }
@@ -142,7 +142,7 @@ fn unreach<const P: u32>(words: &mut Vec<Word<P>>, reached: &[u32])
     }
 }
 
-/// Makes all words unreached, and empties the list. It takes time for the listed vertices alone.
+/// Makes all words unreached, and empties the list. It takes time only for the listed vertices.
 pub(crate) fn clear<const P: u32>(touched: &mut Touched<P>)
     requires layout { is_layout P ≡ true }
     requires touched { AreTouched 0 touched.old.reached.items touched.old.words.items }

@@ -1,4 +1,4 @@
-//! Runs by the calling thread alone, one for all that is asked of sources.
+//! Runs on the calling thread alone: one function for every question about sources.
 ghost use Rattle.std.specs.Prelude.{◌≡◌, ◌≤◌, true, All, length, IfOk, IfErr};
 ghost use Rattle.sp_word.specs.Word.{is_layout, max_dist, max_pred};
 ghost use Rattle.sp_paths.specs.Paths.{IsVertex, word_at};
@@ -16,7 +16,8 @@ use sp_scan::is_relaxed_up_to;
 use sp_word::Word;
 use std::alloc::{AllocError, Global};
 
-/// Returns how far arcs bear on what is asked: those within the limit, or within the farthest target. Where there is none, all do.
+/// Returns the distance up to which arcs bear on what is asked: the limit, or the distance of the farthest target. If there is
+/// neither, all arcs do.
 pub(crate) fn bearing<const P: u32>(words: &[Word<P>], until: Until) -> Option<u64>
     requires { IsAsked P (length words.now) until }
     ensures { BearsOn until.entry words.now result }
@@ -28,7 +29,7 @@ pub(crate) fn bearing<const P: u32>(words: &[Word<P>], until: Until) -> Option<u
     }
 }
 
-// Relaxes every arc, if some isn't.
+// Relaxes all arcs, if some arc isn't relaxed.
 fn close<const P: u32>(graph: &Graph, sources: &[u32], words: &mut Vec<Word<P>>)
     requires layout { is_layout P ≡ true }
     requires sources { All (IsVertex graph.now.n) sources.now }
@@ -42,7 +43,8 @@ fn close<const P: u32>(graph: &Graph, sources: &[u32], words: &mut Vec<Word<P>>)
     }
 }
 
-// Judges words by all arcs. Returns the vertex that is too far, if it bears on what is asked.
+// Checks all arcs, and relaxes them if one isn't relaxed, so that the words answer what is asked. Returns the vertex that is too
+// far, if it bears on what is asked.
 fn judge_all<const P: u32>(graph: &Graph, run: Run, words: &mut Vec<Word<P>>) -> Option<u32>
     requires layout { is_layout P ≡ true }
     requires sources { All (IsVertex graph.now.n) run.sources.now }
@@ -60,8 +62,8 @@ fn judge_all<const P: u32>(graph: &Graph, run: Run, words: &mut Vec<Word<P>>) ->
     }
 }
 
-// Judges words by the arcs that bear on what is asked, so that they tell it. Returns the vertex that is too far, if it bears on
-// that.
+// Checks the arcs that bear on what is asked, so that the words answer it. Returns the vertex that is too far, if it bears on
+// what is asked.
 fn judge<const P: u32>(graph: &Graph, run: Run, words: &mut Vec<Word<P>>) -> Option<u32>
     requires layout { is_layout P ≡ true }
     requires sources { All (IsVertex graph.now.n) run.sources.now }
@@ -96,11 +98,11 @@ fn run_alone<const P: u32>(
     Ok(RunWords { words, far })
 }
 
-/// Runs from the sources, as far as is asked, as `words_of_run` does. It starts no thread and never waits. Returns the word of each
-/// vertex, and the smallest vertex that is too far, if one is and bears on what was asked.
+/// Runs from the sources, as far as is asked, as `words_of_run` does. It starts no thread and never waits. Returns the word of
+/// each vertex, and the smallest vertex that is too far, if there is one that bears on what is asked.
 ///
-/// The order of the sources has no bearing on the answer, nor has how often one of them is named. The run takes 8 bytes for
-/// the word of each vertex, and 16 for each entry that waits; the buckets find their width as they are worked off.
+/// Neither the order of the sources affects the answer, nor how often a source is named. The run takes 8 bytes for the word of
+/// each vertex, and 16 for each waiting entry. The width of the buckets adapts during the run.
 pub fn words_alone<const P: u32>(
     alloc: Global,
     graph: &Graph,

@@ -5,8 +5,8 @@ use Rattle.sp_word.specs.Word.{Word}
 use Rattle.sp_offer.specs.Order.{IsNoMore, IsKnownWord}
 use Rattle.sp_offer.specs.Story.{Knowledge, known_table}
 
--- The caller is of the same table, its history begins with what it had seen, and its own calls are its own still. Nowhere
--- does it know less, and what it knows stays lawful.
+-- The caller is of the same table, its history begins with what it had seen, and its own calls are still its own. It knows no
+-- less about any word, and what it knows stays lawful.
 pub record IsLater (law : ℕ → Word → Type 0) (before after : Knowledge) : Type 0 where
   pub table : after.table ≡ before.table
   pub begins : IsPrefix before.story.seen after.story.seen

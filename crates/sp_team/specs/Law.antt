@@ -1,4 +1,4 @@
--- What a team stands on.
+-- The conditions for running a team.
 use Rattle.std.specs.Prelude.{◌≡◌, ℕ, ◌+◌, ◌≤◌, true}
 use Rattle.sp_word.specs.Word.{Word, Pair, is_layout, max_dist}
 use Rattle.sp_paths.specs.declared.arc.Arc.{Arc}

@@ -1,4 +1,4 @@
--- What is known of vertices whose arcs are relaxed, before and after these are answered.
+-- What is known about vertices whose arcs are relaxed, before and after their requests are answered.
 use Rattle.std.specs.Prelude.{◌≡◌, ℕ, ◌+◌, ◌≤◌, ◌⊎◌, List, [], ◌∷◌, ◌++◌, All, Vec}
 use Rattle.std.specs.declared.alloc.Global.{Global}
 use Rattle.sp_word.specs.History.{Table}
@@ -24,7 +24,7 @@ HasFallen words later = (v : ℕ) → IsNoMore (later v) (words v)
 abbrev pub WillBeMet : {P : ℕ} → Table → (waiting : List (Request P)) → Request P → Type 0
 WillBeMet words waiting r = (later : Table) → HasFallen words later → All (IsMet later) waiting → IsMet later r
 
--- the sums of all arcs of a row are within the greatest distance, and what these ask at one distance will be met
+-- the sums of all arcs of a row are within the greatest distance, and the requests that the arcs make at one distance will be met
 abbrev pub RowWillBeMet : {P : ℕ} → (max : ℕ) → Table → (waiting : List (Request P)) → (dist : ℕ) → (row : List Arc) → Type 0
 RowWillBeMet {P} max words waiting d row = All (λ a. (d + a.len ≤ max) × WillBeMet words waiting (request P d a)) row
 
@@ -32,11 +32,11 @@ RowWillBeMet {P} max words waiting d row = All (λ a. (d + a.len ≤ max) × Wil
 abbrev pub WillBeTrue : {P : ℕ} → (max : ℕ) → Graph → Table → (waiting : List (Request P)) → Mark → Type 0
 WillBeTrue max g words waiting mark = RowWillBeMet max words waiting mark.dist (row_of g.arcs mark.vertex)
 
--- the mark of a vertex at a distance was put behind the others; or none was
+-- the mark of a vertex at a distance was appended; or none was
 abbrev pub MayNote : (vertex dist : ℕ) → (before after : List Mark) → Type 0
 MayNote v d before after = (after ≡ before ++ record { vertex = v; dist = d } ∷ []) ⊎ (after ≡ before)
 
--- all marks of a list are true of the words that the story tells
+-- all marks of a list are true of the words that the story knows
 abbrev pub AllTrue : (max : ℕ) → Graph → Story → List Mark → Type 0
 AllTrue max g story marks = All (IsTrueMark max g (known_table story)) marks
 

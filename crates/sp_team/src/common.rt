@@ -1,4 +1,4 @@
-//! What all workers of a team have in common.
+//! The state shared by all workers of a team.
 use crate::chunk::Chunk;
 use crate::deques::{TeamDeques, make_deques};
 use crate::search::Search;
@@ -6,31 +6,31 @@ use crate::signals::Signals;
 use crossbeam_deque::{Stealer, Worker};
 use std::alloc::{AllocError, Global};
 
-/// A worker begins with buckets that are delta wide, divided by 2 to this power.
+/// A worker starts with buckets whose width is delta divided by 2 to this power.
 const FINER: u32 = 3;
 
-/// What all workers of a team have in common.
+/// The state shared by all workers of a team.
 ///
-/// It names no lifetime: a closure that holds a type with a lifetime loses its clauses.
+/// It has no lifetime parameter: a closure that captures a type with a lifetime loses its contract clauses.
 #[derive(Drop)]
 pub struct Common {
     pub alloc: Global,
-    /// What the workers tell one another.
+    /// The signals that the workers exchange.
     pub signals: Signals,
-    /// The sides of their deques from which they steal.
+    /// The ends of the workers' deques from which others steal.
     pub stealers: Vec<Stealer<Chunk>>,
     /// The vertices whose arcs are relaxed first.
     pub queue: Vec<u32>,
-    /// The vertices whose words are looked for; all vertices, where none is named.
+    /// The vertices whose words are wanted; empty if all are.
     pub targets: Vec<u32>,
-    /// The greatest distance that is looked for.
+    /// The greatest distance wanted.
     pub limit: u64,
-    /// A bucket is 2 to this power wide at first.
+    /// A bucket's width starts as 2 to this power.
     pub shift: u32,
 }
 
 impl Common {
-    /// Makes what the workers of a search have in common, and the deque of each of them.
+    /// Makes the shared state of a search, and each worker's deque.
     pub fn new<const P: u32>(
         alloc: Global,
         search: &Search<P>,

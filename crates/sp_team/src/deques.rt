@@ -3,7 +3,7 @@ use crate::chunk::Chunk;
 use crossbeam_deque::{Stealer, Worker};
 use std::alloc::{AllocError, Global};
 
-/// The deques of a team: each worker's own side, and the side from which the others steal.
+/// The deques of a team: each worker's own end, and the end from which the others steal.
 #[derive(Drop)]
 pub struct TeamDeques {
     pub owners: Vec<Worker<Chunk>>,

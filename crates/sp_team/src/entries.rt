@@ -1,4 +1,4 @@
-//! Entries whose vertices still have their distances, and what is read for these before they are relaxed.
+//! Checks that entries' vertices still have their distances, and reads ahead what relaxing them needs.
 ghost use Rattle.std.specs.Prelude.{◌≡◌, ℕ, All, IfSome, IsTrue};
 ghost use Rattle.sp_word.specs.Word.{Pair};
 ghost use Rattle.sp_paths.specs.Paths.{IsVertex};
@@ -11,7 +11,7 @@ use sp_bins::Entry;
 use sp_graph::Graph;
 use sp_offer::{Caller, Lawful, OfferTable};
 
-/// Reads the distance of a vertex, if it is reached: one that the law allows it.
+/// Reads the distance of a vertex, if it is reached. The law allows the vertex that distance.
 pub(crate) fn read_dist<L: Lawful, const P: u32>(
     table: &OfferTable<L, P>,
     vertex: u32,
@@ -42,15 +42,15 @@ pub(crate) fn is_live<L: Lawful, const P: u32>(
     graph.has_vertex(entry.vertex) && read_dist(table, entry.vertex, caller) == Some(entry.dist)
 }
 
-/// Whether the vertex of an entry has an arc.
+/// Whether an arc leaves the vertex of an entry.
 pub(crate) fn leads_on(graph: &Graph, entry: Entry) -> bool
     ensures { IsTrue result → LeadsOn graph.now entry }
 {
     graph.has_vertex(entry.vertex) && !graph.row(entry.vertex).is_empty()
 }
 
-/// Reads the words of the entries' vertices, and where their rows begin and end, so that both lie in the cache. These reads don't
-/// wait for one another. Returns how many arcs the vertices have.
+/// Reads the words of the entries' vertices, and where their rows begin and end, to bring both into the cache. These reads don't
+/// wait for one another. Returns the number of arcs that leave the vertices.
 pub(crate) fn warm_vertices<L: Lawful, const P: u32>(
     graph: &Graph,
     table: &OfferTable<L, P>,
@@ -71,7 +71,7 @@ pub(crate) fn warm_vertices<L: Lawful, const P: u32>(
     arcs
 }
 
-// Returns the bits that the first heads of the rows of the entries' vertices have; 0 where there is no entry.
+// Returns the bitwise or of the first heads in the rows of the entries' vertices; 0 if there is no entry.
 fn first_bits(graph: &Graph, entries: &[Entry]) -> u32
     requires { All (LeadsOn graph.now) entries.now }
 {
@@ -82,7 +82,7 @@ fn first_bits(graph: &Graph, entries: &[Entry]) -> u32
     bits
 }
 
-// Returns the bits that the last heads of the rows of the entries' vertices have; 0 where there is no entry.
+// Returns the bitwise or of the last heads in the rows of the entries' vertices; 0 if there is no entry.
 fn last_bits(graph: &Graph, entries: &[Entry]) -> u32
     requires { All (LeadsOn graph.now) entries.now }
 {
@@ -94,8 +94,8 @@ fn last_bits(graph: &Graph, entries: &[Entry]) -> u32
     bits
 }
 
-/// Returns the bits that the first and last heads of the rows of the entries' vertices have, and so reads where all of these rows
-/// begin and end; 0 where there is no entry. The shorter a loop, the more of its reads are on their way at once: so there are two.
+/// Returns the bitwise or of the first and last heads in the rows of the entries' vertices, which reads where each row begins and
+/// ends; 0 if there is no entry. It uses two loops, because the shorter a loop, the more of its reads are in flight at once.
 pub(crate) fn end_bits(graph: &Graph, entries: &[Entry]) -> u32
     requires { All (LeadsOn graph.now) entries.now }
 {

@@ -1,4 +1,4 @@
-//! What a worker has in hand, and how it finds more.
+//! A worker's entries, and how it finds more.
 
 use crate::chunk::Chunk;
 use crate::common::Common;
@@ -13,40 +13,40 @@ use std::thread::yield_now;
 /// The fewest entries that are worth a chunk.
 const LEAST_PIECE: usize = 16;
 
-/// How many buckets a worker may be ahead of the others without waiting for them.
+/// How many buckets ahead of the others a worker may be without waiting for them.
 const AHEAD: u64 = 2;
 
-/// How often a worker that is ahead looks for the others before it goes on all the same.
+/// How many times a worker that is ahead checks on the others before it continues anyway.
 const PATIENCE: u32 = 1000;
 
-/// How often a worker with no entry looks for some before it yields, and how often before it sleeps.
+/// How many times a worker without entries looks for some before it yields, and how many times before it sleeps.
 const LOOKS: u64 = 1000;
 
 const YIELDS: u64 = 1010;
 
-/// How often a deque that answers neither a chunk nor that it is empty is asked again.
+/// How many times a worker tries to steal from a deque that neither returns a chunk nor is empty.
 const TRIES: u32 = 100;
 
-/// How many microseconds a worker sleeps at most.
+/// The longest time that a worker sleeps, in microseconds.
 const NAP: u64 = 500;
 
-/// A worker looks so often for a chunk of others at most, and so often for its next entry. No run comes to that.
+/// Upper bound on how often a worker looks for another worker's chunk, and for its next entry; never reached in practice.
 const MOST_LOOKS: u64 = 1 << 60;
 
-/// What a worker has in hand.
+/// A worker's entries: its list, its buckets and its deque.
 #[derive(Drop)]
 pub struct Hands<'m> {
     alloc: Global,
     worker: usize,
     own: Worker<Chunk>,
     bins: Bins,
-    // what is worked off, and how much of it is done
+    // the entries being relaxed, and how many of them are done
     list: Vec<Entry>,
     next: usize,
     tally: Tally<'m>,
 }
 
-// Steals a chunk from a deque, if one is got.
+// Steals a chunk from one of the deques, if it can.
 fn steal(stealers: &[Stealer<Chunk>]) -> Option<Chunk> {
     for stealer in stealers {
         for _ in 0..TRIES {
@@ -61,7 +61,7 @@ fn steal(stealers: &[Stealer<Chunk>]) -> Option<Chunk> {
 }
 
 impl<'m> Hands<'m> {
-    /// Makes the empty hands of a worker, which counts on the meter what it has relaxed.
+    /// Makes the empty hands of a worker, which counts the vertices that it relaxes on the meter.
     pub fn new(
         common: &Common,
         worker: usize,
@@ -79,24 +79,24 @@ impl<'m> Hands<'m> {
         })
     }
 
-    /// Whether they are the hands of the first worker, which has the first entries.
+    /// Whether these hands belong to the first worker, which starts with the queue.
     pub fn is_first(&self) -> bool {
         self.worker == 0
     }
 
-    /// The entries that wait, by bucket.
+    /// The waiting entries, by bucket.
     pub fn bins(&mut self) -> &mut Bins {
         &mut self.bins
     }
 
-    /// The next entries of the list, as many as there are up to a number.
+    /// The next entries of the list, at most `most`.
     pub fn upcoming(&self, most: usize) -> &[Entry] {
         let rest = self.list.as_slice().get(self.next..).unwrap_or(&[]);
         let (front, _) = rest.split_at(rest.len().min(most));
         front
     }
 
-    /// Replaces what another list has by the next entries of the list, as many as there are up to a number.
+    /// Takes the next entries of the list, at most `most`, and replaces the content of `taken` with them.
     pub fn take(&mut self, most: usize, taken: &mut Vec<Entry>) -> Result<(), AllocError> {
         taken.clear();
         taken.extend_from_slice(self.upcoming(most))?;
@@ -104,7 +104,7 @@ impl<'m> Hands<'m> {
         Ok(())
     }
 
-    // Replaces the list that was worked off by the entries of the bucket that is being emptied. Returns whether there are any.
+    // Replaces the finished list with the entries of the bucket that is being emptied. Returns whether there are any.
     fn refill(&mut self) -> Result<bool, AllocError> {
         self.next = 0;
         self.bins.adjust()?;
@@ -112,12 +112,12 @@ impl<'m> Hands<'m> {
         Ok(!self.list.is_empty())
     }
 
-    /// Counts so many vertices more that were relaxed.
+    /// Counts this number of vertices as relaxed.
     pub fn count(&mut self, vertices: usize) {
         self.tally.count(vertices);
     }
 
-    // How many entries of the list are left.
+    // The number of entries left in the list.
     fn left(&self) -> usize {
         self.list.len().saturating_sub(self.next)
     }
@@ -134,7 +134,7 @@ impl<'m> Hands<'m> {
         })
     }
 
-    // Puts chunks where others find them.
+    // Puts chunks where other workers find them.
     fn share(&mut self, common: &Common) -> Result<(), AllocError> {
         let hungry = common.signals.hungry().min(64) as usize;
         let piece = self.left() / (hungry + 1);
@@ -151,7 +151,7 @@ impl<'m> Hands<'m> {
         Ok(())
     }
 
-    // Takes a chunk for the list.
+    // Makes a chunk the list.
     fn hold(&mut self, chunk: Chunk) {
         let Chunk {
             start: _,
@@ -162,7 +162,7 @@ impl<'m> Hands<'m> {
         self.next = 0;
     }
 
-    // Steals a chunk from another worker, if one is got.
+    // Steals a chunk from another worker, if it can.
     fn steal(&mut self, common: &Common) -> Option<Chunk> {
         let chunk = steal(&common.stealers)?;
         common.signals.taken();
@@ -170,13 +170,13 @@ impl<'m> Hands<'m> {
         Some(chunk)
     }
 
-    // Returns whether the others are so far behind that the worker waits for them.
+    // Returns whether the others are so far behind that the worker should wait for them.
     fn is_ahead(&self, common: &Common) -> bool {
         let pace = AHEAD << self.bins.shift().min(60);
         common.signals.lowest().saturating_add(pace) < self.bins.start()
     }
 
-    // Waits for some time for the others to come near, and returns a chunk that comes in the meantime.
+    // Waits a while for the others to catch up. Returns a chunk if one arrives in the meantime.
     fn wait(&mut self, common: &Common) -> Option<Chunk> {
         if !self.is_ahead(common) {
             return None;
@@ -199,8 +199,8 @@ impl<'m> Hands<'m> {
         chunk
     }
 
-    // Waits for a chunk of another worker. None says that all work is done, or that the worker has looked too often: having no
-    // entry, it leaves the work to the others then.
+    // Waits for another worker's chunk. Returns `None` if all work is done, or if the worker has looked too often; it has no
+    // entries then, so the others do the work that is left.
     fn rest<C: Crew>(&mut self, rt: &C, common: &Common) -> Option<Chunk> {
         let signals = &common.signals;
         signals.begin_hunger();
@@ -230,7 +230,7 @@ impl<'m> Hands<'m> {
         None
     }
 
-    /// Waits for a first entry, where the worker has none. Returns whether there is one.
+    /// Waits for a worker's first entries, if it has none yet. Returns whether there are any.
     pub fn begin<C: Crew>(&mut self, rt: &C, common: &Common) -> bool {
         match self.rest(rt, common) {
             Some(chunk) => {
@@ -242,7 +242,7 @@ impl<'m> Hands<'m> {
         }
     }
 
-    // Goes on to the next bucket, where the list was worked off and so was its bucket. False says that all work is done.
+    // Moves on to the next bucket after the list and its bucket are finished. Returns false if all work is done.
     fn advance<C: Crew>(&mut self, rt: &C, common: &Common) -> Result<bool, AllocError> {
         let signals = &common.signals;
         if self.bins.advance()?.is_none() {
@@ -262,8 +262,8 @@ impl<'m> Hands<'m> {
         Ok(true)
     }
 
-    /// Sees to it that the list has an entry. False says that all work is done. Whoever has looked too often fails, as if memory
-    /// had been refused.
+    /// Finds an entry for the list. Returns false if all work is done. A worker that has looked too often fails as if memory had
+    /// been refused.
     pub fn find<C: Crew>(&mut self, rt: &C, common: &Common) -> Result<bool, AllocError> {
         for _ in 0..MOST_LOOKS {
             if self.left() > 0 {

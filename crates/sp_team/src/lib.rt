@@ -1,9 +1,9 @@
 //! A team of workers that lowers the words of an offer table, bucket after bucket, for as long as a word can be lowered.
 //!
-//! Nothing is proved of the order, nor that nothing is left: each offer is lawful, the callers come back, and the marks of
-//! vertices tell at which distance their arcs were relaxed. Whether all arcs are relaxed is seen afterwards, in a copy of the
-//! words: where a vertex has its mark's distance there, no arc of it has to be looked at. What a worker has in hand, how workers
-//! share it, and what they tell one another is a schedule: it is safe, and nothing rests on it.
+//! Nothing is proved about the order, or that no work is left: each offer is lawful, the callers come back, and the marks of
+//! vertices record the distances at which their arcs were relaxed. A copy of the words shows afterwards whether all arcs are
+//! relaxed: if a vertex has its mark's distance there, its arcs need no second look. What a worker holds, how workers share it,
+//! and what they signal to one another is scheduling: it is safe, and no proof rests on it.
 #![tactic(auto)]
 
 mod chunk;

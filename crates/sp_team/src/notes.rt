@@ -1,4 +1,4 @@
-//! What a worker notes of the vertices that it relaxes.
+//! The notes that a worker keeps on the vertices that it relaxes.
 ghost use Rattle.std.specs.Prelude.{◌≡◌, [], IfOk};
 ghost use Rattle.sp_team.specs.Marked.{MayNote};
 
@@ -7,22 +7,22 @@ use crate::relax::{FEW, MOST, Request};
 use sp_graph::{Graph, Mark};
 use std::alloc::AllocError;
 
-/// A worker may keep so many marks, however few vertices are its share.
+/// A worker may keep this many marks, however small its share of the vertices.
 const FEWEST_MARKS: usize = 256;
 
-/// What a worker notes of the vertices that it relaxes.
+/// The notes that a worker keeps on the vertices that it relaxes.
 #[derive(Drop)]
 pub struct Notes<const P: u32> {
-    /// What their arcs ask, and wasn't answered yet.
+    /// The requests of their arcs that weren't answered yet.
     pub requests: Vec<Request<P>>,
     /// Their marks, which are true once all requests are answered.
     pub marks: Vec<Mark>,
-    // how many marks are kept at most
+    // the greatest number of marks to keep
     most: usize,
 }
 
-// Returns how many marks one of these workers keeps at most: twice as many as vertices are its share, but none where heads lie near
-// their tails, so that looking at all arcs again costs less than marks.
+// Returns the greatest number of marks that one of these workers keeps: twice its share of the vertices. It is 0 unless many arcs
+// lead far from their tails, because checking all arcs again costs less than keeping marks then.
 fn most_marks(graph: &Graph, common: &Common) -> usize {
     if !graph.has_far_heads() {
         return 0;
@@ -33,7 +33,7 @@ fn most_marks(graph: &Graph, common: &Common) -> usize {
 }
 
 impl<const P: u32> Notes<P> {
-    /// Makes the empty notes of one of these workers.
+    /// Makes one worker's notes, which are empty.
     pub(crate) fn new(graph: &Graph, common: &Common) -> Result<Notes<P>, AllocError>
         ensures { IfOk result (λ notes. notes.marks.items ≡ []) }
     {
@@ -44,8 +44,8 @@ impl<const P: u32> Notes<P> {
         })
     }
 
-    /// Notes the mark of a vertex, unless there are enough or the distance is too great for one. Where memory is refused, there
-    /// is one less.
+    /// Notes the mark of a vertex, unless enough are kept or the distance is too great for a mark. If memory is refused, the mark
+    /// is left out.
     pub(crate) fn note(&mut self, vertex: u32, dist: u64)
         ensures requests { self.new.requests ≡ self.old.requests }
         ensures marks { MayNote vertex dist self.old.marks.items self.new.marks.items }

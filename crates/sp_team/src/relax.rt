@@ -1,4 +1,4 @@
-//! Vertices relaxed, by way of what their arcs ask of their heads.
+//! Relaxes vertices: their arcs put requests, which are then offered to the heads.
 ghost use Rattle.std.specs.Prelude.{◌≡◌, ◌+◌, ◌≤◌, true, false, [], All, IfOk, IsTrue, OnOk};
 ghost use Rattle.sp_word.specs.Word.{is_layout, max_dist};
 ghost use Rattle.sp_paths.specs.Paths.{IsArc};
@@ -19,16 +19,16 @@ use sp_paths::Arc;
 use sp_word::{Reply, Word};
 use std::alloc::AllocError;
 
-/// So many requests are answered at once, at most.
+/// The number of requests at which all of them are answered.
 pub(crate) const MOST: usize = 512;
 
-/// A row of so many arcs at most is asked for without a branch for each arc.
+/// The longest row whose requests are put without a branch for each arc.
 pub(crate) const FEW: usize = 4;
 
-/// What an arc of a vertex that is relaxed is to offer its head.
+/// The offer that an arc of a relaxed vertex asks for at its head.
 #[derive(Clone, Copy)]
 pub struct Request<const P: u32> {
-    /// What the arc makes of its tail's distance, with the tail.
+    /// The tail's distance plus the arc's length, with the tail as predecessor.
     pub word: Word<P>,
     /// The head of the arc.
     pub head: u32,
@@ -36,7 +36,7 @@ pub struct Request<const P: u32> {
     pub len: u32,
 }
 
-// Returns what an arc is to offer its head, where its tail has this distance.
+// Returns the offer that an arc makes to its head when its tail has this distance.
 fn request_of<const P: u32>(arc: Arc, dist: u64) -> Request<P>
     requires layout { is_layout P ≡ true }
     requires sum { dist + arc.len ≤ max_dist P }
@@ -50,7 +50,7 @@ fn request_of<const P: u32>(arc: Arc, dist: u64) -> Request<P>
     }
 }
 
-// Offers the head what is asked.
+// Offers the head the requested word.
 fn offer_head<L: Lawful, const P: u32>(
     table: &OfferTable<L, P>,
     request: Request<P>,
@@ -73,7 +73,7 @@ fn offer_head<L: Lawful, const P: u32>(
     }
 }
 
-// Whether the head's word is greater than the one that is asked for.
+// Whether the head's word is greater than the requested one.
 fn is_lower<L: Lawful, const P: u32>(
     table: &OfferTable<L, P>,
     request: Request<P>,
@@ -88,8 +88,7 @@ fn is_lower<L: Lawful, const P: u32>(
     request.word.is_below(table.read(caller, request.head))
 }
 
-// Reads the words of the heads, so that they lie in the cache. These reads don't wait for one another, as they would between
-// offers.
+// Reads the words of the heads, to bring them into the cache. Unlike reads between offers, these don't wait for one another.
 fn warm_heads<L: Lawful, const P: u32>(
     table: &OfferTable<L, P>,
     requests: &[Request<P>],
@@ -105,7 +104,7 @@ fn warm_heads<L: Lawful, const P: u32>(
     }
 }
 
-// Drops the requests that are met already, which are most of them. No branch depends on a word.
+// Drops the requests that are already met, which are most of them. No branch depends on a word.
 fn drop_met<L: Lawful, const P: u32>(
     table: &OfferTable<L, P>,
     requests: &mut Vec<Request<P>>,
@@ -131,7 +130,7 @@ fn drop_met<L: Lawful, const P: u32>(
     requests.truncate(kept);
 }
 
-// Makes the offers, one after the other.
+// Makes the offers one after another.
 fn offer_all<L: Lawful, const P: u32>(
     table: &OfferTable<L, P>,
     requests: &[Request<P>],
@@ -152,7 +151,7 @@ fn offer_all<L: Lawful, const P: u32>(
     Ok(())
 }
 
-/// Answers all requests, and leaves none.
+/// Answers all requests and clears the list.
 pub(crate) fn answer<L: Lawful, const P: u32>(
     table: &OfferTable<L, P>,
     requests: &mut Vec<Request<P>>,
@@ -175,7 +174,7 @@ pub(crate) fn answer<L: Lawful, const P: u32>(
     Ok(())
 }
 
-// Puts a request for an arc at its tail's distance, where the sum is within the greatest distance. Tells whether it is.
+// Puts a request for an arc at its tail's distance if the sum is within the greatest distance. Returns whether it is.
 fn ask_arc<const P: u32>(
     arc: Arc,
     dist: u64,
@@ -194,8 +193,8 @@ fn ask_arc<const P: u32>(
     Ok(fits)
 }
 
-// Puts requests for the arcs of a row, one after the other. Where there are many, they are answered. Tells whether there was one
-// for each arc.
+// Puts requests for the arcs of a row, one after another, and answers them when many are waiting. Returns whether each arc got a
+// request.
 fn ask_each<L: Lawful, const P: u32>(
     table: &OfferTable<L, P>,
     row: &[Arc],
@@ -232,9 +231,9 @@ fn ask_each<L: Lawful, const P: u32>(
     Ok(whole)
 }
 
-// Puts requests for the arcs of a row at their tail's distance, where these are few, there is room, and all sums are within the
-// greatest distance: as many as the longest such row would have, and then without those that there are too many. So no branch
-// depends on how many arcs there are. Tells whether it did.
+// Puts requests for the arcs of a row at their tail's distance, if the row is short, there is room, and all sums are within the
+// greatest distance. It first puts as many requests as the longest short row would have, then drops the surplus, so that no
+// branch depends on the number of arcs. Returns whether it put them.
 fn ask_few<const P: u32>(row: &[Arc], dist: u64, requests: &mut Vec<Request<P>>) -> bool
     requires layout { is_layout P ≡ true }
     requires dist { dist ≤ max_dist P }
@@ -266,8 +265,8 @@ fn ask_few<const P: u32>(row: &[Arc], dist: u64, requests: &mut Vec<Request<P>>)
     true
 }
 
-// Puts requests for the arcs of a row at their tail's distance. Where there are many, they are answered. Tells whether there was
-// one for each arc.
+// Puts requests for the arcs of a row at their tail's distance, and answers them when many are waiting. Returns whether each arc
+// got a request.
 fn ask_row<L: Lawful, const P: u32>(
     table: &OfferTable<L, P>,
     row: &[Arc],
@@ -304,7 +303,7 @@ fn ask_row<L: Lawful, const P: u32>(
     }
 }
 
-/// Puts a request for each arc of an entry's vertex at the entry's distance, and notes its mark, if there is one for each arc.
+/// Puts a request for each arc of an entry's vertex at the entry's distance. Notes the vertex's mark if each arc got a request.
 pub(crate) fn ask<L: Lawful, const P: u32>(
     graph: &Graph,
     table: &OfferTable<L, P>,

@@ -1,4 +1,4 @@
-//! What a team looks for, and how far it has to go for that.
+//! The goal of a team's search, and how far a worker must go to reach it.
 ghost use Rattle.std.specs.Prelude.{◌≡◌};
 ghost use Rattle.sp_offer.specs.Order.{lawful};
 ghost use Rattle.sp_team.specs.Law.{IsReady};
@@ -9,38 +9,38 @@ use sp_graph::Graph;
 use sp_offer::{Caller, Lawful, OfferTable};
 use sp_word::{Meter, Team};
 
-/// How many targets a worker looks at at once.
+/// The number of targets that a worker checks at once.
 const GLANCE: usize = 16;
 
-/// What a team looks for, and who looks for it.
+/// The goal of a search, and the team that performs it.
 #[derive(Drop)]
 pub struct Search<'q, const P: u32> {
-    /// How many workers look, and how wide a bucket of theirs is.
+    /// The number of workers and the width of their buckets.
     pub team: Team<P>,
     /// The vertices whose arcs are relaxed first.
     pub queue: &'q [u32],
-    /// The vertices whose words are looked for; all vertices, where none is named.
+    /// The vertices whose words are wanted; empty if all are.
     pub targets: &'q [u32],
-    /// The greatest distance that is looked for: entries beyond it aren't worked off. `u64::MAX` where there is none.
+    /// The greatest distance wanted: entries beyond it are dropped. `u64::MAX` if there is no limit.
     pub limit: u64,
     /// Where the workers count the vertices that they relax.
     pub meter: &'q Meter,
 }
 
-/// How far a worker has to go: to the limit, and to the farthest of the targets, once all of them are reached. Since distances
-/// only fall, it goes too far at first, and far enough always.
+/// How far a worker must go: to the limit, or to the farthest target once all targets are reached, if that is nearer. Because
+/// distances only fall, the horizon is too far at first and never too near.
 #[derive(Clone, Copy)]
 pub(crate) struct Horizon {
-    // the greatest distance of an entry that may have a bearing on the targets' words
+    // the greatest distance of an entry that may affect the targets' words
     end: u64,
-    // how many targets were looked at since the first, each of them reached
+    // the number of targets checked since the first, all of them reached
     seen: usize,
-    // the greatest distance of those
+    // the greatest distance of those targets
     farthest: u64,
 }
 
 impl Horizon {
-    /// Makes the horizon of targets that weren't looked at: it lies at the limit.
+    /// Makes the horizon before any target is checked: it is the limit.
     pub(crate) fn new(limit: u64) -> Horizon {
         Horizon {
             end: limit,
@@ -49,20 +49,20 @@ impl Horizon {
         }
     }
 
-    /// Whether an entry at this distance is to be worked off.
+    /// Whether an entry at this distance is within the horizon.
     pub(crate) fn reaches(&self, dist: u64) -> bool {
         dist <= self.end
     }
 
-    // Where all targets are reached, puts it at the farthest, if that is nearer than the limit, and looks at them from the
-    // first on again.
+    // Once all targets are reached, moves the horizon to the farthest target, if that is nearer, and starts checking again from
+    // the first target.
     fn close_in(&mut self) {
         self.end = self.end.min(self.farthest);
         self.seen = 0;
         self.farthest = 0;
     }
 
-    /// Looks at some targets more.
+    /// Checks some more targets.
     pub(crate) fn look<L: Lawful, const P: u32>(
         &mut self,
         graph: &Graph,

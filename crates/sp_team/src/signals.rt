@@ -1,4 +1,4 @@
-//! What the workers of a team tell one another. All of it is advice: nothing is proved of it, and nothing rests on it.
+//! The signals that workers of a team exchange. They are all advice: nothing is proved about them, and no proof rests on them.
 
 use sp_word::Crew;
 use std::alloc::{AllocError, Global};
@@ -7,7 +7,7 @@ use std::sync::atomic::{AtomicU64, Ordering};
 /// The level of a worker that has no entry.
 const NONE: u64 = u64::MAX;
 
-/// A number in a line of the cache of its own.
+/// A number in a cache line of its own.
 #[derive(Drop)]
 struct Line {
     number: AtomicU64,
@@ -39,25 +39,25 @@ impl Line {
     }
 }
 
-/// What the workers of a team tell one another.
+/// The signals that workers of a team exchange.
 #[derive(Drop)]
 pub struct Signals {
-    // How many workers have entries, or look for some that were shared.
+    // The number of workers that have entries or are stealing a shared chunk.
     active: Line,
-    // How many look for work.
+    // The number of workers that look for work.
     hungry: Line,
-    // How many chunks lie in deques.
+    // The number of chunks in deques.
     shared: Line,
-    // How many sleep.
+    // The number of workers that sleep.
     asleep: Line,
-    // Changes when those who sleep are to look again.
+    // Changes when sleeping workers should look again.
     bell: Line,
-    // The least distance of the bucket that each worker empties.
+    // For each worker, the least distance of the bucket that it empties.
     levels: Vec<Line>,
 }
 
 impl Signals {
-    /// Makes the signals of some workers, of whom the first has the first entries.
+    /// Makes the signals of this number of workers. The first worker starts with entries.
     pub fn new(alloc: Global, workers: usize) -> Result<Signals, AllocError> {
         let mut levels = Vec::with_capacity(alloc, workers)?;
         for worker in 0..workers {
@@ -73,60 +73,60 @@ impl Signals {
         })
     }
 
-    /// Whether there is one worker, and no other to share with.
+    /// Whether there is only one worker.
     pub(crate) fn is_alone(&self) -> bool {
         self.levels.len() <= 1
     }
 
-    /// How many workers look for work.
+    /// The number of workers that look for work.
     pub(crate) fn hungry(&self) -> u64 {
         self.hungry.get()
     }
 
-    /// How many chunks lie in deques.
+    /// The number of chunks in deques.
     pub(crate) fn shared(&self) -> u64 {
         self.shared.get()
     }
 
-    /// Whether no worker has an entry, and none looks for some that were shared.
+    /// Whether no worker has an entry or is stealing a shared chunk.
     pub(crate) fn is_over(&self) -> bool {
         self.active.get() == 0
     }
 
-    /// Counts a worker more that has entries, or looks for some that were shared.
+    /// Counts one more worker that has entries or is stealing a shared chunk.
     pub(crate) fn begin_work(&self) {
         self.active.raise();
     }
 
-    /// Counts one of these less.
+    /// Counts one fewer of these.
     pub(crate) fn end_work(&self) {
         self.active.lower();
     }
 
-    /// Tells that a worker that had entries works no more.
+    /// Records that a worker that had entries has none left.
     pub fn leave(&self, worker: usize) {
         self.set_level(worker, NONE);
         self.end_work();
     }
 
-    /// Counts a worker more that looks for work.
+    /// Counts one more worker that looks for work.
     pub(crate) fn begin_hunger(&self) {
         self.hungry.raise();
     }
 
-    /// Counts one of these less.
+    /// Counts one fewer of these.
     pub(crate) fn end_hunger(&self) {
         self.hungry.lower();
     }
 
-    /// Tells the least distance of the bucket that the worker empties.
+    /// Records the least distance of the bucket that the worker empties.
     pub(crate) fn set_level(&self, worker: usize, level: u64) {
         if let Some(line) = self.levels.get(worker) {
             line.set(level);
         }
     }
 
-    /// Returns the least of these distances.
+    /// Returns the least of these distances over all workers.
     pub(crate) fn lowest(&self) -> u64 {
         let mut least = NONE;
         for line in &self.levels {
@@ -135,7 +135,7 @@ impl Signals {
         least
     }
 
-    /// Tells that a chunk was put into a deque.
+    /// Records that a chunk was put into a deque, and wakes sleeping workers.
     pub(crate) fn put(&self) {
         self.shared.raise();
         if self.asleep.get() > 0 {
@@ -144,18 +144,18 @@ impl Signals {
         }
     }
 
-    /// Tells that a chunk was taken out of a deque.
+    /// Records that a chunk was taken out of a deque.
     pub(crate) fn taken(&self) {
         self.shared.lower();
     }
 
-    /// Wakes those who sleep, so that they see that all work is done.
+    /// Wakes sleeping workers, so that they see that all work is done.
     pub(crate) fn dismiss(&self) {
         self.bell.raise();
         self.bell.number.wake_all();
     }
 
-    /// Sleeps for some microseconds at most, unless there is something to do.
+    /// Sleeps until a wake-up call, or for at most `micros` microseconds. Returns at once if there is something to do.
     pub(crate) fn sleep<C: Crew>(&self, rt: &C, micros: u64) {
         self.asleep.raise();
         let seen = self.bell.get();

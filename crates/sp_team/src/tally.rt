@@ -1,10 +1,10 @@
-//! What a worker counts for the meter of its run.
+//! Counts a worker's relaxed vertices for the meter of its run.
 use sp_word::Meter;
 
-/// How many vertices a worker adds to the meter at once: it does so seldom enough to cost nothing.
+/// The number of vertices that a worker adds to the meter at once: updates are rare enough to cost nothing.
 const LOT: u64 = 256;
 
-/// What a worker has relaxed since it last told the meter.
+/// The vertices that a worker has relaxed since it last updated the meter.
 #[derive(Drop)]
 pub(crate) struct Tally<'m> {
     meter: &'m Meter,
@@ -17,7 +17,7 @@ impl<'m> Tally<'m> {
         Tally { meter, untold: 0 }
     }
 
-    /// Counts so many vertices more.
+    /// Counts this number of vertices as relaxed.
     pub(crate) fn count(&mut self, vertices: usize) {
         self.untold = self.untold.saturating_add(vertices as u64);
         if self.untold >= LOT {
@@ -25,7 +25,7 @@ impl<'m> Tally<'m> {
         }
     }
 
-    /// Tells the meter what it hasn't been told yet.
+    /// Adds the vertices not yet counted there to the meter.
     pub(crate) fn tell(&mut self) {
         self.meter.add(self.untold);
         self.untold = 0;

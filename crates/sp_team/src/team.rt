@@ -25,26 +25,26 @@ use sp_word::{Crew, Meter};
 use std::alloc::{AllocError, Global};
 use std::thread::join;
 
-/// How many entries a worker works off before it looks whether others want some.
+/// The number of entries that a worker processes before it checks whether others need some.
 const STRETCH: usize = 64;
 
-/// A worker works off so many stretches at most, which no run comes to: what it has then is lost.
+/// Upper bound on the stretches of entries that a worker processes; never reached in practice. Entries left after it are dropped.
 const STRETCHES: u64 = 1 << 60;
 
-/// What a team leaves when it ends.
+/// The result of a team's work.
 #[derive(Drop)]
 pub struct Relaxed {
-    /// A caller that has seen what the callers of all workers had.
+    /// A caller that has seen what the callers of all workers had seen.
     pub caller: Caller,
-    /// Whether memory was refused to a worker that had entries, so that some may not have been relaxed. Offers that were
-    /// made stay made.
+    /// Whether a worker that had entries was refused memory, so that some entries may not have been relaxed. Offers already made
+    /// stay made.
     pub lost: bool,
-    /// What is known of the vertices whose arcs were relaxed, a list of each worker. Some may be missing.
+    /// The marks of vertices whose arcs were relaxed, one list for each worker. Some may be missing.
     pub marks: Vec<Vec<Mark>>,
 }
 
 impl Relaxed {
-    // What is left where there is no mark.
+    // The result of work that left no marks.
     fn without_marks(alloc: Global, caller: Caller, lost: bool) -> Relaxed
         ensures caller { result.caller ≡ caller }
         ensures lost { result.lost ≡ lost }
@@ -58,7 +58,7 @@ impl Relaxed {
     }
 }
 
-/// What a worker begins with.
+/// What one worker starts with.
 #[derive(Drop)]
 struct Start {
     worker: usize,
@@ -66,20 +66,20 @@ struct Start {
     caller: Caller,
 }
 
-/// Workers that follow one another, before they begin.
+/// A group of workers with consecutive numbers, before they start.
 #[derive(Drop)]
 struct Squad {
-    /// The number of the first of them.
+    /// The number of the first worker.
     worker: usize,
     /// Their deques.
     owners: Vec<Worker<Chunk>>,
     caller: Caller,
 }
 
-/// What a worker works off at once, and what it has noted.
+/// The entries that a worker processes at once, and the notes that it has made.
 #[derive(Drop)]
 struct Batch<const P: u32> {
-    // entries whose vertices still have their distances, and lead on
+    // entries whose vertices still have their distances and have arcs
     live: Vec<Entry>,
     notes: Notes<P>,
 }
@@ -103,8 +103,9 @@ impl<const P: u32> Batch<P> {
     }
 }
 
-// Takes some entries, and leaves those in the list that are within the horizon, whose vertices still have their distances, and
-// which lead on. No branch depends on a word. Returns how many there were with those that don't.
+// Takes some entries, and keeps those within the horizon whose vertices still have their distances and have arcs. No branch
+// depends on a word. Returns the number of entries within the horizon whose vertices still have their distances, including those
+// without arcs.
 fn take_live<L: Lawful, const P: u32>(
     graph: &Graph,
     table: &OfferTable<L, P>,
@@ -134,7 +135,7 @@ fn take_live<L: Lawful, const P: u32>(
     Ok(relaxed)
 }
 
-// Relaxes the vertices of entries.
+// Relaxes the vertices of the entries.
 fn relax_live<L: Lawful, const P: u32>(
     graph: &Graph,
     table: &OfferTable<L, P>,
@@ -160,8 +161,8 @@ fn relax_live<L: Lawful, const P: u32>(
     answer(table, &mut notes.requests, caller, hands.bins())
 }
 
-// Works off some entries, and drops those beyond the horizon. It goes over them several times, and reads for all of them what
-// the time before has told the places of: so these reads don't wait for one another, and few branches wait for one.
+// Processes some entries, and drops those beyond the horizon. It makes several passes: each reads, for all entries, the places
+// that the pass before has found, so that these reads don't wait for one another and few branches wait for a read.
 fn run_some<L: Lawful, const P: u32>(
     graph: &Graph,
     table: &OfferTable<L, P>,
@@ -187,7 +188,7 @@ fn run_some<L: Lawful, const P: u32>(
     relax_live(graph, table, hands, batch, caller)
 }
 
-// Puts the vertices of the queue that are reached among a worker's entries.
+// Puts the reached vertices of the queue into a worker's buckets.
 fn put_queue<L: Lawful, const P: u32>(
     graph: &Graph,
     table: &OfferTable<L, P>,
@@ -211,8 +212,8 @@ fn put_queue<L: Lawful, const P: u32>(
     Ok(())
 }
 
-// Sees to it that a worker has its first entries: the first worker those of the queue, each other one some that are
-// shared. False says that all work is done.
+// Gets a worker's first entries: the first worker takes those of the queue, and every other waits for a shared chunk. Returns
+// false if all work is done.
 fn begin<C: Crew, L: Lawful, const P: u32>(
     rt: &C,
     graph: &Graph,
@@ -232,8 +233,8 @@ fn begin<C: Crew, L: Lawful, const P: u32>(
     Ok(true)
 }
 
-// Works until there is nothing to do, and returns the marks of what was relaxed. Whoever has worked for too long leaves what it
-// has, as if memory had been refused.
+// Works until nothing is left to do, and returns the marks of the relaxed vertices. A worker that has worked for too long fails
+// as if memory had been refused, and drops its entries.
 fn work<C: Crew, L: Lawful, const P: u32>(
     rt: &C,
     graph: &Graph,
@@ -263,7 +264,7 @@ fn work<C: Crew, L: Lawful, const P: u32>(
     Err(AllocError)
 }
 
-// Makes the list of one worker's marks. Where memory is refused, it is empty.
+// Makes a list of one worker's marks. If memory is refused, it is empty.
 fn list_of(alloc: Global, marks: Vec<Mark>) -> Vec<Vec<Mark>>
     ensures { All (λ list. list ≡ marks) result.items }
 {
@@ -272,7 +273,7 @@ fn list_of(alloc: Global, marks: Vec<Mark>) -> Vec<Vec<Mark>>
     lists
 }
 
-// Runs one worker, which begins with the queue or waits for entries of others.
+// Runs one worker, which starts with the queue or waits for entries from others.
 fn run_worker<C: Crew, L: Lawful, const P: u32>(
     rt: &C,
     graph: &Graph,
@@ -292,7 +293,7 @@ fn run_worker<C: Crew, L: Lawful, const P: u32>(
         mut caller,
     } = start;
     let Ok(mut hands) = Hands::new(common, worker, own, meter) else {
-        // the first worker would have had the queue
+        // the first worker would have taken the queue
         let lost = worker == 0;
         if lost {
             common.signals.leave(worker);
@@ -312,8 +313,8 @@ fn run_worker<C: Crew, L: Lawful, const P: u32>(
     }
 }
 
-// Joins what two squads leave when they end. The caller knows what both did, and has the calls of both. Where memory is refused,
-// the marks are those of the first one.
+// Merges the results of two squads. The caller knows what both did and has the calls of both. If memory is refused, the marks are
+// those of the first squad.
 fn merge<L: Lawful, const P: u32>(
     table: &OfferTable<L, P>,
     mine: Relaxed,
@@ -342,7 +343,7 @@ fn merge<L: Lawful, const P: u32>(
     }
 }
 
-// Parts a squad in two: the second one has these deques, and a caller of its own.
+// Splits a squad in two: the second squad gets these deques and a caller of its own.
 fn part<L: Lawful, const P: u32>(
     table: &OfferTable<L, P>,
     squad: Squad,
@@ -400,8 +401,8 @@ fn run_first<C: Crew, L: Lawful, const P: u32>(
     run_worker(rt, graph, table, common, meter, start)
 }
 
-// Runs a worker for each of the deques, one on this thread and the others on threads that it starts. Each half starts its
-// own, so that the last of many workers starts soon. Where memory is refused there are fewer.
+// Runs a worker for each of the deques, one on this thread and the others on threads that it starts. Each half starts its own
+// threads, so that the last of many workers starts early. If memory is refused, there are fewer workers.
 #[cycle(workers)]
 fn run_workers<C: Crew, L: Lawful + Send + Sync, const P: u32>(
     rt: &C,
@@ -442,10 +443,11 @@ fn run_workers<C: Crew, L: Lawful + Send + Sync, const P: u32>(
     merge(table, sooner, later)
 }
 
-/// Relaxes the arcs of the vertices in the queue, and of all whose distance becomes smaller thereby, as long as there is
-/// memory for the entries; of those no farther than the limit, and where targets are named, than the farthest target.
+/// Relaxes the arcs of the vertices in the queue, and of each vertex whose distance becomes smaller in turn, as long as there is
+/// memory for the entries. It relaxes vertices only up to the limit and, if targets are named, only up to the farthest target
+/// once all targets are reached.
 ///
-/// The workers are this thread and threads that it starts and joins. Each has a caller of its own.
+/// The workers are this thread and threads that it starts and joins. Each has its own caller.
 pub fn relax_all<C: Crew, L: Lawful + Send + Sync, const P: u32>(
     rt: &C,
     alloc: Global,

@@ -39,16 +39,17 @@ pub record IsMemory (judge : Judge) (before all : List (List ℕ)) (e : DimacsEr
 abbrev pub Refused : Judge → List (List ℕ) → List ℕ → DimacsError → Type 0
 Refused judge before text e = (fault_so_far judge text ≡ Some e) ⊎ IsMemory judge before (ended text) e
 
+-- The reader has read this text, or refuses it.
 abbrev pub Fed : {T U : Type 0} → Judge → (T → List (List ℕ) → Type 0) → List (List ℕ) → List ℕ → Result U DimacsError → Feeder T → Type 0
 Fed judge After before text (Ok u) new = IsBehind judge After text new
 Fed judge After before text (Err e) new = (new.spent ≡ Some e) × Refused judge before text e
 
--- This is what the taker answers where the lines end: what is missing; otherwise the value, and it begins again.
+-- This is what the taker answers when the lines end: what is missing; otherwise the value, and it begins again.
 abbrev pub Ends : {T V : Type 0} → Judge → (T → List (List ℕ) → Type 0) → (List (List ℕ) → V → Type 0) → List (List ℕ) → Result V Kind → T → Type 0
 Ends judge After Spelled all (Ok value) new = (judge.missing all ≡ None) × Spelled all value × After new []
 Ends judge After Spelled all (Err kind) new = judge.missing all ≡ Some kind
 
--- These are the lines that are taken of a whole text: a line without its LF is taken only if it needs none.
+-- These are the lines taken from a whole text: a line without its LF is taken only if it needs none.
 abbrev pub lines_taken : (needs_lf : Bool) → List ℕ → List (List ℕ)
 lines_taken false text = lines text
 lines_taken true text = ended text
@@ -57,7 +58,7 @@ lines_taken true text = ended text
 abbrev pub IsToldOf : Judge → List ℕ → DimacsError → Type 0
 IsToldOf judge text e = (fault_at_end judge text ≡ Some e) ⊎ IsMemory judge (ended text) (lines_taken judge.needs_lf text) e
 
--- This is the answer where the text ends; only a last line without its LF is taken then. A reader that gave its value
+-- This is the answer when the text ends; only a last line without its LF is taken then. A reader that gave its value
 -- begins again.
 abbrev pub Finished : {T V : Type 0} → Judge → (T → List (List ℕ) → Type 0) → (List (List ℕ) → V → Type 0) → List ℕ → Result V DimacsError → Feeder T → Type 0
 Finished judge After Spelled text (Ok value) new = (fault_at_end judge text ≡ None) × Spelled (lines text) value × IsBehind judge After [] new
@@ -72,12 +73,13 @@ pub record IsClosed {T : Type 0} (judge : Judge) (After : T → List (List ℕ) 
   pub taken : After reader.taker (lines text)
   pub whole : judge.needs_lf ≡ true → rest text ≡ []
 
+-- All lines of the text were taken, or the reader refuses the text.
 abbrev pub Closed : {T U : Type 0} → Judge → (T → List (List ℕ) → Type 0) → List ℕ → Result U DimacsError → Feeder T → Type 0
 Closed judge After text (Ok u) new = IsClosed judge After text new
 Closed judge After text (Err e) new = (new.spent ≡ Some e) × IsToldOf judge text e
 
--- A text has at most 2^62 bytes. What follows says what a reader answers, and where it is then, whatever text it has
--- read before.
+-- A text has at most 2^62 bytes. The definitions below give a reader's result and its state afterwards, whatever text
+-- it has read before.
 
 -- The reader reads these bytes, or refuses the text.
 abbrev pub Reads : {T U : Type 0} → Judge → (T → List (List ℕ) → Type 0) → (bytes : List ℕ) → Feeder T → Result U DimacsError → Feeder T → Type 0

@@ -7,7 +7,7 @@ use Rattle.sp_text.specs.declared.rooms.TheConstants.{LONGEST_LINE}
 use Rattle.sp_text.specs.Lines.{ended, rest, lines}
 
 -- The rules of a file: whether no line may follow some lines; the fault of a line, given the lines before it, which
--- have none; what is missing where the lines end; whether a line is an item line, whose value needs memory; and whether
+-- have none; what is missing when the lines end; whether a line is an item line, whose value needs memory; and whether
 -- each line, including the last, needs its LF.
 pub record Judge : Type 0 where
   pub closed : List (List ℕ) → Bool
@@ -21,14 +21,17 @@ pub record IsSilent (judge : Judge) : Type 0 where
   pub fault : (before : List (List ℕ)) (line : List ℕ) → judge.fault before line ≢ Some Read
   pub missing : (all : List (List ℕ)) → judge.missing all ≢ Some Read
 
+-- This is the fault of this line, if it has one, and otherwise a later fault.
 abbrev pub or_at : ℕ → Option Kind → Option DimacsError → Option DimacsError
 or_at line None later = later
 or_at line (Some kind) later = Some (record { line = line; kind = kind })
 
+-- This is the fault found earlier, if there is one, and otherwise the later one.
 abbrev pub or_else : Option DimacsError → Option DimacsError → Option DimacsError
 or_else None later = later
 or_else (Some e) later = Some e
 
+-- This is the first of two kinds of fault, if there is one, and otherwise the second.
 abbrev pub or_kind : Option Kind → Option Kind → Option Kind
 or_kind None later = later
 or_kind (Some kind) later = Some kind
@@ -37,6 +40,7 @@ or_kind (Some kind) later = Some kind
 abbrev pub size_fault : Judge → List (List ℕ) → List ℕ → Option Kind
 size_fault judge before line = if judge.closed before then Some TooMany else (if nat_lt LONGEST_LINE (length line) then Some LongLine else None)
 
+-- This is the fault of a line, given the lines before it.
 abbrev pub line_fault : Judge → List (List ℕ) → List ℕ → Option Kind
 line_fault judge before line = or_kind (size_fault judge before line) (judge.fault before line)
 
@@ -45,6 +49,7 @@ unfoldable pub first_after : Judge → List (List ℕ) → List (List ℕ) → O
 first_after judge before [] = None
 first_after judge before (line ∷ more) = or_at (length before + 1) (line_fault judge before line) (first_after judge (before ++ line ∷ []) more)
 
+-- This is the first fault of these lines.
 abbrev pub first_fault : Judge → List (List ℕ) → Option DimacsError
 first_fault judge all = first_after judge [] all
 
@@ -53,18 +58,20 @@ abbrev pub rest_fault : Judge → List (List ℕ) → List ℕ → Option Kind
 rest_fault judge before [] = None
 rest_fault judge before (b ∷ bytes) = size_fault judge before (b ∷ bytes)
 
+-- This is the first fault that a text shows while it may continue.
 unfoldable pub fault_so_far : Judge → List ℕ → Option DimacsError
 fault_so_far judge text = or_else (first_fault judge (ended text)) (or_at (length (ended text) + 1) (rest_fault judge (ended text) (rest text)) None)
 
--- The device failed after this text: the fault is one that came earlier, or Read at the line that was being read.
+-- The device failed after this text: the fault is an earlier one, or Read at the line that was being read.
 unfoldable pub fault_at_failure : Judge → List ℕ → Option DimacsError
 fault_at_failure judge text = or_else (fault_so_far judge text) (or_at (length (ended text) + 1) (Some Read) None)
 
--- The text has ended within a line: the fault is one that came earlier, or TooFew at that line.
+-- The text has ended within a line: the fault is an earlier one, or TooFew at that line.
 abbrev pub cut_short : List ℕ → Option Kind
 cut_short [] = None
 cut_short (b ∷ bytes) = Some TooFew
 
+-- If each line needs its LF, this is the fault of a text that has ended, as far as its last line lacks that.
 abbrev pub fault_without_end : (needs_lf : Bool) → Judge → List ℕ → Option DimacsError
 fault_without_end false judge text = None
 fault_without_end true judge text = or_else (fault_so_far judge text) (or_at (length (ended text) + 1) (cut_short (rest text)) None)

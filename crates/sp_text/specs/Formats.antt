@@ -17,7 +17,7 @@ pub record LineForm : Type 0 where
   pub group : ℕ
   pub limit : Top
 
--- A format has the problem line and the other lines. There must be as many lines of group 0 as `needed` says.
+-- A format has the problem line and the other lines. `needed` says how many lines of group 0 a file needs.
 pub record Format : Type 0 where
   pub problem : LineForm
   pub items : List LineForm
@@ -27,9 +27,11 @@ pub record Format : Type 0 where
 abbrev pub form_of : Form → LineForm
 form_of f = record { words = fields_from [] f.words.now; fields = f.fields.now; fresh = f.fresh; group = f.group; limit = f.limit }
 
+-- This is the format that the program's data describe.
 abbrev pub format_of : FileFormat → Format
 format_of l = record { problem = form_of l.problem; items = map form_of l.items.now; needed = l.needed }
 
+-- This is the field with this letter and this range.
 abbrev pub field : ℕ → ℕ → Top → Field
 field letter least most = record { letter = letter; least = least; most = most }
 
@@ -38,6 +40,7 @@ abbrev pub fresh_after : ℕ → List LineForm → List ℕ
 fresh_after k [] = []
 fresh_after k (form ∷ forms) = if form.fresh then k ∷ fresh_after (k + 1) forms else fresh_after (k + 1) forms
 
+-- The list contains this number.
 abbrev pub IsOneOf : ℕ → List ℕ → Type 0
 IsOneOf n [] = ⊥
 IsOneOf n (k ∷ ks) = (n ≡ k) ⊎ IsOneOf n ks
@@ -51,6 +54,7 @@ pub record IsSmallForm (f : Form) : Type 0 where
   pub numbers : length f.fields.now ≤ 4
   pub group : f.group < 3
 
+-- The engine has room for lines of all forms of the file.
 pub record IsSmall (l : FileFormat) : Type 0 where
   pub problem : IsSmallForm l.problem
   pub items : (k : ℕ) (d : Form) → k < length l.items.now → IsSmallForm (slice_index_or l.items.now k d)

@@ -9,9 +9,11 @@ abbrev pub cut : List ℕ → List ℕ → List (List ℕ) × List ℕ
 cut line [] = ([], line)
 cut line (b ∷ bytes) = if b == 10 then (line ∷ (cut [] bytes).0, (cut [] bytes).1) else cut (line ++ b ∷ []) bytes
 
+-- These are the lines whose LF came, without it.
 unfoldable pub ended : List ℕ → List (List ℕ)
 ended bytes = (cut [] bytes).0
 
+-- These are the bytes after the last LF.
 unfoldable pub rest : List ℕ → List ℕ
 rest bytes = (cut [] bytes).1
 
@@ -42,6 +44,7 @@ abbrev pub fields_from : List ℕ → List ℕ → List (List ℕ)
 fields_from field [] = with_field field []
 fields_from field (b ∷ bytes) = if is_blank b then with_field field (fields_from [] bytes) else fields_from (field ++ b ∷ []) bytes
 
+-- These are the fields of a line.
 unfoldable pub fields : List ℕ → List (List ℕ)
 fields line = fields_from [] (without_cr line)
 
@@ -51,10 +54,12 @@ is_number [] = false
 is_number (d ∷ []) = is_ascii_digit d
 is_number (d ∷ e ∷ more) = not (d == 48) && list_all is_ascii_digit (d ∷ e ∷ more)
 
+-- This is the number that more digits spell after digits that spell `n`.
 abbrev pub value_after : ℕ → List ℕ → ℕ
 value_after n [] = n
 value_after n (d ∷ ds) = value_after (10 * n + (d - 48)) ds
 
+-- This is the number that decimal digits spell.
 abbrev pub value : List ℕ → ℕ
 value ds = value_after 0 ds
 

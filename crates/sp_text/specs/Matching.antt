@@ -35,6 +35,7 @@ NumberTaken ranges ps d ds found (Err No) = found ≡ None
 NumberTaken ranges ps d ds found (Err (Out letter)) = (letter ≡ d.letter) × (ns : List ℕ) × (found ≡ Some ns) × (first_out ranges ps (d ∷ ds) ns ≡ Some letter)
 NumberTaken ranges ps d ds found (Err Within) = ⊥
 
+-- The numbers of a line were found to be out of range, or within their ranges.
 abbrev pub Are : Ranges → List ℕ → List Field → List ℕ → Numbers → Type 0
 Are ranges ps ds ns (lists.Out letter values) = (first_out ranges ps ds ns ≡ Some letter) × IsFront ds ns letter values
 Are ranges ps ds ns (lists.Within values) = (first_out ranges ps ds ns ≡ None) × (values ≡ ns)
@@ -49,6 +50,7 @@ abbrev pub letter_of : Numbers → Option ℕ
 letter_of (lists.Out letter values) = Some letter
 letter_of (lists.Within values) = None
 
+-- The fields were found to spell no such numbers, or these.
 abbrev pub Matched : Ranges → List ℕ → List Field → Option (List ℕ) → Option Numbers → Type 0
 Matched ranges ps ds found None = found ≡ None
 Matched ranges ps ds found (Some numbers) = (ns : List ℕ) × (found ≡ Some ns) × Are ranges ps ds ns numbers

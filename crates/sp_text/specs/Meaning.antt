@@ -12,6 +12,7 @@ pub record IsFirstFault (rules : Judge) (all : List (List ℕ)) (e : DimacsError
   pub fault : line_fault rules (take place all) (get_or all place []) ≡ Some e.kind
   pub none_before : (j : ℕ) → j < place → line_fault rules (take j all) (get_or all j []) ≡ None
 
+-- None of the bytes is an LF.
 abbrev pub HasNoLf : List ℕ → Type 0
 HasNoLf bytes = AllByRecursion (λ b. b ≢ 10) bytes
 

@@ -7,9 +7,11 @@ use Rattle.std.specs.Char.{is_ascii_digit}
 use Rattle.std.specs.Simd.Lanes.{mask_l}
 use Rattle.sp_text.specs.Lines.{is_blank, is_number, value}
 
+-- This number is within the range, or out of it.
 abbrev pub numeral_within : ℕ → ℕ → ℕ → Numeral
 numeral_within n least most = if nat_le least n && nat_le n most then Value n else Out
 
+-- This is what a field is, read as a number within a range.
 abbrev pub numeral : List ℕ → ℕ → ℕ → Numeral
 numeral field least most = if is_number field then numeral_within (value field) least most else Bad
 

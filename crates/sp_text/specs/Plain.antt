@@ -1,4 +1,4 @@
--- Plain lines: those that are read in the same way whatever lines stand before them, behind the problem line.
+-- Plain lines: after the problem line they are read in the same way, whatever lines come before them.
 use Rattle.std.specs.Prelude.{◌≡◌, ◌≤◌, ℕ, Bool, false, List, [], ◌∷◌, ◌++◌, length, slice_get, MatchBool, Option, Some, None, Result, Ok, Err}
 use Rattle.std.specs.Borrow.{Bor}
 use Rattle.std.specs.List.{AllByRecursion}
@@ -23,19 +23,20 @@ pub record IsPlainItem (format : Format) (ranges : Ranges) (ps : List ℕ) (item
   pub group : item.form.group ≡ 0
   pub in_range : first_out ranges ps item.form.fields item.numbers ≡ None
 
+-- The reading is that of a plain line.
 abbrev pub IsPlainReading : Format → Ranges → List ℕ → Reading → Type 0
 IsPlainReading format ranges ps Comment = Unit {0}
 IsPlainReading format ranges ps Bad = ⊥
 IsPlainReading format ranges ps (IsProblem ns) = ⊥
 IsPlainReading format ranges ps (IsItem item) = IsPlainItem format ranges ps item
 
--- A comment or such an item. Behind a problem line with these numbers it has no fault, whatever other lines stand
--- before it, but that there may be too many of them.
+-- The line is a comment or such an item. After a problem line with these numbers its only possible fault is that there are
+-- too many lines of its group, whatever other lines come before it.
 pub record IsPlain (format : Format) (ranges : Ranges) (ps line : List ℕ) : Type 0 where
   pub short : length line ≤ LONGEST_LINE
   pub fits : IsPlainReading format ranges ps (reading format line)
 
--- The lines are plain. There are so many, and their items were kept.
+-- The lines are plain, their number is `number`, and their items were kept.
 pub record AreRead {K : Type 0} (format : Format) (ranges : Ranges) (Kept : K → List Item → Type 0) (ps : List ℕ) (all : List (List ℕ)) (keep : K) (number : ℕ) : Type 0 where
   pub plain : AllByRecursion (IsPlain format ranges ps) all
   pub kept : Kept keep (items_of format all)
@@ -63,7 +64,7 @@ FindsPlain {keeper} collector line plain = (ps : List ℕ) × (collector.problem
 abbrev pub FindsPlainFront : {K V : Type 0} {keeper : Keeper K V} → Collector K V keeper → (text : List ℕ) → PlainLine × Bor (List ℕ) → Type 0
 FindsPlainFront {keeper} collector text (plain, more) = (line : List ℕ) × IsFirstLine text line more.now × (length line ≤ LONGEST_LINE) × FindsPlain collector line plain
 
--- The first line of the text is plain, and was kept behind all others; these bytes come after its LF. Or nothing was
+-- The first line of the text is plain, and was kept after all others; these bytes come after its LF. Or nothing was
 -- kept.
 abbrev pub PlainTaken : {K E : Type 0} → Format → Ranges → (K → List Item → Type 0) → (ps text : List ℕ) → (old new : K) → Result (Option (Bor (List ℕ))) E → Type 0
 PlainTaken format ranges Kept ps text old new (Ok (Some more)) = (line : List ℕ) × IsFirstLine text line more.now × IsPlain format ranges ps line
@@ -71,7 +72,7 @@ PlainTaken format ranges Kept ps text old new (Ok (Some more)) = (line : List �
 PlainTaken format ranges Kept ps text old new (Ok None) = new ≡ old
 PlainTaken format ranges Kept ps text old new (Err e) = Unit {0}
 
--- The collector takes plain lines that were read apart, and none of them has a fault; or it stays where it was.
+-- The collector takes plain lines that were read separately, and none of them has a fault; or it stays as it was.
 abbrev pub AddsItems : {K V : Type 0} {keeper : Keeper K V} → (keep : K) → (old : Collector K V keeper) → (added : Bool) → (new : Collector K V keeper) → Type 0
 AddsItems {keeper} keep old added new = (before all : List (List ℕ)) (ps : List ℕ) (number : ℕ) → problem_of keeper.format before ≡ Some ps → HasTakenLines old before → AreRead keeper.format keeper.ranges keeper.Kept ps all keep number
     → MatchBool added ((first_after (judge keeper.format keeper.ranges) before all ≡ None) × HasTakenLines new (before ++ all)) (HasTakenLines new before)

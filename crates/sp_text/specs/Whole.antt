@@ -26,6 +26,6 @@ ReadOn judge Spelled r old (Ok value) new = (text : List ℕ) × Consumes (r.lef
 ReadOn judge Spelled r old (Err e) new = (front : List ℕ) × Consumes (r.left old) (r.left new) front ×
     (Refused judge [] front e ⊎ (IsAtEnd (r.left new) × IsToldOf judge front e) ⊎ ((r.has_failed new ≡ true) × (fault_at_failure judge front ≡ Some e)))
 
--- The fault Read is never told of a device that never fails.
+-- The fault Read is never reported for a device that never fails.
 abbrev pub NeverRead : {V : Type 0} → Failing → Result V DimacsError → Type 0
 NeverRead failing result = failing ≡ Never → IfErr result (λ e. e.kind ≢ Read)

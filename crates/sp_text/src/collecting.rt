@@ -15,7 +15,7 @@ use crate::reading::{LineContent, front_item, read_line, usual_item};
 use crate::rooms::Values;
 use std::alloc::AllocError;
 
-/// Says what is done with the items of a file.
+/// Keeps the items of a file, and returns the value that they spell.
 pub trait Keep {
     /// The value that a text spells.
     type Value;
@@ -23,7 +23,7 @@ pub trait Keep {
     /// The line forms of the file.
     ghost format: { Format };
 
-    /// The limits of the words for which the file is read.
+    /// The limits that the layout of the words sets for the file.
     ghost ranges: { Ranges };
 
     /// These items were kept.
@@ -37,11 +37,11 @@ pub trait Keep {
         ensures format { format_of result ≡ format }
         ensures small { IsSmall result };
 
-    /// Returns the limits of the words for which the file is read.
+    /// Returns the limits that the layout of the words sets for the file.
     fn ranges(&self) -> Ranges
         ensures { result ≡ ranges };
 
-    /// Keeps an item whose numbers are in range. If there is no memory, the contract promises nothing about the items.
+    /// Keeps an item whose numbers are in range. If there is no memory, the contract promises nothing about the kept items.
     fn keep(&mut self, place: usize, values: &Values) -> Result<(), AllocError>
         requires { CanKeep format ranges place values.now }
         ensures { (before : List Item) (item : Item) → Kept self.old before → item.kind ≡ place
@@ -53,7 +53,7 @@ pub trait Keep {
         ensures { (before : List Item) → Kept self.now before
             → result ≡ is_named place first before };
 
-    /// Returns the value of the items after a problem line whose numbers are in range, and begins again.
+    /// Returns the value of the items after a problem line whose numbers are in range, and starts over.
     fn give(&mut self, problem: &Values) -> Self::Value
         requires { first_out ranges [] format.problem.fields problem.now ≡ None }
         ensures { (all : List Item) → Kept self.old all
@@ -79,7 +79,7 @@ fn first_letter(fields: &[Field]) -> Option<u8>
     }
 }
 
-// Returns the letter of the first field if the form is fresh and its number was named before.
+// Returns the letter of the first field if the form is fresh and an earlier item has the same first number.
 fn named_letter<K: Keep>(keep: &K, place: usize, form: &Form, first: u64) -> Option<u8>
     requires { form.now.fresh ≡ true → IsFreshPlace K.format place }
     ensures { (before : List Item) → K.Kept keep.now before
@@ -95,7 +95,7 @@ impl<K: Keep> Collector<K> {
     ghost use Rattle.sp_text.specs.Matching.{Are};
     ghost use Rattle.sp_text.specs.Collectors.{HasTakenLines, FindsItem, FindsFrontItem, IsOfItem, TakesProblem, TakesItem, TakesLine, TakesFront};
 
-    /// Returns a collector that takes the lines of a text from the first on.
+    /// Returns a collector that has taken no lines.
     pub fn new(keep: K) -> Self
         requires { K.Kept keep [] }
         ensures { HasTakenLines result [] }
@@ -117,7 +117,7 @@ impl<K: Keep> Collector<K> {
         usual_item(&self.keep.format(), &self.keep.ranges(), problem, line)
     }
 
-    // Returns the same of the line at the front of a text, with the text after it.
+    // Does the same for the line at the front of a text, and also returns the text after it.
     #[inline(always)]
     pub(crate) fn front_item<'a>(
         &self,
@@ -129,8 +129,8 @@ impl<K: Keep> Collector<K> {
         front_item(&self.keep.format(), &self.keep.ranges(), problem, text)
     }
 
-    /// Takes the line at the front of a text, if it is an item in the usual spelling, and returns what comes of it and the
-    /// text after the line.
+    /// Takes the line at the front of a text, if it is an item in the usual spelling. Returns the result and the text after
+    /// the line.
     #[inline(always)]
     pub(crate) fn take_front<'a>(&mut self, text: &'a [u8]) -> Option<(Result<(), Kind>, &'a [u8])>
         ensures { MatchOption result (self.new ≡ self.old) (TakesFront text.now self.old self.new) }

@@ -7,7 +7,7 @@ use memchr::memchr;
 use std::simd::prelude::*;
 use std::simd::u8x32;
 
-// This many bytes are searched at once.
+// The number of bytes searched at once.
 const FRONT: usize = 32;
 
 // Returns the position of the first LF.

@@ -3,8 +3,8 @@ use thiserror::Error;
 
 /// The fault of a line. Of several faults of one line, the one with the lowest number is reported.
 ///
-/// Its `Display` is for users of this library, and no contract says what it writes. The program `spt` doesn't use it: the
-/// line that tells a fault is written by `sp_command`, whose contracts give its bytes.
+/// `Display` is for users of this library, and no contract states its text. The program `spt` doesn't use it: `sp_command`
+/// writes the line that reports a fault, and its contracts give the bytes.
 #[derive(Clone, Copy, Debug, PartialEq, Eq, Error)]
 pub enum Kind {
     /// The line has more bytes than a line may have.
@@ -13,7 +13,7 @@ pub enum Kind {
     /// The line is neither a comment nor a line of one of the file's forms.
     #[error("2 BadLine")]
     BadLine,
-    /// A line stands before the problem line, or there is none.
+    /// A line comes before the problem line, or there is no problem line.
     #[error("3 NoProblem")]
     NoProblem,
     /// The line is a second problem line.
@@ -36,7 +36,7 @@ pub enum Kind {
     Read,
 }
 
-/// The first fault of a text. Its `Display` is for users of this library, as that of `Kind` is.
+/// The first fault of a text. As with `Kind`, `Display` is for users of this library.
 #[derive(Clone, Copy, Debug, PartialEq, Eq, Error)]
 #[error("line {line}: {kind}")]
 pub struct DimacsError {

@@ -23,7 +23,7 @@ pub trait LineTaker {
     /// The lines spell this value.
     ghost Spelled: { List (List ℕ) → Self.Value → Type 0 };
 
-    /// Returns whether no line may follow those so far.
+    /// Returns whether no further line may follow.
     fn is_closed(&self) -> bool
         ensures { (before : List (List ℕ)) → After self.now before → result ≡ rules.closed before };
 
@@ -36,7 +36,7 @@ pub trait LineTaker {
         ensures { (before : List (List ℕ)) → After self.old before
             → Takes rules After before line.now result self.new };
 
-    /// Ends the lines. If nothing is missing, it returns the value and begins again.
+    /// Ends the lines. If nothing is missing, it returns the value and starts over.
     fn end(&mut self) -> Result<Self::Value, Kind>
         ensures { (all : List (List ℕ)) → After self.old all
             → Ends rules After Spelled all result self.new };
@@ -153,7 +153,7 @@ impl<T: LineTaker> Feeder<T> {
         Ok(more)
     }
 
-    /// Takes the next piece of the text. After a refusal every call returns the same refusal.
+    /// Takes the next piece of the text. After a fault every call returns the same fault.
     #[inline(never)]
     pub fn feed(&mut self, piece: &[u8]) -> Result<(), DimacsError>
         ensures again { (e : DimacsError) → self.old.spent ≡ Some e
@@ -183,7 +183,7 @@ impl<T: LineTaker> Feeder<T> {
         self.end_room()
     }
 
-    /// Ends the text. A reader that returns its value then begins a new text.
+    /// Ends the text. A reader that returns its value then starts a new text.
     pub fn finish(&mut self) -> Result<T::Value, DimacsError>
         ensures again { (e : DimacsError) → self.old.spent ≡ Some e
             → (result ≡ Err e) × (self.new ≡ self.old) }
@@ -202,7 +202,7 @@ impl<T: LineTaker> Feeder<T> {
         }
     }
 
-    /// Reports a failure of the device: returns the fault that was met before, or Read at the line being read.
+    /// Reports a failure of the device to the reader. Returns the fault found earlier, or Read at the line being read.
     pub fn fail(&mut self) -> DimacsError
         ensures again { (e : DimacsError) → self.old.spent ≡ Some e
             → (result ≡ e) × (self.new ≡ self.old) }

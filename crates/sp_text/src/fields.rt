@@ -10,7 +10,7 @@ pub(crate) fn parts_fields(byte: u8) -> bool
     byte == b' ' || byte == b'\t'
 }
 
-// Counts the bytes at the front that are blanks, or those that are not.
+// Counts the leading bytes that are blanks, or those that are not.
 #[inline(always)]
 fn run(text: &[u8], blanks: bool) -> usize
     ensures within { result ≤ length text.now }
@@ -25,7 +25,7 @@ fn run(text: &[u8], blanks: bool) -> usize
     text.len()
 }
 
-/// Returns a line without the CR at its end.
+/// Returns a line without its final CR.
 #[inline(always)]
 pub(crate) fn drop_cr(line: &[u8]) -> &[u8]
     ensures { result.now ≡ without_cr line.now }
@@ -36,7 +36,7 @@ pub(crate) fn drop_cr(line: &[u8]) -> &[u8]
     }
 }
 
-/// Returns the text without the blanks at its front.
+/// Returns the text without its leading blanks.
 #[inline(always)]
 pub(crate) fn skip_blanks(text: &[u8]) -> &[u8]
     ensures { fields_from [] result.now ≡ fields_from [] text.now }
@@ -59,8 +59,7 @@ pub(crate) fn next_field(text: &[u8]) -> Option<(&[u8], &[u8])>
     Some((field, after))
 }
 
-/// Returns whether the first field begins with a byte other than this one, as far as the first byte of the text shows
-/// it.
+/// Returns whether the first byte of the text shows that the first field begins with a byte other than this one.
 #[inline(always)]
 pub(crate) fn starts_otherwise(text: &[u8], byte: u8) -> bool
     ensures { result ≡ true → StartsOtherwise text.now byte }

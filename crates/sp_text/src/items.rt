@@ -1,4 +1,4 @@
-//! Reads a text whose lines are items in the usual spelling, for the most part.
+//! Reads a text in which most lines are items in the usual spelling.
 ghost use Rattle.std.specs.Prelude.{◌≡◌, ◌<◌, ℕ, List, [], length, true, false, Some, Err, IfOk, IfErr, OnOk};
 ghost use Rattle.sp_device.specs.Failing.{Never};
 ghost use Rattle.sp_text.specs.declared.faults.Kind.{Kind};
@@ -14,8 +14,8 @@ use crate::whole::PIECE;
 use sp_device::Read;
 
 impl<K: Keep> Feeder<Collector<K>> {
-    // Takes the bytes up to and including the next LF, or all of them, whatever they are, and returns what comes of it and
-    // the bytes after them.
+    // Takes the bytes up to and including the next LF, or all of them, whatever they are. Returns the result and the bytes
+    // after them.
     #[inline(always)]
     fn take_other<'a>(&mut self, bytes: &'a [u8]) -> (Result<(), DimacsError>, &'a [u8])
         requires { 0 < length bytes.now }
@@ -31,7 +31,7 @@ impl<K: Keep> Feeder<Collector<K>> {
         }
     }
 
-    // Does the same, sooner where an item in the usual spelling stands at the front.
+    // Does the same, but faster if an item in the usual spelling comes first.
     #[inline(always)]
     fn take_next<'a>(&mut self, bytes: &'a [u8]) -> (Result<(), DimacsError>, &'a [u8])
         requires { 0 < length bytes.now }
@@ -54,7 +54,7 @@ impl<K: Keep> Feeder<Collector<K>> {
         }
     }
 
-    /// Takes the next piece of the text, as `feed` does, unless a fault was met before: sooner where most lines are items in
+    /// Takes the next piece of the text as `feed` does, if no fault was found before. It is faster if most lines are items in
     /// the usual spelling.
     #[inline(never)]
     pub fn feed_items(&mut self, piece: &[u8]) -> Result<(), DimacsError>
@@ -71,7 +71,7 @@ impl<K: Keep> Feeder<Collector<K>> {
     }
 }
 
-// Reads to the end, and feeds what comes.
+// Reads the device to its end, and feeds the bytes to the reader.
 fn read_on<R: Read, K: Keep + Drop>(
     reader: &mut R,
     mut feeder: Feeder<Collector<K>>,
@@ -91,7 +91,7 @@ fn read_on<R: Read, K: Keep + Drop>(
     }
 }
 
-/// Reads the rest of a reader's bytes as `read_text` does, sooner where most lines are items in the usual spelling: a
+/// Reads the rest of a reader's bytes as `read_text` does, but faster if most lines are items in the usual spelling: a
 /// letter, one space before each number, and LF.
 pub fn read_items<R: Read, K: Keep + Drop>(
     reader: &mut R,

@@ -9,7 +9,7 @@ ghost use Rattle.sp_text.specs.First.{Judge, first_fault, fault_so_far, fault_at
 ghost use Rattle.sp_text.specs.Lines.{ended, rest};
 ghost use Rattle.sp_text.specs.Meaning.{IsFirstFault, IsCut};
 
-/// States that a fault which a text shows before its end is the first fault of every text that begins with it.
+/// States that a fault shown by the beginning of a text is the first fault of every text with that beginning.
 #[tactic(auto, using(crate::proofs::EarlyFaults::early_lasts))]
 pub fn early_fault_is_first()
     ensures { (rules : Judge) (text more : List ℕ) (e : DimacsError)

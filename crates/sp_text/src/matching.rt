@@ -85,7 +85,7 @@ fn are_numbers(fields: &[Field], text: &[u8]) -> bool
     are_numbers(more, rest)
 }
 
-// Returns the number of the first field, and the text after it; or what the line is, if that is no number or is out of
+// Returns the number of the first field and the text after it; or what the line is, if the field is no number or out of
 // its range. The fields `more` follow this one.
 #[inline(always)]
 fn take_number<'a>(
@@ -114,7 +114,7 @@ fn take_number<'a>(
     }
 }
 
-// Returns what a line is where no field is left, and this text is.
+// Returns what a line is if no more fields are expected and this text remains.
 #[inline(always)]
 fn end_numbers(text: &[u8]) -> Spelled
     ensures { (ranges : Ranges) (ps values : List ℕ)
@@ -206,8 +206,8 @@ pub(crate) fn after_letter<'a>(words: &[u8], text: &'a [u8]) -> Option<&'a [u8]>
     Some(rest)
 }
 
-/// Returns the numbers that the text spells in the usual way, one for each field: each after one space, and in its
-/// range.
+/// Returns the numbers that the text spells in the usual way, one for each field. Each number follows one space and is in
+/// its range.
 #[inline(always)]
 pub(crate) fn spaced_numbers(
     fields: &[Field],
@@ -238,8 +238,8 @@ pub(crate) fn spaced_numbers(
     if rest.is_empty() { Some(values) } else { None }
 }
 
-/// Returns the numbers that the front of a text spells in the usual way, one for each field: each after one space, in its
-/// range and of at most eight digits; and where they end, which is among the first 32 bytes.
+/// Returns the numbers that the front of a text spells in the usual way, one for each field, and the position where they
+/// end, among the first 32 bytes. Each number follows one space, is in its range and has at most eight digits.
 #[inline(always)]
 pub(crate) fn front_numbers(
     fields: &[Field],

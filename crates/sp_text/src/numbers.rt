@@ -51,7 +51,7 @@ pub(crate) fn spells_number(field: &[u8]) -> bool
     }
 }
 
-// Returns the number of a field that may be long.
+// Returns the number of a field that may have many digits.
 fn long_number(field: &[u8], least: u64, most: u64) -> Numeral
     ensures { result ≡ numeral field.now least most }
 {
@@ -76,7 +76,7 @@ pub(crate) fn ranged(value: u64, least: u64, most: u64) -> Numeral
     }
 }
 
-// Returns the number that the digits at the front spell, if they are few, and how many there are.
+// Returns the number that the leading digits spell, and their count, if there are few of them.
 #[inline(always)]
 fn front_digits(text: &[u8]) -> (u64, usize)
     ensures within { result.1 ≤ length text.now }
@@ -95,7 +95,7 @@ fn front_digits(text: &[u8]) -> (u64, usize)
     (value, text.len())
 }
 
-/// Returns the number that the digits at the front spell, and where they end, if they are few and begin with no zero.
+/// Returns the number that the leading digits spell, and where they end, if there are few and they begin with no zero.
 #[inline(always)]
 pub(crate) fn front_number(text: &[u8]) -> Option<(u64, usize)>
     ensures { IfSome result (λ x. IsFront text.now x.0 x.1) }
@@ -113,8 +113,8 @@ pub(crate) fn front_number(text: &[u8]) -> Option<(u64, usize)>
     Some((value, end))
 }
 
-/// Returns the number that the digits at the front spell, and where they end, if they are few and a blank or the end
-/// follows.
+/// Returns the number that the leading digits spell, and where they end, if there are few and a blank or the end follows
+/// them.
 #[inline(always)]
 pub(crate) fn quick_number(text: &[u8]) -> Option<(u64, usize)>
     ensures { IfSome result (λ x. IsQuick text.now x.0 x.1) }
@@ -137,7 +137,7 @@ fn begins_number(text: &[u8]) -> bool
     }
 }
 
-// Returns whether there is a byte, and no leading zero is followed by others.
+// Returns whether there is a byte, and no leading zero that other bytes follow.
 fn starts_number(field: &[u8]) -> bool
     ensures { result ≡ starts_number field.now }
 {
@@ -148,8 +148,8 @@ fn starts_number(field: &[u8]) -> bool
     }
 }
 
-/// Returns the number that the digits at the front of a text spell, and how many digits there are. A number that 64
-/// bits can't hold is reported as `u64::MAX`. Returns `None` if they spell no number.
+/// Returns the number that the leading digits of a text spell, and their count. A number that 64 bits can't hold is
+/// reported as `u64::MAX`. Returns `None` if they spell no number.
 #[inline(always)]
 pub fn leading_number(text: &[u8]) -> Option<(u64, usize)>
     ensures { MatchOption result (HasNoLead text.now) (λ x. Leads text.now x.0 x.1) }

@@ -1,4 +1,4 @@
-//! Reads numbers of few digits, all digits at once.
+//! Reads short numbers, all digits at once.
 ghost use Rattle.std.specs.Prelude.{◌≡◌, ◌+◌, ◌<◌, ◌≤◌, length, take, drop, true, IfSome};
 ghost use Rattle.std.specs.List.{list_all};
 ghost use Rattle.std.specs.Char.{is_ascii_digit};
@@ -8,13 +8,13 @@ ghost use Rattle.sp_text.specs.Numeral.{AreDigits, IsFront, others};
 use std::simd::prelude::*;
 use std::simd::{u8x8, u8x32, u64x1};
 
-/// So many bytes are looked at at once, to find where numbers end.
+/// The number of bytes examined at once to find where numbers end.
 const WINDOW: usize = 32;
 
-/// A text needs so many bytes for each number that ends in the window to be read at once.
+/// The number of bytes that a text must have, so that each number ending in the window is read at once.
 pub(crate) const ROOM: usize = 40;
 
-// For each number of digits, what eight bytes are multiplied by, so that the digits are the last ones, after zeros.
+// For each number of digits, the factor that moves the digits to the end of eight bytes, after zeros.
 static SHIFTS: [u64; 9] = [
     0,
     1 << 56,
@@ -45,8 +45,8 @@ fn packed_value(text: &[u8], count: usize) -> u64
         .wrapping_add(fours >> 32)
 }
 
-/// Returns the number that the digits at the front spell, and where they end, if there are eight bytes and one to seven
-/// of them are digits.
+/// Returns the number that the leading digits spell, and where they end, if there are eight bytes and one to seven leading
+/// digits.
 #[inline(always)]
 pub(crate) fn packed_number(text: &[u8]) -> Option<(u64, usize)>
     ensures { IfSome result (λ x. AreDigits text.now x.0 x.1) }
@@ -63,7 +63,7 @@ pub(crate) fn packed_number(text: &[u8]) -> Option<(u64, usize)>
     Some((packed_value(text, count), count))
 }
 
-/// Returns a bit for each of the first 32 bytes, which is set where the byte is no digit.
+/// Returns a bit for each of the first 32 bytes, set if the byte is no digit.
 #[inline(always)]
 pub(crate) fn other_bytes(text: &[u8]) -> u64
     requires { WINDOW ≤ length text.now }
@@ -73,8 +73,8 @@ pub(crate) fn other_bytes(text: &[u8]) -> u64
     lanes.simd_gt(u8x32::splat(9)).to_bitmask()
 }
 
-/// Returns the number that the digits from a place on spell, and how many they are, if these are one to eight, begin
-/// with no zero and end among the first 32 bytes. The bits tell which of those bytes are no digits.
+/// Returns the number that the digits from a position on spell, and their count, if there are one to eight, they begin
+/// with no zero, and they end among the first 32 bytes. A bit is set for each of those bytes that is no digit.
 #[inline(always)]
 pub(crate) fn number_at(text: &[u8], bits: u64, place: usize) -> Option<(u64, usize)>
     requires room { ROOM ≤ length text.now }

@@ -1,4 +1,4 @@
-//! Plain lines, which are read in the same way whatever lines stand before them: items of the first form, and comments.
+//! Plain lines are comments and items of the first form: they are read in the same way whatever lines come before them.
 ghost use Rattle.std.specs.Prelude.{◌≡◌, ◌<◌, ◌≤◌, ◌^◌, ℕ, List, [], ◌++◌, Some, true, false, length, IfOk, OnOk, OnErr, IfSome, MatchBool};
 ghost use Rattle.sp_text.specs.Formats.{format_of};
 ghost use Rattle.sp_text.specs.Lines.{ended};
@@ -15,17 +15,17 @@ use crate::reading::{is_remark, usual_item};
 use crate::rooms::{LONGEST_LINE, LineBuffer, Values};
 use std::alloc::AllocError;
 
-/// Keeps items that were read apart, too, and puts them behind its own.
+/// Also keeps items that were read separately, after its own.
 pub trait KeepParts: Keep + Drop + Sized {
-    /// Returns one that has kept nothing, with room for the items of about this many bytes.
+    /// Returns an empty keeper, with room for the items of about this many bytes.
     fn fresh(&self, bytes: usize) -> Result<Self, AllocError>
         ensures { IfOk result (λ keep. Self.Kept keep []) };
 
-    /// Returns how many items were kept.
+    /// Returns the number of items kept.
     fn count(&self) -> u64
         ensures { (all : List Item) → Self.Kept self.now all → result ≡ length all };
 
-    /// Puts the items of another one behind its own. If there is no memory, it keeps what it kept.
+    /// Appends the items of another keeper. If there is no memory, it keeps what it had.
     fn append(&mut self, other: &Self) -> Result<(), AllocError>
         ensures appended { (before more : List Item) → Self.Kept self.old before
             → Self.Kept other.now more → OnOk result (Self.Kept self.new (before ++ more)) }
@@ -107,7 +107,7 @@ impl<K: Keep> Collector<K> {
 impl<K: KeepParts> Collector<K> {
     ghost use Rattle.sp_text.specs.Plain.{AddsItems};
 
-    // Puts the items of plain lines behind its own, unless there would be too many, or there is no memory.
+    // Appends the items of plain lines, unless there would be too many or there is no memory.
     fn add_items(&mut self, keep: &K) -> bool
         ensures { AddsItems keep.now self.old result self.new }
     {
@@ -135,15 +135,15 @@ impl<K: KeepParts> Collector<K> {
 impl<K: KeepParts> Feeder<Collector<K>> {
     ghost use Rattle.sp_text.specs.Plain.{IsBlock, HasProblem, PlainTaken};
 
-    /// Returns a keeper that has kept nothing, with room for the items of about this many bytes.
+    /// Returns an empty keeper, with room for the items of about this many bytes.
     pub fn fresh_keeper(&self, bytes: usize) -> Result<K, AllocError>
         ensures { IfOk result (λ keep. K.Kept keep []) }
     {
         self.taker.keep.fresh(bytes)
     }
 
-    /// Returns a reader that has kept nothing, behind the problem line that this one has read, if any: others may read plain
-    /// lines by it while this one takes what was read before.
+    /// Returns a reader that has kept nothing, but knows the problem line that this one has read, if any. Others may use it to
+    /// read plain lines while this reader takes what was read before.
     pub fn plain_reader(&self) -> Result<Feeder<Collector<K>>, AllocError>
         ensures { IfOk result
             (λ plain. (ps : List ℕ) → HasProblem self.now ps → HasProblem plain ps) }
@@ -168,8 +168,8 @@ impl<K: KeepParts> Feeder<Collector<K>> {
         self.taker.problem.is_some()
     }
 
-    /// Keeps, in a keeper apart, what the line at the front of a text holds, and returns the text after it, if the line is
-    /// plain behind the problem line that was read, and has its LF.
+    /// If the line at the front of a text has its LF and is plain after the problem line that was read, keeps what it holds in
+    /// a separate keeper, and returns the text after it.
     ///
     /// # Errors
     /// If there is no memory for the item, the contract promises nothing about the keeper.
@@ -196,8 +196,8 @@ impl<K: KeepParts> Feeder<Collector<K>> {
         }
     }
 
-    /// Takes plain lines that were read apart, given what they keep and how many they are, and returns whether it has
-    /// taken them. It takes none within a line, where there would be too many items, or where there is no memory.
+    /// Takes plain lines that were read separately, given their items and their number. Returns whether it has taken them: it
+    /// takes none in the middle of a line, if there would be too many items, or if there is no memory.
     pub fn add_lines(&mut self, keep: &K, lines: u64) -> bool
         ensures { (text block ps : List ℕ) → length (text ++ block) ≤ 2 ^ 62
             → problem_of K.format (ended text) ≡ Some ps

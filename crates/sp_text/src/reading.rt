@@ -66,9 +66,9 @@ pub(crate) fn usual_item(
     None
 }
 
-/// Returns the form of the line at the front of a text, with its index and its numbers, and the text after the line, if
-/// the line is an item of the first form in the usual spelling, its numbers are in their ranges, and all of it stands
-/// among the first bytes.
+/// Returns the form of the line at the front of a text, with its index and its numbers, and the text after the line. The
+/// line must be an item of the first form in the usual spelling, with its numbers in their ranges, and all of it must
+/// be among the first bytes.
 #[inline(always)]
 pub(crate) fn front_item<'a>(
     format: &FileFormat,

@@ -26,7 +26,7 @@ pub fn extend_line(line: &mut LineBuffer, bytes: &[u8]) -> Result<(), Kind>
     Ok(())
 }
 
-/// The numbers of a line, at most four. Zeros follow the last one.
+/// The numbers of a line, at most four. Zeros fill the rest.
 #[derive(Drop)]
 pub struct Values {
     numbers: [u64; 4],

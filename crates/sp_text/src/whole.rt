@@ -8,10 +8,10 @@ use crate::faults::{DimacsError, Kind};
 use crate::feeding::{Feeder, LineTaker};
 use sp_device::Read;
 
-/// The number of bytes that are read from a device at a time.
+/// The number of bytes read from a device at a time.
 pub const PIECE: usize = 65_536;
 
-// Reads to the end, and feeds what comes.
+// Reads the device to its end, and feeds the bytes to the reader.
 fn read_on<R: Read, T: LineTaker + Drop>(
     reader: &mut R,
     mut feeder: Feeder<T>,

@@ -40,6 +40,7 @@ of_trees_early own given files failing fails fault.DeltaOutOfRange is = absurd i
 of_trees_early own given files failing fails fault.LimitOutOfRange is = absurd is
 of_trees_early own given files failing fails fault.InputTwice is = absurd is
 of_trees_early own given files failing fails fault.NoPlaces is = absurd is
+of_trees_early own given files failing fails (fault.OutputIsInput role) is = absurd is
 of_trees_early own given files failing fails (fault.CannotOpen file) is = absurd is
 of_trees_early own given files failing fails (fault.Packed e) is = absurd is
 of_trees_early own given files failing fails (fault.NoSuchVertex v file) is = absurd is

@@ -123,6 +123,7 @@ trees_refused P gr_text text g failed graph fault.DeltaOutOfRange is = absurd is
 trees_refused P gr_text text g failed graph fault.LimitOutOfRange is = absurd is
 trees_refused P gr_text text g failed graph fault.InputTwice is = absurd is
 trees_refused P gr_text text g failed graph fault.NoPlaces is = absurd is
+trees_refused P gr_text text g failed graph (fault.OutputIsInput role) is = absurd is
 trees_refused P gr_text text g failed graph (fault.CannotOpen file) is = absurd is
 trees_refused P gr_text text g failed graph (fault.Input kind.Graph e) is = absurd is
 trees_refused P gr_text text g failed graph (fault.Input kind.Sources e) is = absurd is

@@ -38,6 +38,7 @@ abbrev pub IsTreeRefused : (P : ℕ) → (way : Direction) → (gr tree : List �
 IsTreeRefused P way gr tree (fault.Input kind.Tree e) = HoldsGraph P way gr × HeldIn {P = P} tree (Err e)
 IsTreeRefused P way gr tree why = IsGraphRefused P way gr why
 
+-- The verdict on a tree or a forest was written, or a fault says why not.
 abbrev pub TellsVerdict : (P : ℕ) → (way : Direction) → (limit : Option ℕ) → (gr tree : List ℕ) → Scene → Result Status Fault → Type 0
 TellsVerdict P way limit gr tree s result = Tells (TreeJudged P way limit gr tree) verdict_text verdict_end (IsTreeRefused P way gr tree) s result
 
@@ -54,9 +55,11 @@ abbrev pub AreTreesRefused : (P : ℕ) → (way : Direction) → (gr trees : Lis
 AreTreesRefused P way gr trees (fault.Input kind.Tree e) = HoldsGraph P way gr × ((failed : Bool) × IsFileFault P trees failed e)
 AreTreesRefused P way gr trees why = IsGraphRefused P way gr why
 
+-- The lines of several blocks, in order.
 abbrev pub judged_texts : List Judged → List ℕ
 judged_texts all = flat_map judged_text all
 
+-- The verdict on each block was written, or a fault says why not.
 abbrev pub TellsVerdicts : (P : ℕ) → (way : Direction) → (limit : Option ℕ) → (gr trees : List ℕ) → Scene → Result Status Fault → Type 0
 TellsVerdicts P way limit gr trees s result = Tells (TreesJudged P way limit gr trees) judged_texts end_of (AreTreesRefused P way gr trees) s result
 
@@ -66,6 +69,7 @@ TellsVerdicts P way limit gr trees s result = Tells (TreesJudged P way limit gr 
 abbrev pub GiveTexts : (List ℕ → Option (List ℕ)) → CheckCommand → (gr tree : List ℕ) → Type 0
 GiveTexts texts c gr tree = (texts c.graph.now ≡ Some gr) × (texts c.tree.now ≡ Some tree)
 
+-- The answer about the file: with `--all` for each block, otherwise for the single block.
 abbrev pub SaysOf : (P : ℕ) → (way : Direction) → (all : Bool) → (limit : Option ℕ) → (gr tree : List ℕ) → Scene → Result Status Fault → Type 0
 SaysOf P way true limit gr tree s result = TellsVerdicts P way limit gr tree s result
 SaysOf P way false limit gr tree s result = TellsVerdict P way limit gr tree s result
@@ -83,6 +87,7 @@ pub record IsCheckAnswer (P : ℕ) (c : CheckCommand) (s : Scene) (result : Resu
   pub told : IsLimit P c.within.limit → (gr tree : List ℕ) → GiveTexts s.files.text c gr tree → SaysOf P c.direction c.all c.within.limit gr tree s result
   pub of_some : IfOk result (SaysOfSome P c.direction c.all c.within.limit s)
 
+-- The meaning of the answer of `check`.
 abbrev pub CheckAnswers : (P : ℕ) → Meaning CheckCommand
 CheckAnswers P c s result = IsCheckAnswer P c s result
 

@@ -38,6 +38,7 @@ abbrev pub IsOffersRefused : (P : ℕ) → (text : List ℕ) → Fault → Type 
 IsOffersRefused P text (Input kind.Offers e) = OffersIn {P = P} text (Err e)
 IsOffersRefused P text _ = ⊥
 
+-- The final words were written, or a fault says why not.
 abbrev pub TellsWords : (P : ℕ) → (text : List ℕ) → Scene → Result Status Fault → Type 0
 TellsWords P text s result = Tells (AreLeft P text) words_text done (IsOffersRefused P text) s result
 
@@ -51,6 +52,7 @@ pub record IsOffersAnswer (P : ℕ) (c : OffersCommand) (s : Scene) (result : Re
   pub told : (text : List ℕ) → HasText s c.file.now text → TellsWords P text s result
   pub of_some : IfOk result (TellsWordsOfSome P s)
 
+-- The meaning of the answer of `offers`.
 abbrev pub OffersAnswers : (P : ℕ) → Meaning OffersCommand
 OffersAnswers P c s result = IsOffersAnswer P c s result
 

@@ -33,6 +33,7 @@ pub record IsPackAnswer (P : ℕ) (c : PackCommand) (s : Scene) (result : Result
   pub told : (text : List ℕ) → HasText s c.graph.now text → TellsPacked P c.direction text s result
   pub of_some : IfOk result (TellsPackedOfSome P c.direction s)
 
+-- The meaning of the answer of `pack`.
 abbrev pub PackAnswers : (P : ℕ) → Meaning PackCommand
 PackAnswers P c s result = IsPackAnswer P c s result
 

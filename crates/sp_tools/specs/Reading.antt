@@ -22,6 +22,7 @@ use Rattle.sp_command.specs.declared.faults.FileKind.TheVariants as kind
 abbrev pub HeldIn : {P : ℕ} → (text : List ℕ) → Result (TreeOrForest P) DimacsError → Type 0
 HeldIn text result = (left : Option (List ℕ)) × (failed : Bool) × EitherRead text left failed result
 
+-- The result of reading a text as a replay file, whatever is left unread and whether or not the device failed.
 abbrev pub ReplayIn : {P : ℕ} → (text : List ℕ) → Result (ReplayFile P) DimacsError → Type 0
 ReplayIn text result = (left : Option (List ℕ)) × (failed : Bool) × ReplayRead text left failed result
 

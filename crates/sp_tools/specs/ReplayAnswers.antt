@@ -46,12 +46,15 @@ abbrev pub IsReplayRefused : (P : ℕ) → (text : List ℕ) → Fault → Type 
 IsReplayRefused P text (Input kind.Replay e) = ReplayIn {P = P} text (Err e)
 IsReplayRefused P text _ = ⊥
 
+-- The status after anything that was written is `Done`.
 abbrev pub done : {V : Type 0} → V → Status
 done v = Done
 
+-- The report of a replay was written, or a fault says why not.
 abbrev pub TellsReport : (P : ℕ) → (text : List ℕ) → Scene → Result Status Fault → Type 0
 TellsReport P text s result = Tells (IsReplayed {P = P} text) report_text done (IsReplayRefused P text) s result
 
+-- The text of a picture.
 abbrev pub picture_text : {P : ℕ} → Picture P → List ℕ
 picture_text picture = string_bytes picture.text
 
@@ -59,10 +62,12 @@ picture_text picture = string_bytes picture.text
 abbrev pub HasTooMany : (P : ℕ) → (text : List ℕ) → Scene → Fault → Type 0
 HasTooMany P text s why = (why ≡ TooManySteps) × IsUnwritten s × ((file : ReplayFile P) × SpellsReplay text file × (60 < length file.steps.items))
 
+-- The picture of a replay was written, or a fault says why not, such as too many steps.
 abbrev pub TellsPicture : (P : ℕ) → (text : List ℕ) → Scene → Result Status Fault → Type 0
 TellsPicture P text s (Ok status) = Tells (IsDrawn {P = P} text) picture_text done (IsReplayRefused P text) s (Ok status)
 TellsPicture P text s (Err why) = Tells (IsDrawn {P = P} text) picture_text done (IsReplayRefused P text) s (Err why) ⊎ HasTooMany P text s why
 
+-- The answer about a replay file: with `--svg` its picture, otherwise its report.
 abbrev pub SaysOf : (P : ℕ) → (svg : Bool) → (text : List ℕ) → Scene → Result Status Fault → Type 0
 SaysOf P true text s result = TellsPicture P text s result
 SaysOf P false text s result = TellsReport P text s result
@@ -78,6 +83,7 @@ pub record IsReplayAnswer (P : ℕ) (c : ReplayCommand) (s : Scene) (result : Re
   pub told : (text : List ℕ) → HasText s c.file.now text → SaysOf P c.svg text s result
   pub of_some : IfOk result (SaysOfSome P c.svg s)
 
+-- The meaning of the answer of `replay`.
 abbrev pub ReplayAnswers : (P : ℕ) → Meaning ReplayCommand
 ReplayAnswers P c s result = IsReplayAnswer P c s result
 

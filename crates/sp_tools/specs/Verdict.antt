@@ -47,6 +47,7 @@ abbrev pub verdict_text : Verdict → List ℕ
 verdict_text Yes = codes "yes\n"
 verdict_text (No v rule) = codes "no " ++ decimal v ++ codes " " ++ decimal (number_of rule) ++ codes "\n"
 
+-- The exit status for a verdict.
 abbrev pub verdict_end : Verdict → Status
 verdict_end Yes = status.Done
 verdict_end (No v rule) = status.CheckedNo

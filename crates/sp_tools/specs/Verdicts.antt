@@ -36,9 +36,11 @@ abbrev pub text_of : (source : ℕ) → Verdict → List ℕ
 text_of source Yes = codes "yes\n"
 text_of source (No v rule) = codes "no " ++ decimal source ++ codes " " ++ decimal v ++ codes " " ++ decimal (number_of rule) ++ codes "\n"
 
+-- The line for a block.
 abbrev pub judged_text : Judged → List ℕ
 judged_text judged = text_of judged.source judged.verdict
 
+-- The verdict is yes.
 abbrev pub is_yes : Verdict → Bool
 is_yes Yes = true
 is_yes (No v rule) = false

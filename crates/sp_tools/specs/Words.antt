@@ -20,9 +20,11 @@ LacksValue found name = first_value found name ≡ None
 
 -- ## check
 
+-- The arguments of `check`.
 abbrev pub check_rules : List Rule
 check_rules = file_rule (codes "GR") ∷ file_rule (codes "TREE") ∷ (direction_rules ++ flag_rule (codes "all") ∷ within_rule ∷ [])
 
+-- A command line gives these arguments of `check`.
 pub record IsCheck (found : Found) (command : CheckCommand) : Type 0 where
   pub graph : first_value found (codes "GR") ≡ Some command.graph.now
   pub tree : first_value found (codes "TREE") ≡ Some command.tree.now
@@ -30,37 +32,45 @@ pub record IsCheck (found : Found) (command : CheckCommand) : Type 0 where
   pub all : IsFlag found (codes "all") command.all
   pub within : HasLimit found command.within.limit
 
+-- A command line lacks something that `check` needs.
 abbrev pub LacksCheck : Found → Type 0
 LacksCheck found = LacksValue found (codes "GR") ⊎ (LacksValue found (codes "TREE") ⊎ LacksLimit found)
 
 -- ## pack
 
+-- The arguments of `pack`.
 abbrev pub pack_rules : List Rule
 pack_rules = file_rule (codes "GR") ∷ (direction_rules ++ workers_rule ∷ flag_rule (codes "progress") ∷ [])
 
+-- A command line gives these arguments of `pack`.
 pub record IsPack (found : Found) (command : PackCommand) : Type 0 where
   pub graph : first_value found (codes "GR") ≡ Some command.graph.now
   pub direction : HasDirection found command.direction
   pub workers : HasCrew found command.workers
   pub progress : IsFlag found (codes "progress") command.progress
 
+-- A command line lacks something that `pack` needs.
 abbrev pub LacksPack : Found → Type 0
 LacksPack found = LacksValue found (codes "GR") ⊎ LacksCrew found
 
 -- ## replay
 
+-- The arguments of `replay`.
 abbrev pub replay_rules : List Rule
 replay_rules = file_rule (codes "FILE") ∷ flag_rule (codes "svg") ∷ []
 
+-- A command line gives these arguments of `replay`.
 pub record IsReplay (found : Found) (command : ReplayCommand) : Type 0 where
   pub file : first_value found (codes "FILE") ≡ Some command.file.now
   pub svg : IsFlag found (codes "svg") command.svg
 
 -- ## offers
 
+-- The arguments of `offers`.
 abbrev pub offers_rules : List Rule
 offers_rules = file_rule (codes "FILE") ∷ []
 
+-- A command line gives these arguments of `offers`.
 pub record IsOffers (found : Found) (command : OffersCommand) : Type 0 where
   pub file : first_value found (codes "FILE") ≡ Some command.file.now
 

@@ -1,4 +1,4 @@
-//! `spt check`: checks whether a tree file holds the shortest-path tree of its source, or a forest's file that of its sources.
+//! `spt check`: checks whether a tree file holds the shortest-path tree of its source, or the forest of its sources.
 ghost use Rattle.std.specs.Prelude.{◌≡◌, ℕ, List, true, IfOk, IfErr, codes};
 ghost use Rattle.sp_word.specs.Word.{is_layout};
 ghost use Rattle.sp_device.specs.Printing.{IsSending, Finished};
@@ -26,16 +26,16 @@ use std::alloc::{AllocError, Global};
 use std::sync::Wait;
 use std::thread::Threads;
 
-/// The arguments of `check`, with the names of its files.
+/// The arguments of `check`, with the paths of its files.
 #[derive(Drop)]
 pub struct CheckCommand<'a> {
     /// The path of the graph.
     pub graph: &'a str,
     /// The path of the tree.
     pub tree: &'a str,
-    /// The direction in which the arcs of the graph lead, by those of its file.
+    /// The direction of the graph's arcs, relative to its file.
     pub direction: Direction,
-    /// Whether the file may have several blocks, each of which is checked.
+    /// Whether the file may have several blocks, which are all checked.
     pub all: bool,
     /// The limit up to which the tree or the forest is checked, if there is one.
     pub within: Within,
@@ -49,6 +49,8 @@ impl<'a> Command<'a> for CheckCommand<'a> {
     ghost reads = { IsCheck };
 
     ghost lacks = { LacksCheck };
+
+    ghost paths = { check_paths };
 
     const ABOUT: &'static str = "Check a tree or a forest against its graph";
 
@@ -73,16 +75,16 @@ rule fails and the number R of the first rule that fails there:
 
 With --within L it is `yes` if the file holds the part of the tree up to
 distance L. Rule 3 then considers only distances up to L, and rule 5 does not
-apply. Without --within a part is `no`, unless nothing lies beyond it.
+apply. Without --within, a part is `no` if there is a vertex beyond it.
 
-A file whose first line begins with `p near` is read as a forest, as written by
-`spt nearest`. Its sources are the vertices whose line has predecessor 0. Rule 1
-then also requires that there are as many of them as the first line says, and
-rule 2 that each is its own root.
+A file whose first line begins with `p near` is read as a forest, as
+`spt nearest` writes it. Its sources are the vertices whose line has
+predecessor 0. Rule 1 then also requires that their number is the one in the
+first line, and rule 2 that each source is its own root.
 
-With --all the file has one or more blocks of trees, as `spt tree` writes them
-for several sources. Each is checked and gets its own line: `yes`, or `no S V R`
-with its source S.";
+With --all, the file has one or more blocks of trees, as `spt tree` writes them
+for several sources. Each block is checked and gets its own line: `yes`, or
+`no S V R` with its source S.";
 
     const AFTER_HELP: &'static str = after_help!(
         "\
@@ -93,7 +95,7 @@ and an LF at the end of each line:
 or the block of a forest of K sources, with the root S of each vertex:
   p near N K, then v V D P S in ascending order of V, then e R
 
-It takes as much memory as `spt tree` does for one source, plus 16 bytes per
+It needs as much memory as `spt tree` does for one source, plus 16 bytes per
 vertex (at most 32 for a forest) and, with --all, 32 bytes per block.
 
 Example: for the graph and the tree of the example in `spt tree --help`,
@@ -112,6 +114,7 @@ of `spt tree --help`. In a tree file
                    and anything else is reported as an error in that block
   7 TooFew         the file ends before the e line
 A limit that does not fit (see --pred-bits) is reported before a file is opened.
+`spt: output is an input` means that -o names GR or TREE (exit status 1).
 ",
         statuses:
             0 "yes; with --all, for each block"
@@ -194,7 +197,7 @@ impl<const P: u32> Run<P> for CheckCommand<'_> {
     }
 }
 
-// Returns the verdict on the tree or the forest in a file, against the graph in another.
+// Returns the verdict on the tree or the forest in one file, for the graph in another.
 fn find_verdict<const P: u32, R: Threads + Wait + Sync, F: Inputs>(
     rt: &R,
     alloc: Global,
@@ -234,7 +237,7 @@ fn find_verdict<const P: u32, R: Threads + Wait + Sync, F: Inputs>(
 pub enum Verdict {
     /// The tree is the shortest-path tree.
     Yes,
-    /// This is the first rule that fails, at this vertex.
+    /// This rule is the first that fails, at this vertex.
     No { vertex: u32, rule: Rule },
 }
 
@@ -250,7 +253,7 @@ impl Verdict {
     }
 }
 
-// Returns the verdict that an answer of the checker tells.
+// Returns the verdict for an answer of the checker.
 fn verdict_of(answer: Result<(), CheckError>) -> Result<Verdict, AllocError>
     ensures { IfOk result (IsVerdictOf answer) }
 {
@@ -261,7 +264,7 @@ fn verdict_of(answer: Result<(), CheckError>) -> Result<Verdict, AllocError>
     }
 }
 
-/// Returns the verdict of the checker on a tree, up to the limit if there is one.
+/// Returns the checker's verdict on a tree, up to the limit if there is one.
 pub fn judge<const P: u32, R: Threads + Sync>(
     rt: &R,
     alloc: Global,
@@ -278,7 +281,7 @@ pub fn judge<const P: u32, R: Threads + Sync>(
     })
 }
 
-// Returns the verdict of the checker on a forest.
+// Returns the checker's verdict on a forest.
 fn judge_forest<const P: u32, R: Threads + Sync>(
     rt: &R,
     alloc: Global,
@@ -292,7 +295,7 @@ fn judge_forest<const P: u32, R: Threads + Sync>(
     verdict_of(check_forest::<P, R>(rt, alloc, graph, &file.forest, file.sources, limit))
 }
 
-// Returns the verdict of the checker on a tree or a forest.
+// Returns the checker's verdict on a tree or a forest.
 fn judge_either<const P: u32, R: Threads + Sync>(
     rt: &R,
     alloc: Global,

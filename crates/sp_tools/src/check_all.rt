@@ -22,16 +22,16 @@ use std::alloc::Global;
 use std::sync::Wait;
 use std::thread::Threads;
 
-/// The verdict of the checker on a block.
+/// The checker's verdict on a block.
 #[derive(Clone, Copy, Debug, PartialEq, Eq)]
 pub struct Judged {
     /// The source of the block's tree.
     pub source: u32,
-    /// Whether it is that source's shortest-path tree, and else what is wrong.
+    /// The verdict: whether the tree is the shortest-path tree of that source, or else what is wrong.
     pub verdict: Verdict,
 }
 
-/// Returns the verdict on each block of a file, against the graph in another.
+/// Returns the verdict on each block of one file, for the graph in another.
 pub fn find_verdicts<const P: u32, R: Threads + Wait + Sync, F: Inputs>(
     rt: &R,
     alloc: Global,
@@ -98,7 +98,7 @@ fn judge_blocks<const P: u32, R: Threads + Sync, D: Read>(
     }
 }
 
-/// Returns the exit status.
+/// Returns the exit status for these verdicts.
 pub fn status_of(all: &[Judged]) -> Status
     ensures exact { result ≡ end_of all.now }
     ensures done { is_done result ≡ true }
@@ -111,7 +111,7 @@ pub fn status_of(all: &[Judged]) -> Status
     Status::Done
 }
 
-// Sends the line of a block.
+// Writes the line of a block to a printer.
 fn print_judged<W: Write>(judged: Judged, out: &mut W, printer: &mut Printer)
     ensures { Sends W.Write (judged_text judged) out.old printer.old out.new printer.new }
 {
@@ -129,7 +129,7 @@ fn print_judged<W: Write>(judged: Judged, out: &mut W, printer: &mut Printer)
     }
 }
 
-// Sends the lines of all blocks.
+// Writes the lines of all blocks to a printer.
 fn print_verdicts<W: Write>(all: &[Judged], out: &mut W, printer: &mut Printer)
     ensures { Sends W.Write (flat_map judged_text all.now) out.old printer.old out.new printer.new }
 {

@@ -17,7 +17,7 @@ use std::sync::Wait;
 use std::thread;
 use std::thread::Threads;
 
-/// Returns as many workers as there are processors.
+/// Returns one worker per processor.
 pub fn all_workers<R: Threads>(rt: &R) -> Workers {
     let Ok(count) = thread::available_parallelism(rt) else {
         return Workers::one();
@@ -25,7 +25,7 @@ pub fn all_workers<R: Threads>(rt: &R) -> Workers {
     Workers::new(count.get().min(MOST_WORKERS as usize) as u32).unwrap_or(Workers::one())
 }
 
-/// Reads a graph of either form, and builds its rows, by these settings.
+/// Reads a graph in either form and builds its rows, with these settings.
 pub fn read_graph<const P: u32, R: Threads + Wait + Sync, D: Read, L: Listener>(
     rt: &R,
     alloc: Global,

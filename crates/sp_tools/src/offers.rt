@@ -12,7 +12,7 @@ use std::alloc::Global;
 use std::sync::Wait;
 use std::thread::Threads;
 
-/// The arguments of `offers`, with the name of its file.
+/// The arguments of `offers`, with the path of its file.
 #[derive(Drop)]
 pub struct OffersCommand<'a> {
     /// The path of the file.
@@ -27,6 +27,8 @@ impl<'a> Command<'a> for OffersCommand<'a> {
     ghost reads = { IsOffers };
 
     ghost lacks = { LacksFile };
+
+    ghost paths = { offers_paths };
 
     const ABOUT: &'static str =
         "Make the offers of several actors at once and write the final words";
@@ -69,6 +71,9 @@ An error in the file is reported with its line, as in
 `spt: offers: line 2: 5 OutOfRange A`:
 ",
         faults: "  6 TooMany        there are too many offers\n",
+        others: "\
+`spt: output is an input` means that -o names the file (exit status 1).
+",
         statuses:
             0 "done"
             1 "the command line is wrong"

@@ -1,4 +1,4 @@
-//! `spt pack`: writes a graph as a packed one, which is read without parsing numbers.
+//! `spt pack`: writes a graph as a packed file, which can be read without parsing numbers.
 ghost use Rattle.std.specs.Prelude.{◌≡◌, codes};
 ghost use Rattle.sp_tools.specs.PackAnswers.{PackAnswers, pack_faults, pack_paths};
 ghost use Rattle.sp_tools.specs.Words.{IsPack, LacksPack, pack_rules};
@@ -21,20 +21,20 @@ use std::sync::Wait;
 use std::thread::Threads;
 
 const WORKERS_LONG: &str = "\
-The most threads to use, from 1 to 64 including the main thread, or
-`all` for one per processor, at most 64. A file of lines is read, and
-the graph built, by so many. The output is the same for any number";
+The maximum number of threads, from 1 to 64 including the main thread,
+or `all` for one per processor, at most 64. They read a .gr file and
+build the graph. The output is the same for any number";
 
-/// The arguments of `pack`, with the name of its file.
+/// The arguments of `pack`, with the path of its file.
 #[derive(Drop)]
 pub struct PackCommand<'a> {
     /// The path of the graph.
     pub graph: &'a str,
-    /// The direction in which the arcs lead that are written, by those of the file.
+    /// The direction of the arcs that are written, relative to the file.
     pub direction: Direction,
-    /// The number of threads that may work, the main thread counted.
+    /// The greatest number of threads, including the main thread.
     pub workers: Workers,
-    /// Whether the progress is to be reported.
+    /// Whether progress is reported.
     pub progress: bool,
 }
 
@@ -47,26 +47,29 @@ impl<'a> Command<'a> for PackCommand<'a> {
 
     ghost lacks = { LacksPack };
 
-    const ABOUT: &'static str = "Write a graph as a packed file, which is read sooner";
+    ghost paths = { pack_paths };
+
+    const ABOUT: &'static str = "Write a graph as a packed file, which loads faster";
 
     const LONG_ABOUT: &'static str = "\
-Write a graph as a packed file, which is read sooner
+Write a graph as a packed file, which loads faster
 
-A packed file has the numbers of a graph as they are in memory, and a sum by
-which a change is found. Every command takes it in the place of a .gr file, from
-standard input too; it is read sooner. Each graph has exactly one packed file,
-whatever the order of the arcs in its .gr file.";
+A packed file has the numbers of a graph as they are in memory, and a checksum
+by which changes are detected. Every command accepts it instead of a .gr file,
+also from standard input, and loads it faster. Each graph has exactly one packed
+file, whatever the order of the arcs in its .gr file.";
 
     const AFTER_HELP: &'static str = after_help!(
         "\
 The graph is a .gr file, as described in `spt tree --help`, or a packed file.
-A file whose first byte is 0x89 is packed, every other is a .gr file.
+A file whose first byte is 0x89 is a packed file; any other is a .gr file.
 
 The output has 4 * (N + 2 * M + 9) bytes for N vertices and M arcs. It isn't
-text, so it goes to a file (-o FILE) or to a pipe, and not to a terminal.
+text, so it can go to a file (-o FILE) or to a pipe, but not to a terminal.
 
-With --towards each arc is turned round, with --both-ways it is written with the
-same turned round behind: then commands over the output need no such flag.
+With --towards, each arc is written reversed. With --both-ways, each arc is
+written in both directions. Commands that read the output then need no such
+flag.
 
 Example: `spt pack road.gr -o road.spt`, and then
 `spt pairs road.spt road.pairs --delta mean`.
@@ -82,14 +85,15 @@ An error in a packed file is reported with the number of bytes before the word
 at which it is found, as in `spt: gr: byte 48: 7 TooFew`:
   5 OutOfRange X   a number is out of range or order: N or M, E for where the
                    arcs of a vertex end, V for a head, W for a length
-  6 TooMany        bytes stand behind the sum
+  6 TooMany        there are bytes after the checksum
   7 TooFew         the file ends before or within this word
   8 Memory         not enough memory (exit status 5)
   9 Read           the file could not be read to its end (exit status 6)
   10 OtherForm     it does not begin as a packed file of this form
-  11 OtherSum      a word of the sum is another one
+  11 OtherSum      a word of the checksum is wrong
 Other errors are
   spt: gr: cannot open               (exit status 6)
+  spt: output is an input            -o names the graph (exit status 1)
   spt: output is a terminal          (exit status 1)
   spt: memory                        nothing is written (exit status 5)
   spt: write failed                  part of the output may have been written

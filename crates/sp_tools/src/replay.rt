@@ -16,7 +16,7 @@ use std::alloc::Global;
 use std::sync::Wait;
 use std::thread::Threads;
 
-/// The arguments of `replay`: the name of its file, and whether a picture is written in place of the report.
+/// The arguments of `replay`: the path of its file, and whether a picture is written instead of the report.
 #[derive(Drop)]
 pub struct ReplayCommand<'a> {
     /// The path of the file.
@@ -33,6 +33,8 @@ impl<'a> Command<'a> for ReplayCommand<'a> {
     ghost reads = { IsReplay };
 
     ghost lacks = { LacksFile };
+
+    ghost paths = { replay_paths };
 
     const ABOUT: &'static str = "Run the steps of several actors in a given order and report them";
 
@@ -61,7 +63,7 @@ The file has lines of these forms, with their fields separated by blanks:
   s A          a step of actor A
   c ...        a comment; so is a blank line
 Each actor makes its calls in the order of the file. The steps are made in the
-order of the s lines, whatever stands between them. There are at most 1048576
+order of the s lines, whatever lines are between them. There are at most 1048576
 calls and 16777216 steps.
 
 The report has a line for each call that ended, where F and L are the numbers of
@@ -106,6 +108,7 @@ An error in the file is reported with its line, as in
         others: "\
 Other errors are
   spt: replay: cannot open           (exit status 6)
+  spt: output is an input            -o names the file (exit status 1)
   spt: replay: more than 60 steps    with --svg; nothing is written
                                      (exit status 2)
 ",
@@ -175,7 +178,7 @@ impl<const P: u32> Run<P> for ReplayCommand<'_> {
     }
 }
 
-// Returns the fault of a command that has no picture of its run.
+// Returns the fault of a command whose run has no picture.
 fn fault_of(error: NoPicture) -> Fault
     ensures steps { (result ≡ TooManySteps) ↔ (error ≡ NoPicture.TooManySteps) }
     ensures memory { (result ≡ Memory) ↔ (error ≡ NoPicture.Memory) }
@@ -187,7 +190,7 @@ fn fault_of(error: NoPicture) -> Fault
     }
 }
 
-// Returns the picture of the run of the steps of a file.
+// Returns the picture of the run of a file's steps.
 fn picture_in<const P: u32>(alloc: Global, file: &ReplayFile<P>) -> Result<Picture<P>, Fault>
     requires { All (IsNumber file.now.programme.actors) file.now.steps.items }
     ensures picture { IfOk result (IsPictureOf file.now.programme file.now.steps.items) }

@@ -4,15 +4,15 @@ use Rattle.std.specs.List.Sorted.{IsPermutation}
 use Rattle.sp_paths.specs.declared.arc.Arc.{Arc}
 use Rattle.sp_paths.specs.Paths.{Graph}
 
--- the arc from its head to its tail
+-- The arc from its head to its tail, of the same length.
 abbrev pub turned_arc : Arc → Arc
 turned_arc a = record { tail = a.head; head = a.tail; len = a.len }
 
--- each arc of a list turned round
+-- Each arc of a list, turned round.
 abbrev pub turned : List Arc → List Arc
 turned arcs = map turned_arc arcs
 
--- each arc of a list, and behind it the same turned round
+-- Each arc of a list, followed by the same arc turned round.
 abbrev pub with_turned : List Arc → List Arc
 with_turned [] = []
 with_turned (a ∷ arcs) = a ∷ turned_arc a ∷ with_turned arcs
@@ -22,12 +22,13 @@ pub record IsTurned (g h : Graph) : Type 0 where
   pub n : g.n ≡ h.n
   pub arcs : IsPermutation (turned g.arcs) h.arcs
 
--- h has as many vertices as g, and its arcs are, in any order, those of g and the same turned round: a loop stands twice.
+-- h has as many vertices as g, and its arcs are, in any order, those of g and the same turned round; so a loop appears
+-- twice.
 pub record IsBothWays (g h : Graph) : Type 0 where
   pub n : g.n ≡ h.n
   pub arcs : IsPermutation (g.arcs ++ turned g.arcs) h.arcs
 
--- The graphs have as many vertices and the same arcs, in any order.
+-- The graphs have the same number of vertices and the same arcs, in any order.
 pub record HaveSameArcs (g h : Graph) : Type 0 where
   pub n : g.n ≡ h.n
   pub arcs : IsPermutation g.arcs h.arcs

@@ -9,7 +9,7 @@ use sp_word::Workers;
 use std::alloc::AllocError;
 use std::thread::{Threads, join_mut};
 
-// Stands where no arc has come yet.
+// Marks a place that holds no arc yet.
 const NONE: Arc = Arc {
     tail: 0,
     head: 0,
@@ -36,7 +36,7 @@ pub fn turn(arcs: &mut [Arc])
     }
 }
 
-// Turns each arc of a list round by so many threads.
+// Turns each arc of a list round, on `threads` threads.
 fn turn_parts<R: Threads + Sync>(rt: &R, arcs: &mut [Arc], threads: usize)
     ensures { arcs.new ≡ turned arcs.old }
 {
@@ -58,8 +58,8 @@ fn turn_parts<R: Threads + Sync>(rt: &R, arcs: &mut [Arc], threads: usize)
     );
 }
 
-/// Turns each arc of a list round, in place, as `turn` does: by as many threads as there are workers, or fewer where there are fewer
-/// processors or few arcs.
+/// Turns each arc of a list round, in place, as `turn` does, on as many threads as there are workers, or on fewer if there are
+/// fewer processors or few arcs.
 pub fn turn_by<R: Threads + Sync>(rt: &R, arcs: &mut [Arc], workers: Workers)
     ensures { arcs.new ≡ turned arcs.old }
 {
@@ -67,8 +67,8 @@ pub fn turn_by<R: Threads + Sync>(rt: &R, arcs: &mut [Arc], workers: Workers)
     turn_parts(rt, arcs, threads);
 }
 
-/// Puts behind each arc of a list the same arc turned round: a loop stands twice then. The call fails only if there is no memory
-/// for twice the arcs.
+/// Inserts behind each arc of a list the same arc turned round, so that a loop appears twice. The call fails only if there is no
+/// memory for twice the arcs.
 #[tactic(auto, using(std::proofs::lemmas::Grind::common_steps, crate::proofs::TurnedArcs::first_stay, crate::proofs::TurnedArcs::next_moved))]
 pub fn insert_turned(arcs: &mut Vec<Arc>) -> Result<(), AllocError>
     ensures inserted { IfOk result (λ _. arcs.new.items ≡ with_turned arcs.old.items) }

@@ -1,5 +1,5 @@
-//! Graphs whose arcs are turned round, for what is asked towards a vertex, and graphs whose arcs lead both ways, for streets
-//! that are given once.
+//! Graphs whose arcs are turned round, for distances towards a vertex, and graphs whose arcs lead both ways, for streets that are
+//! given once.
 #![tactic(auto)]
 
 mod arcs;

@@ -1,4 +1,4 @@
-//! Graphs turned and both ways, beside arcs that are written out and beside a plain loop.
+//! Compares turned graphs and graphs both ways with arcs that are written out, and with the result of a plain loop.
 ghost use Rattle.std.specs.Prelude.{◌≡◌, ◌≤◌, All, IfOk, IfSome};
 ghost use Rattle.sp_paths.specs.Paths.{IsArc};
 
@@ -24,7 +24,7 @@ fn arc_of(n: u32, triple: Triple) -> Option<Arc>
     Some(Arc { tail, head, len })
 }
 
-// The arcs that are some of a graph of `n` vertices.
+// The arcs, without those that no graph of `n` vertices has.
 fn arcs_of(alloc: Global, n: u32, triples: &[Triple]) -> Result<Vec<Arc>, AllocError>
     ensures { IfOk result (λ arcs. All (IsArc n) arcs.items) }
 {
@@ -37,7 +37,7 @@ fn arcs_of(alloc: Global, n: u32, triples: &[Triple]) -> Result<Vec<Arc>, AllocE
     Ok(arcs)
 }
 
-// Whether the graph has so many vertices and exactly these arcs, in this order.
+// Whether the graph has `n` vertices and exactly these arcs, in this order.
 fn is(graph: &Graph, n: u32, want: &[Triple]) -> bool {
     graph.n() == n
         && graph.m() == want.len()
@@ -48,7 +48,7 @@ fn is(graph: &Graph, n: u32, want: &[Triple]) -> bool {
             .all(|(arc, want)| (arc.tail, arc.head, arc.len) == *want)
 }
 
-// Whether a graph of `n` vertices with these arcs has those ones when it is turned, and those when they lead both ways.
+// Whether a graph of `n` vertices with these arcs has the expected arcs when it is turned, and when its arcs lead both ways.
 fn stands<R: Threads + Sync>(
     rt: &R,
     alloc: Global,
@@ -96,12 +96,12 @@ fn small_graphs(rt: HostRuntime) -> Result<(), Fail> {
     Ok(())
 }
 
-// The next of numbers that look random.
+// The next pseudo-random number.
 fn next_number(number: u32) -> u32 {
     number.wrapping_mul(1_664_525).wrapping_add(1_013_904_223)
 }
 
-// So many arcs between `n` vertices, in no order: many are parallel, and many are loops.
+// Returns `count` random arcs between `n` vertices, in no order: many are parallel, and many are loops.
 fn drawn(alloc: Global, n: u32, count: u32, seed: u32) -> Result<Vec<Triple>, AllocError>
     requires { 1 ≤ n }
 {
@@ -120,7 +120,7 @@ fn drawn(alloc: Global, n: u32, count: u32, seed: u32) -> Result<Vec<Triple>, Al
     Ok(triples)
 }
 
-// Each arc turned round behind the given ones, and all in order.
+// The first arcs and each of the others turned round, all in order.
 fn with_turned(
     alloc: Global,
     first: &[Triple],
@@ -134,7 +134,7 @@ fn with_turned(
     Ok(all)
 }
 
-// Whether a drawn graph has the arcs that a plain loop gives, turned and both ways.
+// Whether a randomly generated graph has the arcs that a plain loop gives, turned and both ways.
 fn drawn_stands<R: Threads + Sync>(
     rt: &R,
     alloc: Global,

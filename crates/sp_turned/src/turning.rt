@@ -23,11 +23,11 @@ fn turned_arcs(alloc: Global, graph: &Graph) -> Result<Vec<Arc>, AllocError>
     Ok(arcs)
 }
 
-/// Returns the graph with each arc turned round: a walk to `v` in the one is a walk from `v` in the other.
+/// Returns the graph with each arc turned round: a walk to `v` in one graph is a walk from `v` in the other.
 ///
-/// It takes linear time: the arcs of each row are in order as soon as they are brought together by tail. As many threads
-/// work as there are workers, or fewer, as in `Graph::from_arcs_by`. The call fails only if there is no memory for two
-/// more lists of the arcs and for `n + 1` indices.
+/// It takes linear time: the arcs of each row are in order as soon as they are grouped by tail. It uses as many threads as there
+/// are workers, or fewer, as `Graph::from_arcs_by` does. The call fails only if there is no memory for two more lists of the arcs
+/// and for `n + 1` indices.
 pub fn turned<R: Threads + Sync>(
     rt: &R,
     alloc: Global,
@@ -42,7 +42,7 @@ pub fn turned<R: Threads + Sync>(
     Graph::from_arcs_by(rt, alloc, n, arcs, workers)
 }
 
-/// Returns the graph with each arc turned round, as `turned` does, by the calling thread alone.
+/// Returns the graph with each arc turned round, as `turned` does, on the calling thread alone.
 pub fn turned_alone(alloc: Global, graph: &Graph) -> Result<Graph, AllocError>
     ensures turned { IfOk result (λ other. IsTurned graph.now other) }
     ensures order { IfOk result (λ other. IsInOrder other.arcs) }

@@ -11,7 +11,7 @@ use sp_word::Workers;
 use std::alloc::{AllocError, Global};
 use std::thread::Threads;
 
-// Returns the arcs of a graph, behind each the same turned round, unless these are 2^32 or more.
+// Returns the arcs of a graph, each followed by the same arc turned round, unless these are 2^32 arcs or more.
 #[tactic(auto, using(std::proofs::lemmas::Grind::common_steps, crate::proofs::TurnedArcs::with_turned_push))]
 fn both_arcs(alloc: Global, graph: &Graph) -> Result<Vec<Arc>, AllocError>
     ensures both { IfOk result (λ arcs. arcs.items ≡ with_turned graph.now.arcs) }
@@ -30,12 +30,12 @@ fn both_arcs(alloc: Global, graph: &Graph) -> Result<Vec<Arc>, AllocError>
     Ok(arcs)
 }
 
-/// Returns the graph with the arcs of this one and, for each of them, one from its head to its tail of the same length. Where the
-/// graph has both already, each stands twice afterwards; a loop does so too.
+/// Returns the graph with the arcs of this one and, for each of them, an arc of the same length from its head to its tail. If the
+/// graph has both already, each appears twice afterwards, and so does a loop.
 ///
-/// It takes linear time, except that sorting a row of `l` arcs takes `l log l`. As many threads work as there are
-/// workers, or fewer, as in `Graph::from_arcs_by`. The call fails if twice the arcs are 2^32 or more, and else only if
-/// there is no memory for two lists of so many arcs and for `n + 1` indices.
+/// It takes linear time, except that sorting a row of `l` arcs takes `l log l`. It uses as many threads as there are workers, or
+/// fewer, as `Graph::from_arcs_by` does. The call fails if twice the arcs are 2^32 or more, and otherwise only if there is no
+/// memory for two lists of twice the arcs and for `n + 1` indices.
 #[tactic(auto, using(crate::proofs::TurnedArcs::made_both))]
 pub fn both_ways<R: Threads + Sync>(
     rt: &R,
@@ -52,7 +52,7 @@ pub fn both_ways<R: Threads + Sync>(
     Graph::from_arcs_by(rt, alloc, n, arcs, workers)
 }
 
-/// Returns the graph whose arcs lead both ways, as `both_ways` does, by the calling thread alone.
+/// Returns the graph whose arcs lead both ways, as `both_ways` does, on the calling thread alone.
 #[tactic(auto, using(crate::proofs::TurnedArcs::made_both))]
 pub fn both_ways_alone(alloc: Global, graph: &Graph) -> Result<Graph, AllocError>
     ensures both { IfOk result (λ other. IsBothWays graph.now other) }

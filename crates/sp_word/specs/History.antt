@@ -8,7 +8,7 @@ use Rattle.sp_word.specs.Reply.{reply_to}
 abbrev pub Table : Type 0
 Table = ℕ → Word
 
--- A call on the word of a vertex, with its answer: an offer answers the word found and the reply, a read answers the
+-- A call on the word of a vertex, with its result: an offer returns the word found and the reply, a read returns the
 -- word found.
 pub data Call : Type 0 where
   Offer : (word found : Word) (reply : Reply) → Call
@@ -20,7 +20,7 @@ pub record Event : Type 0 where
   pub vertex : ℕ
   pub call : Call
 
--- The answer of the call is correct where the vertex has the word x.
+-- The result of the call is correct if the vertex has the word x.
 abbrev pub IsAnswered : Word → Call → Type 0
 IsAnswered x (Offer word found reply) = (found ≡ x) × (reply ≡ reply_to x word)
 IsAnswered x (Read found) = found ≡ x
@@ -39,7 +39,7 @@ abbrev pub run : Table → List Event → Table
 run t [] = t
 run t (e ∷ es) = run (after t e) es
 
--- A history is legal if each call has the answer that the table gives at its turn.
+-- A history is legal if each call has the result that the table gives at its turn.
 abbrev pub IsLegal : Table → List Event → Type 0
 IsLegal t [] = Unit {0}
 IsLegal t (e ∷ es) = IsAnswered (t e.vertex) e.call × IsLegal (after t e) es

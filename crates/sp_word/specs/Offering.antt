@@ -5,15 +5,15 @@ use Rattle.sp_word.specs.declared.reply.Reply.TheVariants.{Kept}
 use Rattle.sp_word.specs.Word.{Word, is_below, is_same}
 use Rattle.sp_word.specs.Reply.{reply_to}
 
--- Where an offer stands between two steps: before its load, or at an exchange of the word that it holds, or at its end,
--- with the word found last and the reply. One that took a step beyond its end is overrun.
+-- The state of an offer between two steps: before its load; before an exchange of the word that it holds; or at its
+-- end, with the word found last and the reply. An offer that took a step beyond its end is overrun.
 pub data Stage : Type 0 where
   Before : Stage
   Holding : (held : Word) → Stage
   Over : (found : Word) (reply : Reply) → Stage
   Overrun : Stage
 
--- This is the stage of an offer of w after one step, which finds the word x.
+-- This is the stage of an offer of w after one step that finds the word x.
 abbrev pub offer_step : (w : Word) → Stage → (x : Word) → Stage
 offer_step w Before x = if is_below w x then Holding x else Over x Kept
 offer_step w (Holding h) x = if is_same x h then Over x (reply_to x w) else if is_below w x then Holding x else Over x Kept

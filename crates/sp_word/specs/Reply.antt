@@ -4,8 +4,8 @@ use Rattle.sp_word.specs.Word.{Word, Unreached, Pair}
 use Rattle.sp_word.specs.declared.reply.Reply.{Reply}
 use Rattle.sp_word.specs.declared.reply.Reply.TheVariants.{Shorter, SmallerPred, Kept}
 
--- The reply to an offer is Shorter where the distance becomes smaller, also from unreached; SmallerPred where the
--- distances are equal and the predecessor becomes smaller; and Kept where the word found stays.
+-- The reply to an offer is Shorter if the distance becomes smaller, also from unreached; SmallerPred if the distances
+-- are equal and the predecessor becomes smaller; and Kept if the word found stays.
 abbrev pub reply_to : (found offered : Word) → Reply
 reply_to found Unreached = Kept
 reply_to Unreached (Pair d p) = Shorter

@@ -1,15 +1,15 @@
-//! Who works on a run: the calling thread alone, or several threads that may wait for one another.
+//! The runtime handle for the threads of a run: the calling thread alone, or several threads that may wait for one another.
 use std::marker::Sync;
 use std::sync::Wait;
 use std::sync::atomic::AtomicU64;
 use std::thread::Threads;
 use std::time::Duration;
 
-/// A runtime for whoever works on a run. Waiting for another thread is this one call, so a function over a crew returns unless this
-/// call waits: with [`Alone`], whose type has no `Wait`, it returns.
+/// The runtime handle for the threads of a run. Only this call waits for another thread, so a function that is generic over a
+/// crew returns unless this call waits. With [`Alone`], whose type has no `Wait`, it returns.
 pub trait Crew: Threads + Sync {
-    /// Sleeps while the low 32 bits of the bell are those that were seen and nobody wakes those who sleep there, and for so many
-    /// microseconds at most. Whoever works alone goes on at once.
+    /// Parks the thread while the low 32 bits of the bell are `seen` and nobody wakes the threads parked there, for at most
+    /// `micros` microseconds. With [`Alone`] it returns at once.
     fn sleep(&self, bell: &AtomicU64, seen: u32, micros: u64);
 }
 
@@ -19,12 +19,12 @@ impl<R: Threads + Wait + Sync> Crew for R {
     }
 }
 
-/// A runtime for whoever works alone, and waits for nobody.
+/// The runtime handle of a thread that works alone and never waits for another one.
 #[derive(Clone, Copy)]
 pub struct Alone<R>(R);
 
 impl<R: Threads> Alone<R> {
-    /// Makes it of a runtime, or of a reference to one.
+    /// Wraps a runtime, or a reference to one.
     pub fn new(rt: R) -> Alone<R> {
         Alone(rt)
     }

@@ -5,7 +5,7 @@ ghost use Rattle.sp_word.specs.Word.{is_layout};
 use crate::word::Word;
 use std::marker::Model;
 
-/// The width of a bucket, from 1 to the greatest distance of a word with `P` bits of predecessor.
+/// The width of a bucket, from 1 to the greatest distance of a word with `P` predecessor bits.
 ///
 /// In contracts a `Delta` is its number.
 #[derive(Clone, Copy, Debug, PartialEq, Eq)]

@@ -1,8 +1,8 @@
-//! The packed word of a vertex; the reply of a table of least offers to an offer; the width of a bucket and the number
-//! of workers, each with its range; who works, alone or together; and a meter of the work that a run has done.
+//! The packed word of a vertex; the reply of a table of least offers to an offer; the width of a bucket and the number of
+//! workers, each with its range; the runtime handle for the threads of a run; and a meter of a run's work.
 //!
-//! A word is unreached, or a pair of a distance and a predecessor. Contracts see it like this; the code keeps 64 bits,
-//! with the distance above `P` bits of predecessor, so that the order of words is the order of their bits as numbers.
+//! A word is unreached, or a pair of a distance and a predecessor. This is what contracts see. The code stores 64 bits, the
+//! distance above `P` predecessor bits, so that words are in the order of their bits read as numbers.
 #![tactic(auto)]
 
 mod crew;

@@ -1,7 +1,7 @@
-//! A meter of the work that a run has done.
+//! A meter of a run's work.
 use std::sync::atomic::{AtomicU64, Ordering};
 
-/// Counts the vertices that the workers of a run have relaxed. Workers report to it from time to time.
+/// Counts the vertices that the workers of a run have relaxed. The workers report their counts from time to time.
 ///
 /// The count is only for display: a vertex that is relaxed again counts again, and no result depends on it.
 #[derive(Drop)]

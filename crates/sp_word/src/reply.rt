@@ -6,14 +6,14 @@ ghost use Rattle.sp_word.specs.Reply.{reply_to};
 
 use crate::word::Word;
 
-/// Says what an offer did to the word of its vertex.
+/// What an offer did to the word of its vertex.
 #[derive(Clone, Copy, Debug, PartialEq, Eq)]
 pub enum Reply {
     /// The distance became smaller, possibly from unreached.
     Shorter,
     /// The distance stayed, and the predecessor became smaller.
     SmallerPred,
-    /// The word found was no larger than the offer, and stayed.
+    /// The word found was no greater than the offer, and stayed.
     Kept,
 }
 

@@ -5,8 +5,8 @@ ghost use Rattle.sp_word.specs.Word.{Unreached, Pair, Fits, IsBelow, is_below, i
 
 use std::marker::Model;
 
-/// A word: unreached, or a distance above a predecessor of `P` bits. `P` is 20, 24, 28 or 32; a program that makes a
-/// word of another layout is refused when it is checked.
+/// A word: unreached, or a distance above a predecessor of `P` bits. `P` is 20, 24, 28 or 32; the prover rejects a program that
+/// makes a word with another layout.
 ///
 /// Words are ordered by distance, then by predecessor, with unreached last.
 #[derive(Clone, Copy, Debug, PartialEq, Eq, PartialOrd, Ord)]
@@ -36,7 +36,7 @@ impl<const P: u32> Word<P> {
         (1 << (64 - P)) - 2
     }
 
-    /// Returns the greatest predecessor, which is also the greatest vertex.
+    /// Returns the greatest predecessor, which is also the greatest vertex number.
     pub fn max_pred() -> u32
         requires { is_layout P ≡ true }
         ensures { result ≡ max_pred P }
@@ -86,7 +86,7 @@ impl<const P: u32> Word<P> {
         }
     }
 
-    /// Returns the word with these bits, which must be those of a word. `of_bits` tests that.
+    /// Returns the word with these bits. Some word must have them; `of_bits` tests this.
     pub fn from_bits(bits: u64) -> Word<P>
         requires layout { is_layout P ≡ true }
         requires word { is_word P bits ≡ true }

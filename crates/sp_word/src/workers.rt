@@ -8,7 +8,7 @@ pub const MOST_WORKERS: u32 = 64;
 
 /// A number of workers, from 1 to `MOST_WORKERS`.
 ///
-/// In contracts it is that number.
+/// In contracts it is this number.
 #[derive(Clone, Copy, Debug, PartialEq, Eq)]
 pub struct Workers {
     number: u32,
@@ -56,7 +56,7 @@ impl Workers {
         self.number
     }
 
-    /// Limits the number of workers to the work: at most `most`, and at least one.
+    /// Returns this number of workers, reduced to `most` if it is greater, but at least one.
     pub fn at_most(self, most: usize) -> Workers
         ensures number { result ≡ max 1 (min self most) }
         ensures fewer { result ≤ self }

@@ -1,4 +1,4 @@
-//! The program `spt`: its commands, over the files and the streams of the system.
+//! The program `spt`: its commands, with the files and the streams of the system.
 #![tactic(auto)]
 
 ghost use Rattle.std.specs.Prelude.{◌≡◌, ◌≤◌, ℕ, List, IfOk};
@@ -22,11 +22,11 @@ use std::sync::Wait;
 use std::thread::{Threads, join_mut};
 use std::{env, io};
 
-// More of the main thread's stack than any command takes, in bytes.
+// More of the main thread's stack than any command uses, in bytes.
 const STACK: usize = 500_000;
 
-/// Takes the main thread's stack, and answers whether two places are one. Where memory is short, a stack that grows later
-/// finds no room, and the system ends the program by a signal in the middle of its work.
+/// Takes the main thread's stack, and returns whether two places are the same one. If memory is short, a stack that
+/// grows later finds no room, and the system ends the program by a signal in the middle of its work.
 #[inline(never)]
 fn take_stack(one: usize, other: usize) -> bool {
     let mut room = [0u8; STACK];
@@ -34,7 +34,7 @@ fn take_stack(one: usize, other: usize) -> bool {
     room[other % STACK] == 1
 }
 
-// Does some work while another thread tells how far it is.
+// Does some work while another thread shows its progress.
 fn do_watched<R, G: FnMut() -> u8>(rt: &R, screen: &Screen<'_, R>, work: &mut G) -> u8
 where
     R: Clock + Eprint + Files + Threads + Wait + Sync,
@@ -45,8 +45,8 @@ where
     join_mut(rt, &mut watch, work).1
 }
 
-/// Runs the command that the words order, and answers the exit status. Where they ask for it, another thread tells meanwhile how
-/// far the run is.
+/// Runs the command that the words order, and returns the exit status. If the words ask for progress, another thread
+/// shows it during the run.
 fn run_words<'a, C, T, R, W: Write, E: Write>(
     disk: &mut Disk<'_, R>,
     words: &'a [&'a str],
@@ -89,11 +89,11 @@ where
         screen.end_watch();
         status
     };
-    // Where no thread can be had, the watch comes last and is over.
+    // If no thread can be started, the watch comes last, and ends at once.
     do_watched(rt, &screen, &mut command)
 }
 
-/// Runs the command that the program's arguments order, and answers the exit status.
+/// Runs the command that the program's arguments order, and returns the exit status.
 fn run<R, W: Write, E: Write>(disk: &mut Disk<'_, R>, out: &mut W, err: &mut E) -> io::Result<u8>
 where
     R: AllocGlobal + Clock + Env + Eprint + Files + RandomSource + Threads + Wait + Sync,

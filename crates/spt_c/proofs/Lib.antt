@@ -2,3 +2,4 @@ mod SlotValue
 mod Same
 mod OneSource
 pub mod Pairs
+mod Alone

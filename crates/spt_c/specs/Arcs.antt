@@ -4,6 +4,7 @@ use Rattle.sp_paths.specs.declared.arc.Arc.{Arc}
 use Rattle.sp_paths.specs.Paths.{Graph}
 use Rattle.spt_c.specs.declared.arcs.SptArc.{SptArc}
 
+-- An arc of C in the engine's form.
 abbrev pub arc_of : SptArc → Arc
 arc_of a = record { tail = a.tail; head = a.head; len = a.len }
 

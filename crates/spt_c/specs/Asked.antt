@@ -14,6 +14,7 @@ pub record Asked : Type 0 where
   pub sources : List ℕ
   pub delta : ℕ
 
+-- The question with these parts.
 abbrev pub asked : List SptArc → (n : ℕ) → (sources : List ℕ) → (delta : ℕ) → Asked
 asked arcs n sources delta = record { arcs = arcs; n = n; sources = sources; delta = delta }
 
@@ -36,9 +37,11 @@ pub record IsGood (q : Asked) (places : ℕ) : Type 0 where
 
 -- ## What is wrong
 
+-- The number of vertices or of places is wrong.
 abbrev pub IsBadSize : Asked → (places : ℕ) → Type 0
 IsBadSize q places = HasRoom q.n (length q.sources) places → ⊥
 
+-- Delta is greater than the greatest distance.
 abbrev pub IsBadDelta : Asked → Type 0
 IsBadDelta q = reach q.n < q.delta
 

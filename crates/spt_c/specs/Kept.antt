@@ -12,10 +12,11 @@ use Rattle.spt_c.specs.declared.arcs.SptArc.{SptArc}
 use Rattle.spt_c.specs.declared.answers.SptAnswer.{SptAnswer}
 use Rattle.spt_c.specs.declared.counts.SptCounts.{SptCounts}
 use Rattle.spt_c.specs.declared.making.Made.{Made}
-use Rattle.spt_c.specs.declared.making.Made.TheVariants.{Kept, BadSize, BadArc, Memory, NoGraph as NoGraphMade}
+use Rattle.spt_c.specs.declared.making.Made.TheVariants.{Kept, BadSize, BadArc, Memory, NoGraph as NoGraphMade, InUse}
 use Rattle.spt_c.specs.Arcs.{graph_of}
 use Rattle.spt_c.specs.Asked.{Asked, asked, IsArcOf, IsGood}
 use Rattle.spt_c.specs.Told.{IsRefusal}
+use Rattle.spt_c.specs.InUse.{answer_in_use}
 
 -- ## A graph is made
 
@@ -26,6 +27,7 @@ made_of BadSize = record { status = 1; vertex = 0; index = 0 }
 made_of (BadArc place) = record { status = 3; vertex = 0; index = place }
 made_of Memory = record { status = 6; vertex = 0; index = 0 }
 made_of NoGraphMade = record { status = 10; vertex = 0; index = 0 }
+made_of InUse = answer_in_use
 
 -- The graph of n vertices with exactly these arcs is kept.
 abbrev pub Keeps : (n : ℕ) → List SptArc → Option Graph → Type 0
@@ -66,6 +68,7 @@ pub record IsAnswerOf (g : Graph) (sources : List ℕ) (delta : ℕ) (old new : 
   pub good : IsGood (asked_of g sources delta) (places old)
   pub solved : AreSolved (reach g.n) g sources old new b
 
+-- The result of a call for the trees of sources in a graph: a refusal, or the answer.
 abbrev pub IsToldOf : Graph → (sources : List ℕ) → (delta : ℕ) → (old new : Slices) → Batch → Type 0
 IsToldOf g sources delta old new b = IsRefusal (asked_of g sources delta) old new b ⊎ IsAnswerOf g sources delta old new b
 
@@ -75,6 +78,7 @@ pub record IsWithoutGraph (old new : Slices) (b : Batch) : Type 0 where
   pub none : b.done ≡ 0
   pub same : new ≡ old
 
+-- The result of a call for trees in the graph that a place keeps, if it keeps one.
 abbrev pub IsToldOfKept : Option Graph → (sources : List ℕ) → (delta : ℕ) → (old new : Slices) → Batch → Type 0
 IsToldOfKept None sources delta old new b = IsWithoutGraph old new b
 IsToldOfKept (Some g) sources delta old new b = IsToldOf g sources delta old new b

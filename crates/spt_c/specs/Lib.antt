@@ -8,6 +8,7 @@ pub mod Texts
 pub mod Owned
 pub mod Owners
 pub mod Place
+pub mod InUse
 pub mod Kept
 pub mod KeptLists
 pub mod Packing

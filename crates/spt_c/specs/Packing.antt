@@ -13,6 +13,7 @@ use Rattle.sp_packed.specs.Packed.{packed_text, IsPackable, IsWithin}
 use Rattle.sp_packed.specs.Faults.{PackedRead}
 use Rattle.spt_c.specs.declared.packing.SptPacked.{SptPacked}
 use Rattle.spt_c.specs.declared.packing.SptSaved.{SptSaved}
+use Rattle.spt_c.specs.InUse.{packed_in_use, saved_in_use}
 use Rattle.spt_c.specs.declared.packing.LoadAnswer.{LoadAnswer}
 use Rattle.spt_c.specs.declared.packing.LoadAnswer.TheVariants as load
 use Rattle.spt_c.specs.declared.packing.SaveAnswer.{SaveAnswer}
@@ -50,13 +51,16 @@ packed_of (load.Loaded n m) = record { status = 0; n = n; m = m; kind = 0; lette
 packed_of (load.Fault e) = record { status = 7; n = 0; m = 0; kind = kind_of e.kind; letter = letter_of e.kind; byte = e.at }
 packed_of load.Long = record { status = 8; n = 0; m = 0; kind = 0; letter = 0; byte = 0 }
 packed_of load.Memory = record { status = 6; n = 0; m = 0; kind = 0; letter = 0; byte = 0 }
+packed_of load.InUse = packed_in_use
 
+-- The result of packing in the form for C.
 abbrev pub saved_of : SaveAnswer → SptSaved
 saved_of (save.Saved count) = record { status = 0; count = count }
 saved_of (save.FewPlaces count) = record { status = 1; count = count }
 saved_of save.TooLarge = record { status = 1; count = 0 }
 saved_of save.Memory = record { status = 6; count = 0 }
 saved_of save.NoGraph = record { status = 10; count = 0 }
+saved_of save.InUse = saved_in_use
 
 -- ## A graph is loaded
 
@@ -73,6 +77,7 @@ pub record HasFault (bytes : List ℕ) (e : PackedFault) : Type 0 where
   pub told : PackedRead (max_pred 32) MOST_ARCS bytes left has_failed (Err e)
   pub of_bytes : e.kind ≡ kind.Read → ⊥
 
+-- The result of reading packed bytes: their graph, or their first error.
 abbrev pub IsUnpacked : (bytes : List ℕ) → Result Graph PackedFault → Type 0
 IsUnpacked bytes (Ok g) = IsPackedOf g bytes
 IsUnpacked bytes (Err e) = HasFault bytes e
@@ -89,6 +94,7 @@ IsLoaded bytes old new (load.Loaded n m) = (g : Graph) × IsPackedOf g bytes × 
 IsLoaded bytes old new (load.Fault e) = HasFault bytes e × (e.kind ≡ kind.Memory → ⊥) × (new ≡ old)
 IsLoaded bytes old new load.Long = (2 ^ 62 < length bytes) × (new ≡ old)
 IsLoaded bytes old new load.Memory = new ≡ old
+IsLoaded bytes old new load.InUse = ⊥
 
 -- ## A graph is saved
 

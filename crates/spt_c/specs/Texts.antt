@@ -54,6 +54,7 @@ text_of Long = record { status = 8; n = 0; m = 0; kind = 0; letter = 0; line = 0
 abbrev pub IsFaultOf : (text : List ℕ) → DimacsError → Type 0
 IsFaultOf text e = Refused (judge gr (ranges_of 32)) [] text e ⊎ IsToldOf (judge gr (ranges_of 32)) text e
 
+-- The result of reading a text: its graph, or its first error.
 abbrev pub GraphTold : (text : List ℕ) → Result GrFile DimacsError → Type 0
 GraphTold text (Ok file) = SpellsGraph 32 text file
 GraphTold text (Err e) = IsFaultOf text e

@@ -23,6 +23,7 @@ answer_of (Wrong v) = record { status = 9; vertex = v; index = 0 }
 answer_of NoGraph = record { status = 10; vertex = 0; index = 0 }
 answer_of BadLimit = record { status = 11; vertex = 0; index = 0 }
 
+-- The result for several sources in the form for C.
 abbrev pub batch_of : Batch → SptBatch
 batch_of b = record { status = (answer_of b.told).status; vertex = (answer_of b.told).vertex; index = (answer_of b.told).index; done = b.done }
 
@@ -37,5 +38,6 @@ pub record IsAnswer (q : Asked) (old new : Slices) (b : Batch) : Type 0 where
   pub good : IsGood q (places old)
   pub solved : AreSolved (reach q.n) (graph_of q.n q.arcs) q.sources old new b
 
+-- The result of a call for trees: a refusal, or the answer.
 abbrev pub IsTold : Asked → (old new : Slices) → Batch → Type 0
 IsTold q old new b = IsRefusal q old new b ⊎ IsAnswer q old new b

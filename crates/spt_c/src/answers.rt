@@ -1,12 +1,13 @@
-//! The answers of calls.
+//! The results of calls.
 ghost use Rattle.std.specs.Prelude.{◌≡◌};
 ghost use Rattle.spt_c.specs.Told.{answer_of, batch_of};
+ghost use Rattle.spt_c.specs.InUse.{answer_in_use, batch_in_use, part_in_use};
 ghost use Rattle.spt_c.specs.KeptLists.{part_of};
 
 use sp_lists::{Batch, Listed, Told};
 
-/// The answer of a call for one source: a status, the vertex that is too far, and the index of the arc or of the source
-/// that is invalid. A field that the status doesn't use is 0.
+/// The result of a call for one source: a status, the vertex that is too far, and the index of the invalid arc or
+/// source. A field that the status doesn't use is 0.
 #[repr(C)]
 #[derive(Clone, Copy, Debug, PartialEq, Eq)]
 pub struct SptAnswer {
@@ -15,8 +16,8 @@ pub struct SptAnswer {
     pub index: u64,
 }
 
-/// The answer of a call for several sources: how many of them, from the first on, have their trees; and, if that isn't
-/// all of them, the answer for the next one, or for the call.
+/// The result of a call for several sources. `done` is the number of sources, from the first on, that have their trees.
+/// If this isn't all of them, the other fields are the result for the next source, or for the call.
 #[repr(C)]
 #[derive(Clone, Copy, Debug, PartialEq, Eq)]
 pub struct SptBatch {
@@ -26,7 +27,7 @@ pub struct SptBatch {
     pub done: u64,
 }
 
-/// The answer of a call for the list of a part: a status, and how many vertices the part has.
+/// The result of a call that lists a part: a status, and the number of vertices in the part.
 #[repr(C)]
 #[derive(Clone, Copy, Debug, PartialEq, Eq)]
 pub struct SptPart {
@@ -45,7 +46,7 @@ fn reply(status: u32, vertex: u32, place: usize) -> SptAnswer
 }
 
 impl SptAnswer {
-    /// Returns what is told in the form for C.
+    /// Returns the result in the form for C.
     pub(crate) fn of(told: Told) -> SptAnswer
         ensures { result ≡ answer_of told }
     {
@@ -62,10 +63,17 @@ impl SptAnswer {
             Told::BadLimit => reply(11, 0, 0),
         }
     }
+
+    /// Returns the result of a call for a place in use.
+    pub(crate) fn in_use() -> SptAnswer
+        ensures { result ≡ answer_in_use }
+    {
+        reply(12, 0, 0)
+    }
 }
 
 impl SptBatch {
-    /// Returns what is told of several sources in the form for C.
+    /// Returns the result for several sources in the form for C.
     pub(crate) fn of(batch: Batch) -> SptBatch
         ensures { result ≡ batch_of batch }
     {
@@ -77,16 +85,38 @@ impl SptBatch {
             done: batch.done as u64,
         }
     }
+
+    /// Returns the result of a call for a place in use.
+    pub(crate) fn in_use() -> SptBatch
+        ensures { result ≡ batch_in_use }
+    {
+        SptBatch {
+            status: 12,
+            vertex: 0,
+            index: 0,
+            done: 0,
+        }
+    }
 }
 
 impl SptPart {
-    /// Returns what is told of a part in the form for C.
+    /// Returns the result for a part in the form for C.
     pub(crate) fn of(listed: Listed) -> SptPart
         ensures { result ≡ part_of listed }
     {
         SptPart {
             status: SptAnswer::of(listed.told).status,
             count: listed.count as u64,
+        }
+    }
+
+    /// Returns the result of a call for a place in use.
+    pub(crate) fn in_use() -> SptPart
+        ensures { result ≡ part_in_use }
+    {
+        SptPart {
+            status: 12,
+            count: 0,
         }
     }
 }

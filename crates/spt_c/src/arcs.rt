@@ -10,7 +10,7 @@ use sp_lists::is_vertex;
 use sp_paths::Arc;
 use std::alloc::{AllocError, Global};
 
-/// An arc that C passes. Calls test that it leads from a vertex to a vertex and has a positive length.
+/// An arc passed by C. Calls test that it leads from a vertex to a vertex and has a positive length.
 #[repr(C)]
 #[derive(Clone, Copy, Debug, PartialEq, Eq)]
 pub struct SptArc {
@@ -19,7 +19,7 @@ pub struct SptArc {
     pub len: u32,
 }
 
-// Returns whether it is an arc of a graph of n vertices.
+// Returns whether this is an arc of a graph of n vertices.
 fn is_arc(n: u32, arc: SptArc) -> bool
     ensures { IsTrue result ↔ IsArcOf n arc }
 {

@@ -5,7 +5,7 @@ ghost use Rattle.std.specs.Box.Ownership.{box_owns};
 use std::alloc::Allocator;
 use std::marker::Model;
 
-/// A box, as its pointer and its allocator. It owns what the box owned.
+/// A box as its pointer and its allocator. It owns what the box owned.
 pub struct BoxParts<T, A: Allocator> {
     pub(crate) ptr: *mut T,
     pub(crate) alloc: A,
@@ -27,7 +27,7 @@ impl<T, A: Allocator> BoxParts<T, A> {
         BoxParts { ptr, alloc }
     }
 
-    /// Puts the box together again.
+    /// Puts the box back together.
     pub fn into_box(self) -> Box<T, A>
         ensures { result.value ≡ self.value }
     {

@@ -1,4 +1,4 @@
-//! A whole call for trees, from what C passes to its answer; a limit that C passes.
+//! A whole call for trees, from the arguments of C to the result; and limits passed by C.
 ghost use Rattle.std.specs.Prelude.{◌≡◌};
 ghost use Rattle.sp_lists.specs.Blocks.{slices};
 ghost use Rattle.spt_c.specs.Kept.{IsToldOf};
@@ -12,7 +12,7 @@ use sp_lists::{AnyRoom, Batch, Prepared, Told, write_trees};
 use std::alloc::Global;
 
 /// What a call asks for: the trees from these sources in the graph of n vertices with these arcs. Delta is tested, and
-/// has no other bearing.
+/// has no other effect.
 #[derive(Clone, Copy)]
 pub(crate) struct Question<'a> {
     pub arcs: &'a [SptArc],
@@ -48,7 +48,7 @@ pub(crate) fn solve(alloc: Global, question: &Question, dist: &mut [u64], pred: 
     }
 }
 
-/// Tests all arguments that come with a graph, and writes the trees of the sources.
+/// Tests all arguments that come with a kept graph, and writes the trees of the sources.
 pub(crate) fn solve_known(
     alloc: Global,
     prepared: Prepared,
@@ -67,7 +67,7 @@ pub(crate) fn solve_known(
     write_trees(alloc, prepared, sources, dist, pred)
 }
 
-/// Returns the limit that C passes; the greatest number stands for none.
+/// Returns the limit passed by C. The greatest number stands for no limit.
 pub(crate) fn limit_of(limit: u64) -> Option<u64>
     ensures { result ≡ limit_of limit }
 {

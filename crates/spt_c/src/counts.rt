@@ -1,14 +1,15 @@
-//! The size of a graph that is kept.
+//! The size of a kept graph.
 ghost use Rattle.std.specs.Prelude.{◌≡◌, Some};
-ghost use Rattle.spt_c.specs.Place.{kept};
+ghost use Rattle.spt_c.specs.Place.{kept, IsInUse, IsFree, IsSame};
+ghost use Rattle.spt_c.specs.InUse.{counts_in_use};
 ghost use Rattle.spt_c.specs.Kept.{counts_of};
 
 use crate::kept::of_kept;
-use crate::place::KeptGraph;
+use crate::place::{KeptGraph, Taken};
 use sp_graph::Graph;
 use std::alloc::Global;
 
-/// The numbers of vertices and arcs of a graph, or the status that there is none.
+/// The numbers of vertices and arcs of a graph, or the status for no graph.
 #[repr(C)]
 #[derive(Clone, Copy, Debug, PartialEq, Eq)]
 pub struct SptCounts {
@@ -28,15 +29,18 @@ fn counts_of(graph: &Graph) -> SptCounts
     }
 }
 
-/// Returns the size of the graph that a place keeps. The place still keeps it.
-pub(crate) fn counts(alloc: Global, graph: &mut KeptGraph) -> SptCounts
-    ensures counts { result ≡ counts_of (kept graph.old) }
-    ensures same { kept graph.new ≡ kept graph.old }
+// Returns the result of a call that finds no graph, by its status.
+fn empty(status: u32) -> SptCounts
+    ensures { result ≡ record { status = status; n = 0; m = 0 } }
 {
-    let none = SptCounts {
-        status: 10,
-        n: 0,
-        m: 0,
-    };
-    of_kept!(alloc, graph, held => counts_of(held.graph()), none)
+    SptCounts { status, n: 0, m: 0 }
+}
+
+/// Returns the size of the graph in a place. The place still keeps the graph.
+pub(crate) fn counts(alloc: Global, graph: &mut KeptGraph) -> SptCounts
+    ensures counts { IsFree graph.old → result ≡ counts_of (kept graph.old) }
+    ensures in_use { IsInUse graph.old → result ≡ counts_in_use }
+    ensures same { IsSame graph.old graph.new }
+{
+    of_kept!(alloc, graph, held => counts_of(held.graph()), empty(10), empty(12))
 }

@@ -1,7 +1,8 @@
 //! The functions that C calls.
 ghost use Rattle.std.specs.Prelude.{◌≡◌, ◌≢◌, ◌∷◌, [], Result};
 ghost use Rattle.std.specs.declared.option.Option.TheVariants.{None};
-ghost use Rattle.spt_c.specs.Place.{kept};
+ghost use Rattle.spt_c.specs.Place.{kept, IsInUse, IsFree, IsSame};
+ghost use Rattle.spt_c.specs.InUse.{answer_in_use, batch_in_use, part_in_use, found_in_use, counts_in_use, packed_in_use, saved_in_use};
 ghost use Rattle.sp_lists.specs.Limits.{IsCount, reach};
 ghost use Rattle.sp_lists.specs.Blocks.{slices, KeepsFrom};
 ghost use Rattle.sp_lists.specs.Near.{lists};
@@ -32,9 +33,9 @@ use crate::checking::check;
 use crate::counts::{SptCounts, counts};
 use crate::found::{SptFound, find, find_known};
 use crate::kept::of_kept;
-use crate::making::{Made, make, share};
+use crate::making::{clear, make, share};
 use crate::packing::{SaveAnswer, SptPacked, SptSaved, load, save};
-use crate::place::KeptGraph;
+use crate::place::{KeptGraph, Taken};
 use crate::texts::{SptText, read_graph};
 use crate::turning::{keep_both_ways, keep_turned};
 use sp_lists::{
@@ -43,12 +44,12 @@ use sp_lists::{
 };
 use std::alloc::Global;
 
-/// Returns the library's version: ten thousand for each unit of the first part, and a hundred for each of the second.
+/// Returns the library's version as a number: 10,000 times its first part plus 100 times its second part.
 #[unsafe(no_mangle)]
 pub extern "C" fn spt_version() -> u32
-    ensures { result ≡ 10400 }
+    ensures { result ≡ 10500 }
 {
-    10_400
+    10_500
 }
 
 /// Returns the greatest distance in a graph of n vertices, or 0 if no graph can have n vertices.
@@ -60,8 +61,8 @@ pub extern "C" fn spt_reach(n: u32) -> u64
     if is_count(n) { reach(n) } else { 0 }
 }
 
-/// Writes the shortest-path tree from a source, or tells why there is none, and then writes nothing. Each slice needs a
-/// place for each vertex. Delta is tested, and has no other bearing.
+/// Writes the shortest-path tree from a source. If there is none, returns why, and writes nothing. Each slice needs a
+/// place for each vertex. Delta is tested, and has no other effect.
 #[unsafe(no_mangle)]
 pub extern "C" fn spt_tree(
     alloc: Global,
@@ -89,8 +90,8 @@ pub extern "C" fn spt_tree(
     SptAnswer::of(batch.told)
 }
 
-/// Writes the shortest-path trees from several sources, up to the first that has none. Each slice needs for each source
-/// a block of as many places as there are vertices.
+/// Writes the shortest-path trees from several sources, up to the first source that has none. For each source, each
+/// slice needs a block with a place for each vertex.
 #[unsafe(no_mangle)]
 pub extern "C" fn spt_trees(
     alloc: Global,
@@ -115,8 +116,8 @@ pub extern "C" fn spt_trees(
     SptBatch::of(batch)
 }
 
-/// Reads the graph that the text of a `.gr` file spells, with its arcs written to the slice, or tells the text's first
-/// fault.
+/// Reads the graph in the text of a `.gr` file, and writes its arcs to the slice; or reports the first error in the
+/// text.
 #[unsafe(no_mangle)]
 pub extern "C" fn spt_gr(alloc: Global, text: &[u8], arcs: &mut [SptArc]) -> SptText
     ensures { (read : TextAnswer) × (result ≡ text_of read)
@@ -127,7 +128,7 @@ pub extern "C" fn spt_gr(alloc: Global, text: &[u8], arcs: &mut [SptArc]) -> Spt
 }
 
 /// Returns the distance and the predecessor of a target in the shortest-path tree from a source, or why there are none.
-/// The run ends as soon as they are known. Delta is tested, and has no other bearing.
+/// The run ends as soon as they are known. Delta is tested, and has no other effect.
 #[unsafe(no_mangle)]
 pub extern "C" fn spt_pair(
     alloc: Global,
@@ -144,8 +145,8 @@ pub extern "C" fn spt_pair(
     SptFound::of(found)
 }
 
-/// Checks whether the slices hold the shortest-path tree from a source, and if not, returns the first vertex at which
-/// they don't.
+/// Checks whether the slices hold the shortest-path tree from a source. If they don't, returns the first vertex where
+/// they differ from it.
 #[unsafe(no_mangle)]
 pub extern "C" fn spt_check(
     alloc: Global,
@@ -162,8 +163,8 @@ pub extern "C" fn spt_check(
     SptAnswer::of(told)
 }
 
-/// Keeps the graph of n vertices with these arcs, in place of what was kept; or tells why it can't, and then the place
-/// keeps what it kept.
+/// Keeps the graph of n vertices with these arcs, in place of what was kept. If that fails, the status says why, and
+/// the place keeps what it kept.
 #[unsafe(no_mangle)]
 pub extern "C" fn spt_graph_new(
     alloc: Global,
@@ -171,40 +172,47 @@ pub extern "C" fn spt_graph_new(
     n: u32,
     graph: &mut KeptGraph,
 ) -> SptAnswer
-    ensures { (made : Made) × (result ≡ made_of made)
+    ensures in_use { IsInUse graph.old → (result ≡ answer_in_use) × (graph.new ≡ graph.old) }
+    ensures made { IsFree graph.old → (made : Made) × (result ≡ made_of made)
         × IsMade n arcs.now (kept graph.old) (kept graph.new) made }
+    ensures free { IsFree graph.old → IsFree graph.new }
 {
     let made = make(alloc, arcs, n, graph);
     made.answer()
 }
 
-/// Keeps the same graph in a second place as well, in place of what that kept. Each place may be used by a thread of
-/// its own. If there is no memory, both keep what they kept.
+/// Keeps the same graph in a second place as well, in place of what that place kept. Each place may be used by a thread
+/// of its own. If there is no memory, both places keep what they kept.
 #[unsafe(no_mangle)]
 pub extern "C" fn spt_graph_share(
     alloc: Global,
     from: &mut KeptGraph,
     to: &mut KeptGraph,
 ) -> SptAnswer
-    ensures same { kept from.new ≡ kept from.old }
-    ensures to { (made : Made) × (result ≡ made_of made)
+    ensures in_use_from { IsInUse from.old → (result ≡ answer_in_use) × IsSame to.old to.new }
+    ensures in_use_to { IsInUse to.old → (result ≡ answer_in_use) × IsSame to.old to.new }
+    ensures to { IsFree from.old → IsFree to.old → (made : Made) × (result ≡ made_of made)
         × IsShared (kept from.old) (kept to.old) (kept to.new) made }
+    ensures free { IsFree to.old → IsFree to.new }
+    ensures same { IsSame from.old from.new }
 {
     let made = share(alloc, from, to);
     made.answer()
 }
 
-/// Keeps nothing any more. The memory is freed with the last place that keeps the graph.
+/// Keeps no graph any more. The memory is freed with the last place that keeps the graph. Returns the status. The contract
+/// says only what the place then keeps. No clause can state that memory is freed, so a body that forgot the pointer would
+/// meet it too.
 #[unsafe(no_mangle)]
-pub extern "C" fn spt_graph_free(alloc: Global, graph: &mut KeptGraph)
-    ensures { kept graph.new ≡ None }
+pub extern "C" fn spt_graph_free(alloc: Global, graph: &mut KeptGraph) -> u32
+    ensures in_use { IsInUse graph.old → (result ≡ 12) × (graph.new ≡ graph.old) }
+    ensures free { IsFree graph.old → (result ≡ 0) × (kept graph.new ≡ None) × IsFree graph.new }
 {
-    graph.clear(alloc);
+    clear(alloc, graph)
 }
 
-/// Writes the shortest-path trees from several sources in the graph that is kept, up to the first source that has none.
-/// Each slice needs for each source a block of as many places as there are vertices. Delta is tested, and has no other
-/// bearing.
+/// Writes the shortest-path trees from several sources in the kept graph, up to the first source that has none. For
+/// each source, each slice needs a block with a place for each vertex. Delta is tested, and has no other effect.
 #[unsafe(no_mangle)]
 pub extern "C" fn spt_graph_trees(
     alloc: Global,
@@ -214,16 +222,18 @@ pub extern "C" fn spt_graph_trees(
     dist: &mut [u64],
     pred: &mut [u32],
 ) -> SptBatch
-    ensures told { (batch : Batch) × (result ≡ batch_of batch)
+    ensures told { IsFree graph.old → (batch : Batch) × (result ≡ batch_of batch)
         × IsToldOfKept (kept graph.old) sources.now delta
         (slices dist.old pred.old) (slices dist.new pred.new) batch }
-    ensures same { kept graph.new ≡ kept graph.old }
+    ensures in_use { IsInUse graph.old
+        → (result ≡ batch_in_use) × (dist.new ≡ dist.old) × (pred.new ≡ pred.old) }
+    ensures same { IsSame graph.old graph.new }
 {
-    of_kept!(alloc, graph, held => SptBatch::of(solve_known(alloc, held.prepared(), sources, delta, dist, pred)), SptBatch::of(Batch::none(Told::NoGraph)))
+    of_kept!(alloc, graph, held => SptBatch::of(solve_known(alloc, held.prepared(), sources, delta, dist, pred)), SptBatch::of(Batch::none(Told::NoGraph)), SptBatch::in_use())
 }
 
-/// Returns the distance and the predecessor of a target in the shortest-path tree from a source in the graph that is
-/// kept, or why there are none. The run ends as soon as they are known. Delta is tested, and has no other bearing.
+/// Returns the distance and the predecessor of a target in the shortest-path tree from a source in the kept graph, or
+/// why there are none. The run ends as soon as they are known. Delta is tested, and has no other effect.
 #[unsafe(no_mangle)]
 pub extern "C" fn spt_graph_pair(
     alloc: Global,
@@ -232,25 +242,27 @@ pub extern "C" fn spt_graph_pair(
     target: u32,
     delta: u64,
 ) -> SptFound
-    ensures told { (found : Result Cell Told) × (result ≡ found_of found)
+    ensures told { IsFree graph.old → (found : Result Cell Told) × (result ≡ found_of found)
         × IsFoundOfKept (kept graph.old) source target delta found }
-    ensures same { kept graph.new ≡ kept graph.old }
+    ensures in_use { IsInUse graph.old → result ≡ found_in_use }
+    ensures same { IsSame graph.old graph.new }
 {
-    of_kept!(alloc, graph, held => SptFound::of(find_known(alloc, held.prepared(), source, target, delta)), SptFound::of(Err(Told::NoGraph)))
+    of_kept!(alloc, graph, held => SptFound::of(find_known(alloc, held.prepared(), source, target, delta)), SptFound::of(Err(Told::NoGraph)), SptFound::in_use())
 }
 
-/// Returns the numbers of vertices and arcs of the graph that is kept.
+/// Returns the numbers of vertices and arcs of the kept graph.
 #[unsafe(no_mangle)]
 pub extern "C" fn spt_graph_counts(alloc: Global, graph: &mut KeptGraph) -> SptCounts
-    ensures counts { result ≡ counts_of (kept graph.old) }
-    ensures same { kept graph.new ≡ kept graph.old }
+    ensures counts { IsFree graph.old → result ≡ counts_of (kept graph.old) }
+    ensures in_use { IsInUse graph.old → result ≡ counts_in_use }
+    ensures same { IsSame graph.old graph.new }
 {
     counts(alloc, graph)
 }
 
-/// Writes the part of the shortest-path tree from a source that lies within the limit, in the graph that is kept: each vertex
+/// Writes the part of the shortest-path tree from a source that is within the limit, in the kept graph. Each vertex
 /// whose least length is at most the limit has its distance and its predecessor in the tree, and every other vertex is
-/// unreached. Each slice needs a place for each vertex. Delta is tested, and has no other bearing.
+/// unreached. Each slice needs a place for each vertex. Delta is tested, and has no other effect.
 #[unsafe(no_mangle)]
 pub extern "C" fn spt_graph_within(
     alloc: Global,
@@ -261,22 +273,24 @@ pub extern "C" fn spt_graph_within(
     dist: &mut [u64],
     pred: &mut [u32],
 ) -> SptAnswer
-    ensures told { (told : Told) × (result ≡ answer_of told)
+    ensures told { IsFree graph.old → (told : Told) × (result ≡ answer_of told)
         × IsPartOfKept (kept graph.old) source limit delta
         (slices dist.old pred.old) (slices dist.new pred.new) told }
-    ensures same { kept graph.new ≡ kept graph.old }
+    ensures in_use { IsInUse graph.old
+        → (result ≡ answer_in_use) × (dist.new ≡ dist.old) × (pred.new ≡ pred.old) }
+    ensures same { IsSame graph.old graph.new }
 {
     let part = Part {
         source,
         limit,
         delta,
     };
-    of_kept!(alloc, graph, held => SptAnswer::of(write_part(alloc, held.prepared(), part, dist, pred)), SptAnswer::of(Told::NoGraph))
+    of_kept!(alloc, graph, held => SptAnswer::of(write_part(alloc, held.prepared(), part, dist, pred)), SptAnswer::of(Told::NoGraph), SptAnswer::in_use())
 }
 
-/// Lists the part of the shortest-path tree from a source that lies within the limit, in the graph that is kept: the vertices whose
-/// least length is at most the limit, by rising number, each with its distance and its predecessor in the tree. Where the slices
-/// have too few places it writes nothing, and tells how many vertices there are.
+/// Lists the part of the shortest-path tree from a source that is within the limit, in the kept graph: the vertices
+/// whose least length is at most the limit, in increasing order, each with its distance and its predecessor in the
+/// tree. If the slices have too few places, writes nothing, and returns the number of vertices.
 #[unsafe(no_mangle)]
 pub extern "C" fn spt_graph_part(
     alloc: Global,
@@ -287,23 +301,25 @@ pub extern "C" fn spt_graph_part(
     dist: &mut [u64],
     pred: &mut [u32],
 ) -> SptPart
-    ensures told { (listed : Listed) × (result ≡ part_of listed)
+    ensures told { IsFree graph.old → (listed : Listed) × (result ≡ part_of listed)
         × IsListOfKept (kept graph.old) source limit 0
         (listing vertex.old dist.old pred.old) (listing vertex.new dist.new pred.new) listed }
-    ensures same { kept graph.new ≡ kept graph.old }
+    ensures in_use { IsInUse graph.old → (result ≡ part_in_use)
+        × (vertex.new ≡ vertex.old) × (dist.new ≡ dist.old) × (pred.new ≡ pred.old) }
+    ensures same { IsSame graph.old graph.new }
 {
     let part = Part {
         source,
         limit,
         delta: 0,
     };
-    of_kept!(alloc, graph, held => SptPart::of(list_part(alloc, held.prepared(), part, vertex, dist, pred)), SptPart::of(Listed::none(Told::NoGraph)))
+    of_kept!(alloc, graph, held => SptPart::of(list_part(alloc, held.prepared(), part, vertex, dist, pred)), SptPart::of(Listed::none(Told::NoGraph)), SptPart::in_use())
 }
 
-/// Writes the forest of shortest paths from the sources in the graph that is kept: of each vertex its least distance from any of
-/// them, the smallest vertex before it on such a walk, and its root, the source at which its chain of predecessors begins.
-/// A limit leaves out what is farther; the greatest number is none. Each slice needs a place for each vertex. Delta is tested, and
-/// has no other bearing.
+/// Writes the forest of shortest paths from the sources in the kept graph. Each vertex gets its least distance from any
+/// of the sources, the smallest vertex before it on such a walk, and its root, the source at which its chain of
+/// predecessors begins. A limit leaves out the vertices that are farther; the greatest number stands for no limit. Each
+/// slice needs a place for each vertex. Delta is tested, and has no other effect.
 #[unsafe(no_mangle)]
 pub extern "C" fn spt_graph_nearest(
     alloc: Global,
@@ -315,22 +331,25 @@ pub extern "C" fn spt_graph_nearest(
     pred: &mut [u32],
     root: &mut [u32],
 ) -> SptAnswer
-    ensures told { (told : Told) × (result ≡ answer_of told)
+    ensures told { IsFree graph.old → (told : Told) × (result ≡ answer_of told)
         × IsForestOfKept (kept graph.old) sources.now (limit_of limit) delta
         (lists dist.old pred.old root.old) (lists dist.new pred.new root.new) told }
-    ensures same { kept graph.new ≡ kept graph.old }
+    ensures in_use { IsInUse graph.old → (result ≡ answer_in_use)
+        × (dist.new ≡ dist.old) × (pred.new ≡ pred.old) × (root.new ≡ root.old) }
+    ensures same { IsSame graph.old graph.new }
 {
     let near = Near {
         sources,
         limit: limit_of(limit),
         delta,
     };
-    of_kept!(alloc, graph, held => SptAnswer::of(write_forest(alloc, held.prepared(), near, dist, pred, root)), SptAnswer::of(Told::NoGraph))
+    of_kept!(alloc, graph, held => SptAnswer::of(write_forest(alloc, held.prepared(), near, dist, pred, root)), SptAnswer::of(Told::NoGraph), SptAnswer::in_use())
 }
 
-/// Writes the distances of the targets from each of the sources in the graph that is kept, row after row: the greatest number if
-/// no walk leads to the target, and the one before it if the target has no distance up to the greatest and some vertex is too
-/// far. The slice needs a place for each source and target. Delta is tested, and has no other bearing.
+/// Writes the distances of the targets from each source in the kept graph, row by row. A distance is the greatest
+/// number if no walk leads to the target. It is the number before that if the target has no distance up to the greatest
+/// one and some vertex is too far. The slice needs a place for each source and target. Delta is tested, and has no
+/// other effect.
 #[unsafe(no_mangle)]
 pub extern "C" fn spt_graph_matrix(
     alloc: Global,
@@ -340,62 +359,76 @@ pub extern "C" fn spt_graph_matrix(
     delta: u64,
     dist: &mut [u64],
 ) -> SptBatch
-    ensures told { (batch : Batch) × (result ≡ batch_of batch)
+    ensures told { IsFree graph.old → (batch : Batch) × (result ≡ batch_of batch)
         × IsMatrixOfKept (kept graph.old) sources.now targets.now delta
         dist.old dist.new batch }
-    ensures same { kept graph.new ≡ kept graph.old }
+    ensures in_use { IsInUse graph.old → (result ≡ batch_in_use) × (dist.new ≡ dist.old) }
+    ensures same { IsSame graph.old graph.new }
 {
-    of_kept!(alloc, graph, held => SptBatch::of(write_matrix(alloc, held.prepared(), sources, targets, delta, dist)), SptBatch::of(Batch::none(Told::NoGraph)))
+    of_kept!(alloc, graph, held => SptBatch::of(write_matrix(alloc, held.prepared(), sources, targets, delta, dist)), SptBatch::of(Batch::none(Told::NoGraph)), SptBatch::in_use())
 }
 
-/// Keeps the graph of the second place with each arc turned round, in place of what was kept; or tells why it can't, and then both
-/// places keep what they kept.
+/// Keeps the graph of the second place with each arc turned round, in place of what was kept. If that fails, the status
+/// says why, and both places keep what they kept.
 #[unsafe(no_mangle)]
 pub extern "C" fn spt_graph_turned(
     alloc: Global,
     graph: &mut KeptGraph,
     from: &mut KeptGraph,
 ) -> SptAnswer
-    ensures same { kept from.new ≡ kept from.old }
-    ensures made { (made : Made) × (result ≡ made_of made)
+    ensures in_use { IsInUse graph.old → (result ≡ answer_in_use) × IsSame graph.old graph.new }
+    ensures in_use_from { IsInUse from.old
+        → (result ≡ answer_in_use) × IsSame graph.old graph.new }
+    ensures made { IsFree graph.old → IsFree from.old → (made : Made) × (result ≡ made_of made)
         × IsMadeFrom IsTurned (kept from.old) (kept graph.old) (kept graph.new) made }
+    ensures free { IsFree graph.old → IsFree graph.new }
+    ensures same { IsSame from.old from.new }
 {
-    of_kept!(alloc, from, held => keep_turned(alloc, held.graph(), graph).answer(), Made::NoGraph.answer())
+    let made = keep_turned(alloc, graph, from);
+    made.answer()
 }
 
-/// Keeps the graph of the second place with each arc leading both ways, in place of what was kept; or tells why it can't, and then
-/// both places keep what they kept.
+/// Keeps the graph of the second place with each arc leading both ways, in place of what was kept. If that fails, the
+/// status says why, and both places keep what they kept.
 #[unsafe(no_mangle)]
 pub extern "C" fn spt_graph_both_ways(
     alloc: Global,
     graph: &mut KeptGraph,
     from: &mut KeptGraph,
 ) -> SptAnswer
-    ensures same { kept from.new ≡ kept from.old }
-    ensures made { (made : Made) × (result ≡ made_of made)
+    ensures in_use { IsInUse graph.old → (result ≡ answer_in_use) × IsSame graph.old graph.new }
+    ensures in_use_from { IsInUse from.old
+        → (result ≡ answer_in_use) × IsSame graph.old graph.new }
+    ensures made { IsFree graph.old → IsFree from.old → (made : Made) × (result ≡ made_of made)
         × IsMadeFrom IsBothWays (kept from.old) (kept graph.old) (kept graph.new) made }
+    ensures free { IsFree graph.old → IsFree graph.new }
+    ensures same { IsSame from.old from.new }
 {
-    of_kept!(alloc, from, held => keep_both_ways(alloc, held.graph(), graph).answer(), Made::NoGraph.answer())
+    let made = keep_both_ways(alloc, graph, from);
+    made.answer()
 }
 
-/// Keeps the graph that was packed into these bytes, in place of what was kept; or tells their first fault, and then the place keeps
-/// what it kept.
+/// Keeps the graph that was packed into these bytes, in place of what was kept. If that fails, the result is their
+/// first error, and the place keeps what it kept.
 #[unsafe(no_mangle)]
 pub extern "C" fn spt_graph_load(alloc: Global, graph: &mut KeptGraph, bytes: &[u8]) -> SptPacked
-    ensures { (loaded : LoadAnswer) × (result ≡ packed_of loaded)
+    ensures in_use { IsInUse graph.old → (result ≡ packed_in_use) × (graph.new ≡ graph.old) }
+    ensures loaded { IsFree graph.old → (loaded : LoadAnswer) × (result ≡ packed_of loaded)
         × IsLoaded bytes.now (kept graph.old) (kept graph.new) loaded }
+    ensures free { IsFree graph.old → IsFree graph.new }
 {
     let loaded = load(alloc, bytes, graph);
     loaded.told()
 }
 
-/// Writes the packed form of the graph that is kept to the front of the slice. Where the slice has too few places it writes nothing,
-/// and tells how many are needed.
+/// Writes the packed form of the kept graph to the front of the slice. If the slice has too few places, writes nothing,
+/// and returns the number of places that are needed.
 #[unsafe(no_mangle)]
 pub extern "C" fn spt_graph_save(alloc: Global, graph: &mut KeptGraph, bytes: &mut [u8]) -> SptSaved
-    ensures saved { (saved : SaveAnswer) × (result ≡ saved_of saved)
+    ensures saved { IsFree graph.old → (saved : SaveAnswer) × (result ≡ saved_of saved)
         × IsSaved (kept graph.old) bytes.old bytes.new saved }
-    ensures same { kept graph.new ≡ kept graph.old }
+    ensures in_use { IsInUse graph.old → (result ≡ saved_in_use) × (bytes.new ≡ bytes.old) }
+    ensures same { IsSame graph.old graph.new }
 {
-    of_kept!(alloc, graph, held => SptSaved::of(save(alloc, held.graph(), bytes)), SptSaved::of(SaveAnswer::NoGraph))
+    of_kept!(alloc, graph, held => SptSaved::of(save(alloc, held.graph(), bytes)), SptSaved::of(SaveAnswer::NoGraph), SptSaved::of(SaveAnswer::InUse))
 }

@@ -2,6 +2,7 @@
 ghost use Rattle.std.specs.Prelude.{◌≡◌, ◌∷◌, []};
 ghost use Rattle.spt_c.specs.Asked.{asked};
 ghost use Rattle.spt_c.specs.Found.{found_of, IsFoundBy, IsFound};
+ghost use Rattle.spt_c.specs.InUse.{found_in_use};
 
 use crate::answers::SptAnswer;
 use crate::arcs::{SptArc, graph_of};
@@ -9,8 +10,8 @@ use crate::refusals::refusal;
 use sp_lists::{AnyRoom, Cell, Prepared, Told, find_target};
 use std::alloc::Global;
 
-/// The answer of a call for a target: a status; its distance and its predecessor; and the index of the invalid arc, or
-/// 0 for the source and 1 for the target. `pred` is also the vertex that is too far.
+/// The result of a call for a target: a status; the target's distance and predecessor; and the index of the invalid
+/// arc, or 0 for the source and 1 for the target. If a vertex is too far, `pred` is that vertex.
 #[repr(C)]
 #[derive(Clone, Copy, Debug, PartialEq, Eq)]
 pub struct SptFound {
@@ -21,7 +22,7 @@ pub struct SptFound {
 }
 
 impl SptFound {
-    /// Returns the target's cell, or why there is none, in the form for C.
+    /// Returns the target's cell in the form for C, or why there is none.
     pub(crate) fn of(found: Result<Cell, Told>) -> SptFound
         ensures { result ≡ found_of found }
     {
@@ -41,6 +42,18 @@ impl SptFound {
                     index: answer.index,
                 }
             }
+        }
+    }
+
+    /// Returns the result of a call for a place in use.
+    pub(crate) fn in_use() -> SptFound
+        ensures { result ≡ found_in_use }
+    {
+        SptFound {
+            status: 12,
+            pred: 0,
+            dist: 0,
+            index: 0,
         }
     }
 }
@@ -73,7 +86,7 @@ pub(crate) fn find(
     }
 }
 
-/// Tests all arguments that come with a graph, and finds the target in it.
+/// Tests all arguments that come with a kept graph, and finds the target in that graph.
 pub(crate) fn find_known(
     alloc: Global,
     prepared: Prepared,

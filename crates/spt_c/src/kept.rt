@@ -1,17 +1,45 @@
-//! A question of the graph that a place keeps.
+//! Queries of a kept graph.
 
-/// Answers a question of the graph that a place keeps, which it then still keeps; or gives another answer if it keeps none.
+/// Runs a query on the graph in a place, which still keeps the graph afterwards. If the place keeps none, the second
+/// expression is the result, and if it is in use, the third.
 macro_rules! of_kept {
-    ($alloc:ident, $graph:ident, $held:ident => $answer:expr, $none:expr) => {
+    ($alloc:ident, $graph:ident, $held:ident => $answer:expr, $none:expr, $in_use:expr) => {
         match $graph.take($alloc) {
-            Some($held) => {
+            Taken::Graph($held) => {
                 let told = $answer;
-                $graph.put($alloc, $held);
+                $graph.end(Some($held));
                 told
             }
-            None => $none,
+            Taken::Nothing => $none,
+            Taken::InUse => $in_use,
+        }
+    };
+}
+
+/// Makes a graph from the one in a second place, which still keeps it afterwards, for the first place, whose graph is
+/// taken out and passed on. The result is a `Made`.
+macro_rules! of_two {
+    ($alloc:ident, $graph:ident, $from:ident, $held:ident, $before:ident => $made:expr) => {
+        match $graph.begin($alloc) {
+            Ok($before) => match $from.take($alloc) {
+                Taken::Graph($held) => {
+                    let made = $made;
+                    $from.end(Some($held));
+                    made
+                }
+                Taken::Nothing => {
+                    $graph.end($before);
+                    Made::NoGraph
+                }
+                Taken::InUse => {
+                    $graph.end($before);
+                    Made::InUse
+                }
+            },
+            Err(_) => Made::InUse,
         }
     };
 }
 
 pub(crate) use of_kept;
+pub(crate) use of_two;

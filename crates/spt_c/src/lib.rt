@@ -1,6 +1,6 @@
-//! The engine as a static library for C, run by the calling thread alone. Every argument is tested when a call runs. A graph may be
-//! kept between calls: a place of two words, which C can hold, has it on the heap behind it, with the words of the searches in it.
-//! Several places, in several threads, may keep one graph.
+//! The engine as a static library for C, run by the calling thread alone. Each call tests all of its arguments. A graph
+//! may be kept between calls: C holds a place of two words, and the graph is on the heap behind it, together with the
+//! words of the searches in it. Several places, in several threads, may keep the same graph.
 #![tactic(auto)]
 
 mod answers;
@@ -21,6 +21,7 @@ mod shared;
 mod slot;
 mod texts;
 mod turning;
+mod word;
 
 pub use answers::{SptAnswer, SptBatch, SptPart};
 pub use arcs::SptArc;

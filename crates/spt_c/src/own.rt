@@ -1,4 +1,4 @@
-//! A tree in lists that belong to the call.
+//! A tree in lists that the call owns.
 ghost use Rattle.std.specs.Prelude.{◌≡◌, ◌≤◌, IfOk, IfErr, All, length};
 ghost use Rattle.sp_paths.specs.Paths.{IsVertex};
 ghost use Rattle.sp_lists.specs.Limits.{IsCount, reach};

@@ -2,10 +2,12 @@
 ghost use Rattle.std.specs.Prelude.{◌≡◌, ◌≤◌, ◌<◌, ◌^◌, Some, length, IfOk};
 ghost use Rattle.sp_dimacs.specs.declared.formats.TheConstants.{MOST_ARCS};
 ghost use Rattle.sp_packed.specs.Packed.{packed_text};
-ghost use Rattle.spt_c.specs.Place.{kept};
+ghost use Rattle.spt_c.specs.Place.{kept, held_by, IsInUse, IsFree};
 ghost use Rattle.spt_c.specs.Packing.{IsUnpacked, IsAnswerFor, IsLoaded, IsSaved, packed_of, saved_of, kind_of, letter_of};
+ghost use Rattle.spt_c.specs.declared.packing.LoadAnswer.TheVariants.{InUse};
 
 use crate::place::KeptGraph;
+use crate::shared::HeldGraph;
 use sp_device::{UpTo, UpToWriter, Write, WriteFault};
 use sp_dimacs::MOST_ARCS;
 use sp_graph::Graph;
@@ -14,8 +16,8 @@ use sp_packed::{
 };
 use std::alloc::Global;
 
-/// What packed bytes are: the numbers of vertices and arcs of their graph; or their first fault, by the number of its kind, the
-/// letter of the field that is out of range, and the number of bytes before it.
+/// The result of reading packed bytes: the numbers of vertices and arcs of their graph; or their first error, as the
+/// number of its kind, the letter of the field that is out of range, and the number of bytes before it.
 #[repr(C)]
 #[derive(Clone, Copy, Debug, PartialEq, Eq)]
 pub struct SptPacked {
@@ -27,7 +29,7 @@ pub struct SptPacked {
     pub byte: u64,
 }
 
-/// The answer of a call that packs a graph: a status, and how many bytes the packed graph has.
+/// The result of a call that packs a graph: a status, and the size of the packed graph in bytes.
 #[repr(C)]
 #[derive(Clone, Copy, Debug, PartialEq, Eq)]
 pub struct SptSaved {
@@ -35,32 +37,36 @@ pub struct SptSaved {
     pub count: u64,
 }
 
-/// What packed bytes are.
+/// The result of reading packed bytes.
 #[derive(Clone, Copy, Debug, PartialEq, Eq)]
 pub(crate) enum LoadAnswer {
-    /// Their graph of n vertices and m arcs is kept.
+    /// The bytes are a graph of n vertices and m arcs, which is kept.
     Loaded(u32, usize),
-    /// The first fault.
+    /// The bytes have an error, and this is the first.
     Fault(PackedFault),
-    /// There are more bytes than are read.
+    /// There are more bytes than can be read.
     Long,
     /// An allocation failed.
     Memory,
+    /// Another call uses the place.
+    InUse,
 }
 
-/// The answer to packing a graph.
+/// The result of packing a graph.
 #[derive(Clone, Copy, Debug, PartialEq, Eq)]
 pub(crate) enum SaveAnswer {
-    /// The packed graph, of so many bytes, is at the front of the slice.
+    /// The packed graph is at the front of the slice, and has this many bytes.
     Saved(usize),
-    /// The slice has fewer than the places that the packed graph needs.
+    /// The slice has fewer places than the packed graph needs. The value is the number that it needs.
     FewPlaces(usize),
-    /// The graph has more arcs than a packed one may have.
+    /// The graph has more arcs than a packed graph can have.
     TooLarge,
     /// An allocation failed.
     Memory,
     /// The place keeps no graph.
     NoGraph,
+    /// Another call uses the place.
+    InUse,
 }
 
 fn told(status: u32, n: u32, m: usize) -> SptPacked
@@ -77,7 +83,7 @@ fn told(status: u32, n: u32, m: usize) -> SptPacked
 }
 
 impl LoadAnswer {
-    // Returns the answer for this fault.
+    // Returns the result for this error.
     fn of(fault: PackedFault) -> LoadAnswer
         ensures { IsAnswerFor fault result }
     {
@@ -87,7 +93,7 @@ impl LoadAnswer {
         }
     }
 
-    /// Returns the answer in the form for C.
+    /// Returns the result in the form for C.
     pub(crate) fn told(self) -> SptPacked
         ensures { result ≡ packed_of self }
     {
@@ -103,12 +109,13 @@ impl LoadAnswer {
             },
             LoadAnswer::Long => told(8, 0, 0),
             LoadAnswer::Memory => told(6, 0, 0),
+            LoadAnswer::InUse => told(12, 0, 0),
         }
     }
 }
 
 impl SptSaved {
-    /// Returns the answer in the form for C.
+    /// Returns the result in the form for C.
     pub(crate) fn of(answer: SaveAnswer) -> SptSaved
         ensures { result ≡ saved_of answer }
     {
@@ -118,6 +125,7 @@ impl SptSaved {
             SaveAnswer::TooLarge => (1, 0),
             SaveAnswer::Memory => (6, 0),
             SaveAnswer::NoGraph => (10, 0),
+            SaveAnswer::InUse => (12, 0),
         };
         SptSaved { status, count }
     }
@@ -150,7 +158,7 @@ fn letter_of(kind: PackedKind) -> u32
     }
 }
 
-// Returns the graph that was packed into these bytes, or their first fault.
+// Returns the graph that was packed into these bytes, or their first error.
 fn unpacked(alloc: Global, bytes: &[u8]) -> Result<Graph, PackedFault>
     requires { length bytes.now ≤ 2 ^ 62 }
     ensures { IsUnpacked bytes.now result }
@@ -159,26 +167,50 @@ fn unpacked(alloc: Global, bytes: &[u8]) -> Result<Graph, PackedFault>
     read_packed::<32, _>(alloc, &mut reader, MOST_ARCS as u32)
 }
 
-/// Keeps the graph that was packed into these bytes, or tells their first fault.
+/// Keeps the graph that was packed into these bytes, in place of what was kept, or returns their first error.
 pub(crate) fn load(alloc: Global, bytes: &[u8], graph: &mut KeptGraph) -> LoadAnswer
-    ensures { IsLoaded bytes.now (kept graph.old) (kept graph.new) result }
+    ensures in_use { IsInUse graph.old → (result ≡ InUse) × (graph.new ≡ graph.old) }
+    ensures loaded { IsFree graph.old
+        → IsLoaded bytes.now (kept graph.old) (kept graph.new) result }
+    ensures free { IsFree graph.old → IsFree graph.new }
+{
+    match graph.begin(alloc) {
+        Ok(before) => load_in(alloc, bytes, graph, before),
+        Err(_) => LoadAnswer::InUse,
+    }
+}
+
+// Does the same in a place that this call has taken, which kept `before`, and gives the place back.
+fn load_in(
+    alloc: Global,
+    bytes: &[u8],
+    graph: &mut KeptGraph,
+    before: Option<HeldGraph>,
+) -> LoadAnswer
+    requires { IsInUse graph.old }
+    ensures loaded { IsLoaded bytes.now (held_by before) (kept graph.new) result }
+    ensures free { IsFree graph.new }
 {
     if bytes.len() > 1 << 62 {
+        graph.end(before);
         return LoadAnswer::Long;
     }
     match unpacked(alloc, bytes) {
         Ok(made) => {
             let (n, m) = (made.n(), made.m());
-            match graph.keep(alloc, made) {
+            match graph.end_with(alloc, made, before) {
                 Ok(()) => LoadAnswer::Loaded(n, m),
                 Err(_) => LoadAnswer::Memory,
             }
         }
-        Err(fault) => LoadAnswer::of(fault),
+        Err(fault) => {
+            graph.end(before);
+            LoadAnswer::of(fault)
+        }
     }
 }
 
-// Returns how many bytes the packed form of a graph has.
+// Returns the number of bytes in the packed form of a graph.
 fn packed_size(graph: &Graph) -> usize
     requires { length graph.now.arcs ≤ MOST_ARCS }
     ensures size { result ≡ length (packed_text graph.now) }
@@ -188,7 +220,7 @@ fn packed_size(graph: &Graph) -> usize
     4 * (graph.n() as usize + 2 * graph.m() + 9)
 }
 
-// Returns a writer that has taken the packed form of a graph, of this size. It fails if there is no memory.
+// Returns a writer that holds the packed form of a graph, which has this size. It fails if there is no memory.
 fn packed(alloc: Global, graph: &Graph, size: usize) -> Result<UpToWriter, WriteFault>
     requires few { length graph.now.arcs < 2 ^ 32 }
     requires small { size ≤ 2 ^ 62 }

@@ -1,19 +1,19 @@
-//! What may be wrong with a call.
+//! The arguments that calls refuse.
 ghost use Rattle.std.specs.Prelude.{◌↔◌, IsTrue, IfSome, IfNone};
 ghost use Rattle.spt_c.specs.Asked.{asked, HasRoom, IsRefused, IsGood};
 
 use crate::arcs::{SptArc, first_bad};
 use sp_lists::{Told, first_non_vertex, fits, is_count, reach};
 
-// Returns whether a graph may have `n` vertices, and there are `blocks` blocks of `n` places each.
+// Returns whether a graph can have `n` vertices, and whether there are `blocks` blocks of `n` places each.
 fn has_room(n: u32, blocks: usize, places: usize) -> bool
     ensures { IsTrue result ↔ HasRoom n blocks places }
 {
     is_count(n) && fits(blocks, n as usize, places)
 }
 
-/// Returns the first of the size, the delta, the sources and the arcs that is wrong, if any is. Both slices have
-/// `places` places.
+/// Returns the first that is wrong of the size, the delta, the sources and the arcs, if any. Both slices have `places`
+/// places.
 pub(crate) fn refusal(
     arcs: &[SptArc],
     n: u32,

@@ -11,7 +11,7 @@ use std::alloc::{AllocError, Global};
 use std::sync::Arc;
 
 impl SharedGraph {
-    /// Makes the first owner.
+    /// Makes the first owner of a graph.
     pub fn new(alloc: Global, graph: Graph) -> Result<SharedGraph, AllocError>
         ensures { IfOk result (λ shared. owned shared ≡ graph) }
     {
@@ -57,7 +57,7 @@ impl HeldGraph {
         self.shared.graph()
     }
 
-    /// Returns the graph, and a room for the searches in it that keeps its words until the next call.
+    /// Returns the graph, and a room for searches in it. The room keeps its words until the next call.
     pub fn prepared(&self) -> Prepared<'_>
         ensures { result.graph.now ≡ held self.now }
     {

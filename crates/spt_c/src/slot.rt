@@ -1,4 +1,4 @@
-// A pointer that owns what it points to, with the type hidden: C takes no pointer to a `Vec`.
+// A pointer that owns what it points to, with the type hidden, because C takes no pointer to a `Vec`.
 ghost use Rattle.std.specs.Prelude.{◌≡◌, IsSome, IsNone};
 ghost use Rattle.std.specs.declared.option.Option.{Option};
 ghost use Rattle.std.specs.declared.option.Option.TheVariants.{None, Some};

@@ -7,8 +7,8 @@ use sp_dimacs::{DimacsError, GrFile, GrReader, Kind};
 use sp_paths::Arc;
 use std::alloc::Global;
 
-/// What a text is: the numbers of vertices and arcs of its graph; or its first fault, by the number of its kind, the
-/// letter of the field that is out of range, and its line.
+/// The result of reading a text: the numbers of vertices and arcs of its graph; or its first error, as the number of
+/// its kind, the letter of the field that is out of range, and its line.
 #[repr(C)]
 #[derive(Clone, Copy, Debug, PartialEq, Eq)]
 pub struct SptText {
@@ -20,21 +20,21 @@ pub struct SptText {
     pub line: u64,
 }
 
-/// What a text is.
+/// The result of reading a text.
 #[derive(Clone, Copy, Debug, PartialEq, Eq)]
 pub(crate) enum TextAnswer {
-    /// The text spells a graph of n vertices and m arcs, which are in the slice.
+    /// The text is a graph of n vertices and m arcs. The arcs are in the slice.
     Graph(u32, usize),
-    /// The slice has fewer than the m places that the arcs need.
+    /// The slice has fewer places than the m arcs need.
     FewPlaces(u32, usize),
-    /// The first fault.
+    /// The text has an error, and this is the first.
     Fault(DimacsError),
-    /// The text has more bytes than are read.
+    /// The text has more bytes than can be read.
     Long,
 }
 
 impl TextAnswer {
-    /// Returns the answer in the form for C.
+    /// Returns the result in the form for C.
     pub(crate) fn told(self) -> SptText
         ensures { result ≡ text_of self }
     {
@@ -92,7 +92,7 @@ fn letter_of(kind: Kind) -> u32
     }
 }
 
-// Returns the graph that a text spells, or its first fault.
+// Returns the graph in a text, or the first error in the text.
 fn graph_in(alloc: Global, text: &[u8]) -> Result<GrFile, DimacsError>
     requires { length text.now ≤ 2 ^ 62 }
     ensures { GraphTold text.now result }
@@ -113,7 +113,7 @@ fn given(arc: Arc) -> SptArc
     }
 }
 
-// Writes the arcs, in the order of their lines.
+// Writes the arcs in the order of their lines.
 fn put_arcs(from: &[Arc], arcs: &mut [SptArc])
     requires { length from.now ≤ length arcs.old }
     ensures { HasArcs (length from.now) from.now arcs.old arcs.new }
@@ -123,7 +123,7 @@ fn put_arcs(from: &[Arc], arcs: &mut [SptArc])
     }
 }
 
-/// Reads the graph of a text, and writes its arcs to the slice if there is room.
+/// Reads the graph in a text, and writes its arcs to the slice if there is room.
 pub(crate) fn read_graph(alloc: Global, text: &[u8], arcs: &mut [SptArc]) -> TextAnswer
     ensures { IsRead text.now arcs.old arcs.new result }
 {

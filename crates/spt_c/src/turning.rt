@@ -1,37 +1,81 @@
-//! The graph of a place with its arcs turned round, or leading both ways, in another place.
+//! The graph of a place, with its arcs turned round or leading both ways, in another place.
 ghost use Rattle.std.specs.Prelude.{◌≡◌, Some};
 ghost use Rattle.sp_turned.specs.Turned.{IsTurned, IsBothWays};
-ghost use Rattle.spt_c.specs.Place.{kept};
+ghost use Rattle.spt_c.specs.Place.{kept, held_by, IsInUse, IsFree, IsSame};
 ghost use Rattle.spt_c.specs.Turning.{IsMadeFrom};
+ghost use Rattle.spt_c.specs.declared.making.Made.TheVariants.{InUse};
 
+use crate::kept::of_two;
 use crate::making::Made;
-use crate::place::KeptGraph;
+use crate::place::{KeptGraph, Taken};
+use crate::shared::HeldGraph;
 use sp_graph::Graph;
 use sp_turned::{both_ways_alone, turned_alone};
 use std::alloc::Global;
 
-/// Keeps the graph with its arcs turned round.
-pub(crate) fn keep_turned(alloc: Global, from: &Graph, graph: &mut KeptGraph) -> Made
-    ensures { IsMadeFrom IsTurned (Some from.now) (kept graph.old) (kept graph.new) result }
+// Keeps a graph with its arcs turned round in a place that this call has taken, which kept `before`, and gives the place
+// back.
+fn turned_in(alloc: Global, from: &Graph, graph: &mut KeptGraph, before: Option<HeldGraph>) -> Made
+    requires { IsInUse graph.old }
+    ensures made { IsMadeFrom IsTurned (Some from.now) (held_by before) (kept graph.new) result }
+    ensures free { IsFree graph.new }
 {
     match turned_alone(alloc, from) {
-        Ok(made) => match graph.keep(alloc, made) {
+        Ok(made) => match graph.end_with(alloc, made, before) {
             Ok(()) => Made::Kept,
             Err(_) => Made::Memory,
         },
-        Err(_) => Made::Memory,
+        Err(_) => {
+            graph.end(before);
+            Made::Memory
+        }
     }
 }
 
-/// Keeps the graph with its arcs leading both ways.
-pub(crate) fn keep_both_ways(alloc: Global, from: &Graph, graph: &mut KeptGraph) -> Made
-    ensures { IsMadeFrom IsBothWays (Some from.now) (kept graph.old) (kept graph.new) result }
+// Keeps a graph with its arcs leading both ways in a place that this call has taken, which kept `before`, and gives the
+// place back.
+fn both_ways_in(
+    alloc: Global,
+    from: &Graph,
+    graph: &mut KeptGraph,
+    before: Option<HeldGraph>,
+) -> Made
+    requires { IsInUse graph.old }
+    ensures made { IsMadeFrom IsBothWays (Some from.now) (held_by before) (kept graph.new) result }
+    ensures free { IsFree graph.new }
 {
     match both_ways_alone(alloc, from) {
-        Ok(made) => match graph.keep(alloc, made) {
+        Ok(made) => match graph.end_with(alloc, made, before) {
             Ok(()) => Made::Kept,
             Err(_) => Made::Memory,
         },
-        Err(_) => Made::Memory,
+        Err(_) => {
+            graph.end(before);
+            Made::Memory
+        }
     }
+}
+
+/// Keeps the graph of the second place in the first one, with its arcs turned round, in place of what was kept.
+pub(crate) fn keep_turned(alloc: Global, graph: &mut KeptGraph, from: &mut KeptGraph) -> Made
+    ensures in_use { IsInUse graph.old → (result ≡ InUse) × IsSame graph.old graph.new }
+    ensures in_use_from { IsInUse from.old → (result ≡ InUse) × IsSame graph.old graph.new }
+    ensures made { IsFree graph.old → IsFree from.old
+        → IsMadeFrom IsTurned (kept from.old) (kept graph.old) (kept graph.new) result }
+    ensures free { IsFree graph.old → IsFree graph.new }
+    ensures same { IsSame from.old from.new }
+{
+    of_two!(alloc, graph, from, held, before => turned_in(alloc, held.graph(), graph, before))
+}
+
+/// Keeps the graph of the second place in the first one, with its arcs leading both ways, in place of what was kept.
+pub(crate) fn keep_both_ways(alloc: Global, graph: &mut KeptGraph, from: &mut KeptGraph) -> Made
+    ensures in_use { IsInUse graph.old → (result ≡ InUse) × IsSame graph.old graph.new }
+    ensures in_use_from { IsInUse from.old → (result ≡ InUse) × IsSame graph.old graph.new }
+    ensures made { IsFree graph.old → IsFree from.old
+        → IsMadeFrom IsBothWays (kept from.old) (kept graph.old) (kept graph.new) result }
+    ensures free { IsFree graph.old → IsFree graph.new }
+    ensures same { IsSame from.old from.new }
+{
+    of_two!(alloc, graph, from, held, before => both_ways_in(alloc, held.graph(), graph, before))
 }

@@ -1,4 +1,4 @@
-//! Three examples of how a program calls the crates; `docs/LIBRARY.md` quotes them. What it prints is the same in every run.
+//! Three examples of how a program calls the crates; `docs/CONTRIBUTING.md` quotes them. What it prints is the same in every run.
 #![tactic(auto)]
 
 mod paths;

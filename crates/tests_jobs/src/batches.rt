@@ -16,7 +16,7 @@ use std::thread::Threads;
 /// More bytes than any text here has.
 pub(crate) const AMPLE: u32 = 1 << 20;
 
-/// The texts of a graph and of its sources, and how many bytes the writer takes in all.
+/// The texts of a graph and of its sources, and the number of bytes that the writer takes in all.
 #[derive(Clone, Copy)]
 pub(crate) struct Case<'t> {
     pub(crate) gr: &'t str,
@@ -24,7 +24,7 @@ pub(crate) struct Case<'t> {
     pub(crate) room: u32,
 }
 
-/// What a batch gave.
+/// The result of a batch.
 #[derive(Drop)]
 pub(crate) struct Ran {
     pub(crate) answer: Result<Summary, BatchError>,
@@ -32,7 +32,7 @@ pub(crate) struct Ran {
 }
 
 impl Ran {
-    /// Whether it was this answer and this text.
+    /// Whether the batch gave this answer and wrote this text.
     pub(crate) fn gave(&self, answer: Result<Summary, BatchError>, text: &str) -> bool {
         self.answer == answer && self.out.taken() == text.as_bytes()
     }
@@ -43,7 +43,7 @@ pub(crate) fn crew(rt: &impl Abort, number: u32) -> Workers {
     Workers::new(number).expect(rt, "a number of workers in range")
 }
 
-/// The width of a bucket, that of the graph's mean length where there is no number.
+/// The width of a bucket; without a number, that of the graph's mean arc length.
 pub(crate) fn width_of(rt: &impl Abort, delta: Option<u64>) -> BucketWidth<28> {
     match delta {
         Some(delta) => BucketWidth::Of(Delta::new(delta).expect(rt, "a width in range")),
@@ -51,7 +51,7 @@ pub(crate) fn width_of(rt: &impl Abort, delta: Option<u64>) -> BucketWidth<28> {
     }
 }
 
-/// A list of numbers, or of a text that is owned.
+/// A list of numbers, or of an owned text.
 pub(crate) type List = Listing<'static, OfRead<VecDeque<u8>>>;
 
 /// The list of this text.
@@ -93,7 +93,7 @@ pub(crate) fn run_narrow(
     run::<28>(rt, case, width_of(rt, Some(2)), workers)
 }
 
-/// The answer where all was written.
+/// The answer when everything was written.
 pub(crate) fn summary(sources: u64, too_far: u64, bytes: u64) -> Result<Summary, BatchError> {
     Ok(Summary {
         sources,

@@ -12,7 +12,7 @@ use std::sync::Wait;
 use std::test::Fail;
 use std::thread::Threads;
 
-// Whether a writer that takes so many bytes took these of the text, and its failure was told.
+// Whether a writer that takes only `case.room` bytes took the beginning of the text, and its failure was reported.
 fn is_begun(
     rt: &(impl Abort + AllocGlobal + Threads + Wait + Sync),
     case: Case,
@@ -25,7 +25,8 @@ fn is_begun(
     }
 }
 
-/// Whether a beginning of the text stands where the writer fails, at each `step`th byte, and all of it where there is room.
+/// Whether a writer that fails after every `step`th number of bytes has the beginning of the text, and a writer with room has all
+/// of it.
 pub(crate) fn is_written_up_to(
     rt: &(impl Abort + AllocGlobal + Threads + Wait + Sync),
     case: Case,
@@ -84,7 +85,7 @@ fn writer_of_a_byte_a_call(rt: HostRuntime) -> Result<(), Fail> {
     Ok(())
 }
 
-// Whether nothing is written, and this fault is told, where the graph's device gives this text and then fails.
+// Whether nothing is written, and this fault is reported, if the graph's device gives this text and then fails.
 fn is_fault(
     rt: &(impl Abort + AllocGlobal + Threads + Wait + Sync),
     text: &[u8],

@@ -12,8 +12,8 @@ use std::sync::Wait;
 use std::test::Fail;
 use std::thread::Threads;
 
-/// The diamond packed: numbers of four bytes each, the lowest first. Behind the mark stand the numbers of vertices and arcs, where the
-/// rows end, head and length of each arc, and the sum.
+/// The diamond's packed file: numbers of four bytes, lowest byte first. After the mark come the numbers of vertices and arcs, the
+/// ends of the rows, the head and length of each arc, and the sum.
 const PACKED: &[u8] = b"\x89SPT\r\n\x1a\x01\x04\0\0\0\x05\0\0\0\
 \0\0\0\0\x03\0\0\0\x04\0\0\0\x05\0\0\0\
 \x05\0\0\0\x02\0\0\0\x03\0\0\0\x03\0\0\0\
@@ -21,13 +21,13 @@ const PACKED: &[u8] = b"\x89SPT\r\n\x1a\x01\x04\0\0\0\x05\0\0\0\
 \x02\0\0\0\x04\0\0\0\x02\0\0\0\xd1\x5d\x6a\x55\
 \0\0\0\0\x2c\xea\xca\x55\x06\0\0\0";
 
-/// Each of the sources 1 and 4 with each of them.
+/// Every pair of a source and a target among 1 and 4.
 const PAIRS: &str = "p pairs 4\nq 1 1\nq 1 4\nq 4 1\nq 4 4\n";
 
 /// The vertices 2 and 3.
 const MIDDLE: &str = "p aux sp ss 2\ns 2\ns 3\n";
 
-/// What is written where the arcs lead in a direction.
+/// The output for one direction of the arcs.
 #[derive(Clone, Copy)]
 struct Wanted {
     direction: Direction,
@@ -65,7 +65,7 @@ const BOTH_WAYS: Wanted = Wanted {
     forest: "p near 4 2\nv 1 3 2 2\nv 2 0 0 2\nv 3 0 0 3\nv 4 2 2 2\ne 4\n",
 };
 
-/// The bytes of the diamond's file, and the direction and the number of workers of a job.
+/// The bytes of the diamond's file, and a job's direction and number of workers.
 #[derive(Clone, Copy)]
 struct Given<'t> {
     gr: &'t [u8],
@@ -88,7 +88,7 @@ impl<'t> Given<'t> {
     }
 }
 
-// Whether so many answers were counted and just this text written.
+// Whether this many answers were counted and exactly this text was written.
 fn is_whole(answer: Result<Summary, BatchError>, count: u64, out: &UpToWriter, text: &str) -> bool {
     answer == summary(count, 0, text.len() as u64) && out.taken() == text.as_bytes()
 }
@@ -143,7 +143,7 @@ fn has_pairs(
 ) -> bool {
     let mut out = UpToWriter::new(rt.alloc(), 1000, 1000);
     let answer = run_pairs_told(
-        rt,
+        &rt,
         rt.alloc(),
         &mut given.device(),
         &mut OfRead::new(PAIRS.as_bytes()),
@@ -163,7 +163,7 @@ fn has_forest(
     };
     let mut out = UpToWriter::new(rt.alloc(), 1000, 1000);
     let answer = run_nearest_told(
-        rt,
+        &rt,
         rt.alloc(),
         &mut given.device(),
         sources,
@@ -174,7 +174,7 @@ fn has_forest(
     is_whole(answer, 1, &out, text)
 }
 
-// Whether each job gives just this for the file by so many workers.
+// Whether each job gives exactly this for the file with this many workers.
 fn is_written_by(
     rt: &(impl Abort + AllocGlobal + Threads + Wait + Sync),
     gr: &[u8],
@@ -192,7 +192,7 @@ fn is_written_by(
         && has_forest(rt, given, wanted.forest)
 }
 
-// Whether it does so by any number of workers.
+// Whether each job does so with any number of workers.
 fn is_written(
     rt: &(impl Abort + AllocGlobal + Threads + Wait + Sync),
     gr: &[u8],

@@ -1,4 +1,4 @@
-//! The files of the worked examples' forests, and a fault of each kind.
+//! The files of the worked examples' forests, and one fault of each kind.
 ghost use Rattle.std.specs.Prelude.{◌<◌, length};
 
 use sp_device::{Read, UpTo, UpToWriter};
@@ -21,7 +21,7 @@ const EXAMPLES: [(&str, usize, u32); 5] = [
     ("p near 2 2\nv 1 0 0 1\nv 2 0 0 2\ne 2\n", 2, 2),
 ];
 
-/// A text, and the line and the kind of its fault.
+/// A text, and the line and kind of its fault.
 type Faulty = (&'static str, u64, Kind);
 
 /// The bytes of a text of a test, which is shorter than 100 bytes.
@@ -32,7 +32,7 @@ fn bytes_of(text: &str) -> &[u8]
     if bytes.len() < 100 { bytes } else { b"" }
 }
 
-// Whether a file with so many rows and so many sources is read, and its forest is written as it was.
+// Whether a file with this many rows and sources is read, and its forest is written back unchanged.
 fn is_kept(alloc: Global, text: &str, rows: usize, sources: u32) -> bool {
     let Ok(file) = read_forest::<28, _>(alloc, &mut UpTo::in_pieces(bytes_of(text), 5)) else {
         return false;
@@ -62,7 +62,7 @@ fn worked_examples(rt: HostRuntime) -> Result<(), Fail> {
     Ok(())
 }
 
-// Whether a device that passes pieces of a text has this fault.
+// Whether reading this text in pieces reports this fault.
 fn is_refused(alloc: Global, (text, line, kind): Faulty) -> bool {
     let read = read_forest::<28, _>(alloc, &mut UpTo::in_pieces(bytes_of(text), 5));
     read.err() == Some(DimacsError { line, kind })
@@ -124,7 +124,7 @@ fn fed_in_pieces(rt: HostRuntime) -> Result<(), Fail> {
     Ok(())
 }
 
-// Whether there is a forest, and how many rows it or the tree has.
+// Whether it is a forest, and the number of rows of the forest or tree.
 fn rows_of(value: &TreeOrForest<28>) -> (bool, usize) {
     match value {
         TreeOrForest::Tree(tree) => (false, tree.rows().len()),
@@ -132,7 +132,7 @@ fn rows_of(value: &TreeOrForest<28>) -> (bool, usize) {
     }
 }
 
-// Whether such a file is read of pieces of each size.
+// Whether such a file is read in pieces of each size.
 fn is_either(alloc: Global, text: &str, near: bool, rows: usize) -> bool {
     for most in 1..8 {
         match read_tree_or_forest(alloc, &mut UpTo::in_pieces(bytes_of(text), most)) {
@@ -156,7 +156,7 @@ fn either_file(rt: HostRuntime) -> Result<(), Fail> {
     Ok(())
 }
 
-// Whether a device has this fault.
+// Whether reading from a device reports this fault.
 fn has_fault(alloc: Global, device: &mut impl Read, line: u64, kind: Kind) -> bool {
     let read = read_tree_or_forest::<28, _>(alloc, device);
     read.err() == Some(DimacsError { line, kind })
@@ -180,7 +180,7 @@ fn faults_of_either(rt: HostRuntime) -> Result<(), Fail> {
     Ok(())
 }
 
-// The line that is being read when the device fails.
+// The fault names the line being read when the device fails.
 #[test]
 fn failing_devices(rt: HostRuntime) -> Result<(), Fail> {
     for (text, line, kind) in [

@@ -1,4 +1,4 @@
-//! Graphs and the texts of their trees. What is written for worked examples is compared by `tests/commands.py`.
+//! Graphs and the texts of their trees. `tests/commands.py` compares what is written for worked examples.
 
 use crate::batches::{AMPLE, Case, run, summary, width_of};
 use sp_jobs::{BatchError, BucketWidth, Role, Summary};
@@ -23,7 +23,7 @@ pub(crate) const TWO: &str = "p aux sp ss 2\ns 1\ns 4\n";
 pub(crate) const TWO_TEXT: &str =
     "p spt 4 1\nv 1 0 0\nv 2 3 1\nv 3 3 1\nv 4 5 2\ne 4\np spt 4 4\nv 4 0 0\ne 1\n";
 
-// Widths of buckets with numbers of workers. Where there is no number, the width is that of the graph's mean length.
+// Bucket widths with numbers of workers. Without a number, the width is the graph's mean arc length.
 const CREWS: [(Option<u64>, u32); 7] = [
     (Some(1), 1),
     (Some(2), 2),
@@ -34,7 +34,7 @@ const CREWS: [(Option<u64>, u32); 7] = [
     (None, 64),
 ];
 
-// Whether a batch gives this answer and this text for all widths and numbers of workers.
+// Whether a batch gives this answer and this text for all bucket widths and numbers of workers.
 fn is_answered(
     rt: &(impl Abort + AllocGlobal + Threads + Wait + Sync),
     (gr, ss): (&str, &str),
@@ -67,7 +67,7 @@ fn sources_of_the_diamond(rt: HostRuntime) -> Result<(), Fail> {
     Ok(())
 }
 
-// In words of 32 bits for the predecessor the second of two long arcs leads too far.
+// With 32 bits for the predecessor, the second of two long arcs leads too far.
 #[test]
 fn too_far(rt: HostRuntime) -> Result<(), Fail> {
     let case = Case {

@@ -1,4 +1,4 @@
-//! Sources answered several at once.
+//! Several sources answered at once.
 
 use crate::batches::{AMPLE, Case, Ran, run_narrow, summary};
 use crate::devices::is_written_up_to;
@@ -30,8 +30,8 @@ fn writers_that_fail_in_any_group(rt: HostRuntime) -> Result<(), Fail> {
     Ok(())
 }
 
-// Whether all was written, or memory was refused behind a beginning of the text. The writer is over memory, and fails where that
-// is refused.
+// Whether everything was written, or memory was refused after a beginning of the text was written. The writer keeps its bytes in
+// memory, and fails if that is refused.
 fn is_whole_or_refused(ran: &Ran) -> bool {
     match ran.answer {
         Ok(_) => ran.gave(summary(5, 0, 197), FIVE_TEXT),
@@ -71,7 +71,7 @@ a 2967 2968 15
 pub(crate) const NINE: &str =
     "p aux sp ss 9\ns 1\ns 700\ns 1\ns 2951\ns 2000\ns 2950\ns 700\ns 2951\ns 3\n";
 
-/// 3,000 vertices: three arcs each for the first 2,950, of lengths and to heads that are random enough, and the line.
+/// 3,000 vertices: three arcs for each of the first 2,950, with random enough lengths and heads, and the line.
 pub(crate) fn town(alloc: Global) -> Result<String, Fail> {
     let mut text = format!(in alloc; "p sp 3000 8867\n{LINE}")?;
     let mut state: u64 = 1;

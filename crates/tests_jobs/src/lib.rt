@@ -1,4 +1,4 @@
-//! Tests of jobs from bytes to bytes, batches, matrices, forests and pairs, and of a forest's file, by their public calls.
+//! Tests of jobs from bytes to bytes, batches, matrices, forests and pairs, and of a forest's file, through the public calls.
 #![tactic(auto)]
 
 #[cfg(test)]

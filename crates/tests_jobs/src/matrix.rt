@@ -26,7 +26,7 @@ fn settings(rt: &impl Abort, workers: u32) -> Settings<'static, 28, Nobody> {
     }
 }
 
-// Whether so many workers give this answer for the sources 1 and 4, and this text to a writer that takes so many bytes.
+// Whether this many workers give this answer for the sources 1 and 4, and this text to a writer that takes `room` bytes.
 fn is_written(
     rt: &(impl Abort + AllocGlobal + Threads + Wait + Sync),
     (gr, room): (&str, u32),
@@ -68,7 +68,7 @@ fn matrix_by_groups_of_sources(rt: HostRuntime) -> Result<(), Fail> {
     Ok(())
 }
 
-// Whether this is the answer, and the text, for the source 4 of the diamond, which is given in place of a text.
+// Whether this is the answer, and the text, for the source 4 of the diamond, given as a list instead of a text.
 fn is_written_of_4(
     rt: &(impl Abort + AllocGlobal + Threads + Wait + Sync),
     targets: List,
@@ -91,7 +91,7 @@ fn is_written_of_4(
     told == answer && out.taken() == text.as_bytes()
 }
 
-// Two of the lists have a target that is no vertex.
+// Two of the lists have a target that isn't a vertex.
 #[test]
 fn matrix_of_given_numbers(rt: HostRuntime) -> Result<(), Fail> {
     let lines = "d 4 4 0 0\nn 4 1\nd 4 4 0 0\n";

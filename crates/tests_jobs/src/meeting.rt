@@ -1,4 +1,4 @@
-//! Several workers at work at once.
+//! Several workers at the same time.
 ghost use Rattle.std.specs.Prelude.{◌≤◌, [], length};
 
 use crate::batches::{crew, summary};
@@ -17,8 +17,8 @@ use std::thread::Threads;
 // A source is held for no more loads than this.
 const MOST_LOADS: u64 = 1_000_000_000;
 
-/// Holds the sources behind the first ones until so many are begun in all, for a bounded number of loads. It counts those that saw
-/// the others come. What answers a source is no text.
+/// Holds each source after the first ones until a given number of sources have begun, for a bounded number of loads. It counts
+/// the sources that saw the others begin. Its answers have no text.
 #[derive(Drop)]
 struct Meeting {
     first: u64,
@@ -68,23 +68,7 @@ impl Question for Meeting {
         Progress::Sources { written, count }
     }
 
-    fn find<R: Threads + Wait + Sync>(
-        &self,
-        _rt: &R,
-        _alloc: Global,
-        _workers: Workers,
-        source: u32,
-    ) -> Result<u32, AllocError> {
-        self.meet();
-        Ok(source)
-    }
-
-    fn find_alone<R: Threads + Sync>(
-        &self,
-        _rt: &R,
-        _alloc: Global,
-        source: u32,
-    ) -> Result<u32, AllocError> {
+    fn find(&self, _alloc: Global, _workers: Workers, source: u32) -> Result<u32, AllocError> {
         self.meet();
         Ok(source)
     }
@@ -103,8 +87,8 @@ impl Question for Meeting {
     }
 }
 
-// Whether as many of the sources as there are workers and processors are found at once, in a graph that is just large enough. What
-// is over is found before.
+// Whether as many sources are found at once as there are workers and processors for them, in a graph that is just large enough.
+// The remaining sources are found before these.
 fn do_meet(
     rt: &(impl AllocGlobal + Threads + Wait + Sync),
     sources: &[u32],

@@ -1,4 +1,4 @@
-//! Forests over memory: the worked examples, whose texts are those of the specification.
+//! Forests in memory: the worked examples, with the texts of the specification.
 ghost use Rattle.std.specs.Prelude.{◌≡◌, ◌≤◌, true, IfSome};
 ghost use Rattle.sp_word.specs.Word.{is_layout, max_dist};
 ghost use Rattle.sp_jobs.specs.Listing.{IsNumbered};
@@ -16,7 +16,7 @@ use std::sync::Wait;
 use std::test::Fail;
 use std::thread::Threads;
 
-/// What is written for the sources 1 and 3 of the diamond.
+/// The output for the sources 1 and 3 of the diamond.
 const OF_1_AND_3: &str = "p near 4 2\nv 1 0 0 1\nv 2 3 1 1\nv 3 0 0 3\nv 4 2 3 3\ne 4\n";
 
 /// A path of 18 vertices whose arcs have the greatest length.
@@ -44,7 +44,7 @@ fn settings<const P: u32>(rt: &impl Abort, workers: u32) -> Settings<'static, P,
     }
 }
 
-// Whether this number of workers writes and counts just that.
+// Whether this number of workers writes and counts exactly this.
 fn is_written_by<const P: u32>(
     rt: &(impl Abort + AllocGlobal + Threads + Wait + Sync),
     sources: Sources,
@@ -60,7 +60,7 @@ fn is_written_by<const P: u32>(
     };
     let mut out = UpToWriter::new(rt.alloc(), 1000, 1000);
     let answer = run_nearest_told(
-        rt,
+        &rt,
         rt.alloc(),
         &mut Peeked::new(OfRead::new(sources.gr.as_bytes())),
         list,
@@ -72,7 +72,7 @@ fn is_written_by<const P: u32>(
     answer == summary(1, far, text.len() as u64) && out.taken() == text.as_bytes()
 }
 
-// Whether any number of workers writes and counts just that.
+// Whether any number of workers writes and counts exactly this.
 fn is_written<const P: u32>(
     rt: &(impl Abort + AllocGlobal + Threads + Wait + Sync),
     sources: Sources,
@@ -87,7 +87,7 @@ fn is_written<const P: u32>(
         && is_written_by::<P>(rt, sources, limit, text, 64)
 }
 
-// The sources 1 and 3 of the diamond, also where one of them is named twice, and no source.
+// The sources 1 and 3 of the diamond, also with one of them named twice; and no source.
 #[test]
 fn sources_are_a_set(rt: HostRuntime) -> Result<(), Fail> {
     for (ss, text) in [
@@ -101,7 +101,7 @@ fn sources_are_a_set(rt: HostRuntime) -> Result<(), Fail> {
     Ok(())
 }
 
-// A tie goes to the smaller predecessor, and a source that another one's walk reaches keeps its own pair.
+// A tie goes to the smaller predecessor, and a source that can be reached from another keeps its own pair.
 #[test]
 fn ties_and_sources_on_the_way(rt: HostRuntime) -> Result<(), Fail> {
     for (gr, ss, text) in [
@@ -140,7 +140,7 @@ fn far_vertices(rt: HostRuntime) -> Result<(), Fail> {
     Ok(())
 }
 
-// Whether this is the answer, and the text, for sources of the diamond in place of a list, and a writer that takes so many bytes.
+// Whether this is the answer and the text for sources of the diamond, given as numbers, and a writer that takes `room` bytes.
 fn is_written_of(
     rt: &(impl Abort + AllocGlobal + Threads + Wait + Sync),
     sources: List,
@@ -152,7 +152,7 @@ fn is_written_of(
 {
     let mut out = UpToWriter::new(rt.alloc(), room as usize, 1000);
     let told = run_nearest_told(
-        rt,
+        &rt,
         rt.alloc(),
         &mut Peeked::new(OfRead::new(DIAMOND.as_bytes())),
         sources,
@@ -163,7 +163,7 @@ fn is_written_of(
     told == answer && out.taken() == text.as_bytes()
 }
 
-// Sources in place of a list, one of them no vertex, and a writer that fails.
+// Sources given as numbers, one of them not a vertex; and a writer that fails.
 #[test]
 fn given_sources(rt: HostRuntime) -> Result<(), Fail> {
     let none = Err(BatchError::NoSuchVertex(5, Role::Source));

@@ -1,4 +1,4 @@
-//! Sources answered by several threads, as the system counts them.
+//! Sources answered by several threads, as counted by the system.
 ghost use denote.Param.Send.{IsSync};
 
 use crate::batches::{AMPLE, Case, Ran, run, width_of};
@@ -16,12 +16,12 @@ use std::thread::{Threads, available_parallelism, join};
 // Enough vertices for four threads.
 const N: u32 = 20_000;
 
-// A run is looked at no more often than this, and made no more often than that.
+// The greatest number of looks at a run, and of runs.
 const MOST_LOOKS: u32 = 100_000_000;
 
 const MOST_RUNS: u32 = 100;
 
-/// How many processors there are.
+/// The number of processors.
 pub(crate) fn count_processors(rt: &impl Threads) -> u64 {
     match available_parallelism(rt) {
         Ok(count) => count.get() as u64,
@@ -29,7 +29,7 @@ pub(crate) fn count_processors(rt: &impl Threads) -> u64 {
     }
 }
 
-// Three arcs a vertex, to heads behind it, and round from the last vertex to the first.
+// Three arcs from each vertex, to later vertices, wrapping round from the last vertex to the first.
 fn ring(alloc: Global) -> Result<String, Fail> {
     let mut text = format!(in alloc; "p sp {N} 60000\n")?;
     for place in 0..N {
@@ -42,7 +42,7 @@ fn ring(alloc: Global) -> Result<String, Fail> {
     Ok(text)
 }
 
-// How many threads this process has now.
+// The number of threads of this process now.
 fn count_threads<R: Files + AllocGlobal>(rt: &R) -> u64 {
     let Ok(text) = fs::read_to_string(rt, "/proc/self/status") else {
         return 0;
@@ -55,7 +55,7 @@ fn count_threads<R: Files + AllocGlobal>(rt: &R) -> u64 {
     0
 }
 
-// Looks until there are more threads than so many, or the run is done.
+// Looks until there are more than `usual` threads, or the run is done. Returns whether there were more.
 fn look<R: Files + AllocGlobal>(rt: &R, usual: u64, done: &AtomicBool) -> bool {
     for _ in 0..MOST_LOOKS {
         if count_threads(rt) > usual {
@@ -68,7 +68,7 @@ fn look<R: Files + AllocGlobal>(rt: &R, usual: u64, done: &AtomicBool) -> bool {
     false
 }
 
-// A batch, made on a thread of its own, and whether there were more threads meanwhile.
+// Runs a batch on a thread of its own, and returns whether there were more threads meanwhile.
 fn run_looked_at<R: Files + AllocGlobal + Threads + Wait + Sync + Abort>(
     rt: &R,
     case: Case,
@@ -87,7 +87,7 @@ fn run_looked_at<R: Files + AllocGlobal + Threads + Wait + Sync + Abort>(
     join(rt, run, || look(rt, usual, done))
 }
 
-// Runs until more threads were seen.
+// Repeats runs until more threads are seen.
 fn is_shared<R: Files + AllocGlobal + Threads + Wait + Sync + Abort>(
     rt: &R,
     case: Case,
@@ -106,7 +106,7 @@ fn is_shared<R: Files + AllocGlobal + Threads + Wait + Sync + Abort>(
     false
 }
 
-// Whether a batch starts threads where there are several processors, and gives what one worker does.
+// Whether a batch starts threads if there are several processors, and gives the same as one worker.
 fn starts_threads<R: Files + AllocGlobal + Threads + Wait + Sync + Abort>(
     rt: &R,
     case: Case,

@@ -11,10 +11,11 @@ abbrev pub text_in : List StoredFile → (path : List ℕ) → Option (List ℕ)
 text_in [] path = None
 text_in (file ∷ more) path = if bytes_eq file.path.now path then Some file.text.now else text_in more path
 
--- Exactly the paths of files are opened. No device fails.
+-- Exactly the paths of files are opened. No device fails. A file has one path.
 abbrev pub files_of : List StoredFile → Files
-files_of stored = record { text = text_in stored; opens = λ path. is_some (text_in stored path); failing = λ path. Never; may_show = false }
+files_of stored = record { text = text_in stored; opens = λ path. is_some (text_in stored path); failing = λ path. Never; may_show = false; same = λ output input. Some (bytes_eq output input) }
 
+-- This is what contracts see of a file that was kept: its path and its text.
 abbrev pub kept_of : KeptFile → Kept
 kept_of file = record { path = string_bytes file.path; text = Some file.output.taken.items }
 

@@ -1,4 +1,4 @@
-//! The lines of faults that no file brings about, and of faults of packed graphs, and their statuses.
+//! The printed lines and statuses of faults that no file causes, and of faults of packed graphs.
 use crate::shelf::AMPLE;
 use sp_command::{Fault, FileKind};
 use sp_device::{UpToWriter, WriteFault};
@@ -26,7 +26,7 @@ fn faults_of_memory_and_of_writing(rt: HostRuntime) {
     }
 }
 
-// Each kind of fault of a packed graph, with the status and the line that the specification gives it.
+// Each kind of fault of a packed graph, with its status and line from the specification.
 const PACKED: [(u64, PackedKind, u8, &str); 12] = [
     (
         0,

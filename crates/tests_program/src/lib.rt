@@ -1,5 +1,5 @@
-//! Tests of the program over memory: devices that fail, and files of output. What it writes where no device fails is compared by
-//! `tests/commands.py`.
+//! Tests of the program in memory: failing devices and output files. `tests/commands.py` compares what it writes when no device
+//! fails.
 #![tactic(auto)]
 
 mod memory;

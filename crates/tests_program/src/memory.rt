@@ -1,6 +1,6 @@
-//! Files in memory, of which contracts know everything: what they hold, and which files of output were kept with which text.
+//! Files in memory, about which contracts know everything: what they hold, and which output files were kept with which text.
 //!
-//! So the contracts of `Inputs` and `Outputs` say something that a real type meets.
+//! They show that a real type can meet the contracts of `Inputs` and `Outputs`.
 ghost use Rattle.std.specs.Prelude.{◌≡◌, ◌≤◌, ◌^◌, false, [], None, IfSome, MatchOption, string_bytes};
 ghost use Rattle.sp_device.specs.Failing.{Never};
 ghost use Rattle.tests_program.specs.Memory.{text_in, files_of, outputs_of};
@@ -13,7 +13,7 @@ use std::alloc::{AllocError, Global};
 // More bytes than any text here has.
 const AMPLE: usize = 1 << 24;
 
-/// A file of output that was kept.
+/// An output file that was kept.
 #[derive(Drop)]
 pub struct KeptFile {
     path: String,
@@ -21,7 +21,7 @@ pub struct KeptFile {
 }
 
 impl KeptFile {
-    /// Returns the path that the file was kept as.
+    /// Returns the path under which the file was kept.
     pub fn path(&self) -> &str
         ensures { result.now ≡ string_bytes self.now.path }
     {
@@ -36,18 +36,18 @@ impl KeptFile {
     }
 }
 
-/// Files in memory: those that a command can read, and those of its output that were kept.
+/// Files in memory: those that a command can read, and those of its output files that were kept.
 #[derive(Drop)]
 pub struct Memory<'a> {
     stored: &'a [StoredFile<'a>],
-    // The number of bytes that a file of output takes.
+    // The number of bytes that an output file takes.
     room: usize,
     kept: Vec<KeptFile>,
     ghost short: { room ≤ 2 ^ 62 },
 }
 
 impl<'a> Memory<'a> {
-    /// Returns memory with these files to read. A file of output takes `room` bytes, and then its device fails.
+    /// Returns memory with these files to read. An output file takes `room` bytes, and then its device fails.
     pub fn new(alloc: Global, stored: &'a [StoredFile<'a>], room: usize) -> Memory<'a>
         ensures stored { result.stored.now ≡ stored.now }
         ensures kept { result.kept.items ≡ [] }
@@ -59,7 +59,7 @@ impl<'a> Memory<'a> {
         }
     }
 
-    /// Returns the files of output that were kept, in their order.
+    /// Returns the output files that were kept, in order.
     pub fn kept(&self) -> &[KeptFile]
         ensures { result.now ≡ self.now.kept.items }
     {
@@ -89,6 +89,10 @@ impl<'a> Inputs for Memory<'a> {
 
     fn open_input(&self, path: &str) -> Option<UpTo<'a>> {
         reader(self.stored, path)
+    }
+
+    fn is_same_file(&self, output: &str, input: &str) -> bool {
+        output == input
     }
 }
 

@@ -1,4 +1,4 @@
-//! Files of output, in memory: which of them are kept, and with which text.
+//! Output files in memory: which of them are kept, and with which text.
 use crate::memory::Memory;
 use crate::stored::StoredFile;
 use sp_cli::run_command;
@@ -12,8 +12,8 @@ use std::thread::Threads;
 
 const AMPLE: usize = 1 << 20;
 
-// Runs the program on the words of a line, and asserts its status, what it tells first on standard error, and which files of
-// output are kept with which text. Nothing is written to standard output.
+// Runs the program on the words of a line, and asserts its status, the beginning of its standard error, and that it writes
+// nothing to standard output.
 fn expect<R: Abort + Threads + Wait + Sync>(
     rt: &R,
     alloc: Global,
@@ -94,7 +94,33 @@ fn lines_of_vertices_too_far_are_kept(rt: HostRuntime) -> Result<(), Fail> {
     Ok(())
 }
 
-// A beginning of the text was written to the second file.
+#[test]
+fn no_file_is_kept_in_place_of_an_input(rt: HostRuntime) -> Result<(), Fail> {
+    let stored = [
+        StoredFile::new("diamond.gr", DIAMOND.as_bytes()),
+        StoredFile::new("one.ss", FROM_1.as_bytes()),
+    ];
+    let mut memory = Memory::new(rt.alloc(), &stored, AMPLE);
+    for line in [
+        "spt tree diamond.gr one.ss --delta 2 -o diamond.gr",
+        "spt nearest diamond.gr one.ss -o one.ss",
+        "spt matrix diamond.gr none.ss one.ss -o one.ss",
+        "spt pack none.gr -o none.gr",
+    ] {
+        expect(
+            &rt,
+            rt.alloc(),
+            &mut memory,
+            line,
+            1,
+            "spt: output is an input\n",
+        )?;
+        assert!(rt; memory.kept().is_empty(), "in {line}");
+    }
+    Ok(())
+}
+
+// The beginning of a text was written to the second file.
 #[test]
 fn no_file_is_kept_after_a_fault(rt: HostRuntime) -> Result<(), Fail> {
     let stored = [

@@ -1,4 +1,4 @@
-//! Runs of the program over memory whose devices may fail.
+//! Runs of the program in memory, with devices that may fail.
 ghost use Rattle.std.specs.Prelude.{◌≡◌, false, IfSome};
 
 use sp_cli::{Inputs, Outputs, run_command};
@@ -13,12 +13,12 @@ use std::thread::Threads;
 /// More bytes than any text here has.
 pub const AMPLE: usize = 1 << 24;
 
-/// A file over memory.
+/// A file in memory.
 #[derive(Clone, Copy)]
 pub enum Stored<'a> {
-    /// It has these bytes.
+    /// Has these bytes.
     Whole(&'a [u8]),
-    /// It gives these bytes, and then its device fails.
+    /// Gives these bytes, and then its device fails.
     Failing(&'a [u8]),
 }
 
@@ -27,7 +27,7 @@ pub fn whole(text: &str) -> Stored<'_> {
     Stored::Whole(text.as_bytes())
 }
 
-// A device of which nothing is said of when it may fail.
+// A device whose contract says nothing about when it may fail.
 #[derive(Drop)]
 pub struct Device<R> {
     inner: R,
@@ -45,7 +45,7 @@ impl<R: Read> Read for Device<R> {
     }
 }
 
-// Files over memory, by name. None can be made.
+// Files in memory, by name. None can be created.
 #[derive(Clone, Copy)]
 struct Shelf<'a> {
     files: &'a [(&'a str, Stored<'a>)],
@@ -82,6 +82,10 @@ impl<'a> Inputs for Shelf<'a> {
         }
         None
     }
+
+    fn is_same_file(&self, _output: &str, _input: &str) -> bool {
+        false
+    }
 }
 
 fn reader<'a>(stored: Stored<'a>) -> Option<Device<UpTo<'a>>>
@@ -95,7 +99,7 @@ fn reader<'a>(stored: Stored<'a>) -> Option<Device<UpTo<'a>>>
     Some(Device { inner })
 }
 
-/// What a run of the program gave.
+/// The result of a run of the program.
 #[derive(Drop)]
 pub struct Ended {
     pub status: u8,
@@ -103,7 +107,7 @@ pub struct Ended {
     pub err: UpToWriter,
 }
 
-/// Runs the program on the words of a line, with one blank between two, and with streams that take so many bytes in all.
+/// Runs the program on the words of a line, separated by single blanks, with streams that take these numbers of bytes in all.
 pub fn run_into<R: Threads + Wait + Sync>(
     rt: &R,
     alloc: Global,
@@ -119,7 +123,7 @@ pub fn run_into<R: Threads + Wait + Sync>(
     Ok(Ended { status, out, err })
 }
 
-/// Asserts the status, and what stands on standard output and on standard error.
+/// Asserts the status, and the text of standard output and of standard error.
 pub fn expect(rt: &impl Abort, name: &str, ended: Ended, status: u8, out: &str, err: &str) {
     assert_eq!(rt; from_utf8(ended.err.taken()), Ok(err), "in {name}");
     assert_eq!(rt; from_utf8(ended.out.taken()), Ok(out), "in {name}");

@@ -1,4 +1,4 @@
-//! Files that fail, and writers that fail.
+//! Files and writers that fail.
 use crate::shelf::{AMPLE, Stored, expect, run_into, whole};
 use std::alloc::Global;
 use std::process::Abort;
@@ -93,7 +93,8 @@ fn files_that_fail(rt: HostRuntime) -> Result<(), Fail> {
     Ok(())
 }
 
-// Asserts that all but the last byte of a text can't be written, nor any beginning of it, and that all of it can.
+// Asserts that a writer with less room takes only that beginning of the text and the program fails, and that a writer with just
+// enough room takes all of it.
 fn fails_behind_each_byte<R: Abort + Threads + Wait + Sync>(
     rt: &R,
     alloc: Global,
@@ -146,7 +147,7 @@ fn writers_that_fail(rt: HostRuntime) -> Result<(), Fail> {
             "o 1 1 5 3 shorter 1 3\no 2 1 5 2 smaller 2 5\nw 1 5 2\nt 2 1\nclosed yes\n",
         ),
         ("spt offers f.off", 0, "w 1 7 2\ne 1\n"),
-        ("spt --version", 0, "spt 0.2.0\n"),
+        ("spt --version", 0, "spt 1.5.0\n"),
     ] {
         fails_behind_each_byte(&rt, rt.alloc(), line, status, text)?;
     }
@@ -159,7 +160,7 @@ fn writers_that_fail(rt: HostRuntime) -> Result<(), Fail> {
         "A shortest-path tree engine",
         "spt: write failed\n",
     );
-    // Of a picture a beginning stands too.
+    // Of a picture, a beginning is written too.
     let files = [("one.rep", whole("p rep 1 1\n"))];
     let ended = run_into(
         &rt,
@@ -172,7 +173,7 @@ fn writers_that_fail(rt: HostRuntime) -> Result<(), Fail> {
     Ok(())
 }
 
-// Whether standard error takes the line of a fault changes no status.
+// The status is the same whether or not standard error takes the line of a fault.
 #[test]
 fn errors_that_fail(rt: HostRuntime) -> Result<(), Fail> {
     let files = [("f.rep", whole("p rep 1 1\np rep 1 1\n"))];

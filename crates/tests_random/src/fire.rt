@@ -1,4 +1,4 @@
-//! Threads under fire: teams of several sizes and the plain program tell the same of 1,000 random graphs of every kind.
+//! Threads under fire: teams of several sizes agree with the plain program on 1,000 random graphs of every kind.
 ghost use Rattle.std.specs.Prelude.{◌≡◌, ◌≤◌, true};
 ghost use Rattle.sp_word.specs.Word.{is_layout, max_pred};
 
@@ -13,10 +13,10 @@ use std::thread::Threads;
 
 const TEAMS: [u32; 5] = [1, 2, 3, 8, 64];
 
-// A team larger than this answers for one graph of five: on busy processors the start of its threads takes most of the time.
+// A team larger than this answers for one graph in five: on busy processors, starting its threads takes most of the time.
 const MANY: u32 = 8;
 
-// The width of a bucket: 1, an arc, some arcs, or all in one.
+// The width of a bucket: 1, the mean length of an arc, eight times that, or the greatest width.
 fn width_of<const P: u32>(graph: &Graph, number: u32) -> u64
     requires { is_layout P ≡ true }
 {
@@ -29,7 +29,7 @@ fn width_of<const P: u32>(graph: &Graph, number: u32) -> u64
     }
 }
 
-// Lets each team answer for the graph of this number.
+// Lets each team answer for the graph with this number.
 fn compare_teams<const P: u32>(
     rt: &(impl Abort + AllocGlobal + Threads + Wait + Sync),
     graph: &Graph,
@@ -50,7 +50,7 @@ fn compare_teams<const P: u32>(
     }
 }
 
-// The same for random graphs of a kind, from a random source each.
+// Does the same for random graphs of a kind, each from a random source.
 fn fire<const P: u32>(
     rt: &(impl Abort + AllocGlobal + Threads + Wait + Sync),
     kind: GraphKind,

@@ -1,5 +1,5 @@
-//! Whole runs on random graphs beside the plain program, and runs within a distance, from several sources and for several
-//! targets, on worked examples too. Under checks, which nothing proved stands in for, they take minutes.
+//! Whole runs on random graphs compared with the plain program, and runs within a distance, from several sources and for several
+//! targets, on worked examples too. Compiled unproved, with checks in the code, they take minutes.
 #![tactic(auto)]
 
 #[cfg(test)]

@@ -1,4 +1,4 @@
-//! Tests of runs within a distance, from several sources, and for several targets, by their public calls.
+//! Tests of runs within a distance, from several sources, and for several targets, through the public calls.
 
 mod nearest;
 mod plain;

@@ -1,5 +1,5 @@
-//! Where memory is refused, a team's run tells that, or the answer of ample memory. These tests are to pass also where any one
-//! request for memory is refused.
+//! If memory is refused, a team's run reports that, or returns the answer that it returns with ample memory. These tests also
+//! pass if any one request for memory is refused.
 ghost use Rattle.std.specs.Prelude.{◌≡◌, true};
 ghost use Rattle.sp_word.specs.Word.{is_layout};
 

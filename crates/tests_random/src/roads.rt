@@ -1,4 +1,4 @@
-//! The engine and the plain program tell the same of graphs of the size and the shape of a town's roads.
+//! The engine and the plain program agree on graphs with the size and the shape of a town's roads.
 ghost use Rattle.std.specs.Prelude.{◌≡◌, ◌≤◌, IfOk};
 
 use crate::runs::{run, run_by_team, same};
@@ -11,23 +11,23 @@ use std::sync::Wait;
 use std::thread::Threads;
 use tests_samples::{Triple, graph_of};
 
-// Vertices stand on a square grid, row by row.
+// Vertices form a square grid, row by row.
 const SIDE: u32 = 100;
 
 const N: u32 = 10_000;
 
-// Streets lead both ways between neighbours on the grid, and roads between any two vertices.
+// Streets lead both ways between neighbours on the grid; roads lead both ways between any two vertices.
 #[derive(Clone, Copy)]
 struct RoadMap {
-    // how many of a hundred streets there are
+    // the share of possible streets that exist, in percent
     kept: u32,
     // a street's length is from 1 more than this ..
     base: u32,
-    // .. up to so much more
+    // .. up to the sum of both
     spread: u32,
     // roads, each from 5,000 to 50,000 long
     roads: u32,
-    // no street leads from one of so many parts to another
+    // the number of parts; no street leads from one part to another
     parts: u32,
     ghost some: { 1 ≤ spread },
 }
@@ -62,12 +62,12 @@ fn push_both(arcs: &mut Vec<Triple>, one: u32, other: u32, len: u32) -> Result<(
     Ok(())
 }
 
-// In which part a vertex lies.
+// The part to which a vertex belongs.
 fn part_of(map: RoadMap, vertex: u32) -> u64 {
     u64::from(vertex.saturating_sub(1)) * u64::from(map.parts) / u64::from(N)
 }
 
-// Perhaps a street from a vertex to the one so many steps later.
+// Adds a street, at random, from a vertex to the one that is `step` vertices later.
 fn push_street(
     map: RoadMap,
     random: &mut Random,
@@ -117,7 +117,7 @@ fn graph_by(alloc: Global, map: RoadMap, random: &mut Random) -> Result<Graph, A
     graph_of(alloc, N, &arcs)
 }
 
-// Short rounds are the leader's alone, for several widths of a bucket.
+// Compares a team's runs with the plain program for several bucket widths.
 fn compare_widths(
     rt: &(impl Abort + AllocGlobal + Threads + Wait + Sync),
     graph: &Graph,
@@ -141,8 +141,8 @@ fn compare_widths(
     }
 }
 
-// Every round is shared, in wide buckets, so that there are not too many. The source isn't cut off: 1,000 vertices are
-// reached.
+// Compares runs that share every round. The buckets are wide, so that there aren't too many rounds. The source isn't cut off: the
+// run reaches at least 1,000 vertices.
 fn compare_shared(
     rt: &(impl Abort + AllocGlobal + Threads + Wait + Sync),
     graph: &Graph,
@@ -159,7 +159,7 @@ fn compare_shared(
     }
 }
 
-// Compares both on the graph that the seed gives, from a source that it gives too.
+// Compares both on the graph and the source that the seed gives.
 fn compare(
     rt: &(impl Abort + AllocGlobal + Threads + Wait + Sync),
     map: RoadMap,

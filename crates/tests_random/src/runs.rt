@@ -1,4 +1,4 @@
-//! Runs by rounds and by a team, and what the plain program tells.
+//! Runs by rounds and by a team, compared with the plain program.
 ghost use Rattle.std.specs.Prelude.{◌≡◌, ◌≤◌, true};
 ghost use Rattle.sp_word.specs.Word.{is_layout, max_pred};
 
@@ -13,7 +13,7 @@ use std::process::Abort;
 use std::sync::Wait;
 use std::thread::Threads;
 
-// Buckets so wide, and so many workers.
+// A team with this bucket width and this many workers.
 fn team<const P: u32>(rt: &impl Abort, width: u64, workers: u32) -> Team<P>
     requires { is_layout P ≡ true }
 {
@@ -22,7 +22,7 @@ fn team<const P: u32>(rt: &impl Abort, width: u64, workers: u32) -> Team<P>
     Team { delta, workers }
 }
 
-/// What a run tells, every round of which is shared among the workers.
+/// The result of a run in which the workers share every round.
 pub(crate) fn run<const P: u32>(
     rt: &(impl Abort + AllocGlobal + Threads + Wait + Sync),
     graph: &Graph,
@@ -45,7 +45,7 @@ pub(crate) fn run<const P: u32>(
     )
 }
 
-/// The same, by a team that lasts.
+/// The same by a team that lasts for the whole run.
 pub(crate) fn run_by_team<const P: u32>(
     rt: &(impl Abort + AllocGlobal + Threads + Wait + Sync),
     graph: &Graph,
@@ -60,7 +60,7 @@ pub(crate) fn run_by_team<const P: u32>(
     sp_run::run_by_team(rt, rt.alloc(), graph, team, &Meter::new(), source)
 }
 
-/// Whether a run tells what the plain program does.
+/// Whether a run's result matches the plain program's answer.
 pub(crate) fn same<const P: u32>(told: &Result<Tree<P>, RunError>, plain: &Answer<P>) -> bool {
     match (told, plain) {
         (Err(RunError::TooFar(vertex)), Answer::TooFar(far)) => vertex == far,

@@ -1,4 +1,4 @@
-//! The engine and the plain program tell the same of random graphs.
+//! The engine and the plain program agree on random graphs.
 ghost use Rattle.std.specs.Prelude.{◌≡◌, ◌≤◌, true, IfOk};
 ghost use Rattle.sp_word.specs.Word.{is_layout, max_pred};
 
@@ -12,19 +12,18 @@ use std::sync::Wait;
 use std::thread::Threads;
 use tests_samples::graph_of;
 
-// A run by rounds starts its threads anew in each round, which takes long on a busy machine: several workers run so for one graph in
-// this many.
+// A run by rounds starts new threads in each round, which takes long on a busy machine, so several workers do this only for one
+// graph in this many.
 const SHARED: u32 = 10;
 
-// An arc between any two of `n` vertices.
+// A random arc between any two of `n` vertices.
 fn random_arc(random: &mut Random, n: u32, longest: u32) -> (u32, u32, u32)
     requires { (1 ≤ n) × (1 ≤ longest) }
 {
     (random.up_to(n), random.up_to(n), random.up_to(longest))
 }
 
-// A graph of 1 to 200 vertices with up to three arcs a vertex: loops, parallel arcs, ties and unreached parts come by
-// themselves.
+// A graph of 1 to 200 vertices with up to three arcs a vertex. Loops, parallel arcs, ties and unreached parts occur by chance.
 fn random_graph(alloc: Global, random: &mut Random, longest: u32) -> Result<Graph, AllocError>
     requires { 1 ≤ longest }
     ensures { IfOk result (λ graph. (1 ≤ graph.n) × (graph.n ≤ 200)) }
@@ -38,7 +37,7 @@ fn random_graph(alloc: Global, random: &mut Random, longest: u32) -> Result<Grap
     graph_of(alloc, n, &arcs)
 }
 
-// Every number of workers with this width of a bucket, by a team, and by rounds that are all shared where that isn't left out.
+// Compares every number of workers with this bucket width: by a team, and, unless skipped, by rounds that are all shared.
 fn compare_crews<const P: u32>(
     rt: &(impl Abort + AllocGlobal + Threads + Wait + Sync),
     graph: &Graph,
@@ -66,7 +65,7 @@ fn compare_crews<const P: u32>(
     }
 }
 
-// The same with several widths.
+// Compares runs with several widths.
 fn compare_runs<const P: u32>(
     rt: &(impl Abort + AllocGlobal + Threads + Wait + Sync),
     graph: &Graph,
@@ -84,7 +83,7 @@ fn compare_runs<const P: u32>(
     }
 }
 
-// Compares both on random graphs, from a random source each.
+// Compares the engine and the plain program on random graphs, each from a random source.
 fn compare<const P: u32>(
     rt: &(impl Abort + AllocGlobal + Threads + Wait + Sync),
     seed: u64,

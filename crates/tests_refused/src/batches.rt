@@ -1,4 +1,4 @@
-//! From bytes to bytes: texts in memory, and standard output.
+//! Jobs from bytes to bytes: texts in memory, and standard output.
 ghost use Rattle.std.specs.Prelude.{◌≡◌, IfOk};
 ghost use Rattle.sp_jobs.specs.Listing.{IsNumbered};
 
@@ -21,7 +21,7 @@ use std::sync::Wait;
 use std::thread::Threads;
 use tests_samples::FROM_ONE;
 
-// Whether memory is what was wanting.
+// Whether memory was refused.
 fn is_memory(error: BatchError) -> bool {
     match error {
         BatchError::Memory => true,
@@ -34,7 +34,7 @@ fn is_memory(error: BatchError) -> bool {
     }
 }
 
-// How a batch ended.
+// Prints how a batch ended.
 fn tell_batch<R: Print>(rt: &R, answer: Result<Summary, BatchError>) -> io::Result<Ending> {
     match answer {
         Ok(summary) => {
@@ -51,7 +51,7 @@ fn tell_batch<R: Print>(rt: &R, answer: Result<Summary, BatchError>) -> io::Resu
     }
 }
 
-/// A batch from vertex 1.
+/// Runs a batch from vertex 1.
 pub fn call_run_batch<R: AllocGlobal + Print + Threads + Wait + Sync, W: Write>(
     rt: &R,
     out: &mut W,
@@ -65,7 +65,7 @@ pub fn call_run_batch<R: AllocGlobal + Print + Threads + Wait + Sync, W: Write>(
     tell_batch(rt, answer)
 }
 
-/// Two pairs.
+/// Answers two pairs.
 pub fn call_run_pairs<R: AllocGlobal + Print + Threads + Wait + Sync, W: Write>(
     rt: &R,
     out: &mut W,
@@ -75,8 +75,8 @@ pub fn call_run_pairs<R: AllocGlobal + Print + Threads + Wait + Sync, W: Write>(
     let mut gr = Peeked::new(OfRead::new(sample.gr().as_bytes()));
     let mut pairs = OfRead::new(sample.pairs().as_bytes());
     let width = BucketWidth::MeanLength;
-    let answer = run_pairs::<28, R, _, _, _>(
-        rt,
+    let answer = run_pairs::<28, &R, _, _, _>(
+        &rt,
         rt.alloc(),
         &mut gr,
         &mut pairs,
@@ -87,7 +87,7 @@ pub fn call_run_pairs<R: AllocGlobal + Print + Threads + Wait + Sync, W: Write>(
     tell_batch(rt, answer)
 }
 
-// A list of a text that is owned.
+// A list from an owned text.
 type List = Listing<'static, OfRead<VecDeque<u8>>>;
 
 // The list of this text.
@@ -98,7 +98,7 @@ fn listed(alloc: Global, text: &str) -> Result<List, AllocError>
     Ok(Listing::InText(OfRead::new(VecDeque::from(bytes)), None))
 }
 
-/// A matrix of one row, from vertex 1.
+/// Writes a matrix of one row, from vertex 1.
 pub fn call_run_matrix<R: AllocGlobal + Print + Threads + Wait + Sync, W: Write>(
     rt: &R,
     out: &mut W,
@@ -129,7 +129,7 @@ pub fn call_run_matrix<R: AllocGlobal + Print + Threads + Wait + Sync, W: Write>
     tell_batch(rt, answer)
 }
 
-/// The forest of vertex 1 alone.
+/// Writes the forest of vertex 1 alone.
 pub fn call_run_nearest<R: AllocGlobal + Print + Threads + Wait + Sync, W: Write>(
     rt: &R,
     out: &mut W,
@@ -145,8 +145,8 @@ pub fn call_run_nearest<R: AllocGlobal + Print + Threads + Wait + Sync, W: Write
     let Ok(sources) = listed(rt.alloc(), FROM_ONE) else {
         return Ok(Ending::Memory);
     };
-    let answer = run_nearest_told::<28, R, _, _, _, _>(
-        rt,
+    let answer = run_nearest_told::<28, &R, _, _, _, _>(
+        &rt,
         rt.alloc(),
         &mut Peeked::new(OfRead::new(sample.gr().as_bytes())),
         sources,

@@ -1,4 +1,4 @@
-//! The checker, trees that are written, the step machine and its files.
+//! The checker, writing trees, and the step machine with its files.
 use crate::report::{Ending, tell_fault, tell_written};
 use crate::sample::Sample;
 use sp_cert::{CheckError, check};
@@ -27,7 +27,7 @@ pub fn call_check<R: AllocGlobal + Print + Threads + Sync>(
     Ok(Ending::Answered)
 }
 
-/// Writes the sample's tree in pages. It is written, whether there is memory for a page or not.
+/// Writes the sample's tree in pages. It is written whether or not there is memory for a page.
 pub fn call_write_tree_in_pages<R: AllocGlobal, W: Write>(
     rt: &R,
     out: &mut W,

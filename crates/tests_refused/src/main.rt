@@ -1,5 +1,5 @@
-//! Makes one call of the library on a sample, for `tests/refused.py`, which refuses it memory. What the call answers stands on
-//! standard output, with status 0. Where it tells that memory is wanting, status 5; where that was so outside of it, 9.
+//! Makes one call of the library on a sample, for `tests/refused.py`, which refuses memory to it. Standard output has the call's
+//! answer, with status 0. The status is 5 if the call reports that memory was refused, and 9 if memory was refused outside it.
 #![tactic(auto)]
 
 mod batches;
@@ -21,7 +21,7 @@ use std::sync::Wait;
 use std::thread::Threads;
 use std::{env, io};
 
-// The call of this name.
+// Makes the call with this name.
 fn call<R: AllocGlobal + Eprint + Print + Threads + Wait + Sync, W: Write>(
     rt: &R,
     out: &mut W,
@@ -56,7 +56,7 @@ fn call<R: AllocGlobal + Eprint + Print + Threads + Wait + Sync, W: Write>(
     }
 }
 
-// The call that the words of the command line name: its name, a sample and the number of workers.
+// Makes the call that the words of the command line specify: its name, a sample and the number of workers.
 fn call_by_words<R: AllocGlobal + Eprint + Print + Threads + Wait + Sync, W: Write>(
     rt: &R,
     out: &mut W,

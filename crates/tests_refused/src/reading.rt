@@ -1,4 +1,4 @@
-//! The readers, over texts in memory.
+//! The readers, on texts in memory.
 use crate::report::{Ending, tell_fault, tell_packed_fault, tell_tree};
 use crate::sample::Sample;
 use sp_dimacs::{MOST_ARCS, OfRead, Write, read_gr, read_pairs, read_ss};
@@ -38,7 +38,7 @@ pub fn call_read_packed<R: AllocGlobal + Eprint + Print>(
     Ok(Ending::Answered)
 }
 
-/// Reads a list of one source, and prints it.
+/// Reads a list of one source, and prints the source.
 pub fn call_read_ss<R: AllocGlobal + Eprint + Print>(
     rt: &R,
     _sample: Sample,
@@ -70,7 +70,7 @@ pub fn call_read_pairs<R: AllocGlobal + Eprint + Print>(
     Ok(Ending::Answered)
 }
 
-/// Reads the tree, and writes it.
+/// Reads the tree, and writes it out.
 pub fn call_read_tree<R: AllocGlobal + Eprint, W: Write>(
     rt: &R,
     out: &mut W,

@@ -1,4 +1,4 @@
-//! What a call told, on standard output.
+//! Reports the result of a call on standard output.
 use sp_device::{Write, WriteFault};
 use sp_files::{Tree, write_far, write_tree};
 use sp_packed::{PackedFault, PackedKind};
@@ -6,7 +6,7 @@ use sp_phase::RunError;
 use sp_text::{DimacsError, Kind};
 use std::io;
 
-/// How a call ended. `Wrong` is what no contract lets it answer here.
+/// How a call ended. `Wrong` is an answer that its contract rules out here.
 #[derive(Clone, Copy)]
 pub enum Ending {
     Answered,
@@ -14,7 +14,7 @@ pub enum Ending {
     Wrong,
 }
 
-/// A fault of a text of a sample, which has none but want of memory.
+/// Reports a fault of a sample's text. The text itself has none, so it must be that memory was refused.
 pub fn tell_fault<R: Eprint>(rt: &R, fault: DimacsError) -> io::Result<Ending> {
     eprintln!(rt; "{fault}")?;
     if matches!(fault.kind, Kind::Memory) {
@@ -24,7 +24,7 @@ pub fn tell_fault<R: Eprint>(rt: &R, fault: DimacsError) -> io::Result<Ending> {
     }
 }
 
-/// The same of a packed graph of a sample.
+/// Does the same for a sample's packed graph.
 pub fn tell_packed_fault<R: Eprint>(rt: &R, fault: PackedFault) -> io::Result<Ending> {
     eprintln!(rt; "{fault}")?;
     if matches!(fault.kind, PackedKind::Memory) {
@@ -34,7 +34,7 @@ pub fn tell_packed_fault<R: Eprint>(rt: &R, fault: PackedFault) -> io::Result<En
     }
 }
 
-/// Whether the text was written.
+/// Reports whether the text was written.
 pub fn tell_written(written: Result<u64, WriteFault>) -> Ending {
     match written {
         Ok(_) => Ending::Answered,
@@ -42,7 +42,7 @@ pub fn tell_written(written: Result<u64, WriteFault>) -> Ending {
     }
 }
 
-/// Why a run from vertex 1 has no tree.
+/// Reports why a run from vertex 1 has no tree.
 pub fn tell_refusal<W: Write>(out: &mut W, refusal: RunError) -> Ending {
     match refusal {
         RunError::Memory => Ending::Memory,
@@ -51,12 +51,12 @@ pub fn tell_refusal<W: Write>(out: &mut W, refusal: RunError) -> Ending {
     }
 }
 
-/// The tree's block.
+/// Writes the tree's block.
 pub fn tell_tree<W: Write>(out: &mut W, tree: &Tree<28>) -> Ending {
     tell_written(write_tree(tree, out))
 }
 
-/// The tree's block, or why there is none.
+/// Writes the tree's block, or reports why there is none.
 pub fn tell_run<W: Write>(out: &mut W, answer: Result<Tree<28>, RunError>) -> Ending {
     match answer {
         Ok(tree) => tell_tree(out, &tree),

@@ -1,4 +1,4 @@
-//! The round at which two workers meet, and its tasks once more under the next number.
+//! A round in which two workers meet, and its tasks again under the next number.
 ghost use Rattle.std.specs.Prelude.{◌≡◌, All, IfOk, IfErr};
 ghost use Rattle.sp_word.specs.Word.{max_dist};
 ghost use Rattle.sp_offer.specs.Order.{lawful};
@@ -40,7 +40,7 @@ fn tasks_over(rows: &Rows) -> [Task; 2]
     ]
 }
 
-// Caller and claimer, and what the round found, where it wasn't refused.
+// Returns the caller, the claimer, and what the round found, unless it was refused memory.
 fn give_back(answer: Result<RoundOut, RoundRefused>) -> (Caller, Claimer, Option<Vec<Entry>>)
     ensures caller { IfOk answer (λ out. result.0 ≡ out.caller) }
     ensures claimer { IfOk answer (λ out. result.1 ≡ out.claimer) }
@@ -53,13 +53,13 @@ fn give_back(answer: Result<RoundOut, RoundRefused>) -> (Caller, Claimer, Option
     }
 }
 
-// Whether both tasks found what they lead to, in either order.
+// Whether both tasks found their heads, in either order.
 fn is_found(found: &[Entry]) -> bool {
     let (fourth, fifth) = (Entry { vertex: 4, dist: 2 }, Entry { vertex: 5, dist: 2 });
     found.len() == 2 && found.contains(&fourth) && found.contains(&fifth)
 }
 
-// How two rounds ended of which one at most was refused memory.
+// Reports how two rounds ended, when at most one of them may be refused memory.
 fn tell_rounds(first: Option<Vec<Entry>>, second: Option<Vec<Entry>>) -> Ending {
     match (&first, &second) {
         (Some(found), Some(_)) if is_found(found) => Ending::Answered,
@@ -69,7 +69,7 @@ fn tell_rounds(first: Option<Vec<Entry>>, second: Option<Vec<Entry>>) -> Ending 
     }
 }
 
-// The words of all vertices.
+// Prints the words of all vertices.
 fn print_words<R: Print>(
     rt: &R,
     table: &OfferTable<AnyWord, 28>,
@@ -88,8 +88,8 @@ fn print_words<R: Print>(
     Ok(())
 }
 
-/// One round by this number of workers, then the same tasks under the next number, and the words that are left: the same,
-/// whichever of the two was refused memory.
+/// Plays one round with this number of workers, then the same tasks under the next number, and prints the final words, which are
+/// the same whichever of the two was refused memory.
 pub fn call_round<R: AllocGlobal + Print + Threads + Wait + Sync>(
     rt: &R,
     workers: Workers,

@@ -28,7 +28,7 @@ pub fn call_build<R: AllocGlobal + Print>(rt: &R, sample: Sample) -> io::Result<
     Ok(Ending::Answered)
 }
 
-/// A run by as many workers as are of use.
+/// A run by as many workers as are useful.
 pub fn call_run_source<R: AllocGlobal + Print + Threads + Wait + Sync, W: Write>(
     rt: &R,
     out: &mut W,
@@ -60,7 +60,7 @@ pub fn call_run_source_with<R: AllocGlobal + Print + Threads + Wait + Sync, W: W
     Ok(tell_run(out, answer))
 }
 
-/// A run by a team of just so many.
+/// A run by a team of exactly this many workers.
 pub fn call_run_by_team<R: AllocGlobal + Print + Threads + Wait + Sync, W: Write>(
     rt: &R,
     out: &mut W,
@@ -95,7 +95,7 @@ pub fn call_run_pair<R: AllocGlobal + Print + Threads + Wait + Sync, W: Write>(
     }
 }
 
-// What a run tells of the target at this place.
+// Prints the answer for a target.
 fn tell_target<R: Print>(rt: &R, answer: PairAnswer) -> io::Result<()> {
     match answer {
         PairAnswer::Found { dist, pred } => println!(rt; "{dist} {pred}"),

@@ -10,8 +10,8 @@ use tests_samples::{DIAMOND, DIAMOND_GR, DIAMOND_TREE, graph_of, long_path};
 const LONG_GR: &str =
     "p sp 18 17\na 1 2 4294967295\na 2 3 4294967295\na 3 4 4294967295\na 4 5 4294967295\na 5 6 4294967295\na 6 7 4294967295\na 7 8 4294967295\na 8 9 4294967295\na 9 10 4294967295\na 10 11 4294967295\na 11 12 4294967295\na 12 13 4294967295\na 13 14 4294967295\na 14 15 4294967295\na 15 16 4294967295\na 16 17 4294967295\na 17 18 15\n";
 
-// The same graphs packed: numbers of four bytes each, the lowest first. Behind the mark stand the numbers of vertices and arcs, where
-// the rows end, head and length of each arc, and the sum.
+// The same graphs packed: numbers of four bytes, lowest byte first. After the mark come the numbers of vertices and arcs, the
+// ends of the rows, the head and length of each arc, and the sum.
 const DIAMOND_PACKED: &[u8] = b"\x89SPT\r\n\x1a\x01\x04\0\0\0\x05\0\0\0\
 \0\0\0\0\x03\0\0\0\x04\0\0\0\x05\0\0\0\
 \x05\0\0\0\x02\0\0\0\x03\0\0\0\x03\0\0\0\
@@ -45,7 +45,7 @@ const DIAMOND_REP: &str =
 
 const LOST_EXCHANGE_REP: &str = "p rep 1 2\no 1 1 5 3\no 2 1 5 2\ns 1\ns 2\ns 1\ns 2\ns 2\n";
 
-/// One of the two.
+/// One of the two samples.
 #[derive(Clone, Copy)]
 pub enum Sample {
     Diamond,
@@ -78,7 +78,7 @@ impl Sample {
         }
     }
 
-    /// The text of its tree from vertex 1, without a vertex that is too far.
+    /// The text of its tree from vertex 1, without vertices that are too far.
     pub fn tree(self) -> &'static str {
         match self {
             Sample::Diamond => DIAMOND_TREE,
@@ -86,7 +86,7 @@ impl Sample {
         }
     }
 
-    /// The text of two pairs, the first of them to its last vertex.
+    /// The text of two pairs; the target of the first is the last vertex.
     pub fn pairs(self) -> &'static str {
         match self {
             Sample::Diamond => "p pairs 2\nq 1 4\nq 4 1\n",
@@ -94,7 +94,7 @@ impl Sample {
         }
     }
 
-    /// The text of a list of two targets, its last vertex and the first.
+    /// The text of a list of two targets, the last vertex and the first.
     pub fn targets(self) -> &'static str {
         match self {
             Sample::Diamond => "p aux sp ss 2\ns 4\ns 1\n",

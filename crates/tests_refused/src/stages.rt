@@ -1,4 +1,4 @@
-//! A run by rounds, bucket by bucket; and that it is spent once memory was refused to it.
+//! A run by rounds, bucket by bucket, which is spent once memory was refused to it.
 use crate::report::{Ending, tell_refusal, tell_tree};
 use crate::sample::Sample;
 use sp_device::Write;
@@ -12,7 +12,7 @@ use std::thread::Threads;
 // More buckets than any sample has.
 const MOST_BUCKETS: u32 = 40;
 
-// How a run that was refused memory ends: every further call is to answer Memory.
+// Reports how a run that was refused memory ends: every further call must fail with `Memory`.
 fn tell_spent<R: Threads + Wait + Sync>(rt: &R, mut run: Run<28>) -> Ending {
     let settled = run.settle(rt, &OpenGate);
     let heavy = run.heavy(rt, &OpenGate);
@@ -27,7 +27,7 @@ fn tell_spent<R: Threads + Wait + Sync>(rt: &R, mut run: Run<28>) -> Ending {
     }
 }
 
-// Settles all buckets, and prints the number of each. It tells whether memory was refused.
+// Settles all buckets, and prints the number of each. Returns whether memory was refused.
 fn settle_all<R: Print + Threads + Wait + Sync>(rt: &R, run: &mut Run<28>) -> io::Result<bool> {
     for _ in 0..MOST_BUCKETS {
         let bucket = match run.settle(rt, &OpenGate) {
@@ -43,7 +43,7 @@ fn settle_all<R: Print + Threads + Wait + Sync>(rt: &R, run: &mut Run<28>) -> io
     Ok(false)
 }
 
-// The tree's block, or why there is none.
+// Writes the tree's block, or reports why there is none.
 fn finish<R: Threads + Wait + Sync, W: Write>(rt: &R, out: &mut W, run: Run<28>) -> Ending {
     match run.finish(rt, &OpenGate) {
         Ok((tree, _)) => tell_tree(out, &tree),
@@ -51,7 +51,7 @@ fn finish<R: Threads + Wait + Sync, W: Write>(rt: &R, out: &mut W, run: Run<28>)
     }
 }
 
-/// A run from vertex 1 by `begin`, then `settle` and `heavy` for each bucket, and `finish`.
+/// Runs from vertex 1: `begin`, then `settle` and `heavy` for each bucket, and `finish`.
 pub fn call_run<R: AllocGlobal + Print + Threads + Wait + Sync, W: Write>(
     rt: &R,
     out: &mut W,

@@ -5,7 +5,7 @@ use std::alloc::{AllocError, Global};
 use std::test::Fail;
 use std::thread::{Threads, join};
 
-// What claims of a slot for rounds 1, 1, 2 and 1 are granted.
+// The grants of claims of a slot for rounds 1, 1, 2 and 1.
 fn grants(alloc: Global) -> Result<[Option<Grant>; 4], AllocError> {
     let (table, mut claimer) = ClaimTable::new(alloc, 1)?;
     Ok([
@@ -33,7 +33,7 @@ fn round_0_is_never_granted(rt: HostRuntime) -> Result<(), Fail> {
     Ok(())
 }
 
-// Claims each slot for round 1, and tells which were granted.
+// Claims each slot for round 1, and returns which claims were granted.
 fn claim_each(table: &ClaimTable, claimer: Claimer) -> (Claimer, [bool; 64])
     requires table { claimer.table ≡ table.now }
     requires slots { table.now.words ≡ 64 }
@@ -47,7 +47,7 @@ fn claim_each(table: &ClaimTable, claimer: Claimer) -> (Claimer, [bool; 64])
     (claimer, granted)
 }
 
-// What two threads are granted that claim each slot, and what their claimers are together afterwards.
+// The grants of two threads that claim each slot, and the grants of the claimer that joins theirs.
 fn claim_by_two<R: Threads + Sync>(
     rt: &R,
     table: &ClaimTable,

@@ -1,4 +1,4 @@
-//! Tests of claim marks, of rounds, of what arcs show, and of whole runs, by their public calls.
+//! Tests of claim marks, of rounds, of what arcs show, and of whole runs, through the public calls.
 #![tactic(auto)]
 
 #[cfg(test)]

@@ -1,4 +1,4 @@
-//! Runs on small graphs, for several numbers of workers and widths of a bucket.
+//! Runs on small graphs, with several numbers of workers and bucket widths.
 ghost use Rattle.std.specs.Prelude.{◌≡◌, ◌≤◌, IfOk};
 
 use sp_files::Tree;
@@ -15,7 +15,6 @@ use std::test::Fail;
 use std::thread::Threads;
 use tests_samples::{DIAMOND, DIAMOND_ROWS, Triple, graph_of, long_path};
 
-mod lending;
 mod meeting;
 mod pairs;
 mod refused;
@@ -28,20 +27,20 @@ const WORKERS: [u32; 3] = [1, 2, 64];
 // A row of a tree: vertex, distance, predecessor.
 type Row = (u32, u64, u32);
 
-// What is told of a run: the rows of the tree, or why there is none.
+// The expected result of a run: the rows of the tree, or why there is none.
 type Told<'w> = Result<&'w [Row], RunError>;
 
-// So many workers.
+// This many workers.
 pub(crate) fn crew(rt: &impl Abort, number: u32) -> Workers {
     Workers::new(number).expect(rt, "a number of workers in range")
 }
 
-// Buckets so wide.
+// This bucket width.
 fn width(rt: &impl Abort, width: u64) -> Delta<28> {
     Delta::new(width).expect(rt, "a width in range")
 }
 
-// What a run tells, every round of which is shared among the workers.
+// The result of a run in which the workers share every round.
 fn run(
     rt: &(impl Abort + AllocGlobal + Threads + Wait + Sync),
     graph: &Graph,
@@ -55,7 +54,7 @@ fn run(
     run_source_with(rt, rt.alloc(), graph, delta, workers, source, &OpenGate)
 }
 
-// The same, by a team that lasts, which counts on a meter.
+// The same by a team that lasts for the whole run and counts on a meter.
 fn run_by_team(
     rt: &(impl Abort + AllocGlobal + Threads + Wait + Sync),
     graph: &Graph,
@@ -71,7 +70,7 @@ fn run_by_team(
     sp_run::run_by_team(rt, rt.alloc(), graph, team, meter, 1)
 }
 
-// The first caller of a store, and another.
+// Splits the caller of a store in two.
 fn split(store: &Store<28>, caller: Caller) -> (Caller, Caller)
     requires { caller.table ≡ store.now.table }
     ensures first { result.0.table ≡ store.now.table }
@@ -91,7 +90,7 @@ fn has_rows(tree: &Tree<28>, want: &[Row]) -> bool {
         })
 }
 
-// Whether a run tells this.
+// Whether a run has this result.
 fn is_told(told: &Result<Tree<28>, RunError>, want: Told<'_>) -> bool {
     match (told, want) {
         (Ok(tree), Ok(rows)) => has_rows(tree, rows),
@@ -100,7 +99,7 @@ fn is_told(told: &Result<Tree<28>, RunError>, want: Told<'_>) -> bool {
     }
 }
 
-// Whether runs by every number of workers tell this.
+// Whether runs with each number of workers have this result.
 fn crews_tell(
     rt: &(impl Abort + AllocGlobal + Threads + Wait + Sync),
     graph: &Graph,
@@ -119,7 +118,7 @@ fn crews_tell(
     true
 }
 
-// Whether runs on the graph of these arcs do, with each of these widths.
+// Whether runs on the graph of these arcs have this result, with each of these widths.
 fn all_tell(
     rt: &(impl Abort + AllocGlobal + Threads + Wait + Sync),
     n: u32,
@@ -139,7 +138,7 @@ fn all_tell(
     Ok(true)
 }
 
-// The rows of the long path from its first vertex, the last one's distance and predecessor being these.
+// The rows of the long path from its first vertex; the last vertex has this distance and predecessor.
 fn path_rows(alloc: Global, dist: u64, pred: u32) -> Result<Vec<Row>, AllocError> {
     let mut rows = Vec::new(alloc);
     for place in 0..17u32 {
@@ -157,7 +156,7 @@ fn diamond(rt: HostRuntime) -> Result<(), Fail> {
     Ok(())
 }
 
-// Whether teams of every number of workers find the diamond's tree.
+// Whether teams of each size find the diamond's tree.
 fn teams_find_it(rt: &(impl Abort + AllocGlobal + Threads + Wait + Sync), graph: &Graph) -> bool
     requires { graph.now.n ≤ 10000 }
 {
@@ -180,7 +179,7 @@ fn by_a_team(rt: HostRuntime) -> Result<(), Fail> {
     Ok(())
 }
 
-// The graph of a path of 1,000 vertices, and one that isn't reached.
+// The graph of a path of 1,000 vertices, and a vertex that isn't reached.
 fn path(alloc: Global) -> Result<Graph, AllocError>
     ensures { IfOk result (λ graph. graph.n ≡ 1001) }
 {
@@ -191,7 +190,7 @@ fn path(alloc: Global) -> Result<Graph, AllocError>
     graph_of(alloc, 1001, &arcs)
 }
 
-// How many vertices a team reaches, and how many it counts.
+// The number of vertices that a team reaches, and the number that it counts.
 fn count(
     rt: &(impl Abort + AllocGlobal + Threads + Wait + Sync),
     graph: &Graph,

@@ -1,4 +1,4 @@
-//! What arcs show of words, by one thread and by several.
+//! What arcs show about words, with one thread and with several.
 ghost use Rattle.std.specs.Prelude.{◌≤◌, length, All};
 ghost use Rattle.sp_paths.specs.Paths.{IsArc};
 
@@ -10,7 +10,7 @@ use std::test::Fail;
 use std::thread::Threads;
 use tests_samples::{DIAMOND, Triple, arcs_of};
 
-// Whether arcs show this with several numbers of threads.
+// Whether a scan of the arcs shows this with several numbers of threads.
 fn all_show<R: Threads + Sync>(rt: &R, words: &[Word<28>], arcs: &[Arc], told: Scan) -> bool
     requires few { length words.now ≤ 1000 }
     requires arcs { All (IsArc (length words.now)) arcs.now }
@@ -23,7 +23,7 @@ fn all_show<R: Threads + Sync>(rt: &R, words: &[Word<28>], arcs: &[Arc], told: S
     true
 }
 
-// Whether these arcs show this of the words of vertices 1, 2 and so on, and these tails are open.
+// Whether a scan of these arcs shows this for the words of vertices 1, 2 and so on, and these tails are open.
 fn show<R: Threads + AllocGlobal + Sync>(
     rt: &R,
     arcs: &[Triple],

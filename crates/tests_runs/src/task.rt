@@ -19,7 +19,7 @@ use tests_samples::{Bench, DIAMOND, MOST_DIST, MOST_VERTICES, Triple, any_tasks,
 
 mod gates;
 
-/// What a round found, in the order of the vertices, and how many workers it had.
+/// What a round found, in the order of the vertices, and how many workers ran.
 #[derive(Drop)]
 struct Played {
     bench: Bench,
@@ -28,7 +28,7 @@ struct Played {
     refused: bool,
 }
 
-/// A round that is to be played: its tasks, its number, and how many workers it has.
+/// A round to play: its tasks, its number, and the number of its workers.
 #[derive(Clone, Copy)]
 struct Plan<'t> {
     tasks: &'t [Task],
@@ -36,7 +36,7 @@ struct Plan<'t> {
     workers: Workers,
 }
 
-/// Plays one round, of which nothing is known but that a bench comes back.
+/// Plays one round. Its contract promises only that a bench comes back.
 fn play<M: Lowering + Send + Sync, R: Threads + Wait + Sync, G: Gate + Sync>(
     rt: &R,
     alloc: Global,
@@ -91,7 +91,7 @@ fn play<M: Lowering + Send + Sync, R: Threads + Wait + Sync, G: Gate + Sync>(
     }
 }
 
-/// The leader's own offer, where the vertex and the distance are in range.
+/// Makes an offer as the leader, if the vertex and the distance are in range.
 fn offer(bench: &mut Bench, vertex: u32, dist: u64, pred: u32) {
     let n = bench.rows.n();
     if vertex < 1 || vertex > n || dist > MOST_DIST || pred > MOST_VERTICES {
@@ -102,7 +102,7 @@ fn offer(bench: &mut Bench, vertex: u32, dist: u64, pred: u32) {
         .offer(&mut bench.caller, vertex, Word::pack(dist, pred));
 }
 
-/// A bench where the leader has made these offers, by vertex, distance and predecessor.
+/// A bench in which the leader has made these offers, by vertex, distance and predecessor.
 fn opened(
     alloc: Global,
     n: u32,
@@ -117,7 +117,7 @@ fn opened(
     Ok(bench)
 }
 
-/// The bits of all words, by rising vertex.
+/// The bits of all words, in ascending order of vertices.
 fn words(alloc: Global, bench: &mut Bench) -> Result<Vec<u64>, AllocError> {
     let n = bench.rows.n();
     let mut words = Vec::new(alloc);
@@ -147,7 +147,7 @@ fn offer_in_order(bench: &mut Bench, tasks: &[Task]) {
     }
 }
 
-// An arc of the task's row, where its vertex has one at that place.
+// An arc of the task's row, if the row has one at that index.
 fn arc_at(rows: &Rows, task: Task, number: usize) -> Option<Arc> {
     if task.vertex < 1 || task.vertex > rows.n() {
         return None;
@@ -167,7 +167,7 @@ fn entry(vertex: u32, dist: u64) -> Entry {
     Entry { vertex, dist }
 }
 
-/// Whether these are the entries, in some order: each stands there, and there are as many.
+/// Whether these are the entries, in any order: each is there, and the numbers are equal.
 fn are_entries(found: &[Entry], wanted: &[Entry]) -> bool {
     for entry in wanted {
         if !found.contains(entry) {
@@ -180,7 +180,7 @@ fn are_entries(found: &[Entry], wanted: &[Entry]) -> bool {
 // Two arcs from vertex 1, and one from the head of each.
 const TWO_ARMS: [Triple; 4] = [(1, 2, 1), (1, 3, 1), (2, 4, 1), (3, 5, 1)];
 
-// What is offered there before a round.
+// The offers made there before a round.
 const OFFERS: [(u32, u64, u32); 3] = [(1, 0, 0), (2, 1, 1), (3, 1, 1)];
 
 #[test]
@@ -227,8 +227,8 @@ fn thief_takes(rt: HostRuntime) -> Result<(), Fail> {
     Ok(())
 }
 
-/// Plays a round, and once more, where every claim is refused, so that the leader makes all offers. It tells whether the first
-/// had all of its workers and found these entries, and the second found none by so many offers.
+/// Plays a round twice. In the second every claim is refused, so that the leader makes all offers. Returns whether the first had
+/// all of its workers and found these entries, and the second found none with this many offers.
 fn play_twice<M: Lowering + Send + Sync, R: Threads + Wait + Sync>(
     rt: &R,
     alloc: Global,
@@ -245,8 +245,8 @@ fn play_twice<M: Lowering + Send + Sync, R: Threads + Wait + Sync>(
     (again.bench, is_found && is_alone)
 }
 
-/// Whether the rounds on the graph of the diamond find what they should, with any lowering: round 1 of the first tasks,
-/// which relax the arcs of vertex 1, and then round 2, where both offers of 5 to 4 are made, and the first alone is shorter.
+/// Whether rounds on the diamond's graph give the right result with a lowering: round 1 has the first tasks, which relax the arcs
+/// of vertex 1; in round 2 both offers of 5 to vertex 4 are made, and only the first makes the distance smaller.
 fn diamond<M: Lowering + Send + Sync, R: Threads + Wait + Sync>(
     rt: &R,
     alloc: Global,
@@ -289,7 +289,7 @@ fn rounds_of_two_workers(rt: HostRuntime) -> Result<(), Fail> {
 
 const MANY: u32 = 100_000;
 
-/// The next number of a row of random ones.
+/// The next number of a random sequence.
 fn next_random(seed: u64) -> u64 {
     seed.wrapping_mul(6364136223846793005)
         .wrapping_add(1442695040888963407)
@@ -335,7 +335,7 @@ fn leaves<R: Threads + Wait + Sync>(
     Ok(is_played && left.as_slice() == wanted)
 }
 
-/// The words that one caller leaves by the same offers.
+/// The words that a single caller leaves with the same offers.
 fn words_of_one(alloc: Global, arcs: &[Triple], tasks: &[Task]) -> Result<Vec<u64>, AllocError> {
     let mut bench = set_up(alloc, MANY, arcs, 25)?;
     offer_in_order(&mut bench, tasks);
@@ -362,7 +362,7 @@ fn many_workers_leave_the_words_of_one_caller(rt: HostRuntime) -> Result<(), Fai
     Ok(())
 }
 
-/// Whether the words are those that the offers and the tasks of the two arms leave.
+/// Whether the words are those that the two arms' offers and tasks leave.
 fn has_reached_all(alloc: Global, bench: &mut Bench) -> Result<bool, AllocError> {
     let pair = |dist: u64, pred: u64| (dist << 28) | pred;
     let made = [pair(0, 0), pair(1, 1), pair(1, 1), pair(2, 2), pair(2, 3)];
@@ -370,8 +370,8 @@ fn has_reached_all(alloc: Global, bench: &mut Bench) -> Result<bool, AllocError>
     Ok(left.as_slice() == made.as_slice())
 }
 
-/// The round of two workers, and the same tasks under the next number. Whatever memory is refused, the words are
-/// those of the offers in the end.
+/// A round of two workers, and the same tasks under the next number. Whatever memory is refused, the words are those of the
+/// offers at the end.
 #[test]
 fn refused_rounds_are_made_up_for(rt: HostRuntime) -> Result<(), Fail> {
     let alloc = rt.alloc();

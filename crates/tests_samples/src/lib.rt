@@ -1,4 +1,4 @@
-//! The worked examples' graphs, and their texts, for tests; what tests and benchmarks play rounds over.
+//! The graphs of the worked examples and their texts, for tests; and benches for rounds, for tests and benchmarks.
 #![tactic(auto)]
 
 ghost use Rattle.std.specs.Prelude.{◌≡◌, ◌≤◌, All, IfOk, IfSome};
@@ -58,7 +58,7 @@ fn arc_of(n: u32, triple: Triple) -> Option<Arc>
     }
 }
 
-/// The arcs that are given, without those that are none of a graph of `n` vertices.
+/// The arcs given, without those that aren't arcs of a graph of `n` vertices.
 pub fn arcs_of(alloc: Global, n: u32, triples: &[Triple]) -> Result<Vec<Arc>, AllocError>
     ensures { IfOk result (λ arcs. All (IsArc n) arcs.items) }
 {

@@ -1,4 +1,4 @@
-//! What tests and benchmarks play rounds over: the rows of a graph, and tables that take every word.
+//! A bench for rounds, for tests and benchmarks: the rows of a graph, and tables that take every word.
 ghost use Rattle.std.specs.Prelude.{◌≡◌, ◌≤◌, All, IsTrue};
 ghost use Rattle.sp_paths.specs.Paths.{IsVertex};
 ghost use Rattle.sp_word.specs.Word.{max_dist};
@@ -13,7 +13,7 @@ use sp_offer::{AnyWord, Caller, OfferTable};
 use sp_rounds::{ClaimTable, Claimer, Task};
 use std::alloc::{AllocError, Global};
 
-/// The most vertices of a bench.
+/// The greatest number of vertices of a bench.
 pub const MOST_VERTICES: u32 = 1_000_000;
 
 /// The greatest distance of a task.
@@ -34,8 +34,8 @@ pub struct Bench {
     pub ghost claimer_is_here: { claimer.table ≡ claims } by { Coded-set table_id_coded _ _ },
 }
 
-/// A bench of `n` vertices and these arcs, of which those are light that are no longer than delta. Where there are no vertices or
-/// too many of them, it tells that memory is wanting.
+/// A bench of `n` vertices and these arcs. The arcs no longer than `delta` are light. If `n` is 0 or too large, the call fails as
+/// if memory had been refused.
 pub fn set_up(alloc: Global, n: u32, arcs: &[Triple], delta: u64) -> Result<Bench, AllocError> {
     if n < 1 || n > MOST_VERTICES {
         return Err(AllocError);
@@ -64,7 +64,7 @@ fn are_tasks(n: u32, tasks: &[Task]) -> bool
     true
 }
 
-/// These tasks, or none where one is out of range.
+/// The tasks, or none if one of them is out of range.
 #[tactic(auto, using(sp_rounds::proofs::Checks::no_tasks))]
 pub fn any_tasks<'a>(rows: &Rows, tasks: &'a [Task]) -> &'a [Task]
     requires { rows.now.graph.n ≤ 1000000 }

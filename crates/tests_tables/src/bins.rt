@@ -1,10 +1,10 @@
-//! Entries come out by bucket, each once, however far their buckets lie.
+//! Entries come out bucket by bucket, each once, however far apart their buckets are.
 
 use sp_rounds::{Bins, Entry};
 use std::alloc::{AllocError, Global};
 use std::test::Fail;
 
-// Whether all of these entries lie in the bucket.
+// Whether all of these entries belong to the bucket.
 fn lie_in(bins: &Bins, list: &[Entry], bucket: u64) -> bool {
     for entry in list {
         if bins.bucket_of(entry.dist) != bucket {
@@ -33,8 +33,8 @@ fn are_all_one(counts: &[u32]) -> bool {
     true
 }
 
-// Takes out all entries of the bucket that is being emptied, and counts them. It tells whether there are some, and all of
-// them lie there.
+// Takes out all entries of the bucket that is being emptied, and counts them. Returns whether there are any and all of them
+// belong to it.
 fn take_bucket(
     alloc: Global,
     bins: &mut Bins,
@@ -47,7 +47,7 @@ fn take_bucket(
     Ok(!list.is_empty() && lie_in(bins, &list, bucket))
 }
 
-// Puts an entry at each of these distances, the vertices being numbered from 0.
+// Puts an entry at each of these distances, with vertices numbered from 0.
 fn put_all(bins: &mut Bins, dists: &[u64]) -> Result<(), AllocError> {
     let mut vertex = 0u32;
     for dist in dists {
@@ -60,7 +60,8 @@ fn put_all(bins: &mut Bins, dists: &[u64]) -> Result<(), AllocError> {
     Ok(())
 }
 
-// Takes out so many entries, bucket by bucket, each bucket beyond the one before, and tells whether they come so.
+// Takes out this many entries bucket by bucket, in ascending order of buckets. Returns whether each entry came out once and in
+// order.
 fn take_all(alloc: Global, bins: &mut Bins, entries: usize) -> Result<bool, AllocError> {
     let mut counts = vec![in alloc; 0; entries]?;
     let mut next = 0;
@@ -76,7 +77,7 @@ fn take_all(alloc: Global, bins: &mut Bins, entries: usize) -> Result<bool, Allo
     Ok(are_all_one(&counts))
 }
 
-// Whether entries at these distances come out bucket by bucket, and then none is left.
+// Whether entries at these distances come out bucket by bucket and leave none behind.
 fn drains(alloc: Global, shift: u32, dists: &[u64]) -> Result<bool, AllocError> {
     let mut bins = Bins::new(alloc, shift)?;
     put_all(&mut bins, dists)?;
@@ -84,7 +85,7 @@ fn drains(alloc: Global, shift: u32, dists: &[u64]) -> Result<bool, AllocError> 
     Ok(all && bins.advance()?.is_none())
 }
 
-// Distances of all magnitudes that look random.
+// Random-looking distances of all magnitudes.
 fn random_dists(alloc: Global) -> Result<Vec<u64>, AllocError> {
     let mut dists = Vec::new(alloc);
     let mut state: u64 = 1;
@@ -139,7 +140,7 @@ fn crowded_dists(alloc: Global) -> Result<Vec<u64>, AllocError> {
     Ok(dists)
 }
 
-// Many more entries than a chunk has lie in one slot, of the first wheel and of the second.
+// One slot has many more entries than a chunk holds, in the first wheel and in the second.
 #[test]
 fn crowded_buckets(rt: HostRuntime) -> Result<(), Fail> {
     let dists = crowded_dists(rt.alloc())?;
@@ -147,7 +148,7 @@ fn crowded_buckets(rt: HostRuntime) -> Result<(), Fail> {
     Ok(())
 }
 
-// Puts an entry below the lowest bucket, and one above it. It tells which buckets come, and what the first of them gives.
+// Puts an entry below the lowest bucket and one above it. Returns the buckets that come out, and the entries of the first.
 fn take_below_the_lowest(alloc: Global) -> Result<([Option<u64>; 2], Vec<Entry>), AllocError> {
     let mut bins = Bins::new(alloc, 0)?;
     bins.open(1000, 0);
@@ -170,12 +171,12 @@ fn entries_below_the_lowest_come_at_once(rt: HostRuntime) -> Result<(), Fail> {
     Ok(())
 }
 
-// Puts the entry of a head that lies as far behind its tail as told.
+// Puts the entry of a head whose arc from the tail has this length.
 fn put_head(bins: &mut Bins, dist: u64, length: u64) -> Result<(), AllocError> {
     bins.put_head(Entry { vertex: 1, dist }, dist.saturating_sub(length))
 }
 
-// Puts a thousand heads, all of them into their tail's bucket.
+// Puts a thousand heads, each into its tail's bucket.
 fn put_near_heads(bins: &mut Bins) -> Result<(), AllocError> {
     for dist in 1..1001u64 {
         put_head(bins, dist, 1)?;
@@ -183,7 +184,7 @@ fn put_near_heads(bins: &mut Bins) -> Result<(), AllocError> {
     Ok(())
 }
 
-// Puts one head less than a thousand, none of them into its tail's bucket.
+// Puts 999 heads, none of them into its tail's bucket.
 fn put_far_heads(bins: &mut Bins) -> Result<(), AllocError> {
     for bucket in 1..1000u64 {
         put_head(bins, bucket << 16, 1)?;
@@ -191,7 +192,7 @@ fn put_far_heads(bins: &mut Bins) -> Result<(), AllocError> {
     Ok(())
 }
 
-// The width after a thousand near heads, after one head less that is far, and after one more.
+// The widths after a thousand near heads, after 999 far heads, and after one more far head.
 fn widths(alloc: Global) -> Result<[u32; 3], AllocError> {
     let mut bins = Bins::new(alloc, 20)?;
     put_near_heads(&mut bins)?;
@@ -205,8 +206,8 @@ fn widths(alloc: Global) -> Result<[u32; 3], AllocError> {
     Ok([narrow, same, bins.shift()])
 }
 
-// Where most heads fall into their tail's bucket, the buckets become narrower; where none does, wider. For the first width a
-// thousand entries are moved, and so many more have to be put before the next.
+// Buckets become narrower if most heads fall into their tail's bucket, and wider if none does. The first change of width moves a
+// thousand entries, so another thousand must be put before the next change.
 #[test]
 fn buckets_find_their_width(rt: HostRuntime) -> Result<(), Fail> {
     assert!(rt; widths(rt.alloc())? == [16, 16, 17]);
@@ -222,7 +223,8 @@ fn bins_of_heads(alloc: Global) -> Result<Bins, AllocError> {
     Ok(bins)
 }
 
-// Empties the bins, whose width may change before each bucket, and counts the entries: 0 where one comes out of its bucket.
+// Empties the bins, whose width may change before each bucket, and counts the entries. Returns 0 if an entry comes out of a wrong
+// bucket.
 fn count_while_adjusted(alloc: Global, bins: &mut Bins) -> Result<usize, AllocError> {
     let mut list = Vec::new(alloc);
     let mut seen = 0usize;
@@ -240,7 +242,7 @@ fn count_while_adjusted(alloc: Global, bins: &mut Bins) -> Result<usize, AllocEr
     Ok(seen)
 }
 
-// No entry is lost where the width changes, and they still come by bucket.
+// A change of width loses no entry, and the entries still come out bucket by bucket.
 #[test]
 fn a_change_of_width_loses_nothing(rt: HostRuntime) -> Result<(), Fail> {
     let mut bins = bins_of_heads(rt.alloc())?;

@@ -16,14 +16,14 @@ fn put_all(buckets: &mut Buckets, entries: &[Entry]) -> Result<(), AllocError> {
     Ok(())
 }
 
-// Whether this is the lowest bucket, of which exactly this entry is taken.
+// Whether this is the lowest bucket, and exactly this entry is taken from it.
 fn gives_one(buckets: &mut Buckets, bucket: u64, want: Entry) -> bool {
     let is_lowest = buckets.lowest() == Some(bucket);
     let taken = buckets.take(bucket);
     is_lowest && taken.as_slice() == [want].as_slice()
 }
 
-// Whether the lowest buckets, and the entries of them, are these in turn.
+// Whether the lowest buckets and their entries are these, one after another.
 fn give_in_turn(buckets: &mut Buckets, wanted: &[(u64, Entry)]) -> bool {
     for (bucket, want) in wanted {
         if !gives_one(buckets, *bucket, *want) {
@@ -33,14 +33,14 @@ fn give_in_turn(buckets: &mut Buckets, wanted: &[(u64, Entry)]) -> bool {
     true
 }
 
-// Whether these two entries, in either order, are taken of the bucket, and then none.
+// Whether exactly these two entries are taken from the bucket, in either order, and then none.
 fn gives_two(buckets: &mut Buckets, bucket: u64, one: Entry, other: Entry) -> bool {
     let taken = buckets.take(bucket);
     let again = buckets.take(bucket);
     again.is_empty() && taken.len() == 2 && taken.contains(&one) && taken.contains(&other)
 }
 
-// Whether three entries come out of buckets of width 3 as they should.
+// Whether three entries come out of buckets of width 3 correctly.
 fn takes_three(mut buckets: Buckets) -> Result<bool, AllocError> {
     put_all(&mut buckets, &[entry(2, 4), entry(7, 5), entry(9, 6)])?;
     let first = buckets.lowest() == Some(1);
@@ -57,7 +57,7 @@ fn buckets(rt: HostRuntime) -> Result<(), Fail> {
     Ok(())
 }
 
-// How many buckets the ring has for a width and a longest arc, if there is one.
+// The number of buckets in the ring for this width and longest arc, if there is a ring.
 fn ring_len(alloc: Global, delta: u64, longest: u64) -> Result<Option<u32>, AllocError>
     requires { 0 < delta }
 {
@@ -74,7 +74,7 @@ fn ring_of_buckets(rt: HostRuntime) {
     assert!(rt; ring_len(alloc, 3, 0) == Ok(Some(1)));
 }
 
-// Whether entries within the window of a ring, and beyond it, come out as they should.
+// Whether entries within a ring's window and beyond it come out correctly.
 fn takes_outside_the_window(mut buckets: Buckets) -> Result<bool, AllocError> {
     put_all(&mut buckets, &[entry(1, 0), entry(2, 8), entry(3, 30)])?;
     let first = give_in_turn(&mut buckets, &[(0, entry(1, 0)), (2, entry(2, 8))]);

@@ -1,4 +1,4 @@
-//! The check of a tree, as its answer is printed. Verdicts of worked examples are compared by `tests/commands.py`.
+//! The checker's verdict on a tree, as it is printed. `tests/commands.py` compares the verdicts of worked examples.
 
 use sp_cert::{CheckError, Rule};
 use std::test::Fail;

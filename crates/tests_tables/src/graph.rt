@@ -1,4 +1,4 @@
-//! Rows of a small graph, and rows for which memory is refused.
+//! Rows of a small graph, and rows whose memory is refused.
 ghost use Rattle.std.specs.Prelude.{◌≤◌};
 
 use sp_graph::{Graph, Rows};
@@ -27,12 +27,12 @@ fn light_and_heavy(rt: HostRuntime) -> Result<(), Fail> {
     Ok(())
 }
 
-// The next of numbers that look random.
+// The next of a sequence of random-looking numbers.
 fn next_number(number: u32) -> u32 {
     number.wrapping_mul(1_664_525).wrapping_add(1_013_904_223)
 }
 
-// So many arcs between `n` vertices, by tail, head and length, in no order.
+// Random-looking arcs between `n` vertices, by tail, head and length, in no order.
 fn drawn(alloc: Global, n: u32, count: u32) -> Result<Vec<Triple>, AllocError>
     requires { 1 ≤ n }
 {
@@ -51,7 +51,7 @@ fn drawn(alloc: Global, n: u32, count: u32) -> Result<Vec<Triple>, AllocError>
     Ok(arcs)
 }
 
-// Whether each of the arcs stands in the row of its tail.
+// Whether the row of each arc's tail has the arc.
 fn has_all(graph: &Graph, arcs: &[Triple]) -> bool {
     for (tail, head, len) in arcs {
         let is_there = graph.has_vertex(*tail)
@@ -66,7 +66,7 @@ fn has_all(graph: &Graph, arcs: &[Triple]) -> bool {
     true
 }
 
-// Whether drawn arcs have rows, whole and parted, of which none is lost.
+// Whether random-looking arcs get rows, whole and split, and none is lost.
 fn makes_rows(alloc: Global, n: u32, count: u32) -> Result<bool, AllocError>
     requires { 1 ≤ n }
 {
@@ -76,8 +76,8 @@ fn makes_rows(alloc: Global, n: u32, count: u32) -> Result<bool, AllocError>
     Ok(rows.n() == n && graph.m() == arcs.len() && has_all(&graph, &arcs))
 }
 
-// Where memory is refused once, at whatever call, that is told there, and the next rows stand. Those of 50,000 vertices lie in
-// two ranges.
+// If memory is refused once, at any call, that call reports it, and the other attempt makes its rows correctly. Rows of 50,000
+// vertices are in two ranges.
 #[test]
 fn refused_memory(rt: HostRuntime) {
     for n in [40, 50_000] {

@@ -1,4 +1,4 @@
-//! Tests of words, graphs, buckets, the offer table, the plain program and the checker, by their public calls.
+//! Tests of words, graphs, buckets, the offer table, the plain program and the checker, through the public calls.
 #![tactic(auto)]
 
 #[cfg(test)]

@@ -1,4 +1,4 @@
-//! A run by the calling thread alone.
+//! A run on the calling thread alone.
 
 use sp_serial::{Run, Until, words_alone};
 use sp_word::Word;

@@ -33,6 +33,7 @@ sample = record {
   needed = Problem 1;
 }
 
+-- the ranges of vertices and distances for words of 28 bits of predecessor
 abbrev pub usual : Ranges
 usual = record { vertex = 268435454; dist = 68719476734 }
 
@@ -40,5 +41,6 @@ usual = record { vertex = 268435454; dist = 68719476734 }
 abbrev pub entry_of : Item → ℕ × ℕ × ℕ × ℕ
 entry_of item = (item.kind, slice_index item.numbers 0, slice_index item.numbers 1, slice_index item.numbers 2)
 
+-- the entries are the items, each as the place of its form and its numbers
 abbrev pub AreEntries : List Item → List (ℕ × ℕ × ℕ × ℕ) → Type 0
 AreEntries items entries = entries ≡ map entry_of items

@@ -1,4 +1,4 @@
-//! What reading a text is to answer.
+//! The expected results of reading a text.
 use sp_text::{DimacsError, Kind};
 
 /// A fault of a line.
@@ -6,17 +6,17 @@ pub fn fault(line: u64, kind: Kind) -> DimacsError {
     DimacsError { line, kind }
 }
 
-/// It is told in place of a number of items.
+/// The fault, as the result of a call that counts items.
 pub fn told(line: u64, kind: Kind) -> Result<usize, DimacsError> {
     Err(fault(line, kind))
 }
 
-/// A field of the line is out of its range.
+/// The fault of a field that is out of range.
 pub fn out(line: u64, letter: u8) -> Result<usize, DimacsError> {
     told(line, Kind::OutOfRange(letter))
 }
 
-/// What is told where the device fails behind this beginning of a text without a fault.
+/// The expected fault if the device fails after this beginning of a text without a fault.
 pub fn failed_behind(beginning: &[u8]) -> DimacsError {
     let mut line: u64 = 1;
     for byte in beginning {

@@ -1,4 +1,4 @@
-//! Files of several trees, however their device cuts them.
+//! Files of several trees, cut by their device anywhere.
 use crate::answers::fault;
 use sp_device::UpTo;
 use sp_files::TreeBlocks;
@@ -6,7 +6,7 @@ use sp_text::{DimacsError, Kind};
 
 const BLOCKS: &[u8] = b"p spt 2 1\nv 1 0 0\nv 2 7 1\ne 2\np spt 2 2\nv 2 0 0\ne 1\n";
 
-// The number of vertices of the next tree, its source, and the number of its rows.
+// Returns the number of vertices of the next tree, its source, and the number of its rows.
 fn next(
     blocks: &mut TreeBlocks<28>,
     device: &mut UpTo,
@@ -28,7 +28,7 @@ fn cut_anywhere(rt: HostRuntime) {
     }
 }
 
-// The line that is being read when the device fails, in the second block, and the same again.
+// The fault names the line being read when the device fails, in the second block, and the next call reports it again.
 #[test]
 fn failing_anywhere(rt: HostRuntime) {
     for (end, line) in [

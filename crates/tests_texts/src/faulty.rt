@@ -1,9 +1,9 @@
-//! A reader and writer of std.
+//! A reader and writer of `std` that fails.
 ghost use Rattle.std.specs.Prelude.{◌≤◌, IfOk};
 
 use std::io;
 
-/// It passes so many bytes a call, and one call fails.
+/// Passes at most `most` bytes a call, and fails at one call.
 #[derive(Drop)]
 pub struct Faulty {
     most: usize,
@@ -22,7 +22,7 @@ impl Faulty {
         }
     }
 
-    // How many bytes of so many go through.
+    // Returns how many of `len` bytes pass.
     fn turn(&mut self, len: usize) -> io::Result<usize>
         ensures { IfOk result (λ n. n ≤ len) }
     {

@@ -1,4 +1,4 @@
-//! Tests of devices, and of the texts that are read from them and written to them, by their public calls.
+//! Tests of devices, and of the texts read from them and written to them, through the public calls.
 #![tactic(auto)]
 
 #[cfg(test)]

@@ -5,10 +5,10 @@ ghost use Rattle.sp_text.specs.declared.faults.DimacsError.{DimacsError};
 ghost use Rattle.sp_device.specs.Failing.{Never};
 ghost use Rattle.sp_text.specs.First.{fault_at_failure};
 ghost use Rattle.sp_text.specs.Whole.{NeverRead};
-ghost use Rattle.sp_files.specs.TreeSpelling.{tree_judge};
+ghost use Rattle.sp_files.specs.Spelling.{tree_judge};
 ghost use Rattle.sp_files.specs.Block.{lines_in};
 
-use crate::trees::reading::TreeReader;
+use crate::reading::TreeReader;
 use crate::trees::stream::{feed_block, is_over};
 use sp_answer::Tree;
 use sp_device::{Failed, Read};

@@ -1,11 +1,12 @@
 //! The bytes of a device, block after block.
 ghost use Rattle.std.specs.Prelude.{◌≡◌, [], false};
 ghost use Rattle.sp_device.specs.Failing.{Never};
-ghost use Rattle.sp_files.specs.TreeReading.{IsBehindTree};
+ghost use Rattle.sp_files.specs.Taking.{tree_form};
+ghost use Rattle.sp_files.specs.Reading.{IsBehindFile};
 ghost use Rattle.sp_files.specs.Stream.{stream, IsShort, IsLookedAt, BlockFed};
 
+use crate::reading::TreeReader;
 use crate::trees::block_state::{BlockState, run_of};
-use crate::trees::reading::TreeReader;
 use sp_device::{Failed, Read};
 use sp_dimacs::Piece;
 use sp_text::DimacsError;
@@ -16,7 +17,7 @@ pub fn feed_block<const P: u32, R: Read>(
     piece: &mut Piece,
     tree: &mut TreeReader<P>,
 ) -> Result<(), DimacsError>
-    ensures fed { IsShort R.Read (stream piece.old reader.old) → IsBehindTree [] tree.old
+    ensures fed { IsShort R.Read (stream piece.old reader.old) → IsBehindFile tree_form [] tree.old
         → BlockFed R.Read (stream piece.old reader.old)
         result (stream piece.new reader.new) tree.new }
     ensures going { R.failing reader.old ≡ Never → R.has_failed reader.old ≡ false

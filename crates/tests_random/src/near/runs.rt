@@ -3,9 +3,10 @@ ghost use Rattle.std.specs.Prelude.{◌≡◌, ◌≤◌, true, IfOk, IfSome};
 ghost use Rattle.sp_word.specs.Word.{is_layout, max_dist};
 
 use sp_answer::{RunError, Tree};
+use sp_engine::{forest_of, part_of};
 use sp_graph::Graph;
 use sp_run::{Forest, run_nearest, run_within};
-use sp_serial::{run_nearest_alone, run_within_alone};
+use sp_serial::ByCaller;
 use sp_team::Team;
 use sp_word::{Delta, Word, Workers};
 use std::process::Abort;
@@ -113,7 +114,7 @@ pub(crate) fn compare_nearest<const P: u32>(
 {
     assert!(rt; graph.n() <= Word::<P>::max_pred());
     let limit = limit_of::<P>(rt, limit);
-    let told = run_nearest_alone::<P>(rt.alloc(), graph, sources, limit);
+    let told = forest_of::<P, ByCaller>(&ByCaller, rt.alloc(), graph, sources, limit);
     assert!(rt; tells(&told, want), "alone");
     for workers in WORKERS {
         for delta in DELTAS {
@@ -152,7 +153,7 @@ pub(crate) fn compare_within<const P: u32>(
 {
     assert!(rt; graph.n() <= Word::<P>::max_pred());
     assert!(rt; limit <= Word::<P>::max_dist());
-    match run_within_alone::<P>(rt.alloc(), graph, source, limit) {
+    match part_of::<P, ByCaller>(&ByCaller, rt.alloc(), graph, source, limit) {
         Ok(tree) => assert!(rt; has_tree_rows(&tree, want), "alone"),
         Err(_) => assert!(rt; false),
     }

@@ -3,8 +3,9 @@ ghost use Rattle.std.specs.Prelude.{◌≡◌, ◌≤◌, All};
 
 use crate::near::runs::graph_of;
 use sp_answer::{PairAnswer, RunError};
+use sp_engine::answers_of;
 use sp_graph::Graph;
-use sp_serial::{Room, run_targets_alone};
+use sp_serial::{ByCaller, Room};
 use sp_word::Word;
 use std::process::Abort;
 use std::test::Fail;
@@ -19,7 +20,7 @@ fn compare(
     want: Result<&[PairAnswer], RunError>,
 ) {
     assert!(rt; graph.n() <= Word::<28>::max_pred());
-    let told = run_targets_alone::<28>(rt.alloc(), graph, source, targets);
+    let told = answers_of::<28, ByCaller>(&ByCaller, rt.alloc(), graph, source, targets);
     match (told, want) {
         (Ok(answers), Ok(want)) => assert!(rt; answers.as_slice() == want),
         (Err(error), Err(want)) => assert!(rt; error == want),

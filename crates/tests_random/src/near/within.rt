@@ -2,8 +2,9 @@
 
 use crate::near::runs::{Row, compare_within, graph_of};
 use sp_answer::RunError;
+use sp_engine::part_of;
 use sp_run::run_within;
-use sp_serial::run_within_alone;
+use sp_serial::ByCaller;
 use sp_word::{Delta, Team, Workers};
 use std::test::Fail;
 use tests_samples::{DIAMOND, long_path};
@@ -47,7 +48,7 @@ fn source_is_no_vertex(rt: HostRuntime) -> Result<(), Fail> {
         };
         let told = run_within(&rt, rt.alloc(), &graph, team, source, 3);
         assert!(rt; matches!(&told, Err(RunError::NoSuchVertex)));
-        let told = run_within_alone::<28>(rt.alloc(), &graph, source, 3);
+        let told = part_of::<28, ByCaller>(&ByCaller, rt.alloc(), &graph, source, 3);
         assert!(rt; matches!(&told, Err(RunError::NoSuchVertex)));
     }
     Ok(())

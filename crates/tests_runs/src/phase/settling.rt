@@ -6,13 +6,18 @@ use super::{WORKERS, crew, split, width};
 use sp_graph::Graph;
 use sp_offer::Caller;
 use sp_phase::{Run, RunError, Store};
+use sp_plain::{GraphKind, Random, random_graph};
 use sp_rounds::{Claimer, OpenGate};
 use sp_word::Word;
+use std::alloc::AllocError;
 use std::process::Abort;
 use std::sync::Wait;
 use std::test::Fail;
 use std::thread::Threads;
 use tests_samples::{DIAMOND, graph_of};
+
+// More than the buckets of a run here.
+const MANY: u32 = 100_000;
 
 // The words of vertices 2, 3 and 4.
 type Words = (Word<28>, Word<28>, Word<28>);
@@ -78,6 +83,52 @@ fn short_rounds_alone(rt: HostRuntime) -> Result<(), Fail> {
     let store = store.sharing_from(1000);
     let run = Run::begin(rt.alloc(), &store, caller, claimer, crew(&rt, 64))?;
     assert!(rt; settles_all(&rt, run, &[0, 1, 2, 3])?);
+    Ok(())
+}
+
+// How many buckets come back in a run from vertex 1 that settles and closes every bucket.
+fn came_back(
+    rt: &(impl Abort + AllocGlobal + Threads + Wait + Sync),
+    graph: &Graph,
+    workers: u32,
+) -> Result<u64, RunError>
+    requires n { graph.now.n ≤ 10000 }
+{
+    let delta = width(rt, graph.mean_length());
+    let (store, caller, claimer) = Store::new(rt.alloc(), graph, delta, 1)?;
+    let mut run = Run::begin(rt.alloc(), &store, caller, claimer, crew(rt, workers))?;
+    for _ in 0..MANY {
+        if run.settle(rt, &OpenGate)?.is_none() {
+            return Ok(run.came_back());
+        }
+        run.heavy(rt, &OpenGate)?;
+    }
+    Err(RunError::Memory)
+}
+
+// Whether none does in runs on random graphs, by one worker and by two.
+fn none_comes_back(
+    rt: &(impl Abort + AllocGlobal + Threads + Wait + Sync),
+    random: &mut Random,
+    kind: GraphKind,
+) -> Result<bool, AllocError> {
+    for _ in 0..20 {
+        let n = random.up_to(200);
+        let graph = random_graph(rt.alloc(), random, kind, n)?;
+        if came_back(rt, &graph, 1) != Ok(0) || came_back(rt, &graph, 2) != Ok(0) {
+            return Ok(false);
+        }
+    }
+    Ok(true)
+}
+
+// `settle` tests that no bucket comes back once it is closed. Here the test never fails.
+#[test]
+fn no_bucket_comes_back(rt: HostRuntime) -> Result<(), Fail> {
+    let mut random = Random::new(17);
+    for kind in [GraphKind::Sparse, GraphKind::Ties, GraphKind::Parts] {
+        assert!(rt; none_comes_back(&rt, &mut random, kind)?);
+    }
     Ok(())
 }
 

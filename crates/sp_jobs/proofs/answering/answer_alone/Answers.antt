@@ -11,7 +11,7 @@ returns-in_err-one g c =
     let i = c.loop-source.source-index in
     let more = take_more sources i 0 c.loop-source-test.true in
     rw (p.1, p.2) (refused_later (g.Q.Question.answers c.args.question.now) sources (take i sources) (get_or sources i 0 ∷ []) (drop (i + 1) sources) g.W.Write
-    c.args.out.now c.loop-source.out c.answer_source.new.out c.loop-source.summary _ (rw (← more) (sym (take-append-drop (i + 1) sources))) c.loop-source.invariant c.in_err-one.ensures)
+    c.args.out.now c.loop-source.out c.answer_together.new.out c.loop-source.summary _ (rw (← more) (sym (take-append-drop (i + 1) sources))) c.loop-source.invariant c.in_err-one.ensures)
 
 pub sum-summary-requires : goal.sum-summary-requires
 sum-summary-requires g c =

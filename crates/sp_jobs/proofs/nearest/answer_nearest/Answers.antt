@@ -18,4 +18,4 @@ returns-in_err-found-clause-forest g c =
 pub returns-clause-forest : goal.returns-clause-forest
 returns-clause-forest g c =
     forest_of_same g.row.P c.args.asked.limit (directed c.args.settings.now.direction (graph_of c.args.file)) c.args.asked.sources.now g.W.Write (rw c.n.ensures at c.in_default.ensures.none) c.in_ok-graph.graph (forest_answer_of c.in_ok-found.found) c.args.out.now c.write_answer.new.out c.write_answer.result
-    c.in_ok-graph.ensures.arcs (rw c.job-job.ensures at c.in_ok-found.ensures) c.write_answer.ensures
+    c.in_ok-graph.ensures.arcs (rw c.job-job.ensures.graph at c.in_ok-found.ensures) c.write_answer.ensures

@@ -10,4 +10,4 @@ returns g c =
     let targets = c.args.question.now.targets.now in
     let source = c.args.source in
     IfOk-weaker c.row_of.result (IsRow g.row.P graph source targets) (λ row. IsDue (IsRowTold g.row.P graph targets) source (told_of_row row))
-    (λ row is. row_due g.row.P graph source targets row c.requires.few is) (rw c.by-job.ensures at c.row_of.ensures)
+    (λ row is. row_due g.row.P graph source targets row c.requires.few is) c.row_of.ensures

@@ -11,10 +11,10 @@ returns-in-None g c =
     let graph = c.args.question.now.job.graph.now in
     let source = c.args.source in
     rw c.in-None.is (IfOk-weaker c.find_tree.result (λ found. IsTreeTold g.row.P None graph source (told_by found)) (λ found. IsDue (λ s told. IsTreeTold g.row.P None graph s told) source (told_by found))
-    (λ found is. told_due g.row.P None graph source (told_by found) is) (rw c.by-job.ensures at c.find_tree.ensures))
+    (λ found is. told_due g.row.P None graph source (told_by found) is) c.find_tree.ensures)
 
-pub returns-in_ok-part-in-Some : goal.returns-in_ok-part-in-Some
-returns-in_ok-part-in-Some g c =
+pub returns : goal.returns
+returns g c =
     let part = c.in_ok-part-in-Some.part in
     let is : IsTreeAnswer g.row.P c.args.question.now.limit c.args.question.now.job.graph.now c.args.source (TreeOf part) = search rules in
     found_due g.row.P c.args.question.now.limit c.args.question.now.job.graph.now c.args.source (TreeOf part) is

@@ -1,12 +1,10 @@
 use Rattle.std.proofs.Common.{◌≡◌, ◌∙◌, ℕ, List, length, sym, ap, subst, arith}
 use Rattle.sp_word.specs.Word.{Word}
 use Rattle.sp_paths.specs.Paths.{word_at}
-use Rattle.sp_answer.specs.declared.answer.RunError.TheVariants.{Memory}
 use Rattle.sp_forest.specs.Roots.{FallsBack}
 use Rattle.sp_forest.specs.Nearest.{IsForestUpTo}
 use Rattle.sp_forest.specs.Rooted.{AreRoots}
 use Rattle.sp_forest.proofs.ForestAnswers.{law_of}
-use Rattle.sp_serial.proofs.Refusals.{no_forest}
 use Rattle.sp_lists.proofs.Forests.{rooted}
 use Rattle.sp_lists.proofs.forest.run_forest.Goals as goal
 
@@ -26,6 +24,3 @@ returns-in-Ok-clause-forest g c =
     let words = c.in_ok-words.words.items in
     let R : List Word → Type 0 = λ ws. AreRoots ws c.in-Ok.roots.items in
     rooted g.row.P graph c.n.ensures.graph c.args.near.sources.now c.requires.vertices c.args.near.limit words c.in-Ok.roots.items c.in_ok-words.ensures.size c.in_ok-words.ensures.forest (subst R c.as_slice.ensures.value c.in-Ok.ensures)
-
-pub returns-in-Err-clause-refused : goal.returns-in-Err-clause-refused
-returns-in-Err-clause-refused g c = no_forest g.row.P c.args.graph.now c.args.near.sources.now c.args.near.limit Memory c.requires.vertices

@@ -1,17 +1,10 @@
-use Rattle.std.proofs.Common.{rules, ◌≡◌, ℕ, List, Option, subst}
-use Rattle.std.specs.Prelude.{Err}
+use Rattle.std.proofs.Common.{◌≡◌, ℕ, List, Option, subst}
 use Rattle.sp_word.specs.Word.{Word}
 use Rattle.sp_paths.specs.Paths.{Graph}
 use Rattle.sp_forest.specs.Run.{AreForestWords, AreRunWords, until_of}
 use Rattle.sp_forest.specs.declared.asked.Until.{Until}
 use Rattle.sp_forest.proofs.ForestWords.{forest_size, forest_up_to, too_far}
-use Rattle.sp_serial.proofs.Refusals.{no_forest}
 use Rattle.sp_lists.proofs.words.find_words.Goals as goal
-
-pub returns-in_err-found-clause-refused : goal.returns-in_err-found-clause-refused
-returns-in_err-found-clause-refused g c =
-    let is : c.from_residual.result ≡ Err c.in_err-found.field-0.0 = search rules in
-    rw is (no_forest g.row.P c.args.graph.now c.args.sources.now c.args.limit c.in_err-found.field-0.0 c.in_err-found.ensures.refused)
 
 -- A run up to a limit was asked.
 told : (P : ℕ) (g : Graph) (sources : List ℕ) (limit : Option ℕ) (until : Until) (words : List Word) (far other : Option ℕ) → until ≡ until_of limit → far ≡ other → AreRunWords P g sources until words far → AreForestWords P g sources limit words other

@@ -4,7 +4,7 @@ use Rattle.sp_lists.specs.declared.answers.Told.TheVariants.{NoGraph}
 use Rattle.spt_c.specs.Found.{IsFoundOfKept}
 use Rattle.spt_c.proofs.exports.spt_graph_pair.Goals as goal
 
-pub returns-in-None-clause-told : goal.returns-in-None-clause-told
-returns-in-None-clause-told c =
+pub returns-in-Nothing-clause-told : goal.returns-in-Nothing-clause-told
+returns-in-Nothing-clause-told c free =
     let K : Option Graph → Type 0 = λ k. IsFoundOfKept k c.args.source c.args.target c.args.delta (Err NoGraph) in
-    (Err NoGraph, c.of.ensures, subst K (sym c.in-None.ensures.none) refl)
+    (Err NoGraph, c.of.ensures, subst K (sym c.in-Nothing.ensures.1) refl)

@@ -5,8 +5,8 @@ use Rattle.sp_lists.specs.Blocks.{slices}
 use Rattle.spt_c.specs.KeptLists.{IsPartOfKept}
 use Rattle.spt_c.proofs.exports.spt_graph_within.Goals as goal
 
-pub returns-in-None-clause-told : goal.returns-in-None-clause-told
-returns-in-None-clause-told c =
+pub returns-in-Nothing-clause-told : goal.returns-in-Nothing-clause-told
+returns-in-Nothing-clause-told c free =
     let there = slices c.args.dist.now c.args.pred.now in
     let K : Option Graph → Type 0 = λ k. IsPartOfKept k c.args.source c.args.limit c.args.delta there there NoGraph in
-    (NoGraph, c.of.ensures, subst K (sym c.in-None.ensures.none) (refl, refl))
+    (NoGraph, c.of.ensures, subst K (sym c.in-Nothing.ensures.1) (refl, refl))

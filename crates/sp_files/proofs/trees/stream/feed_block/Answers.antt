@@ -4,7 +4,7 @@ use Rattle.std.proofs.lemmas.List.{nil_from_length}
 use Rattle.std.specs.Io.KnownBytes.{Consumes, Keeps, IsAtEnd}
 use Rattle.sp_text.specs.Lines.{ended}
 use Rattle.sp_text.proofs.Behind.{refused_earlier}
-use Rattle.sp_files.specs.TreeSpelling.{tree_judge}
+use Rattle.sp_files.specs.Spelling.{tree_judge}
 use Rattle.sp_files.specs.declared.trees.block_state.BlockState.TheVariants.{Over}
 use Rattle.sp_files.specs.Stream.{stream}
 use Rattle.sp_files.proofs.LeftBytes.{none_left}

@@ -1,12 +1,11 @@
-use Rattle.std.proofs.Common.{Some, None, ap, sym, subst}
-use Rattle.sp_paths.specs.Paths.{IsVertex}
+use Rattle.std.proofs.Common.{ap, sym, subst, ◌∙◌}
+use Rattle.std.specs.Prelude.{option_to_list}
 use Rattle.sp_rounds.specs.declared.task.TaskKind.TheVariants.{Heavy}
+use Rattle.sp_phase.specs.Stage.{Learns}
 use Rattle.sp_phase.specs.Marks.{notes_of}
-use Rattle.sp_phase.proofs.TaskMarks.{task_of}
-use Rattle.sp_phase.specs.Lead.{Lead, lead_of}
-use Rattle.sp_phase.specs.Behind.{GivesHeavy}
+use Rattle.sp_phase.specs.Lead.{Lead, MakesDue}
 use Rattle.sp_phase.proofs.LeaderHolds.{holds_forgets, leads_holds}
-use Rattle.sp_phase.proofs.MadeTasks.{heavy_one, heavy_none}
+use Rattle.sp_phase.proofs.MadeTasks.{due_none, due_one}
 use Rattle.sp_phase.proofs.leader.Leader.heavy_task.Goals as goal
 
 pub invariant_of-self : goal.invariant_of-self
@@ -18,16 +17,16 @@ invariant_of-self g c =
 
 pub returns-in_err-dist : goal.returns-in_err-dist
 returns-in_err-dist g c =
-    let r = c.self.inside in
-    let l : Lead = lead_of r.store.now r.caller r.marks r.buckets r.words.items in
-    subst (λ o. GivesHeavy g.row.P c.args.vertex o c.args.self.now c.read.new.self) (sym c.from_residual.ensures)
-    (subst (λ x. GivesHeavy g.row.P c.args.vertex None x c.read.new.self) c.self.view_is
-    (heavy_none g.row.P c.args.vertex c.read.result l c.read.new.self (notes_of c.forget.new.self) c.forget.ensures.distances c.forget.ensures.forgets (ap (λ v. v.items) c.forget.ensures.remembered) c.read.ensures.reads c.read.ensures.word (sym c.in_err-dist.ensures.dist)))
+    let after = c.read.new.self in
+    let reads = c.read.ensures.reads in
+    let learns = subst (λ (l : Lead). Learns g.row.P l.stage l.caller after.caller) c.self.view_is reads.learns in
+    subst (λ o. MakesDue g.row.P (option_to_list o) c.args.self.now after) (sym c.from_residual.ensures)
+    (due_none g.row.P c.args.self.now after (record { stage = ap (λ (l : Lead). l.stage) reads.rest ∙ ap (λ (l : Lead). l.stage) c.self.view_is; learns = learns }))
 
 pub returns : goal.returns
 returns g c =
-    let r = c.self.inside in
-    let l : Lead = lead_of r.store.now r.caller r.marks r.buckets r.words.items in
-    let at = subst (λ (x : Lead). IsVertex x.stage.graph.n c.args.vertex) (sym c.self.view_is) c.requires in
-    subst (λ x. GivesHeavy g.row.P c.args.vertex (Some (task_of Heavy c.args.vertex c.in_ok-dist.dist)) x c.read.new.self) c.self.view_is
-    (heavy_one g.row.P c.args.vertex c.read.result l c.read.new.self (notes_of c.forget.new.self) c.forget.ensures.distances c.forget.ensures.forgets (ap (λ v. v.items) c.forget.ensures.remembered) c.read.ensures.reads c.read.ensures.word c.in_ok-dist.dist c.self.invariant.1 at (sym c.in_ok-dist.ensures.dist))
+    let after = c.read.new.self in
+    let reads = c.read.ensures.reads in
+    let learns = subst (λ (l : Lead). Learns g.row.P l.stage l.caller after.caller) c.self.view_is reads.learns in
+    due_one g.row.P c.args.vertex c.in_ok-dist.dist c.read.result Heavy c.args.self.now after (record { stage = ap (λ (l : Lead). l.stage) reads.rest ∙ ap (λ (l : Lead). l.stage) c.self.view_is; learns = learns }) c.requires
+    c.read.ensures.word (sym c.in_ok-dist.ensures.dist)

@@ -1,7 +1,6 @@
 use Rattle.std.proofs.Common.{ℕ, ap, subst, sym, ◌∙◌}
 use Rattle.sp_rounds.specs.Content.{Puts}
 use Rattle.sp_phase.proofs.LeaderHolds.{first_leads}
-use Rattle.sp_phase.proofs.BucketsBehind.{first_past}
 use Rattle.sp_phase.proofs.leader.Leader.new.Goals as goal
 
 pub invariant_of-result : goal.invariant_of-result
@@ -12,6 +11,3 @@ invariant_of-result g c =
           (ap (λ b. b.delta) c.in_ok-buckets.ensures ∙ (c.get.ensures.width ∙ c.delta.ensures)) (ap (λ b. b.entries) c.in_ok-buckets.ensures) (subst W c.source.ensures c.in_ok-put.ensures.put)
           (sym c.in_ok-words.words.ok.0 ∙ (c.in_ok-words.ensures.len ∙ c.n-n.ensures.n)),
     )
-
-pub returns-clause-come : goal.returns-clause-come
-returns-clause-come g c = first_past g.row.P c.args.store.now c.n-n.result _ c.in_ok-marks.ensures.each

@@ -1,16 +1,13 @@
-use Rattle.std.proofs.Common.{◌≡◌, List, [], ◌++◌, length, sym, ap, subst, ◌∙◌, arith}
+use Rattle.std.proofs.Common.{◌≡◌, List, [], length, sym, subst, ◌∙◌, arith}
 use Rattle.std.specs.Prelude.{All}
-use Rattle.std.specs.List.Sorted.{IsPermutation}
 use Rattle.std.proofs.lemmas.Bool.{eqb-true}
 use Rattle.sp_word.specs.Word.{Word}
 use Rattle.sp_bins.specs.declared.entry.Entry.{Entry}
-use Rattle.sp_rounds.specs.Content.{Content}
 use Rattle.sp_rounds.proofs.EntryPlaces.{empty_is}
 use Rattle.sp_phase.specs.declared.marks.LeaderMark.{LeaderMark}
 use Rattle.sp_phase.specs.Lead.{Lead, lead_of}
-use Rattle.sp_phase.specs.Running.{EntriesFrom}
-use Rattle.sp_phase.specs.Sweep.{IsOpen, AreRelaxed, HasCopied, TakesCopy}
-use Rattle.sp_phase.proofs.BucketsBehind.{leads_opened, opens_past, kept_none}
+use Rattle.sp_phase.specs.Sweep.{IsOpen, AreRelaxed, HasCopied}
+use Rattle.sp_phase.proofs.CopiedWords.{leads_opened}
 use Rattle.sp_phase.proofs.leader.Leader.queue_open.Goals as goal
 
 pub invariant_of-self : goal.invariant_of-self
@@ -44,27 +41,3 @@ returns-clause-none g c is =
     let empty : found ≡ [] = empty_is (λ (e : Entry). Unit {0}) found (omega arith) in
     let A : List Word → List LeaderMark → Type 0 = λ w m. AreRelaxed w m c.args.bounds (length w) in
     subst (λ m. A r.words.items m) c.as_slice-marks.ensures.value (subst (λ w. A w c.as_slice-marks.result.now) c.as_slice.ensures.value (c.in_ok-open.ensures.none empty))
-
-pub returns-clause-past : goal.returns-clause-past
-returns-clause-past g c =
-    let r = c.self.inside in
-    let found = c.in_ok-open.open.items in
-    let l : Lead = lead_of r.store.now r.caller r.marks r.buckets r.words.items in
-    let O : List Word → List LeaderMark → Type 0 = λ w m. All (IsOpen w m c.args.bounds) found in
-    let all = subst (λ m. O r.words.items m) c.as_slice-marks.ensures.value (subst (λ w. O w c.as_slice-marks.result.now) c.as_slice.ensures.value c.in_ok-open.ensures.open) in
-    let q = c.put_all.new.buckets in
-    let M : List Entry → Type 0 = λ es. IsPermutation (r.buckets.entries ++ es) q.entries in
-    let copy = subst (TakesCopy g.row.P c.args.self.now) (sym c.self.view_is) c.take_copy.ensures in
-    opens_past g.row.P c.args.self.now l q c.args.bounds found copy all (subst M c.as_slice-2.ensures.value c.in_ok-put_all.ensures.all)
-
-pub returns-clause-kept : goal.returns-clause-kept
-returns-clause-kept g c is low from =
-    let r = c.self.inside in
-    let found = c.in_ok-open.open.items in
-    let none : c.in_ok-open.open.len ≡ 0 = eqb-true c.in_ok-open.open.len 0 (sym c.is_empty.ensures ∙ is) in
-    let size : c.in_ok-open.open.len ≡ length found = c.in_ok-open.open.ok.0 in
-    let empty : found ≡ [] = empty_is (λ (e : Entry). Unit {0}) found (omega arith) in
-    let q = c.put_all.new.buckets in
-    let M : List Entry → Type 0 = λ es. IsPermutation (r.buckets.entries ++ es) q.entries in
-    let before = ap (λ (x : Lead). x.buckets) (c.self.view_is ∙ c.take_copy.ensures.rest) in
-    kept_none low r.buckets.entries found q.entries empty (subst M c.as_slice-2.ensures.value c.in_ok-put_all.ensures.all) (subst (λ (b : Content). EntriesFrom low b.entries) (sym before) from)

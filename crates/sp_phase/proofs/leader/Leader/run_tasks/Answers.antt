@@ -2,11 +2,9 @@ use Rattle.std.proofs.Common.{List, ◌++◌, refl, ap, sym, subst, ◌∙◌, a
 use Rattle.std.specs.Prelude.{All}
 use Rattle.std.specs.List.Sorted.{IsPermutation}
 use Rattle.sp_bins.specs.declared.entry.Entry.{Entry}
-use Rattle.sp_rounds.specs.declared.task.Task.{Task}
 use Rattle.sp_phase.specs.Marks.{notes_of}
 use Rattle.sp_phase.specs.Rounds.{IsDue}
-use Rattle.sp_phase.specs.Lead.{Lead, lead_of}
-use Rattle.sp_phase.specs.Behind.{HasRun}
+use Rattle.sp_phase.specs.Lead.{Lead, GoesOn, lead_of}
 use Rattle.sp_phase.proofs.LeaderHolds.{round_leads}
 use Rattle.sp_phase.proofs.leader.Leader.run_tasks.Goals as goal
 
@@ -30,17 +28,8 @@ invariant_of-result g c =
 pub returns : goal.returns
 returns g c =
     let r = c.self.inside in
-    let out = c.in_ok-out.out in
-    let q = c.put_all.new.buckets in
+    let later = c.in_ok-out.ensures.done.later in
     let before : Lead = lead_of r.store.now r.caller r.marks r.buckets r.words.items in
-    let after : Lead = lead_of r.store.now out.caller c.write.new.self q r.words.items in
-    let M : List Entry → Type 0 = λ es. IsPermutation (r.buckets.entries ++ es) q.entries in
-    let ran : HasRun g.row.P r.store.now c.as_slice-list.result.now before after = record {
-      stage = refl;
-      found = out.found.items;
-      done = c.in_ok-out.ensures.done;
-      marked = c.write.ensures.marked;
-      remembered = ap (λ v. v.items) c.write.ensures.remembered;
-      entries = subst M c.as_slice.ensures.value c.in_ok-put_all.ensures.all;
-    } in
-    subst (λ (l : Lead). HasRun g.row.P l.stage c.args.tasks.items l after) c.self.view_is (subst (λ (ts : List Task). HasRun g.row.P r.store.now ts before after) c.as_slice-list.ensures.value ran)
+    let after : Lead = lead_of r.store.now c.in_ok-out.out.caller c.write.new.self c.put_all.new.buckets r.words.items in
+    let goes : GoesOn g.row.P before after = record { stage = refl; learns = record { table = later.table; falls = later.falls; lawful = later.stays c.self.invariant.1.holds.running.lawful } } in
+    subst (λ (l : Lead). GoesOn g.row.P l after) c.self.view_is goes

@@ -1,9 +1,8 @@
 use Rattle.std.proofs.Common.{◌≡◌, ℕ, ◌+◌, ◌*◌, ◌<◌, sym, subst, ap, ◌∙◌}
 use Rattle.sp_rounds.specs.Content.{IsLowest}
-use Rattle.sp_phase.specs.Stage.{Stage, IsStage}
+use Rattle.sp_phase.specs.Stage.{Stage}
 use Rattle.sp_phase.specs.Lead.{Lead}
 use Rattle.sp_phase.proofs.SettledBuckets.{test_told, bucket_fits}
-use Rattle.sp_phase.proofs.BucketsBehind.{final_tested, level_reaches, bucket_reached}
 use Rattle.sp_phase.proofs.leader.Leader.settle_bucket.Goals as goal
 
 pub bounds_of-bounds-requires : goal.bounds_of-bounds-requires
@@ -16,30 +15,13 @@ bounds_of-bounds-requires g c =
     subst F (sym (c.get.ensures.width ∙ c.delta.ensures)) (bucket_fits g.row.P r.store.now led.holds.stage r.buckets i led.width led.entries lowest)
 
 pub returns-clause-stage : goal.returns-clause-stage
-returns-clause-stage g c = c.queue_open.ensures.stage ∙ c.in_ok-leader.ensures.stage
+returns-clause-stage g c = c.queue_open.ensures.stage ∙ c.in_ok-leader.ensures
 
 pub returns-clause-told : goal.returns-clause-told
 returns-clause-told g c is =
     let l = c.queue_open.new.self in
     let i = c.args.bucket in
     let b = c.bounds_of-bounds.ensures in
-    let same = c.queue_open.ensures.stage ∙ c.in_ok-leader.ensures.stage in
+    let same = c.queue_open.ensures.stage ∙ c.in_ok-leader.ensures in
     let d : c.get.result ≡ l.stage.delta = c.get.ensures.width ∙ (c.delta.ensures ∙ (ap (λ (x : Lead). x.stage.delta) c.self.view_is ∙ ap (λ (s : Stage). s.delta) (sym same))) in
     test_told g.row.P l.stage l.caller l.marks.each l.words c.in_ok-passed.ensures.copied c.tested_copy.ensures.settled i c.bounds_of-bounds.result (b.light ∙ ap (λ n. (i + 1) * n) d) (b.heavy ∙ ap (λ n. i * n) d) (c.in_ok-passed.ensures.none is)
-
-pub returns-clause-comes : goal.returns-clause-comes
-returns-clause-comes g c =
-    let a = c.args.self in
-    let l = c.queue_open.new.self in
-    let i = c.args.bucket in
-    let b = c.bounds_of-bounds.ensures in
-    let same = c.queue_open.ensures.stage ∙ c.in_ok-leader.ensures.stage in
-    let d : c.get.result ≡ l.stage.delta = c.get.ensures.width ∙ (c.delta.ensures ∙ (ap (λ (x : Lead). x.stage.delta) c.self.view_is ∙ ap (λ (s : Stage). s.delta) (sym same))) in
-    let W : Lead → Type 0 = λ x. x.buckets.delta ≡ x.stage.delta in
-    let copied = c.in_ok-passed.ensures.copied in (
-      level_reaches g.row.P a l same (λ low past. c.in_ok-passed.ensures.past low (c.in_ok-leader.ensures.past low low past)),
-      λ is.
-          bucket_reached g.row.P a c.in_ok-leader.leader l i (subst (λ (x : Lead). IsStage g.row.P x.stage) c.self.view_is c.self.invariant.1.holds.stage) same (subst W c.self.view_is c.self.invariant.1.width)
-          c.requires c.in_ok-leader.ensures.past c.in_ok-leader.ensures.empties c.in_ok-passed.ensures.past (c.in_ok-passed.ensures.kept is)
-          (final_tested g.row.P l.stage copied.stage c.tested_copy.ensures.settled l.caller l.marks.each l.words copied i c.bounds_of-bounds.result (b.light ∙ ap (λ n. (i + 1) * n) d) (b.heavy ∙ ap (λ n. i * n) d) (c.in_ok-passed.ensures.none is)),
-    )

@@ -22,7 +22,7 @@ returns-clause-told g c is =
     let l = c.queue_open.new.self in
     let i = c.args.bucket in
     let b = c.bounds_of-bounds.ensures in
-    let same = c.queue_open.ensures.stage ∙ (ap (λ (x : Lead). x.stage) c.read.ensures.reads.rest ∙ c.in_ok-leader.ensures.stage) in
+    let same = c.queue_open.ensures.stage ∙ (ap (λ (x : Lead). x.stage) c.read.ensures.reads.rest ∙ c.in_ok-leader.ensures) in
     let d : c.get.result ≡ l.stage.delta = c.get.ensures.width ∙ (c.delta.ensures ∙ (ap (λ (x : Lead). x.stage.delta) c.self.view_is ∙ ap (λ (s : Stage). s.delta) (sym same))) in
     test_told g.row.P l.stage l.caller l.marks.each l.words c.in_ok-passed.ensures.copied c.tested_copy.ensures.settled i c.bounds_of-bounds.result (b.light ∙ ap (λ n. (i + 1) * n) d) (b.heavy ∙ ap (λ n. i * n) d) (c.in_ok-passed.ensures.none c.if-not-passed.false)
 
@@ -33,7 +33,7 @@ returns-clause-found g c is =
     let t = c.args.target in
     let b = c.bounds_of-bounds.ensures in
     let end = c.bounds_of-bounds.result.light in
-    let same = c.queue_open.ensures.stage ∙ (ap (λ (x : Lead). x.stage) c.read.ensures.reads.rest ∙ c.in_ok-leader.ensures.stage) in
+    let same = c.queue_open.ensures.stage ∙ (ap (λ (x : Lead). x.stage) c.read.ensures.reads.rest ∙ c.in_ok-leader.ensures) in
     let d : c.get.result ≡ l.stage.delta = c.get.ensures.width ∙ (c.delta.ensures ∙ (ap (λ (x : Lead). x.stage.delta) c.self.view_is ∙ ap (λ (s : Stage). s.delta) (sym same))) in
     let slice : c.as_slice.result.now ≡ l.words = c.as_slice.ensures.value ∙ ap (λ (x : Lead). x.words) c.leader.view_is in
     let W : Stage → Type 0 = λ s. IsVertex s.graph.n t in

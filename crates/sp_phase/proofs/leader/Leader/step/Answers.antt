@@ -1,20 +1,22 @@
 use Rattle.std.proofs.Common.{ℕ, Bool, Option, IfOk, sym, subst}
-use Rattle.std.specs.Prelude.{IsTrue}
+use Rattle.std.specs.Prelude.{IsTrue, IfSome}
 use Rattle.sp_paths.specs.Paths.{IsVertex}
 use Rattle.sp_paths.proofs.Sweep.{swept_is_pair}
 use Rattle.sp_phase.specs.Stage.{Stage}
 use Rattle.sp_phase.specs.Lead.{Lead}
-use Rattle.sp_phase.specs.Settling.{Tells}
-use Rattle.sp_phase.specs.Behind.{Reaches}
-use Rattle.sp_phase.proofs.BucketsBehind.{level_reaches}
+use Rattle.sp_phase.specs.declared.advancing.Until.{Until}
+use Rattle.sp_phase.specs.declared.advancing.Until.TheVariants.{BucketSettled}
+use Rattle.sp_phase.specs.Settling.{Tells, IsBeyond}
 use Rattle.sp_phase.proofs.SettledBuckets.{sweep_pair}
 use Rattle.sp_phase.proofs.leader.Leader.step.Goals as goal
 
-pub returns-in_ok-none-in-None-clause-comes : goal.returns-in_ok-none-in-None-clause-comes
-returns-in_ok-none-in-None-clause-comes g c _ =
-    let after = c.sweep.new.self in
-    let goes = level_reaches g.row.P c.args.self after c.sweep.ensures.stage c.in_ok-none-in-None.ensures.past in
-    (goes, λ _. subst (λ o. Reaches g.row.P o c.args.self after) (sym c.in-None.is) goes)
+pub returns-in_ok-none-in-None-clause-later : goal.returns-in_ok-none-in-None-clause-later
+returns-in_ok-none-in-None-clause-later g c _ = subst (λ o. IfSome o (IsBeyond c.args.until)) (sym c.in-None.is) tt
+
+pub returns-in-BucketSettled-clause-later : goal.returns-in-BucketSettled-clause-later
+returns-in-BucketSettled-clause-later g c =
+    let T : Until → Option ℕ → Type 0 = λ u o. IfOk c.settle_bucket.result (λ (done : Lead × Bool). IsTrue done.1 → IfSome o (IsBeyond u)) in
+    subst (λ u. T u c.args.bucket) (sym c.in-BucketSettled.is) (subst (λ o. T (BucketSettled c.in-BucketSettled.closed) o) (sym c.in-Some.is) c.settle_bucket.ensures.later)
 
 pub returns-in-BucketSettled-clause-told : goal.returns-in-BucketSettled-clause-told
 returns-in-BucketSettled-clause-told g c =

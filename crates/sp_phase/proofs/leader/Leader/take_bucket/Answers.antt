@@ -1,10 +1,8 @@
-use Rattle.std.proofs.Common.{◌+◌, ◌*◌, ap, subst}
+use Rattle.std.proofs.Common.{ap, subst}
 use Rattle.std.specs.Prelude.{All}
-use Rattle.sp_rounds.specs.Content.{Takes}
 use Rattle.sp_phase.specs.Lead.{Lead}
-use Rattle.sp_phase.specs.Running.{IsQueued, EntriesFrom}
+use Rattle.sp_phase.specs.Running.{IsQueued}
 use Rattle.sp_phase.proofs.LeaderHolds.{takes_queued}
-use Rattle.sp_phase.proofs.BucketsBehind.{empties}
 use Rattle.sp_phase.proofs.leader.Leader.take_bucket.Goals as goal
 
 pub invariant_of-self : goal.invariant_of-self
@@ -15,17 +13,5 @@ returns-clause-rest g c = ap (λ (l : Lead). record l { buckets = c.take.new.sel
 
 pub returns-clause-queued : goal.returns-clause-queued
 returns-clause-queued g c =
-    subst (λ (l : Lead). All (IsQueued g.row.P l.stage 0) c.take.result.items) c.self.view_is
+    subst (λ (l : Lead). All (IsQueued g.row.P l.stage) c.take.result.items) c.self.view_is
     (takes_queued g.row.P c.self.inside.store.now _ c.take.new.self c.args.bucket _ c.take.ensures c.self.invariant.1).1
-
-pub returns-clause-takes : goal.returns-clause-takes
-returns-clause-takes g c = subst (λ (l : Lead). Takes c.args.bucket c.take.result.items l.buckets c.take.new.self) c.self.view_is c.take.ensures
-
-pub returns-clause-empties : goal.returns-clause-empties
-returns-clause-empties g c =
-    let r = c.self.inside in
-    let led = c.self.invariant.1 in
-    let i = c.args.bucket in
-    let q = c.take.new.self in
-    subst (λ (l : Lead). EntriesFrom (i * l.stage.delta) l.buckets.entries → EntriesFrom ((i + 1) * l.stage.delta) q.entries) c.self.view_is
-    (empties r.store.now.delta i c.take.result.items r.buckets q led.holds.stage.wide led.width c.take.ensures)

@@ -1,8 +1,4 @@
-use Rattle.std.proofs.Common.{◌≡◌, ℕ, length, ap, sym, subst, ◌∙◌, arith}
-use Rattle.sp_paths.specs.Paths.{IsVertex, word_at}
-use Rattle.sp_offer.specs.Order.{IsNoMore}
-use Rattle.sp_offer.specs.Story.{known_table}
-use Rattle.sp_phase.specs.Stage.{Learns}
+use Rattle.std.proofs.Common.{◌≡◌, length, ap, sym, ◌∙◌}
 use Rattle.sp_phase.specs.Marks.{notes_of}
 use Rattle.sp_phase.specs.Lead.{Lead}
 use Rattle.sp_phase.proofs.LeaderHolds.{holds_learns}
@@ -30,10 +26,7 @@ returns g c =
     let after = c.copy_words.new.caller in
     let words = c.copy_words.new.words.items in
     let size : length words ≡ r.store.now.graph.n = sym c.copy_words.new.words.ok.0 ∙ (c.copy_words.ensures.length ∙ (r.words.ok.0 ∙ led.size)) in
-    let B : Lead → Type 0 = λ l. (v : ℕ) → IsVertex l.stage.graph.n v → IsNoMore (word_at words v) (known_table l.caller.story v) in
     record {
       rest = ap (λ (l : Lead). record l { caller = after; words = words }) c.self.view_is;
       copied = copied g.row.P r.store.now led.holds.stage r.caller after (notes_of r.marks) words led.holds size c.copy_words.ensures.copy c.copy_words.ensures.caller.lawful;
-      below = subst B c.self.view_is (λ v at. let last = at.1 in c.copy_words.ensures.copy.below v at.0 (omega arith));
-      learns = subst (λ (l : Lead). Learns g.row.P l.stage l.caller after) c.self.view_is c.copy_words.ensures.caller;
     }

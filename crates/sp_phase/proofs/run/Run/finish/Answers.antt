@@ -1,11 +1,10 @@
-use Rattle.std.proofs.Common.{ℕ, Option, IfOk, refl, sym, ap, ◌∙◌, subst, arith}
+use Rattle.std.proofs.Common.{ℕ, Option, IfOk, refl, ap, ◌∙◌, subst, arith}
 use Rattle.std.specs.Prelude.{IfNone}
 use Rattle.sp_offer.specs.Story.{Knowledge, known_table}
 use Rattle.sp_answer.specs.Table.{TreeTable}
 use Rattle.sp_phase.specs.Stage.{Stage}
-use Rattle.sp_phase.specs.Progress.{Progress}
+use Rattle.sp_phase.specs.Progress.{Progress, MayLead}
 use Rattle.sp_phase.specs.Sweep.{HasSwept, HasWords}
-use Rattle.sp_phase.proofs.BucketsBehind.{led}
 use Rattle.sp_phase.proofs.run.Run.finish.Goals as goal
 
 pub answer-requires : goal.answer-requires
@@ -16,7 +15,7 @@ answer-requires g c =
 pub returns-in-Ok-clause-known : goal.returns-in-Ok-clause-known
 returns-in-Ok-clause-known g c =
     let r = c.self.inside in
-    let may = led g.row.P r.store.now r.settled r.closed r.leader c.in-Some.leader (sym c.in-Some.is) c.self.invariant.1 in
-    let same = c.in-Ok.ensures.stage ∙ (may.0 ∙ ap (λ (p : Progress). p.stage) c.self.view_is) in
+    let here = subst (MayLead r.store.now) c.in-Some.is c.self.invariant.1 in
+    let same = c.in-Ok.ensures.stage ∙ (here ∙ ap (λ (p : Progress). p.stage) c.self.view_is) in
     let K : Stage → Type 0 = λ s. IfOk c.answer.result (λ (done : TreeTable × Knowledge). HasWords done.0 s.graph.n (known_table done.1.story)) in
     subst K same c.answer.ensures.known

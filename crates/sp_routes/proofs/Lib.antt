@@ -1,0 +1,5 @@
+pub mod Steps
+pub mod Uniqueness
+pub mod Existence
+pub mod Lengths
+pub mod Backwards
