@@ -5,7 +5,7 @@ Usage: python3 tests/document_recipes.py
 
 A recipe is a block `python`. The block `text` after it, if there is one, is what it prints, and a block `csv` before it is the file
 that the line above names. This Python or the system's runs it, whichever has what it imports. If neither has, the recipe is left out
-and named (Debian: python3-networkx, python3-pandas, python3-matplotlib, python3-osmnx, python3-tqdm); with SPT_ALL=1 that
+and named (Debian: python3-networkx, python3-pandas, python3-matplotlib, python3-osmnx, python3-tqdm, python3-scipy); with SPT_ALL=1 that
 counts as failed. Pictures that a recipe draws must be pictures, and docs/ must have those that the page shows. The page has at most
 500 lines of at most 130 columns. The last line is 'N passed, M failed'.
 """
@@ -18,7 +18,7 @@ import sys
 import tempfile
 
 sys.dont_write_bytecode = True
-from harness import HOME, Count, put, read, read_bytes  # noqa: E402
+from harness import HOME, Count, link_networkx, put, read, read_bytes  # noqa: E402
 
 SYSTEM = "/usr/bin/python3"
 SECONDS = 300
@@ -35,8 +35,10 @@ if not hasattr(networkx, "config"):
     vars(networkx).update(as_networkx.functions())
 """
 BLOCK = re.compile(r"^## ([^\n]*)$|This is `([^`]*)`:$|^```(csv|python|text)\n(.*?)^```$", re.M | re.S)
+# the shapes of GeoJSON that recipes write
+SHAPES = {"LineString", "Polygon", "MultiPolygon"}
 # words that somebody would search for
-WORDS = ("isochrone", "OpenStreetMap", "one-way", "undirected", "OSMnx", "NetworkX", "GeoJSON", "CSV", "catchment", "matrix")
+WORDS = ("isochrone", "OpenStreetMap", "one-way", "undirected", "OSMnx", "NetworkX", "GeoJSON", "CSV", "catchment", "matrix", "polygon", "accessibility")
 
 
 def recipes(page):
@@ -78,19 +80,13 @@ def add_files(count, title, folder, page):
                 count.of(f"{title}: {name} is a picture", picture.startswith(b"\x89PNG\r\n\x1a\n") and len(picture) > 10_000)
         elif name.endswith("json"):
             features = json.loads(read(f"{folder}/{name}"))["features"]
-            count.of(f"{title}: {name}", bool(features) and all(it["geometry"]["type"] == "LineString" for it in features))
+            count.of(f"{title}: {name}", bool(features) and {it["geometry"]["type"] for it in features} <= SHAPES)
 
 
-def add_recipe(count, prefix, recipe, page):
-    """Runs a recipe. Returns the modules that are missing for it."""
+def add_run(count, python, prefix, recipe, page, newer=()):
+    """Runs a recipe by a Python, with these folders before its own modules, and compares what it prints."""
     title, program, files, wanted = recipe
-    pythons = list({os.path.realpath(it): it for it in (sys.executable, SYSTEM) if os.path.exists(it)}.values())
-    needed = [*imported(program), *(["networkx", "numpy"] if "streets" in program else [])]
-    missing = {python: lacks(python, needed) for python in pythons}
-    python = next((it for it in pythons if not missing[it]), None)
-    if python is None:
-        return min(missing.values(), key=len)
-    known = {**os.environ, "PYTHONPATH": f"{HOME}/python:{HOME}/examples", "PYTHONDONTWRITEBYTECODE": "1"}
+    known = {**os.environ, "PYTHONPATH": ":".join([*newer, f"{HOME}/python", f"{HOME}/examples"]), "PYTHONDONTWRITEBYTECODE": "1"}
     known["SPT_LIBRARY"] = f"{prefix}/lib/libspt.so"
     with tempfile.TemporaryDirectory() as folder:
         for name, text in files.items():
@@ -101,6 +97,24 @@ def add_recipe(count, prefix, recipe, page):
         count.of(f"{title}: printed\n{done.stdout}", wanted is None or lines(done.stdout) == lines(wanted))
         if done.returncode == 0:
             add_files(count, title, folder, page)
+
+
+def add_recipe(count, prefix, recipe, page):
+    """Runs a recipe; where it leaves NetworkX's paths to spt, also with a NetworkX that does so itself. Returns the modules that are missing."""
+    program = recipe[1]
+    pythons = list({os.path.realpath(it): it for it in (sys.executable, SYSTEM) if os.path.exists(it)}.values())
+    needed = [*imported(program), *(["networkx", "numpy"] if "streets" in program else [])]
+    missing = {python: lacks(python, needed) for python in pythons}
+    python = next((it for it in pythons if not missing[it]), None)
+    if python is None:
+        return min(missing.values(), key=len)
+    add_run(count, python, prefix, recipe, page)
+    if "NETWORKX_BACKEND" in program:
+        with tempfile.TemporaryDirectory() as newer:
+            if link_networkx(newer):
+                add_run(count, python, prefix, recipe, page, [newer])
+            else:
+                print(f"left out: {recipe[0]}, by NetworkX 3.4 or later, which isn't there")
     return []
 
 

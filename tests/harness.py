@@ -17,6 +17,14 @@ import graphs  # noqa: E402, F401
 import parts  # noqa: E402
 
 
+# what prints where a NetworkX is that leaves calls to backends, as it does from 3.4 on
+NEWER = """
+import importlib.metadata, networkx
+if tuple(map(int, networkx.__version__.split(".")[:2])) >= (3, 4):
+    print(networkx.__path__[0], importlib.metadata.distribution("networkx")._path, sep="\\n")
+"""
+
+
 class Count:
     """How many tests passed, and how many failed."""
 
@@ -81,6 +89,17 @@ def put(path, data, mode=None):
     if mode is not None:
         os.chmod(path, mode)
     return path
+
+
+def link_networkx(folder):
+    """Puts links to a NetworkX that has backends, of this Python or the system's, into a folder for other Pythons. Whether there is one."""
+    for python in (sys.executable, "/usr/bin/python3"):
+        found = subprocess.run([python, "-c", NEWER], capture_output=True, text=True).stdout.split() if os.path.exists(python) else []
+        if found and all(map(os.path.isdir, found)):
+            for each in found:
+                os.symlink(each, f"{folder}/{os.path.basename(each)}")
+            return True
+    return False
 
 
 def drawn(draw, count, vertices):

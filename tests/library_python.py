@@ -6,7 +6,8 @@ Usage: python3 tests/library_python.py [--archive ARCHIVE]
 build/libraries makes the library. pytest also runs the tests of Dijkstra's algorithm that SciPy and NetworkX ship against the package
 (tests/python/theirs.py), and prints which are left out, and why. Tests that need something that isn't installed are left out and named (Debian:
 python3-scipy, python3-networkx, python3-pandas, python3-tqdm, python3-pytest, python3-hypothesis); with SPT_ALL=1, what no Python ran counts as
-failed. The last line is 'N passed, M failed'.
+failed. Where one Python has NetworkX 3.4 or later and another has NumPy, the other takes its NetworkX too: then NetworkX itself calls the
+backend, and its own tests run on it by its switch. The last line is 'N passed, M failed'.
 """
 
 import argparse
@@ -17,10 +18,10 @@ import sys
 import tempfile
 
 sys.dont_write_bytecode = True
-from harness import HOME, Count  # noqa: E402
+from harness import HOME, Count, link_networkx  # noqa: E402
 
 SYSTEM = "/usr/bin/python3"
-SECONDS = 600
+SECONDS = 900
 
 EXAMPLES = """
 import doctest, sys
@@ -31,17 +32,17 @@ print(sum(one.attempted - one.failed for one in told), "passed,", sum(one.failed
 """
 
 
-def run(python, prefix, *words):
-    """The output and the errors of a Python with the package."""
-    known = {**os.environ, "PYTHONPATH": f"{HOME}/python", "PYTHONDONTWRITEBYTECODE": "1"}
+def run(python, prefix, *words, path=()):
+    """The output and the errors of a Python with the package, and with these folders before it."""
+    known = {**os.environ, "PYTHONPATH": ":".join([*path, f"{HOME}/python"]), "PYTHONDONTWRITEBYTECODE": "1"}
     known["SPT_LIBRARY"] = f"{prefix}/lib/libspt.so"
     told = {"stdout": subprocess.PIPE, "stderr": subprocess.STDOUT, "text": True}
     return subprocess.run([python, *words], cwd=f"{HOME}/tests/python", env=known, timeout=SECONDS, **told).stdout
 
 
-def add_tests(count, python, prefix):
-    """Counts the tests. Returns those that were left out and those that weren't."""
-    text = run(python, prefix, "-m", "unittest", "discover", "-v")
+def add_tests(count, python, prefix, file=None, path=()):
+    """Counts the tests, or those of a file alone. Returns those that were left out and those that weren't."""
+    text = run(python, prefix, "-m", "unittest", file or "discover", "-v", path=path)
     told = re.findall(r"^(\w+) \((\w+)\.(\w+)[\w.]*\) \.\.\. (.*)$", text, re.M)
     # (a file that is left out is reported as a test of unittest's loader)
     outcomes = [(f"all of {name}" if module == "unittest" else f"{kind}.{name}", outcome) for name, module, kind, outcome in told]
@@ -73,7 +74,23 @@ def add_last_line(count, text):
 def add_examples(count, python, prefix):
     pages = [f"{HOME}/{page}" for page in ("README.md", "python/README.md", "docs/PYTHON.md")]
     text = run(python, prefix, "-c", EXAMPLES, *pages)
-    count.of(f"examples by {python}", add_last_line(count, text))
+    count.of(f"examples by {python}", bool(add_last_line(count, text)))
+
+
+def add_newer(count, pythons, prefix):
+    """Counts the tests of the backend where NetworkX calls it itself, and NetworkX's own by its switch. Returns those that were run."""
+    with tempfile.TemporaryDirectory() as folder:
+        look = ["-c", "import networkx, numpy; networkx.config.backends.spt, print('taken')"]
+        takes = pythons if link_networkx(folder) else []
+        python = next((it for it in takes if run(it, "", *look, path=[folder]) == "taken\n"), None)
+        if python is None:
+            print("left out: no Python has NetworkX 3.4 or later that one with NumPy takes")
+            return set()
+        done = add_tests(count, python, prefix, "test_networkx", [folder])[1]
+        text = run(python, prefix, "theirs.py", "switch", path=[folder])
+        count.of(f"NetworkX's own tests by {python}", bool(add_last_line(count, text)))
+        print(f"NetworkX's own tests by {python}:\n{text[: text.rstrip().rfind(chr(10))]}")
+        return done
 
 
 def add_theirs(count, python, prefix):
@@ -102,6 +119,8 @@ def main():
                 skipped, done = add(count, python, prefix)
                 missing, ran = missing | skipped, ran | done
             add_examples(count, python, prefix)
+        if made.returncode == 0:
+            ran |= add_newer(count, list(pythons.values()), prefix)
         if os.environ.get("SPT_ALL") == "1":
             count.of(f"run by no Python: {', '.join(missing - ran)}", missing <= ran)
     return count.end() or not count.passed

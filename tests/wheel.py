@@ -5,8 +5,9 @@ Usage: python3 tests/wheel.py
 
 It does so by this Python and by the system's, where they have venv and pip (Debian: python3-venv), and says so where not; with
 SPT_ALL=1 that counts as failed where neither has. The package must carry the library, which is looked for nowhere else then,
-name the version of the GNU C library that its symbols need, and leave nothing in the checkout. The last line is 'N passed, M
-failed'.
+name the version of the GNU C library that its symbols need, and leave nothing in the checkout. In an environment that has NetworkX and
+NumPy too (Debian: python3-networkx) it must serve NetworkX, by the switch that NetworkX has for backends from 3.4 on. The last line is
+'N passed, M failed'.
 """
 
 import configparser
@@ -19,7 +20,7 @@ import tempfile
 import zipfile
 
 sys.dont_write_bytecode = True
-from harness import HOME, Count  # noqa: E402
+from harness import HOME, Count, link_networkx  # noqa: E402
 
 SYSTEM = "/usr/bin/python3"
 SECONDS = 600
@@ -47,6 +48,20 @@ print(told["backend_name"], len(told["functions"]), all(hasattr(backend, name) f
 print(backend.can_run("has_path", (), {}))
 """
 
+
+# what NetworkX answers by the installed package, and whether it asked it itself
+SERVED = """
+import networkx, spt._networkx as backend
+graph = networkx.path_graph(300)
+if hasattr(networkx, "config"):
+    print("by", networkx.config.backend_priority.algos, networkx.shortest_path_length(graph, 0, 299, weight="w"))
+    print(type(networkx.single_source_dijkstra_path(graph, 0)).__module__)
+else:
+    read = backend.convert_from_nx(graph, edge_attrs={"w": 1})
+    print("by", ["spt"], backend.shortest_path_length(read, 0, 299, weight="w"))
+    print(type(backend.single_source_dijkstra_path(backend.convert_from_nx(graph, edge_attrs={"weight": 1}), 0)).__module__)
+print(networkx.__version__, sorted({line.split()[-1] for line in open("/proc/self/maps") if "libspt" in line}))
+"""
 
 def run(*words, **known):
     """What a command prints, and its status, in a folder that isn't the checkout, where nothing tells of a library."""
@@ -113,6 +128,25 @@ def add_installed(count, python, place):
     count.of(f"pip uninstall by {python}:\n{text}", status == 0 and not os.path.exists(os.path.dirname(package)))
 
 
+def add_served(count, python, folder):
+    """Installs the package beside NetworkX and NumPy, and asks NetworkX; also a newer one of another Python. Whether they are there."""
+    if run(python, "-c", "import networkx, numpy")[0]:
+        return False
+    place, newer = f"{folder}/beside", f"{folder}/newer"
+    status, text = run(python, "-m", "venv", "--system-site-packages", place)
+    status, text = run(f"{place}/bin/pip", "install", f"{HOME}/python") if status == 0 else (status, text)
+    count.of(f"pip install ./python beside NetworkX by {python}:\n{text}", status == 0)
+    os.mkdir(newer)
+    for path in ("", *([newer] if link_networkx(newer) else [])):
+        status, text = run(f"{place}/bin/python", "-c", SERVED, NETWORKX_BACKEND_PRIORITY="spt", **({"PYTHONPATH": path} if path else {}))
+        answer, kind, told = text.splitlines()[-3:] if status == 0 else ("", "", "")
+        version, _, library = told.partition(" ")
+        print(f"NetworkX {version} by {python}: {answer}")
+        count.of(f"NetworkX and the package by {python}:\n{text}", (answer, kind) == ("by ['spt'] 299", "spt._networkx._paths"))
+        count.of(f"the library beside NetworkX by {python}: {library}", library.startswith(f"['{place}/lib"))
+    return True
+
+
 def add_wheels(count, python, place, folder):
     """Makes the wheel by pip and without, twice the same bytes; where it is."""
     made = []
@@ -140,6 +174,8 @@ def add_python(count, python):
             return False
         before = checkout()
         add_installed(count, python, place)
+        if not add_served(count, python, folder):
+            print(f"left out: {python} has no NetworkX, or no NumPy, beside which the package could be installed")
         wheel = add_wheels(count, python, place, folder)
         left = set(checkout().items()) ^ set(before.items())
         count.of(f"left in the checkout by {python}: {sorted(left)}", not left)

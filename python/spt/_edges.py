@@ -6,7 +6,7 @@ import array
 import itertools
 import operator
 
-from typing import Any, Dict, Iterable, List, Sequence, Tuple
+from typing import Any, Callable, Dict, Iterable, List, Sequence, Tuple
 
 # a node's neighbours, each with the edge to it, or in a multigraph with a dict of edges
 Row = Dict[Any, Any]
@@ -24,7 +24,9 @@ def rows_of(graph: Any) -> Tuple[Tuple[Any, ...], List[Row]]:
 
 def values_of(dicts: Sequence[Any]) -> List[Any]:
     """Returns the values of all dicts, or of the views in their place, one after another."""
-    values = dict.values if set(map(type, dicts)) <= {dict} else operator.methodcaller("values")
+    values: Callable[[Any], Any] = operator.methodcaller("values")
+    if set(map(type, dicts)) <= {dict}:
+        values = dict.values
     return list(itertools.chain.from_iterable(map(values, dicts)))
 
 
@@ -38,7 +40,7 @@ def attributes(edges: Sequence[Any], name: Any, missing: Any) -> List[Any]:
 
 def repeated(given: Iterable[int], counts: Iterable[int]) -> array.array[int]:
     """Returns each number as many times as is told of it."""
-    return array.array("I", itertools.chain.from_iterable(map(itertools.repeat, given, counts)))
+    return array.array("I", itertools.chain.from_iterable(itertools.starmap(itertools.repeat, zip(given, counts))))
 
 
 def heads_of(numbers: Dict[Any, int], rows: Sequence[Row]) -> array.array[int]:

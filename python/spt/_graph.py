@@ -6,8 +6,6 @@ import itertools
 import operator
 import os
 
-from math import inf
-from time import perf_counter
 from typing import Any, BinaryIO, Iterable, Iterator, List, Optional, Tuple, Union
 
 from . import _convert
@@ -34,8 +32,6 @@ File = Union[str, "os.PathLike[str]", BinaryIO]
 Given = Union[File, bytes, bytearray, memoryview]
 # the most places in the trees of one call to the library, unless a single tree has more
 _MOST_PLACES = 1 << 22
-# how long, in seconds per vertex and arc, a path is searched pair by pair before a tree is computed, which takes about twice as long
-_SECONDS_EACH = 5e-8
 
 
 def _want_near() -> None:
@@ -296,7 +292,8 @@ class Graph:
 
         TypeError: a name is not a string, a number, True, False or None, so JSON can't restore it. ValueError: the graph has names
         or a unit, and `file` is open or a device, so there is no place for them. FileExistsError: `save` didn't write the JSON file
-        that is there. FileNotFoundError, IsADirectoryError: there is no such folder, or `file` is one. SptError: there are more than 1073741824 arcs, or the library is older than 1.4.
+        that is there. FileNotFoundError, IsADirectoryError: there is no such folder, or `file` is one. SptError: there are more than
+        1073741824 arcs, or the library is older than 1.4.
 
         >>> import os, tempfile
         >>> roads = {"u": ["Depot", "Mill"], "v": ["Mill", "Quay"], "minutes": [2.5, 4]}
@@ -558,9 +555,9 @@ class Graph:
         `Matrix.floats`, `Matrix.masked` and `Matrix.frame` have neither. Without NumPy, `distances` is a `memoryview` of that
         shape, or a flat one if it is empty.
 
-        `workers` threads compute the rows; "all" is one for each processor, at most 64. The search of a row goes no farther than its targets. The calling thread calls
-        `progress`, if there is one, every few rows with the number of rows found and their total. NoSuchVertex, BadDelta,
-        MemoryError: as for `tree`.
+        `workers` threads compute the rows; "all" is one for each processor, at most 64. The search of a row goes no farther than its
+        targets. The calling thread calls `progress`, if there is one, every few rows with the number of rows found and their total.
+        NoSuchVertex, BadDelta, MemoryError: as for `tree`.
 
         >>> graph = Graph(4, [(1, 2, 3), (1, 3, 3), (2, 4, 2), (3, 4, 2)])
         >>> graph.matrix([1, 2], [4, 2]).tolist(), graph.matrix([4], [1, 2], towards=True).tolist()
@@ -621,7 +618,7 @@ class Graph:
         found = facing._pair(begin, end)
         if found is None:
             return None
-        walk = facing._tree(begin, found[0]).walk(begin, end)
+        walk = facing._tree(begin, found[0] if HAS_NEAR else None)._walk(begin, end)
         return Route(tuple(walk or ()), found[0], self._terms.told(found[0]))
 
     def path(self, source: Any, target: Any, *, towards: bool = False) -> Optional[list[Any]]:
@@ -629,34 +626,15 @@ class Graph:
 
         They are in the order of travel: from the source to the target, or, with `towards`, from the target to the source.
 
-        A short path takes little time. A long one may take up to about twice as long as a tree, so for several targets of one
-        source use its `tree`.
+        A short path takes little time. A long one takes about as long as a tree, at most twice as long, so for several targets of
+        one source use its `tree`. The exceptions are those of `tree`; a TooFar only if the target may be too far.
 
         >>> graph = Graph(3, [(1, 2, 7), (2, 3, 1)])
         >>> graph.path(1, 3), graph.path(3, 1, towards=True)
         ([1, 2, 3], [1, 2, 3])
         """
-        begin, end = self._terms.number(source), self._terms.number(target)
-        path = self._facing(towards)._path(begin, end)
-        return path and [self._terms.name(it) for it in (path if towards else reversed(path))]
-
-    def _path(self, begin: int, target: int) -> Optional[list[int]]:
-        """Returns the numbers of the vertices from a target back to the source."""
-        path = [target]
-        end = perf_counter() + (self.n + self.m) * _SECONDS_EACH
-        while path[-1] != begin:
-            if perf_counter() > end:
-                try:
-                    walk = self._tree(begin).back(begin, path[-1])
-                    return walk and path[:-1] + walk
-                except TooFar:
-                    # The target itself may still be near enough.
-                    end = inf
-            found = self._pair(begin, path[-1])
-            if found is None:
-                return None
-            path.append(found[1])
-        return path
+        route = self.route(source, target, towards=towards)
+        return route and list(route.vertices)
 
     def check(self, tree: Tree) -> Any:
         """Returns None if this is the tree from its source, otherwise the lowest vertex whose distance or predecessor is wrong.
@@ -729,7 +707,7 @@ class Graph:
         if told.status != OK:
             raise self._refused(told.status, 0, 0, source)
         if listed is not None:
-            return Tree.listed(name, listed, self._terms, self._towards)
+            return Tree._listed(name, listed, self._terms, self._towards)
         distances, predecessors = zeros("Q", self.n), zeros("I", self.n)
         whole = self._kept.within(source, limit, delta, distances, predecessors)
         if whole.status != OK:

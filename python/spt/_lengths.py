@@ -199,7 +199,7 @@ def _joined(tails: Any, heads: Any, lengths: Any, scale: Scale) -> Optional[memo
 
 def _without_zeros(numbers: memoryview) -> memoryview:
     """Returns the numbers of arcs with 1 for each length of 0."""
-    return joined(numbers[0::3], numbers[1::3], memoryview(array.array("I", map(max, numbers[2::3], itertools.repeat(1)))))
+    return joined(numbers[0::3], numbers[1::3], memoryview(array.array("I", (it or 1 for it in numbers[2::3]))))
 
 
 def numbers_of(n: int, arcs: Any, scale: Scale) -> memoryview:

@@ -4,6 +4,7 @@ from __future__ import annotations
 
 import ctypes
 import os
+import sys
 
 from ctypes import POINTER, c_size_t, c_uint32, c_uint64, c_void_p
 
@@ -12,6 +13,8 @@ OK, BAD_SIZE, BAD_DELTA, BAD_ARC, NO_SUCH_VERTEX, TOO_FAR, MEMORY, BAD_TEXT, LON
 IN_USE = 12
 MOST_VERTICES = 2**32 - 2
 NAME = "libspt.so.1"
+# the exit status of `python -m spt` without a library, as for any file that is refused
+_NO_LIBRARY = 2
 
 
 class LibraryNotFound(ImportError):
@@ -118,7 +121,12 @@ def _load() -> ctypes.CDLL:
             function = getattr(library, name)
             function.argtypes, function.restype = given, told
     except (OSError, AttributeError) as error:
-        raise LibraryNotFound(f"spt: {error}; set SPT_LIBRARY to the path of libspt.so (docs/PYTHON.md)") from error
+        why = f"spt: {error}; set SPT_LIBRARY to the path of libspt.so (docs/PYTHON.md)"
+        if getattr(sys, "argv", [])[:1] == ["-m"]:
+            # (`python -m spt` imports the package before its command line, and would add a traceback)
+            print(why, file=sys.stderr)
+            sys.exit(_NO_LIBRARY)
+        raise LibraryNotFound(why) from error
     return library
 
 

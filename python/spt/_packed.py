@@ -31,7 +31,8 @@ def numbers_of(words: memoryview) -> memoryview:
 def _tails(ends: memoryview) -> memoryview:
     """Returns the tail of each arc, from a 0 and the ends of the vertices' rows."""
     counts = map(operator.sub, ends[1:], ends)
-    return memoryview(array.array("I", itertools.chain.from_iterable(map(itertools.repeat, itertools.count(1), counts))))
+    rows = itertools.starmap(itertools.repeat, zip(itertools.count(1), counts))
+    return memoryview(array.array("I", itertools.chain.from_iterable(rows)))
 
 
 def turned(numbers: memoryview) -> memoryview:

@@ -23,7 +23,7 @@ _AIM = 0.05
 # by what factor the number of rows may grow from one call to the next
 _GROWTH = 8
 # how many threads "all" is at most, as in the program
-_MOST_WORKERS = 64
+MOST_WORKERS = 64
 
 
 def workers_of(given: Any) -> int:
@@ -31,7 +31,7 @@ def workers_of(given: Any) -> int:
     if isinstance(given, str):
         if given != "all":
             raise ValueError(f'workers {given!r}: must be a number from 1, or "all" for all processors')
-        return min(_processors(), _MOST_WORKERS)
+        return min(_processors(), MOST_WORKERS)
     try:
         workers = operator.index(given)
     except TypeError:

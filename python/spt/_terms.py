@@ -30,6 +30,9 @@ class Terms:
             return True
         return isinstance(other, Terms) and (self.unit, self.n, self._names) == (other.unit, other.n, other._names)
 
+    def __repr__(self) -> str:
+        return f"Terms of {self.n} vertices"
+
     @property
     def names(self) -> Optional[Tuple[Any, ...]]:
         return None if self._names is None else self._names.listed

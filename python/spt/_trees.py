@@ -8,10 +8,16 @@ import pickle
 from bisect import bisect_left
 from dataclasses import dataclass, field
 from functools import cached_property
-from typing import Any, Callable, ClassVar, Iterator, NamedTuple, Optional, Tuple
+from typing import TYPE_CHECKING, Any, Callable, ClassVar, Iterator, NamedTuple, Optional, Tuple
 
 from ._buffers import column, filled, in_bytes
 from ._terms import Terms, index_of, want_pandas
+
+if TYPE_CHECKING:
+    import numpy
+    import pandas
+
+    from numpy.typing import NDArray
 
 UNREACHED = 2**64 - 1
 """The distance of an unreachable vertex.
@@ -25,6 +31,8 @@ BEYOND = 2**64 - 2
 
 # how many entries of a list the repr of a tree shows
 _SHOWN = 8
+# stands for the terms of a graph with neither names nor a unit, until the number of its vertices is known
+_NUMBERS = Terms(0, None, None)
 
 
 class _Pair(NamedTuple):
@@ -100,9 +108,9 @@ def _reached(distances: memoryview, predecessors: memoryview) -> Part:
     try:
         import numpy
     except ImportError:
-        vertices = array.array("I", (at for at, distance in enumerate(distances, 1) if distance != UNREACHED))
-        columns = array.array("Q", (distances[it - 1] for it in vertices)), array.array("I", (predecessors[it - 1] for it in vertices))
-        return Part(*(memoryview(it).toreadonly() for it in (vertices, *columns)))
+        listed = array.array("I", (at for at, distance in enumerate(distances, 1) if distance != UNREACHED))
+        columns = array.array("Q", (distances[it - 1] for it in listed)), array.array("I", (predecessors[it - 1] for it in listed))
+        return Part(*(memoryview(it).toreadonly() for it in (listed, *columns)))
     places = numpy.flatnonzero(numpy.asarray(distances) != UNREACHED)
     vertices = in_bytes((places + 1).astype(numpy.uint32), "I").toreadonly()
     if len(places) == len(distances):
@@ -125,25 +133,25 @@ def _nearest_first(part: Part) -> Part:
         order = sorted(range(len(part.vertices)), key=part.distances.__getitem__)
         lists = (memoryview(array.array(it.format, map(it.__getitem__, order))) for it in part)
         return Part(*(it.toreadonly() for it in lists))
-    order = numpy.argsort(numpy.asarray(part.distances), kind="stable")
-    return Part(*(_taken(numbers, order) for numbers in part))
+    places = numpy.argsort(numpy.asarray(part.distances), kind="stable")
+    return Part(*(_taken(numbers, places) for numbers in part))
 
 
-def _masked(distances: Any, least: int) -> Any:
+def _masked(distances: NDArray[numpy.uint64], least: int) -> numpy.ma.MaskedArray[Any, numpy.dtype[numpy.uint64]]:
     """Returns a NumPy array as a masked array, with everything at or above the least masked."""
     import numpy
 
     return numpy.ma.MaskedArray(distances, distances >= least, fill_value=numpy.uint64(UNREACHED))  # type: ignore[no-untyped-call]
 
 
-def _floats(distances: Any, least: int, terms: Terms) -> Any:
+def _floats(distances: NDArray[numpy.uint64], least: int, terms: Terms) -> NDArray[numpy.float64]:
     """Returns a NumPy array as floats in the unit, with `inf` for everything at or above the least."""
     import numpy
 
     return numpy.where(distances >= least, numpy.inf, terms.told(distances.astype(float)))
 
 
-def _closed(numbers: Any) -> Any:
+def _closed(numbers: NDArray[numpy.float64]) -> NDArray[numpy.float64]:
     """Returns a NumPy array, which is read-only from now on."""
     numbers.flags.writeable = False
     return numbers
@@ -154,7 +162,7 @@ class _Reached:
 
     distances: memoryview
     predecessors: memoryview
-    terms: Optional[Terms]
+    _terms: Terms
     towards: bool
     # the fields, in the order of the constructor, with the format of each list; empty if it is not a list
     _formats: ClassVar[dict[str, str]]
@@ -163,13 +171,8 @@ class _Reached:
         for name, format in self._formats.items():
             if format:
                 object.__setattr__(self, name, column(getattr(self, name), format))
-        if self.terms is None:
-            object.__setattr__(self, "terms", Terms(len(self.distances), None, None))
-
-    @property
-    def _terms(self) -> Terms:
-        assert self.terms is not None
-        return self.terms
+        if self._terms is _NUMBERS:
+            object.__setattr__(self, "_terms", Terms(len(self.distances), None, None))
 
     def _values(self) -> tuple[Any, ...]:
         """Returns the values of the fields; their lists are read-only."""
@@ -190,7 +193,7 @@ class _Reached:
     def __hash__(self) -> int:
         return hash(tuple(it.tobytes() if isinstance(it, memoryview) else it for it in self._values()))
 
-    def masked(self) -> Any:
+    def masked(self) -> numpy.ma.MaskedArray[Any, numpy.dtype[numpy.uint64]]:
         """Returns the distances, numbers of units, as a NumPy masked array (uint64), not copied; unreachable vertices are masked.
 
         Sums and means skip them, and `filled()` has UNREACHED for them. The distances are whole numbers, in units of the graph's
@@ -200,7 +203,7 @@ class _Reached:
 
         return _masked(numpy.asarray(self.distances), UNREACHED)
 
-    def floats(self) -> Any:
+    def floats(self) -> NDArray[numpy.float64]:
         """Returns the distances as a new NumPy array (float64), in the unit of the graph's lengths, with `inf` if unreachable.
 
         If the graph has no `unit`, each distance is exact, since none is above `reach(n)`, which is below 2^44, and floats are
@@ -212,14 +215,14 @@ class _Reached:
         return _floats(numpy.asarray(self.distances), UNREACHED, self._terms)
 
     @cached_property
-    def lengths(self) -> Any:
+    def lengths(self) -> NDArray[numpy.float64]:
         """The distance of each vertex in the unit of the graph's lengths, in a NumPy array (float64), with `inf` if unreachable.
 
         These are `floats`, computed once; the array is read-only.
         """
         return _closed(self.floats())
 
-    def frame(self) -> Any:
+    def frame(self) -> pandas.DataFrame:
         """Returns a pandas frame with a row for each vertex, by name or number, in order.
 
         Its columns are `distance` (`floats`), `predecessor` and, for a forest, `source`; a vertex without a predecessor or a source
@@ -236,10 +239,10 @@ class _Reached:
         return self.distances[number - 1], self.predecessors[number - 1]
 
     def part(self, *, nearest_first: bool = False) -> Part:
-        """Returns the vertices that are reached, by number, with their distances and predecessors, as three lists of equal length.
+        """Returns the vertices that are reached, by number, with their distances, numbers of units, and their predecessors.
 
-        They are ordered by number, or, with `nearest_first`, by distance and then by number. A small part of a large graph
-        (`within`) takes only the time for what it reaches. In a graph with names, vertex v is `graph.names[v - 1]`.
+        They are three lists of equal length, ordered by number, or, with `nearest_first`, by distance and then by number. A small part
+        of a large graph (`within`) takes only the time for what it reaches. In a graph with names, vertex v is `graph.names[v - 1]`.
 
         >>> import spt
         >>> tree = spt.Graph(4, [(1, 3, 2), (3, 2, 4), (1, 4, 9)]).tree(1, within=6)
@@ -260,7 +263,7 @@ class _Reached:
     def _shown_predecessors(self) -> str:
         return f"{'next' if self.towards else 'predecessors'} {_shown(self.predecessors, {})}"
 
-    def back(self, source: int, target: int) -> Optional[list[int]]:
+    def _back(self, source: int, target: int) -> Optional[list[int]]:
         """Returns the numbers of the vertices from a target back to a source, by predecessors; None if there is no path."""
         if self._entry(target)[0] == UNREACHED:
             return None
@@ -271,9 +274,9 @@ class _Reached:
             path.append(self._entry(path[-1])[1])
         return path
 
-    def walk(self, source: int, target: int) -> Optional[list[Any]]:
+    def _walk(self, source: int, target: int) -> Optional[list[Any]]:
         """Returns the vertices of the path between the source and target with these numbers, in the order of travel; None if none."""
-        path = self.back(source, target)
+        path = self._back(source, target)
         return path and [self._terms.name(it) for it in (path if self.towards else reversed(path))]
 
 
@@ -306,30 +309,35 @@ class Tree(_Reached):
     source: Any
     distances: memoryview
     predecessors: memoryview
-    terms: Optional[Terms] = field(default=None, repr=False)
+    _terms: Terms = field(default=_NUMBERS, repr=False)
     towards: bool = False
-    _formats = {"source": "", "distances": "Q", "predecessors": "I", "terms": "", "towards": ""}
+    _formats = {"source": "", "distances": "Q", "predecessors": "I", "_terms": "", "towards": ""}
 
     @classmethod
-    def listed(cls, source: Any, part: Tuple[memoryview, memoryview, memoryview], terms: Terms, towards: bool) -> Tree:
+    def _listed(cls, source: Any, part: Tuple[memoryview, memoryview, memoryview], terms: Terms, towards: bool) -> Tree:
         """Returns the part of a tree with these vertices, by rising number, and their distances and predecessors.
 
         The lists with an entry for each vertex are made when they are first needed.
         """
         tree = cls.__new__(cls)
-        tree.__dict__.update(source=source, terms=terms, towards=towards, _part=part)
+        tree.__dict__.update(source=source, _terms=terms, towards=towards, _part=part)
         return tree
 
-    def __getattr__(self, name: str) -> Any:
-        if name not in ("distances", "predecessors") or "_part" not in self.__dict__:
-            raise AttributeError(f"{type(self).__name__!r} object has no attribute {name!r}")
-        vertices, *lists = self._part
+    if not TYPE_CHECKING:
+
+        def __getattr__(self, name: str) -> Any:
+            if name not in ("distances", "predecessors") or "_part" not in self.__dict__:
+                raise AttributeError(f"{type(self).__name__!r} object has no attribute {name!r}")
+            self._make_lists(*self._part)
+            return self.__dict__[name]
+
+    def _make_lists(self, vertices: memoryview, *lists: memoryview) -> None:
+        """Makes the lists with an entry for each vertex from those of a part."""
         for each, numbers, other in zip(("distances", "predecessors"), lists, (UNREACHED, 0)):
             whole = filled(numbers.format, self._terms.n, other)
             for vertex, number in zip(vertices, numbers):
                 whole[vertex - 1] = number
             self.__dict__[each] = whole.toreadonly()
-        return self.__dict__[name]
 
     def _reached(self) -> Part:
         part = self.__dict__.get("_part")
@@ -358,12 +366,12 @@ class Tree(_Reached):
         >>> graph.tree(1).path(3), graph.tree(3, towards=True).path(1)
         ([1, 2, 3], [1, 2, 3])
         """
-        return self.walk(self._terms.number(self.source), self._terms.number(target))
+        return self._walk(self._terms.number(self.source), self._terms.number(target))
 
 
 @dataclass(frozen=True, eq=False, repr=False)
 class Forest(_Reached):
-    """The distances from the nearest of several sources, or those within a distance.
+    """The distances from the nearest of several sources, counted in units, or those within a distance.
 
     `distances`, `predecessors` and `sources` are lists of unsigned numbers, of 64, 32 and 32 bits, with vertex v at index v - 1:
     its distance from the nearest source, a number of units, the smallest vertex before it on such a path, and that source, to which
@@ -381,9 +389,9 @@ class Forest(_Reached):
     distances: memoryview
     predecessors: memoryview
     sources: memoryview
-    terms: Optional[Terms] = field(default=None, repr=False)
+    _terms: Terms = field(default=_NUMBERS, repr=False)
     towards: bool = False
-    _formats = {"distances": "Q", "predecessors": "I", "sources": "I", "terms": "", "towards": ""}
+    _formats = {"distances": "Q", "predecessors": "I", "sources": "I", "_terms": "", "towards": ""}
 
     def __repr__(self) -> str:
         distances = _shown(self.distances, {UNREACHED: "unreached"})
@@ -399,7 +407,7 @@ class Forest(_Reached):
     def path(self, target: Any) -> Optional[list[Any]]:
         """Returns the vertices of the path between a target and its source, in the order of travel (`Tree.path`); None if none."""
         place = self._terms.number(target)
-        return self.walk(self.sources[place - 1], place)
+        return self._walk(self.sources[place - 1], place)
 
 
 def _of_floats(name: str) -> Callable[..., Any]:
@@ -422,7 +430,7 @@ def _of_array(name: str) -> Callable[..., Any]:
 
 @dataclass(frozen=True, eq=False, repr=False)
 class Matrix:
-    """The distances of targets from sources: a row for each source, a column for each target.
+    """The distances of targets from sources, counted in units: a row for each source, a column for each target.
 
     If `towards` is True, each is the distance from the target to the source.
 
@@ -442,29 +450,29 @@ class Matrix:
     sources: tuple[Any, ...]
     targets: tuple[Any, ...]
     distances: Any
-    terms: Terms = field(repr=False)
+    _terms: Terms = field(repr=False)
     towards: bool = False
 
     def __repr__(self) -> str:
         more = ", towards the sources" if self.towards else ""
         return f"Matrix of {len(self.sources)} sources and {len(self.targets)} targets{more}"
 
-    def masked(self) -> Any:
+    def masked(self) -> numpy.ma.MaskedArray[Any, numpy.dtype[numpy.uint64]]:
         """Returns the distances, numbers of units, as a NumPy masked array (uint64); unreachable and too far targets are masked."""
         import numpy
 
         return _masked(numpy.asarray(self.distances), BEYOND)
 
-    def floats(self) -> Any:
+    def floats(self) -> NDArray[numpy.float64]:
         """Returns the distances as a new NumPy array (float64), in the unit of the graph's lengths (`Tree.floats`).
 
         It has `inf` for unreachable and too far targets.
         """
         import numpy
 
-        return _floats(numpy.asarray(self.distances), BEYOND, self.terms)
+        return _floats(numpy.asarray(self.distances), BEYOND, self._terms)
 
-    def frame(self) -> Any:
+    def frame(self) -> pandas.DataFrame:
         """Returns `floats` as a pandas frame, with the sources as rows and the targets as columns.
 
         The rows are named `source` and the columns `target`, or, in a matrix `towards` its sources, `to` and `from`. ImportError:
@@ -475,7 +483,7 @@ class Matrix:
         return want_pandas().DataFrame(self.floats(), index=index[0], columns=index[1])
 
     @cached_property
-    def lengths(self) -> Any:
+    def lengths(self) -> NDArray[numpy.float64]:
         """The distances in the unit of the graph's lengths, in a NumPy array (float64), with `inf` if unreachable or too far.
 
         These are `floats`, computed once; the array is read-only.
@@ -485,7 +493,7 @@ class Matrix:
     @cached_property
     def _array(self) -> Any:
         """The array that it acts as."""
-        return self.distances if self.terms.unit is None else self.floats()
+        return self.distances if self._terms.unit is None else self.floats()
 
     def __array__(self, dtype: Any = None, copy: Optional[bool] = None) -> Any:
         import numpy
@@ -509,7 +517,7 @@ class Matrix:
     def __reduce__(self) -> tuple[Any, ...]:
         # (a memoryview can't be pickled)
         told = self.distances.tobytes() if isinstance(self.distances, memoryview) else self.distances
-        return _matrix_again, (self.sources, self.targets, told, self.terms, self.towards)
+        return _matrix_again, (self.sources, self.targets, told, self._terms, self.towards)
 
     __hash__ = None  # type: ignore[assignment]
     __eq__, __ne__, __lt__, __le__, __gt__, __ge__ = map(

@@ -1,13 +1,30 @@
-"""The example, and randomly generated graphs."""
+"""The example, randomly generated graphs, and the modules that may be missing."""
 
 import array
 import heapq
+import importlib
 import os
 import random
 
 HOME = os.path.dirname(os.path.dirname(os.path.dirname(os.path.realpath(__file__))))
 DIAMOND = [(1, 2, 3), (1, 3, 3), (2, 4, 2), (3, 4, 2), (1, 4, 6)]
 LONGEST = 2**32 - 1
+
+
+def optional(name, *parts):
+    """This module, with these of its modules; None if one isn't installed."""
+    try:
+        for part in parts:
+            importlib.import_module(f"{name}.{part}")
+        return importlib.import_module(name)
+    except ImportError:
+        return None
+
+
+numpy, pandas, networkx, tqdm = map(optional, ("numpy", "pandas", "networkx", "tqdm"))
+scipy = optional("scipy", "sparse")
+# with NumPy, where it is, and as if it weren't
+WAYS = ({}, {"numpy": None}) if numpy else ({},)
 
 
 def read(page):

@@ -184,9 +184,9 @@ class Trees(unittest.TestCase):
             self.assertEqual(self.graph.pair(1, 4), spt.Pair(5, 2))
 
     def test_paths_are_the_trees(self):
-        # by its pairs alone, by the tree alone, and by pairs and then by the tree
-        for seconds in (0, 1, 1e-7):
-            with mock.patch.object(spt._graph, "_SECONDS_EACH", seconds):
+        # (an older library has no parts of trees, and an even older one no pairs)
+        for lacks in ({"HAS_NEAR": True}, {"HAS_NEAR": False}, {"HAS_NEAR": False, "HAS_PAIR": False}):
+            with mock.patch.multiple(spt._graph, **lacks):
                 for seed, longest in ((4, 1000), (5, 2), (6, samples.LONGEST)):
                     graph = spt.Graph(120, samples.by_lot(120, 300, seed, longest))
                     tree = graph.tree(60)
@@ -204,10 +204,11 @@ class Trees(unittest.TestCase):
         told = spt.Graph(3, [(1, 2, 2.5), (2, 3, 4)], unit=0.1).named(["Depot", "Mill", "Quay"]).route("Depot", "Quay")
         self.assertEqual((told.vertices, told.distance, told.length), (("Depot", "Mill", "Quay"), 65, 6.5))
 
-    def test_short_paths_ask_for_no_tree(self):
-        if spt._library.HAS_PAIR:
-            with mock.patch.object(spt._graph, "_SECONDS_EACH", 1), mock.patch.object(spt.Graph, "tree", side_effect=AssertionError):
-                self.assertEqual(self.graph.path(1, 4), [1, 2, 4])
+    def test_paths_ask_for_no_whole_tree(self):
+        limits, whole = [], spt.Graph._tree
+        with mock.patch.object(spt.Graph, "_tree", lambda graph, source, limit=None: limits.append(limit) or whole(graph, source, limit)):
+            self.assertEqual(self.graph.path(1, 4), [1, 2, 4])
+        self.assertEqual(limits, [5])
 
     def test_only_read(self):
         given = array.array("Q", [0, 1])
@@ -218,6 +219,14 @@ class Trees(unittest.TestCase):
                     numbers[0] = 1
         given[1] = 7
         self.assertEqual(list(made.distances), [0, 1])
+
+    def test_names_are_public(self):
+        common = {"distances", "floats", "frame", "lengths", "masked", "pair", "part", "path", "predecessors", "towards"}
+        graph = spt.Graph(4, samples.DIAMOND)
+        self.assertEqual({it for it in dir(graph.tree(1)) if it[0] != "_"}, common | {"source"})
+        self.assertEqual({it for it in dir(graph.nearest([1])) if it[0] != "_"}, common | {"source", "sources"})
+        wanted = {"distances", "floats", "frame", "lengths", "masked", "sources", "targets", "towards"}
+        self.assertEqual({it for it in dir(graph.matrix([1], [2])) if it[0] != "_"}, wanted)
 
     def test_repr(self):
         self.assertEqual(repr(self.graph.tree(4)), "Tree from 4 over 4 vertices: distances unreached, unreached, unreached, 0; "
@@ -364,9 +373,7 @@ class Refusals(unittest.TestCase):
             self.refused(spt.TooFar, lambda: call(1), source=1, vertex=vertex)
         for call in (graph.pair, graph.path):
             self.refused(spt.TooFar, lambda: call(1, n), source=1)
-        for seconds in (0, 1):
-            with mock.patch.object(spt._graph, "_SECONDS_EACH", seconds):
-                self.assertEqual(graph.path(1, 5), [1, 2, 3, 4, 5])
+        self.assertEqual(graph.path(1, 5), [1, 2, 3, 4, 5])
         for workers in (1, 2):
             trees = graph.trees([n, n - 1, 1, n], workers=workers)
             self.assertEqual([next(trees).source, next(trees).source], [n, n - 1])

@@ -20,25 +20,8 @@ from unittest import mock
 import samples
 import spt
 
-try:
-    import numpy
-except ImportError:
-    numpy = None
-try:
-    import pandas
-except ImportError:
-    pandas = None
-try:
-    import networkx
-except ImportError:
-    networkx = None
-try:
-    import scipy.sparse
-except ImportError:
-    scipy = None
+from samples import WAYS, networkx, numpy, pandas, scipy
 
-# with NumPy, where it is, and as if it weren't
-WAYS = ({}, {"numpy": None}) if numpy else ({},)
 ROADS = {"u": ["Depot", "Mill", "Depot", "Quay"], "v": ["Mill", "Quay", "Quay", "Depot"], "minutes": [2.5, 0, 7.25, 0.001]}
 
 

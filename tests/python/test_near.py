@@ -74,7 +74,7 @@ class Near(unittest.TestCase):
         graph = spt.Graph(300, samples.by_lot(300, 900, 1))
         for source, limit in ((1, 0), (7, 100), (7, 400), (300, 900), (300, spt.reach(300))):
             columns = zip("QI", part(graph.tree(source), limit))
-            wanted = spt.Tree(source, *(array.array(format, column) for format, column in columns), graph.tree(1).terms)
+            wanted = spt.Tree(source, *(array.array(format, column) for format, column in columns), graph.tree(1)._terms)
             told = lambda: graph.tree(source, within=limit)  # noqa: E731
             for target in (source, *range(1, 301, 17)):
                 self.assertEqual((told().pair(target), told().path(target)), (wanted.pair(target), wanted.path(target)))

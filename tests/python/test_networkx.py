@@ -1,10 +1,12 @@
 """The backend of NetworkX beside NetworkX itself: ten kinds of lengths, four kinds of graphs, by `==` on floats."""
 
 import concurrent.futures
+import contextlib
 import copy
 import importlib
 import inspect
 import json
+import logging
 import math
 import pickle
 import random
@@ -26,7 +28,7 @@ import samples
 import spt._networkx as backend
 
 from _spt_networkx import FUNCTIONS, SETTINGS, get_info
-from as_networkx import run
+from as_networkx import PARAMETERS, Dispatcher, attribute_of, run, signature
 
 IS_NEW = tuple(map(int, networkx.__version__.split(".")[:2])) >= (3, 4)
 CLASSES = (networkx.Graph, networkx.DiGraph, networkx.MultiGraph, networkx.MultiDiGraph)
@@ -62,6 +64,22 @@ def town_of_the_docs():
         return importlib.import_module("streets").town()
     finally:
         sys.path.pop(0)
+
+
+@contextlib.contextmanager
+def settings(**given):
+    """Runs a block with these settings of the backend: in NetworkX's configuration if it has one, from 3.4 on."""
+    ours = networkx.config.backends.spt if IS_NEW else types.SimpleNamespace()
+    before = {name: getattr(ours, name, SETTINGS[name]) for name in given}
+    for name, value in given.items():
+        setattr(ours, name, value)
+    config = types.SimpleNamespace(backends=types.SimpleNamespace(spt=ours))
+    try:
+        with contextlib.nullcontext() if IS_NEW else mock.patch.object(networkx, "config", config, create=True):
+            yield
+    finally:
+        for name, value in before.items():
+            setattr(ours, name, value)
 
 
 def by_function(tail, head, data):
@@ -268,7 +286,7 @@ class Paths(unittest.TestCase):
             self.assertEqual({**told, self.source: [self.source]}, self.wanted)
 
     def test_all_at_once(self):
-        with mock.patch.dict(SETTINGS, lazy_paths=False):
+        with settings(lazy_paths=False):
             self.assertIs(type(self.told()), dict)
         self.assertEqual(self.told(), self.wanted)
 
@@ -326,7 +344,7 @@ class Reading(unittest.TestCase):
         with concurrent.futures.ThreadPoolExecutor(4) as pool:
             told = dict(zip(wanted, pool.map(lambda node: backend.single_source_dijkstra(kept, node, weight="w"), wanted)))
         self.assertEqual(told, wanted)
-        with mock.patch.dict(SETTINGS, workers=2):
+        with settings(workers=2):
             self.assertEqual(dict(run("all_pairs_dijkstra", graph, weight="w")), dict(networkx.all_pairs_dijkstra(graph, weight="w")))
 
     def test_numbers_of_numpy(self):
@@ -340,7 +358,7 @@ class Reading(unittest.TestCase):
         for name, given, told in (
             ("shortest_path", {"method": "bellman-ford"}, True), ("shortest_path", {"method": "bellman-ford", "weight": "w"}, "method 'bellman-ford'"),
             ("average_shortest_path_length", {"method": "floyd-warshall"}, "method 'floyd-warshall'"),
-            ("eccentricity", {"sp": {}}, "lengths that are given"), ("shortest_path", {"wrong": 1}, "the arguments don't fit the function"),
+            ("eccentricity", {"sp": {}}, "lengths that are given"), ("shortest_path", {"source": 1, "G": graph}, "the arguments don't fit the function"),
             ("closeness_centrality", {"distance": function}, "a function as weight, asked backwards"),
             ("shortest_path", {"target": 1, "weight": function}, "a function as weight, asked backwards"),
             ("shortest_path", {"source": 1, "weight": function}, True), ("dijkstra_path", {"source": 1, "target": 2}, True),
@@ -355,14 +373,13 @@ class Reading(unittest.TestCase):
         self.assertEqual(backend.should_run("has_path", (networkx.path_graph(199), 1, 2), {}), "few nodes")
 
     def test_settings(self):
-        # (NetworkX has them in its configuration from 3.4 on)
-        ours = types.SimpleNamespace(least_nodes=5, lazy_paths=False)
-        with mock.patch.object(networkx, "config", types.SimpleNamespace(backends=types.SimpleNamespace(spt=ours)), create=True):
-            graph = networkx.path_graph(6)
+        graph, less = networkx.path_graph(6), networkx.path_graph(4)
+        with settings(least_nodes=5, lazy_paths=False):
             self.assertEqual((backend.should_run("has_path", (graph, 1, 2), {}), backend.should_run("has_path", (), {"G": graph})), (True, True))
-            self.assertEqual(backend.should_run("has_path", (networkx.path_graph(4), 1, 2), {}), "few nodes")
+            self.assertEqual(backend.should_run("has_path", (less, 1, 2), {}), "few nodes")
             self.assertIs(type(backend.single_source_dijkstra_path(backend.convert_from_nx(graph), 0, weight=None)), dict)
             self.assertEqual(backend._settings.setting("workers"), 1)
+        self.assertEqual({name: backend._settings.setting(name) for name in SETTINGS}, SETTINGS)
 
     def test_what_networkx_is_told(self):
         self.assertEqual(set(get_info()["functions"]), set(FUNCTIONS))
@@ -396,6 +413,109 @@ class Reading(unittest.TestCase):
             self.assertEqual(run("single_source_dijkstra", graph, 0, target), (wanted[0][target], wanted[1][target]))
 
 
+def ring(nodes, seed=1):
+    """A strongly connected graph by lot, in which no two paths are of the same length."""
+    draw, graph = random.Random(seed), networkx.DiGraph()
+    ends = [(at, (at + 1) % nodes) for at in range(nodes)] + [(draw.randrange(nodes), draw.randrange(nodes)) for _ in range(2 * nodes)]
+    graph.add_weighted_edges_from(((*both, draw.random()) for both in ends), weight="w")
+    return graph
+
+
+def calls_of(graph):
+    """A call of each function: its arguments behind the graph."""
+    weight, several = {"weight": "w"}, [3, 50, 100]
+    return {
+        "all_pairs_dijkstra": ((), {"cutoff": 2, **weight}), "all_pairs_dijkstra_path": ((), {"cutoff": 2, **weight}),
+        "all_pairs_dijkstra_path_length": ((2, "w"), {}), "all_pairs_shortest_path": ((3,), {}), "all_pairs_shortest_path_length": ((), {"cutoff": 3}),
+        "average_shortest_path_length": ((), weight), "bidirectional_dijkstra": ((1, 99), weight), "bidirectional_shortest_path": ((1, 99), {}),
+        "closeness_centrality": ((), {"distance": "w"}), "dijkstra_path": ((1, 99), weight), "dijkstra_path_length": ((1,), {"target": 99, **weight}),
+        "dijkstra_predecessor_and_distance": ((1,), weight), "eccentricity": ((), weight if IS_NEW else {}), "has_path": ((1, 99), {}),
+        "multi_source_dijkstra": ((several,), weight), "multi_source_dijkstra_path": ((several,), weight),
+        "multi_source_dijkstra_path_length": ((several,), {"cutoff": 1.5, **weight}), "shortest_path": ((), {"source": 1, **weight}),
+        "shortest_path_length": ((), {"target": 99, **weight}), "single_source_dijkstra": ((1,), weight), "single_source_dijkstra_path": ((1, 4, "w"), {}),
+        "single_source_dijkstra_path_length": ((1,), weight), "single_source_shortest_path": ((1, 3), {}), "single_source_shortest_path_length": ((1,), {}),
+        "single_target_shortest_path": ((1,), {"cutoff": 3}), "single_target_shortest_path_length": ((1,), {}), "voronoi_cells": ((several, "w"), {}),
+    }
+
+
+def comparable(name, told):
+    """An answer without the choice between paths of equally many edges, and without the last digit of a sum of two halves."""
+    if name == "bidirectional_shortest_path":
+        return len(told)
+    if name == "single_target_shortest_path":
+        return {node: len(path) for node, path in told.items()}
+    if name == "bidirectional_dijkstra":
+        return round(told[0], 12), told[1]
+    return told
+
+
+class Double(unittest.TestCase):
+    """The dispatch of NetworkX 3.4, by a double, where NetworkX is older too."""
+
+    def setUp(self):
+        self.dispatcher, self.graph = Dispatcher(), ring(240)
+
+    def test_each_function(self):
+        calls = calls_of(self.graph)
+        self.assertEqual(set(calls), set(FUNCTIONS))
+        for name, (args, kwargs) in calls.items():
+            wanted = comparable(name, outcome(getattr(networkx, name), self.graph, *args, **kwargs))
+            for _ in range(2):
+                told = outcome(self.dispatcher.run, name, (self.graph, *args), kwargs)
+                self.assertEqual(comparable(name, told), wanted, name)
+            by_name = {"G": self.graph, **kwargs, **dict(zip(list(signature(name).parameters)[1:], args))}
+            self.assertEqual(comparable(name, outcome(self.dispatcher.run, name, (), by_name)), wanted, name)
+        # (it was read once without lengths, and once with)
+        self.assertEqual(self.dispatcher.read, 2)
+
+    def test_what_is_kept(self):
+        run, pair = self.dispatcher.run, (self.graph, 1, 99)
+        for kwargs in ({"weight": None}, {"weight": "w"}, {"weight": "v"}):
+            self.assertEqual(run("shortest_path_length", pair, kwargs), networkx.shortest_path_length(*pair, **kwargs))
+        self.assertEqual(self.dispatcher.read, 3)
+        kept = self.dispatcher.kept[self.graph][False, (("w", 1),)]
+        self.assertEqual(run("dijkstra_path", (kept, 1, 99), {"weight": "w"}), networkx.dijkstra_path(*pair, weight="w"))
+        self.graph.add_edge(1, 2, w="three")
+        self.dispatcher.kept.clear()
+        for why in ("lengths of type str", "couldn't be read before"):
+            with self.assertRaisesRegex(NotImplementedError, why):
+                run("dijkstra_path", pair, {"weight": "w"})
+        self.assertEqual(self.dispatcher.read, 4)
+
+    def test_what_is_left_to_networkx(self):
+        def function(tail, head, data):
+            return data["w"]
+
+        for name, args, kwargs, why in (
+            ("has_path", (ring(199), 1, 99), {}, "few nodes"),
+            ("dijkstra_path", (self.graph, 1, 99, function), {}, "a function as weight would be asked of all edges"),
+            ("shortest_path", (self.graph,), {"target": 1, "weight": function}, "asked backwards"),
+            ("shortest_path", (self.graph, 1), {"weight": "w", "method": "bellman-ford"}, "method 'bellman-ford'"),
+            ("pagerank", (self.graph,), {}, "spt has no pagerank"),
+        ):
+            with self.assertRaisesRegex(NotImplementedError, why):
+                self.dispatcher.run(name, args, kwargs)
+        self.assertEqual(self.dispatcher.read, 0)
+        told = self.dispatcher.run("single_source_dijkstra_path_length", (self.graph, 1), {"weight": function})
+        self.assertEqual(told, networkx.single_source_dijkstra_path_length(self.graph, 1, weight="w"))
+        with self.assertRaises(TypeError):
+            self.dispatcher.run("has_path", (self.graph, 1, 99), {"wrong": 1})
+        with self.assertRaises(networkx.NodeNotFound):
+            self.dispatcher.run("has_path", (self.graph, 1, "nowhere"), {})
+
+    @unittest.skipUnless(IS_NEW, "NetworkX dispatches to backends from 3.4 on")
+    def test_it_is_like_networkx(self):
+        for name in FUNCTIONS:
+            real = networkx.utils.backends._registered_algorithms[name]
+            while not isinstance(real, networkx.utils.backends._dispatchable):
+                real = real.__wrapped__
+            self.assertEqual(real.__signature__, signature(name))
+            self.assertEqual((real.edge_attrs, real.node_attrs, real.graphs), (attribute_of(name), None, {"G": 0}))
+            kept = real.preserve_edge_attrs, real.preserve_node_attrs, real.preserve_graph_attrs, real.mutates_input, real._returns_graph
+            self.assertEqual(set(kept), {False})
+        self.assertEqual(set(PARAMETERS), set(FUNCTIONS))
+
+
 @unittest.skipUnless(IS_NEW, "NetworkX dispatches to backends from 3.4 on")
 class Dispatch(unittest.TestCase):
     """The switch of NetworkX itself, which finds the backend by the entry points of an installed package, or of python/spt.dist-info."""
@@ -419,6 +539,18 @@ class Dispatch(unittest.TestCase):
             told = networkx.single_source_dijkstra(graph, nodes[0], weight="w")
             self.assertEqual((told, type(told[1])), (wanted, backend._paths.Paths))
             self.assertIn("spt", graph.__networkx_cache__["backends"])
+
+    def test_each_function(self):
+        graph = ring(240)
+        for name, (args, kwargs) in calls_of(graph).items():
+            told = []
+            for priority in ([], ["spt"]):
+                self.set(networkx.config.backend_priority, "algos", priority)
+                with self.assertLogs("networkx", "DEBUG") as log:
+                    told.append(comparable(name, outcome(getattr(networkx, name), graph, *args, **kwargs)))
+                    logging.getLogger("networkx").debug("the end")
+            self.assertEqual(*told, name)
+            self.assertIn(f"Using backend 'spt' for call to '{name}'", "".join(log.output))
 
     def test_falls_back(self):
         graph = networkx.DiGraph([(1, 2, {"w": "three"}), (2, 3, {"w": 1})])

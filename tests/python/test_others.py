@@ -12,21 +12,13 @@ import warnings
 import samples
 import spt
 
-try:
-    import numpy
-    import scipy.sparse
-except ImportError:
-    numpy = None
-try:
-    import networkx
-except ImportError:
-    networkx = None
+from samples import networkx, numpy, scipy
 
 N, M = 20_000, 80_000
 SOURCES = (1, 777, N)
 
 
-@unittest.skipIf(numpy is None, "SciPy isn't installed")
+@unittest.skipIf(scipy is None, "SciPy isn't installed")
 class SciPy(unittest.TestCase):
     def test_arrays(self):
         wanted = spt.Graph(4, samples.DIAMOND).tree(1)
@@ -150,7 +142,7 @@ class SciPy(unittest.TestCase):
                 spt.Graph.from_scipy(scipy.sparse.csr_matrix(wrong))
 
 
-@unittest.skipIf(numpy is None, "SciPy isn't installed")
+@unittest.skipIf(scipy is None, "SciPy isn't installed")
 class Dijkstra(unittest.TestCase):
     """`spt.dijkstra` beside `scipy.sparse.csgraph.dijkstra`, called by the same words."""
 

@@ -24,6 +24,8 @@ from unittest import mock
 import samples
 import spt
 
+from samples import WAYS, networkx, numpy, pandas
+
 # (first the plain writer and reader, since the others look for modules of bench/, which has another of this name)
 sys.path.insert(0, f"{samples.HOME}/tests")
 import packed  # noqa: E402
@@ -32,21 +34,6 @@ import hints  # noqa: E402
 
 from cases.shared import FRONT, GREATEST, summed, words  # noqa: E402
 
-try:
-    import numpy
-except ImportError:
-    numpy = None
-try:
-    import pandas
-except ImportError:
-    pandas = None
-try:
-    import networkx
-except ImportError:
-    networkx = None
-
-# with NumPy, where it is, and as if it weren't
-WAYS = ({}, {"numpy": None}) if numpy else ({},)
 # the example of the specification, in the order of its file, and its words there
 EXAMPLE = [(1, 2, 3), (1, 3, 3), (2, 4, 2), (3, 4, 2), (1, 4, 6)]
 WORDS = [0x54505389, 0x011A0A0D, 4, 5, 0, 3, 4, 5, 5, 2, 3, 3, 3, 4, 6, 4, 2, 4, 2, 0x556A5DD1, 0, 0x55CAEA2C, 6]

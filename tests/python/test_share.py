@@ -16,11 +16,7 @@ from unittest import mock
 import samples
 import spt
 
-try:
-    import tqdm
-except ImportError:
-    tqdm = None
-
+from samples import tqdm
 from spt._kept import failure
 from spt._library import OK
 from spt._share import Pace, in_order

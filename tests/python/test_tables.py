@@ -3,6 +3,7 @@
 import array
 import gzip
 import io
+import json
 import os
 import subprocess
 import sys
@@ -69,10 +70,10 @@ class Folder(unittest.TestCase):
             stream.flush()
         return status, *(stream.buffer.getvalue().decode() for stream in streams[1:])
 
-    def process(self, *words):
+    def process(self, *words, options=(), **known):
         """The same by a process of its own."""
-        known = {**os.environ, "PYTHONPATH": os.path.dirname(os.path.dirname(spt.__file__))}
-        words = [sys.executable, "-m", "spt", *words]
+        known = {**os.environ, "PYTHONPATH": os.path.dirname(os.path.dirname(spt.__file__)), **known}
+        words = [sys.executable, *options, "-m", "spt", *words]
         done = subprocess.run(words, cwd=self.folder, env=known, capture_output=True, text=True, timeout=SECONDS)
         return done.returncode, done.stdout, done.stderr
 
@@ -229,6 +230,84 @@ Mill,Mill,0.00,,Mill
         self.of(wanted, "pairs", "--pairs", "trips.csv", "--paths")
 
 
+class Maps(Folder):
+    """Answers as GeoJSON."""
+
+    PLACES = """place,lon,lat
+Church,10.53,49.52
+Depot,10.5,49.5
+Elsewhere,0,0
+"Inn, Old",-10.5,-49.5
+Mill,10.51,49.5
+Quay,10.52,49.51
+"""
+    AXES = ["--places", "places.csv", "--x", "lon", "--y", "lat"]
+
+    def setUp(self):
+        super().setUp()
+        self.put("places.csv", self.PLACES)
+
+    def features(self, command, *words):
+        """The properties, the kind and the coordinates of each feature."""
+        status, output, told = self.call(command, "roads.csv", *FORM, *words, *self.AXES)
+        self.assertEqual((status, told), (0, ""))
+        found = json.loads(output)
+        self.assertEqual((found["type"], {it["type"] for it in found["features"]} <= {"Feature"}), ("FeatureCollection", True))
+        # (a feature without a geometry is one whose place isn't known)
+        geometries = [it["geometry"] or {"type": None, "coordinates": None} for it in found["features"]]
+        return [(it["properties"], at["type"], at["coordinates"]) for it, at in zip(found["features"], geometries)]
+
+    def test_points(self):
+        wanted = [
+            ({"source": "Depot", "vertex": "Depot", "distance": 0.0, "predecessor": None}, "Point", [10.5, 49.5]),
+            ({"source": "Depot", "vertex": "Mill", "distance": 2.5, "predecessor": "Depot"}, "Point", [10.51, 49.5]),
+            ({"source": "Depot", "vertex": "Quay", "distance": 6.5, "predecessor": "Mill"}, "Point", [10.52, 49.51]),
+        ]
+        self.assertEqual(self.features("tree", "--source", "Depot", "--within", "7"), wanted)
+        found = self.features("nearest", "--source", "Quay", "--source", "Church", "--towards")
+        self.assertEqual([told["to"] for told, *_ in found], ["Quay", "Quay", "Quay", "Quay", "Church"])
+        self.assertEqual(found[3][1:], ("Point", [-10.5, -49.5]))
+
+    def test_lines(self):
+        self.put("trips.csv", "from,to\nDepot,Church\nChurch,Depot\nMill,Mill\nDepot,Church\n")
+        far = [[10.5, 49.5], [10.53, 49.52]]
+        path = [far[0], [10.51, 49.5], [10.52, 49.51], far[1]]
+        forth = {"source": "Depot", "target": "Church", "distance": 8.25}
+        back = {"source": "Church", "target": "Depot", "distance": None}
+        still = {"source": "Mill", "target": "Mill", "distance": 0.0}
+        wanted = [(forth, "LineString", path), (back, None, None), (still, "Point", [10.51, 49.5]), (forth, "LineString", path)]
+        self.assertEqual(self.features("routes", "--pairs", "trips.csv"), wanted)
+        found = self.features("pairs", "--pairs", "trips.csv")
+        self.assertEqual([it[1:] for it in found], [("LineString", far), *(it[1:] for it in wanted[1:3]), ("LineString", far)])
+        self.assertEqual(found[0][0], {**forth, "predecessor": "Quay"})
+        self.put("trips.csv", "to,from\nChurch,Depot\n")
+        told = {"to": "Church", "from": "Depot", "distance": 8.25}
+        self.assertEqual(self.features("pairs", "--pairs", "trips.csv", "--towards"), [({**told, "next": "Mill"}, "LineString", far)])
+        self.assertEqual(self.features("routes", "--pairs", "trips.csv", "--towards"), [(told, "LineString", path)])
+
+    def test_graphs(self):
+        spt.Graph(2, [(1, 2, 7)]).save(f"{self.folder}/two.packed")
+        self.put("places.csv", "number,x,y\n1,10,50\n2,11,51\n")
+        status, output, _ = self.call("tree", "two.packed", "--source", "1", "--places", "places.csv", "-o", "two.geojson")
+        self.assertEqual((status, output), (0, ""))
+        self.assertEqual([it["properties"]["distance"] for it in json.loads(self.read("two.geojson"))["features"]], [0, 7])
+        self.put("none.csv", "from,to\n")
+        self.refused("none.csv: there are no rows below the header", "pairs", "two.packed", "--pairs", "none.csv", "--places", "places.csv")
+
+    def test_faults(self):
+        words = ["tree", "roads.csv", *FORM, "--source", "Depot"]
+        self.refused("--x: a column of the file of --places, which isn't given", *words, "--x", "lon", status=1)
+        self.refused("places.csv: no column 'x': the columns are place, lon, lat", *words, "--places", "places.csv")
+        self.put("places.csv", self.PLACES.replace("Mill,10.51,49.5\n", ""))
+        self.refused("places.csv: no row for 'Mill', which is in roads.csv", *words, *self.AXES)
+        for row, column, cell, kind, most in ((6, "lon", "far", "longitude", 180), (7, "lat", "5517000", "latitude", 90), (6, "lat", "nan", "latitude", 90)):
+            cells = {"lon": "10", "lat": "49", column: cell}
+            self.put("places.csv", self.PLACES.replace(("Mill,10.51,49.5", "Quay,10.52,49.51")[row - 6], f"M,{cells['lon']},{cells['lat']}"))
+            told = f"{cell!r} is not a {kind}: GeoJSON has degrees, from -{most} to {most}"
+            self.refused(f"places.csv: row {row}, column {column!r}: {told}", *words, *self.AXES)
+        self.refused("places.csv: the output is an input", *words, *self.AXES, "-o", "places.csv", status=1)
+
+
 class Files(Folder):
     TREE = "source,vertex,distance,predecessor\n1,1,0,\n1,2,3,1\n1,3,3,1\n1,4,5,2\n"
     LESS = "source,vertex,distance,predecessor\nA,A,0.0,\nA,B,1.5,A\n"
@@ -262,6 +341,14 @@ class Files(Folder):
             self.put(name, text)
             self.gives(self.LESS, "tree", name, *words)
         self.gives(self.LESS, "tree", "-", *words, given="u,v,w\nA,B,1.5\n")
+
+    def test_zeros(self):
+        self.put("zeros.csv", "u,v,w\nA,B,0\nB,C,0.2\nC,D,1.5\n")
+        words = ["tree", "zeros.csv", "--from", "u", "--to", "v", "--length", "w", "--source", "A", "--zero", "unit"]
+        wanted = "source,vertex,distance,predecessor\nA,A,0.0,\nA,B,0.5,A\nA,C,1.0,B\nA,D,2.5,C\n"
+        self.gives(wanted, *words, "--unit", "0.5")
+        self.put("zeros.csv", "u,v,w\nA,B,0\nB,C,2\n")
+        self.gives("source,vertex,distance,predecessor\nA,A,0,\nA,B,1,A\nA,C,3,B\n", *words)
 
     def test_parquet(self):
         # (pandas reads these files only with a further package)
@@ -317,17 +404,17 @@ class Faults(Folder):
         self.of_text("bad.csv: line 3: not in UTF-8: save the file as CSV in UTF-8", b"u,v,w\nA,B,1\nA,\xfc,1\n")
 
     def test_cells(self):
-        front = "u,v,w\nA,B,1\n\n"
+        front, zero = "u,v,w\nA,B,1\n\n", "; --zero unit counts 0 as one unit"
         self.of_text("bad.csv: row 4, column 'v': empty, but a name is needed", front + "A,,1\n")
         self.of_text("bad.csv: row 4, column 'w': empty, but a length is needed", front + "A,B,\n")
         self.of_text("bad.csv: row 4, column 'w': 'far' is not a number", front + "A,B,far\n")
         self.of_text("bad.csv: row 4, column 'w': 'nan' is not a number", front + "A,B,nan\n")
         self.of_text("bad.csv: row 4, column 'w': '2,5' is not a number: write the decimals behind a point", front + 'A,B,"2,5"\n')
         self.of_text("bad.csv: row 4, column 'w': -3 is not a length: lengths are above 0", front + "A,B,-3\n")
-        self.of_text("bad.csv: row 4, column 'w': 0 is not a length: lengths are above 0", front + "A,B,0\n", "--unit", "0.01")
+        self.of_text(f"bad.csv: row 4, column 'w': 0 is not a length: lengths are above 0{zero}", front + "A,B,0\n", "--unit", "0.01")
         self.of_text("bad.csv: row 4, column 'w': 2.5 is a fraction: choose a unit, such as --unit 0.01", front + "A,B,2.5\n")
         self.of_text("bad.csv: row 4, column 'w': 4294967296 is more than 4294967295: choose a --unit", front + "A,B,4294967296\n")
-        wanted = "bad.csv: row 4, column 'w': 0.004 rounds to 0 in the unit 0.01: choose a smaller --unit"
+        wanted = "bad.csv: row 4, column 'w': 0.004 rounds to 0 in the unit 0.01: choose a smaller --unit, or --zero unit to count it as 0.01"
         self.of_text(wanted, front + "A,B,0.004\n", "--unit", "0.01")
         wanted = "bad.csv: row 4, column 'w': 5e9 is more than 4294967295 times the unit 1: choose a larger --unit"
         self.of_text(wanted, front + "A,B,5e9\n", "--unit", "1")
@@ -358,6 +445,7 @@ class Faults(Folder):
             ("--source and --sources can't be used together", [*words, *FORM, "--source", "Depot", "--sources", "x.csv"]),
             ("--target NAME or --targets FILE is needed", ["matrix", *words[1:], *FORM, "--source", "Depot"]),
             (f"{path}: --unit is for tables: this is the file of a graph", ["tree", path, "--unit", "2", "--source", "1"]),
+            (f"{path}: --zero is for tables: this is the file of a graph", ["tree", path, "--zero", "unit", "--source", "1"]),
             (f"{path}: --both-ways with a column is for tables: this is the file of a graph", ["tree", path, "--both-ways", "x"]),
             ("--within 2.5: must be a whole number, as the lengths have no unit", ["tree", path, "--source", "1", "--within", "2.5"]),
             (
@@ -391,6 +479,33 @@ class Faults(Folder):
         status, output, told = self.process("tree", "--help")
         self.assertEqual((status, told), (0, ""))
         self.assertIn("--sources FILE", output)
+
+    def test_without_a_library(self):
+        self.put("libspt.so", "no library")
+        self.put("program.py", "try:\n    import spt\nexcept ImportError as error:\n    print(type(error).__name__)\n")
+        for name, why in (("none.so", "cannot open shared object file: No such file or directory"), ("libspt.so", "file too short")):
+            path = f"{self.folder}/{name}"
+            told = f"spt: {path}: {why}; set SPT_LIBRARY to the path of libspt.so (docs/PYTHON.md)\n"
+            for words in (["tree", "roads.csv", *FORM, "--source", "Depot"], ["--help"], []):
+                self.assertEqual(self.process(*words, SPT_LIBRARY=path), (2, "", told))
+            # (a program can go on without)
+            known = {**os.environ, "SPT_LIBRARY": path, "PYTHONPATH": os.path.dirname(os.path.dirname(spt.__file__))}
+            done = subprocess.run([sys.executable, f"{self.folder}/program.py"], env=known, capture_output=True, text=True)
+            self.assertEqual((done.stdout, done.stderr), ("LibraryNotFound\n", ""))
+
+    def test_closed_streams(self):
+        words = [sys.executable, "-m", "spt", "tree", "-", *FORM, "--source", "Depot"]
+        known = {**os.environ, "PYTHONPATH": os.path.dirname(os.path.dirname(spt.__file__))}
+        for closed, told in ((">&-", "standard output is closed: -o OUT writes to a file"), ("<&-", "standard input is closed")):
+            shell = ["sh", "-c", f'exec "$@" {closed}', "sh", *words]
+            done = subprocess.run(shell, cwd=self.folder, env=known, input=ROADS, capture_output=True, text=True, timeout=SECONDS)
+            self.assertEqual((done.returncode, done.stdout, done.stderr), (2, "", f"spt: {told}\n"))
+
+    def test_where_it_is_not_installed(self):
+        # (without the folders in which packages are looked for)
+        status, output, told = self.process("--help", options=("-I", "-S"))
+        self.assertEqual((status, output, told.splitlines()[1:]), (1, "", []))
+        self.assertRegex(told, "No module named '?spt")
 
 
 if __name__ == "__main__":

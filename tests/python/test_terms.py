@@ -17,30 +17,13 @@ from unittest import mock
 import samples
 import spt
 
-try:
-    import numpy
-except ImportError:
-    numpy = None
-try:
-    import pandas
-except ImportError:
-    pandas = None
-try:
-    import networkx
-except ImportError:
-    networkx = None
-try:
-    import scipy.sparse
-except ImportError:
-    scipy = None
+from samples import WAYS, networkx, numpy, pandas, scipy
 
 inf, nan = math.inf, math.nan
 FAR = spt.UNREACHED
 TOWN = {
     "from": ["Depot", "Mill", "Depot", "Quay"], "to": ["Mill", "Quay", "Quay", "Depot"], "minutes": [2.5, 4, 7.25, 1],
 }
-# with NumPy, where it is, and as if it weren't
-WAYS = ({}, {"numpy": None}) if numpy else ({},)
 
 
 def town(**changed):
@@ -221,12 +204,6 @@ class Names(unittest.TestCase):
         self.assertIsNone(graph.check(tree))
         wrong = spt.Tree("Depot", tree.distances, array.array("I", [0, 1, 1]))
         self.assertEqual(graph.check(wrong), "Quay")
-
-    def test_paths_by_trees(self):
-        graph = town()
-        for seconds in (0, 1):
-            with mock.patch.object(spt._graph, "_SECONDS_EACH", seconds):
-                self.assertEqual(graph.path("Depot", "Quay"), ["Depot", "Mill", "Quay"])
 
     def test_too_far(self):
         stops = [f"stop {at}" for at in range(4201)]

@@ -15,15 +15,7 @@ from unittest import mock
 import samples
 import spt
 
-try:
-    import numpy
-    import scipy.sparse
-except ImportError:
-    numpy = None
-try:
-    import pandas
-except ImportError:
-    pandas = None
+from samples import numpy, pandas, scipy
 
 FAR = spt.UNREACHED
 # the example of the specification
@@ -118,7 +110,7 @@ class Turned(unittest.TestCase):
     def test_made_once(self):
         library = spt._library.library
         made = mock.Mock(wraps=library.spt_graph_turned)
-        names = ("share", "free", "trees", "new", "pair", "nearest", "matrix", "save")
+        names = ("share", "free", "trees", "new", "pair", "part", "nearest", "matrix", "save")
         calls = {f"spt_graph_{name}": getattr(library, f"spt_graph_{name}") for name in names}
         with mock.patch.object(spt._kept, "library", types.SimpleNamespace(**calls, spt_graph_turned=made)):
             graph = spt.Graph(4, EXAMPLE)
@@ -190,14 +182,12 @@ class Towards(unittest.TestCase):
                     self.assertIsNone(graph.check(graph.tree(source, towards=True)))
 
     def test_paths(self):
-        # by pairs alone, by the tree alone, and by pairs and then by the tree: in the order of travel
-        for seconds in (0, 1, 1e-7):
-            with mock.patch.object(spt._graph, "_SECONDS_EACH", seconds):
-                for seed, longest in ((4, 1000), (5, 2)):
-                    numbers = samples.by_lot(120, 300, seed, longest)
-                    graph, back = spt.Graph(120, numbers), spt.Graph(120, turned(samples.triples(numbers)))
-                    wanted = [back.path(60, target) for target in range(1, 121)]
-                    self.assertEqual([graph.path(60, target, towards=True) for target in range(1, 121)], [it and it[::-1] for it in wanted])
+        # (they are in the order of travel)
+        for seed, longest in ((4, 1000), (5, 2)):
+            numbers = samples.by_lot(120, 300, seed, longest)
+            graph, back = spt.Graph(120, numbers), spt.Graph(120, turned(samples.triples(numbers)))
+            wanted = [back.path(60, target) for target in range(1, 121)]
+            self.assertEqual([graph.path(60, target, towards=True) for target in range(1, 121)], [it and it[::-1] for it in wanted])
         graph = spt.Graph(4, EXAMPLE)
         self.assertEqual((graph.path(4, 1, towards=True), graph.path(1, 4, towards=True), graph.path(4, 4, towards=True)), ([1, 2, 4], None, [4]))
         self.assertEqual((graph.tree(4, towards=True).path(1), graph.tree(1).path(4)), ([1, 2, 4],) * 2)
@@ -259,7 +249,7 @@ class Towards(unittest.TestCase):
         for twin in (pickle.loads(pickle.dumps(matrix)), copy.deepcopy(matrix)):
             self.assertEqual((twin.towards, twin.tolist()), (True, matrix.tolist()))
         # as those of earlier versions were pickled
-        self.assertEqual(spt.Tree._again(2, bytes(one.distances), bytes(one.predecessors), one.terms), one)
+        self.assertEqual(spt.Tree._again(2, bytes(one.distances), bytes(one.predecessors), one._terms), one)
 
     def test_check(self):
         graph = spt.Graph(4, EXAMPLE)
@@ -374,7 +364,7 @@ class BothWays(unittest.TestCase):
             with self.assertRaisesRegex(ValueError, r"^arc 2 \(row 3\): <NA> in column 'both' is not True"):
                 spt.Graph.from_frame(frame, "from", "to", "minutes", unit=0.25, both_ways="both")
 
-    @unittest.skipIf(numpy is None, "SciPy isn't installed")
+    @unittest.skipIf(scipy is None, "SciPy isn't installed")
     def test_scipy(self):
         draw = numpy.random.default_rng(3)
         dense = numpy.where(draw.random((30, 30)) < 0.1, draw.integers(1, 9, (30, 30)), 0)

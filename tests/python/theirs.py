@@ -1,7 +1,7 @@
 #!/usr/bin/env python3
 """Runs, by pytest, the tests of Dijkstra's algorithm that SciPy and NetworkX ship, with this package in the place of theirs.
 
-Usage: python3 theirs.py
+Usage: python3 theirs.py [SciPy] [NetworkX] [switch]     these alone; the last is NetworkX's by its own switch for backends
 
 SciPy's functions are called as spt.dijkstra, NetworkX's as its backend is, which NetworkX 3.4 does by itself too. Lengths of SciPy's
 that are fractions are told in a unit. A test is left out, by name, where it never asks the package, and where it fails and the
@@ -23,12 +23,20 @@ except ImportError:
 
 from asked import Asked
 
+try:
+    # (before pytest looks for the modules of SciPy in a folder that may have another NetworkX)
+    import networkx  # noqa: F401
+except ImportError:
+    pass
+
 SCIPY = ["scipy.sparse.csgraph.tests.test_shortest_path"]
 NETWORKX = [
     "shortest_paths.tests.test_weighted", "shortest_paths.tests.test_generic", "shortest_paths.tests.test_unweighted", "tests.test_voronoi",
     "tests.test_distance_measures", "tests.test_efficiency", "tests.test_wiener",
     "centrality.tests.test_closeness_centrality", "centrality.tests.test_harmonic_centrality",
 ]
+# of a test that newer versions of NetworkX run 500 times, half a second each, the last graphs
+FEW = "not test_use_bounds_on_off_consistency or 0.8-19"
 # tests of older versions of NetworkX, which has other words since
 OLDER = re.compile("test_bidirectional_shortest_path_src_tgt_not_in_graph")
 # what a test whose name, or that of its class, has these words must ask the package for
@@ -141,19 +149,26 @@ def by_its_own_switch():
     networkx = importlib.import_module("networkx")
     if is_before_backends(networkx):
         raise ImportError(f"NetworkX {networkx.__version__} has no switch for backends, which 3.4 and later have")
-    known = {**os.environ, "NETWORKX_TEST_BACKEND": "spt", "NETWORKX_FALLBACK_TO_NX": "True"}
-    words = [sys.executable, "-m", "pytest", "-q", "-p", "no:cacheprovider", "--pyargs", *(f"networkx.algorithms.{it}" for it in NETWORKX)]
+    known = {**os.environ, "PYTHONPATH": f"{os.environ.get('PYTHONPATH', '')}:{os.path.dirname(os.path.abspath(__file__))}", "NETWORKX_TEST_BACKEND": "spt", "NETWORKX_FALLBACK_TO_NX": "True"}
+    words = [sys.executable, "-m", "pytest", "-q", "-p", "no:cacheprovider", "-p", "by_switch", "-k", FEW, "--pyargs"]
+    words += [f"networkx.algorithms.{it}" for it in NETWORKX]
     text = subprocess.run(words, env=known, stdout=subprocess.PIPE, stderr=subprocess.STDOUT, text=True).stdout
-    print(f"tests of NetworkX {networkx.__version__} by its own switch: {text.strip().splitlines()[-1]}")
-    passed, failed = (sum(map(int, re.findall(rf"(\d+) {word}", text.strip().splitlines()[-1]))) for word in ("passed", "(?:failed|error)"))
+    last = text.strip().splitlines()[-1]
+    print(f"tests of NetworkX {networkx.__version__} by its own switch: {last}")
+    print(*(f"  {line}" for line in re.findall("^spt: (.*)$", text, re.M)), sep="\n")
+    passed, failed = (sum(map(int, re.findall(rf"(\d+) {word}", last))) for word in ("passed", "(?:failed|error)"))
     if failed or not passed:
         print(text)
     return passed, failed or not passed
 
 
-def main():
+def main(chosen):
     counts = [0, 0]
-    for name, tests in (("SciPy", of_scipy), ("NetworkX", of_networkx), ("NetworkX by its own switch", by_its_own_switch)):
+    for word, name, tests in (
+        ("SciPy", "SciPy", of_scipy), ("NetworkX", "NetworkX", of_networkx), ("switch", "NetworkX by its own switch", by_its_own_switch),
+    ):
+        if chosen and word not in chosen:
+            continue
         try:
             if pytest is None:
                 raise ImportError("pytest isn't installed")
@@ -165,4 +180,4 @@ def main():
 
 
 if __name__ == "__main__":
-    sys.exit(main())
+    sys.exit(main(sys.argv[1:]))

@@ -115,7 +115,8 @@ class Found:
     @cached_property
     def totals(self) -> List[Any]:
         """The sums, rising."""
-        return self.sums[self.by_sum].tolist()
+        totals: List[Any] = self.sums[self.by_sum].tolist()
+        return totals
 
     @cached_property
     def _groups(self) -> Array:

@@ -35,8 +35,8 @@ def dijkstra_path_length(G: Graph, source: Any, target: Any, weight: Any = "weig
 
 
 def bidirectional_dijkstra(G: Graph, source: Any, target: Any, weight: Any = "weight") -> Tuple[Any, List[Any]]:
-    ends = [G.place(node, told) for node, told in zip((source, target), _ENDS)]
-    found = way(G.lengths(weight), *ends, follows_ties=False)
+    begin, end = (G.place(node, told) for node, told in zip((source, target), _ENDS))
+    found = way(G.lengths(weight), begin, end, follows_ties=False)
     if found is None:
         raise networkx.NetworkXNoPath(f"No path between {source} and {target}.")
     return found[0], [G.nodes[at] for at in found[1]]

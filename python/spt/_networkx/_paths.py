@@ -24,7 +24,7 @@ class _Later:
 _LATER = _Later()
 
 
-class Paths(Dict[Any, List[Any]]):
+class Paths(Dict[Any, Any]):
     """A dict of the paths from (or towards) sources, each made when it is first looked at.
 
     `items`, `values`, copies, comparisons and pickles make all of them; a copy or a pickle is a plain dict. A path that was handed
@@ -32,7 +32,6 @@ class Paths(Dict[Any, List[Any]]):
     """
 
     __slots__ = ("_found", "_graph", "_ranks", "_towards")
-    __hash__ = None  # type: ignore[assignment]
 
     def __init__(self, found: Found, graph: Graph, towards: bool) -> None:
         super().__init__(dict.fromkeys(found.nodes(graph.labels), _LATER))
@@ -65,7 +64,7 @@ class Paths(Dict[Any, List[Any]]):
                 dict.__setitem__(self, node, path)
         self._found = self._ranks = None
 
-    def __getitem__(self, node: Any) -> List[Any]:
+    def __getitem__(self, node: Any) -> Any:
         path = dict.__getitem__(self, node)
         if path is _LATER:
             path = self._made(node)
@@ -91,7 +90,7 @@ class Paths(Dict[Any, List[Any]]):
         self.make_all()
         return dict, (list(dict.items(self)),)
 
-    def __ror__(self, other: Dict[Any, Any]) -> Dict[Any, Any]:
+    def __ror__(self, other: Any) -> Any:
         return {**other, **self}
 
 

@@ -39,7 +39,8 @@ def first_tails(groups: Array, begin: int, tails: Array, heads: Array) -> Option
         if len(tied) * 16 > len(groups):
             return None
         _choose(tied[numpy.argsort(groups[heads[tied]], kind="stable")].tolist(), chosen, groups, tails, heads)
-    return [-1] * begin + tails[chosen[begin:]].tolist()
+    before: List[int] = tails[chosen[begin:]].tolist()
+    return [-1] * begin + before
 
 
 def _choose(tied: List[int], chosen: Array, groups: Array, tails: Array, heads: Array) -> None:

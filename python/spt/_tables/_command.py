@@ -16,7 +16,7 @@ from typing import Iterator, List, Optional, TextIO
 
 from .._faults import BadLimit, SptError
 from .._share import Progress
-from . import _answers
+from . import _answers, _map
 from ._options import parser
 from ._refused import WRONG_FILE, WRONG_LINE, Refused
 from ._roads import roads_of
@@ -61,15 +61,18 @@ def _told(error: Exception) -> tuple[str, int]:
 
 
 def _write(asked: Namespace) -> None:
-    inputs = [asked.roads, *(getattr(asked, name, None) for name in ("sources", "targets", "pairs"))]
+    inputs = [asked.roads, *(getattr(asked, name, None) for name in ("sources", "targets", "pairs", "places"))]
     if inputs.count("-") > 1:
         raise Refused("standard input twice: only one file can be `-`", WRONG_LINE)
     if asked.output is not None and any(_is_same(it, asked.output) for it in inputs if it is not None):
         raise Refused(f"{asked.output}: the output is an input", WRONG_LINE)
-    rows = getattr(_answers, asked.command)(roads_of(asked), asked, _reporter() if getattr(asked, "progress", False) else None)
+    roads = roads_of(asked)
+    rows = getattr(_answers, asked.command)(roads, asked, _reporter() if getattr(asked, "progress", False) else None)
     # (errors in options and names come before the first row, and before a file is made)
-    header = next(rows)
+    places, header = _map.places_of(roads, asked), next(rows)
     with _output(asked.output) as file:
+        if places is not None:
+            return _map.write(file, asked.command, header, rows, places)
         table = csv.writer(file, lineterminator="\n")
         table.writerow(header)
         table.writerows(rows)
@@ -90,11 +93,13 @@ def _output(path: Optional[str]) -> Iterator[TextIO]:
     A regular file is replaced as a whole, if all was written; otherwise it stays as it was.
     """
     if path is None:
-        file = io.TextIOWrapper(sys.stdout.buffer, encoding="utf-8", newline="")
+        if sys.stdout is None:
+            raise Refused("standard output is closed: -o OUT writes to a file")
+        standard = io.TextIOWrapper(sys.stdout.buffer, encoding="utf-8", newline="")
         try:
-            yield file
+            yield standard
         finally:
-            file.detach()
+            standard.detach()
     elif os.path.exists(path) and not os.path.isfile(path):
         with open(path, "w", encoding="utf-8", newline="") as file:
             yield file

@@ -2,12 +2,11 @@
 
 from __future__ import annotations
 
-import os
-
 from argparse import ArgumentParser, ArgumentTypeError, RawDescriptionHelpFormatter
 from decimal import Decimal, InvalidOperation
 from typing import Any, NoReturn
 
+from .._share import MOST_WORKERS, workers_of
 from ._answers import ARROW
 from ._refused import WRONG_LINE, Refused
 
@@ -16,13 +15,12 @@ Shortest paths from a table of roads: names in, names out, lengths in the table'
 
 ROADS is a CSV file with a header, in which each row is a road, or a Parquet file if pandas can read it. It
 may also be the file of a graph: a .gr file, or a packed one. Then vertices are numbers, or names if they are
-beside it, and lengths are as in the file. The answer is CSV with a header."""
+beside it, and lengths are as in the file. The answer is CSV with a header, or GeoJSON if --places are given."""
 _LISTS = """\
 A FILE of names is a CSV file with a header; its other columns are ignored. One of the files may be `-` for
 standard input.
 
 Exit status: 0 done, 1 the command line is wrong, 2 a file or a name is refused."""
-_MOST_WORKERS = 64
 
 
 class _Parser(ArgumentParser):
@@ -56,6 +54,8 @@ def _add_roads(command: ArgumentParser) -> None:
     for name, about in (("from", "where a road begins"), ("to", "where it ends"), ("length", "how long it is")):
         command.add_argument(f"--{name}", dest=f"{name}_column", metavar="COLUMN", help=f"The column that says {about}")
     command.add_argument("--unit", metavar="U", type=_unit, help="Round lengths to multiples of U; needed for fractions")
+    about = "Count lengths of 0, and what rounds to 0, as one unit, or as 1 without a unit"
+    command.add_argument("--zero", choices=["unit"], help=about)
     command.add_argument(
         "--both-ways",
         metavar="COLUMN",
@@ -90,6 +90,12 @@ def _add_ways(command: ArgumentParser, name: str) -> None:
     if name != "nearest":
         command.add_argument("--workers", metavar="N", type=_workers, default=1, help="The number of threads, or `all`")
         command.add_argument("--progress", action="store_true", help="Report progress on standard error")
+    if name != "matrix":
+        about = "Write GeoJSON instead of CSV, with the places in FILE: a CSV file of names, in its first column"
+        command.add_argument("--places", metavar="FILE", help=about)
+        for axis, kind in (("x", "longitude"), ("y", "latitude")):
+            about = f"The column of --places with the {kind} in degrees (default: {axis})"
+            command.add_argument(f"--{axis}", metavar="COLUMN", help=about)
     command.add_argument("-o", "--output", metavar="OUT", help="Write the output to a file instead of standard output")
 
 
@@ -117,9 +123,9 @@ def _limit(text: str) -> Decimal:
     return limit
 
 
-def _workers(text: str) -> Any:
+def _workers(text: str) -> int:
     if text == "all":
-        return min(os.cpu_count() or 1, _MOST_WORKERS)
-    if not (text.isascii() and text.isdigit()) or not 1 <= int(text) <= _MOST_WORKERS:
-        raise ArgumentTypeError(f"{text!r} is not a number from 1 to {_MOST_WORKERS}, or `all`")
+        return workers_of(text)
+    if not (text.isascii() and text.isdigit()) or not 1 <= int(text) <= MOST_WORKERS:
+        raise ArgumentTypeError(f"{text!r} is not a number from 1 to {MOST_WORKERS}, or `all`")
     return int(text)

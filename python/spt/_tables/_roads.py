@@ -71,7 +71,8 @@ def roads_of(asked: Namespace) -> Roads:
 
 
 def _of_graph(path: str, file: Any, asked: Namespace) -> Roads:
-    given = {"--from": asked.from_column, "--to": asked.to_column, "--length": asked.length_column, "--unit": asked.unit}
+    columns = {"--from": asked.from_column, "--to": asked.to_column, "--length": asked.length_column}
+    given = {**columns, "--unit": asked.unit, "--zero": asked.zero}
     option = next((name for name, value in given.items() if value is not None), None)
     option = "--both-ways with a column" if option is None and isinstance(asked.both_ways, str) else option
     if option is not None:
@@ -90,7 +91,7 @@ def _of_table(table: Table, asked: Namespace) -> Roads:
         columns["both"], both_ways = _flags(table, table.place(both_ways)), "both"
     unit = None if asked.unit is None else float(asked.unit)
     try:
-        graph = Graph.from_frame(columns, "tail", "head", "length", unit=unit, both_ways=both_ways)
+        graph = Graph.from_frame(columns, "tail", "head", "length", unit=unit, both_ways=both_ways, zero=asked.zero)
     except BadArc as told:
         cell = table.column(places[2])[told.index]
         raise table.refused(told.index, places[2], _length_fault(cell, asked.unit)) from None
@@ -124,13 +125,13 @@ def _length_fault(cell: str, unit: Optional[Decimal]) -> str:
         return f"{cell!r} is not a number{point}"
     number = float(cell)
     if number <= 0:
-        return f"{cell} is not a length: lengths are above 0"
+        return f"{cell} is not a length: lengths are above 0{'' if number else '; --zero unit counts 0 as one unit'}"
     if unit is None:
         if number != int(number):
             return f"{cell} is a fraction: choose a unit, such as --unit 0.01"
         return f"{cell} is more than {MOST}: choose a --unit"
     if number / float(unit) < 1:
-        return f"{cell} rounds to 0 in the unit {unit}: choose a smaller --unit"
+        return f"{cell} rounds to 0 in the unit {unit}: choose a smaller --unit, or --zero unit to count it as {unit}"
     return f"{cell} is more than {MOST} times the unit {unit}: choose a larger --unit"
 
 

@@ -20,6 +20,8 @@ _PARQUET = b"PAR1"
 def bytes_of(path: str) -> bytes:
     """Returns the bytes of a file; `-` is standard input. It is a gzip file if its name ends in .gz. Refused: it is damaged."""
     if path == "-":
+        if sys.stdin is None:
+            raise Refused("standard input is closed")
         return sys.stdin.buffer.read()
     try:
         with gzip.open(path) if path.endswith(".gz") else open(path, "rb") as file:
